@@ -20,3 +20,7 @@ all_changed {X} P test f one xs a = all_map P P (λ x. changed_if (test x) f x) 
 pub changed_same : {X Y : Type 0} (g : X → Y) (b : Bool) (f : X → X) (x : X) → ((x : X) → g (f x) ≡ g x) → g (changed_if b f x) ≡ g x
 changed_same g true f x same = same x
 changed_same g false f x same = refl
+
+pub all_so : {X : Type 0} (P Q : X → Type 0) → ((x : X) → P x → Q x) → (xs : List X) → AllByRecursion P xs → AllByRecursion Q xs
+all_so P Q one [] a = tt
+all_so P Q one (x ∷ xs) a = (one x a.0, all_so P Q one xs a.1)

@@ -9,6 +9,7 @@ pub mod Ages
 pub mod Growing
 pub mod Aging
 pub mod Histories
+pub mod Halves
 pub mod Hearing
 pub mod Uiccs
 pub mod Order

@@ -1,17 +1,12 @@
 -- Rounds of a world have at most a window of fragments more count as acknowledged at each end of each link, for each round.
-use Rattle.std.proofs.Common.{◌≡◌, ℕ, zero, suc, ◌+◌, ◌*◌, ◌≤◌, ◌==◌, Bool, true, false, cond, List, [], ◌∷◌, ◌++◌, Some, None}
-use Rattle.std.proofs.Common.{refl, ap, sym, subst, ◌∙◌, length, append_assoc}
-use Rattle.std.proofs.Common.{arith, map}
-use Rattle.std.specs.Prelude.{replicate}
-use Rattle.std.specs.List.{AllByRecursion}
-use Rattle.std.proofs.lemmas.Bool.{eqb-true}
-use Rattle.node_laws.proofs.Words.{AcksAtMost, Activates, AreDifferent, AreHosts, ArePlayable, End, FollowsNodes, Gives, GoesOnLink, Good, Happening, Header}
-use Rattle.node_laws.proofs.Words.{IsLine, Line, Link, LinkEvent, NodeHistory, NodeWorld, Occurrence, Reached, Resets, Site, Takes, after_link_events}
-use Rattle.node_laws.proofs.Words.{all_happen, by_test, can_happen, core_of, end_takes_all, ends_events, ends_in_order, ends_take_all, events_on, frames_at}
-use Rattle.node_laws.proofs.Words.{from_start, happenings, hosts_in, link_events_in, new_line, new_site, new_world, occurrences_in, reached, round_events}
-use Rattle.node_laws.proofs.Words.{rounds_of_world, site_at, world_after_round, world_behind, world_step}
+use Rattle.node_laws.proofs.Words.{AcksAtMost, Activates, AllByRecursion, AreDifferent, AreHosts, ArePlayable, Bool, End, FollowsNodes, Gives, GoesOnLink, Good}
+use Rattle.node_laws.proofs.Words.{Happening, Header, IsAckedWithin, IsLine, Line, Link, LinkEvent, List, NodeHistory, NodeWorld, None, Occurrence, Reached}
+use Rattle.node_laws.proofs.Words.{Resets, Site, Some, Takes, TimePassing, [], after_link_events, all_happen, ap, append_assoc, arith, by_test, can_happen}
+use Rattle.node_laws.proofs.Words.{cond, core_of, end_takes_all, ends_events, ends_in_order, ends_take_all, eqb-true, events_on, false, frames_at, from_start}
+use Rattle.node_laws.proofs.Words.{happenings, hosts_in, length, link_events_in, map, new_line, new_site, new_world, occurrences_in, reached, refl, replicate}
+use Rattle.node_laws.proofs.Words.{round_events, rounds_of_world, site_at, subst, suc, sym, true, world_after_round, world_behind, world_step, zero, ℕ, ◌*◌}
+use Rattle.node_laws.proofs.Words.{◌++◌, ◌+◌, ◌==◌, ◌∙◌, ◌∷◌, ◌≡◌, ◌≤◌}
 use Rattle.trace_model.specs.declared.line.Line.TheVariants as line
-use Rattle.node_machine.specs.world.World.Happening.{Ticks as TimePassing}
 use Rattle.node_laws.proofs.telling.Nodes.{swapped}
 use Rattle.node_laws.proofs.telling.Worlds.{site_is}
 use Rattle.node_laws.proofs.links.Playing.{MayHappen, step_fine, world_fine}
@@ -20,7 +15,7 @@ use Rattle.node_laws.proofs.links.Worlds.{IsFineWorld}
 use Rattle.node_laws.proofs.order.Lines.{history_so}
 use Rattle.node_laws.proofs.order.Strangers.{step_kept}
 use Rattle.node_laws.proofs.telling.Events.{after-append}
-use Rattle.node_laws.specs.acked.InTurn.{CountsWithin, IsAckedWithin}
+use Rattle.node_laws.specs.acked.InTurn.{CountsWithin}
 use Rattle.node_laws.specs.acked.AckedRounds.{HostAcksAtMost, AreAckedWithin, amid_round, Leg, world_after_legs, MayCome, AllMayCome}
 use Rattle.node_laws.specs.acked.AckedRounds.Leg.{Comes, Rounds}
 use Rattle.node_laws.proofs.acked.InTurn.{in_turn_acks, front_acks, whole_few}

@@ -1,17 +1,14 @@
 -- Whatever happens in a world, only an end that takes a frame has more fragments acknowledged, and at most a window of them.
-use Rattle.std.proofs.Common.{◌≡◌, ℕ, ◌+◌, ◌≤◌, ◌==◌, Bool, true, false, cond, List, [], ◌∷◌, ◌++◌, Some, refl, subst, arith, map, ◌*◌, length}
-use Rattle.std.specs.Prelude.{replicate}
-use Rattle.std.specs.List.{AllByRecursion}
-use Rattle.node_laws.proofs.Words.{AcksAtMost, Activates, AllAllowed, AllAtController, AllAtHost, AreDifferent, AreSendableTurns, Arms, AsksReset, AtController}
-use Rattle.node_laws.proofs.Words.{AtEnd, AtHost, Boots, CanCome, Comes, CutOff, Deed, End, Ending, Gives, GoesOnLink, Happening, Inits, IsCut, IsEvent, Link}
-use Rattle.node_laws.proofs.Words.{LinkEvent, Lose, Loses, Loss, Memory, NextFrame, NoInput, NodeWorld, NumberedEnd, Resets, Running, Site, Start, Starts, Step}
-use Rattle.node_laws.proofs.Words.{Takes, Turn, Work, after_host, after_planned, beginning, begins_with, boot_found, boot_writes, boot_written, boots, by_boot}
-use Rattle.node_laws.proofs.Words.{by_coming, by_controller, by_host, by_loss, by_memory, by_power, by_running, by_test, changed_if, comes_at, comes_to}
-use Rattle.node_laws.proofs.Words.{controller_does, controller_work, counts, end_c, end_h, ending_of, ends_in_order, ends_take_all, exchanged, frame_lost}
-use Rattle.node_laws.proofs.Words.{frames_at, happens, host_cut, host_does, host_work, link_after_controller, link_events_in, link_to, loses_power_at}
-use Rattle.node_laws.proofs.Words.{memory_at, near_end_in, new_world, rounds_of_world, sending, site_at, site_lost, steps, turns_at, with_memory, with_node}
-use Rattle.node_laws.proofs.Words.{with_site, work_of, world_step}
-use Rattle.node_machine.specs.world.World.Happening.{Ticks as TimePassing}
+use Rattle.node_laws.proofs.Words.{AcksAtMost, Activates, AllAllowed, AllAtController, AllAtHost, AllByRecursion, AreDifferent, AreSendableTurns, Arms}
+use Rattle.node_laws.proofs.Words.{AsksReset, AtController, AtEnd, AtHost, Bool, Boots, CanCome, Comes, CutOff, Deed, End, Ending, Gives, GoesOnLink, Happening}
+use Rattle.node_laws.proofs.Words.{Inits, IsAckedWithin, IsCut, IsEvent, Link, LinkEvent, List, Lose, Loses, Loss, Memory, NextFrame, NoInput, NodeWorld}
+use Rattle.node_laws.proofs.Words.{NumberedEnd, Resets, Running, Site, Some, Start, Starts, Step, Takes, TakesNoFrame, TimePassing, Turn, Work, [], after_host}
+use Rattle.node_laws.proofs.Words.{after_planned, arith, beginning, begins_with, boot_found, boot_writes, boot_written, boots, by_boot, by_coming}
+use Rattle.node_laws.proofs.Words.{by_controller, by_host, by_loss, by_memory, by_power, by_running, by_test, changed_if, comes_at, comes_to, cond}
+use Rattle.node_laws.proofs.Words.{controller_does, controller_work, counts, end_c, end_h, ending_of, ends_in_order, ends_take_all, exchanged, false}
+use Rattle.node_laws.proofs.Words.{frame_lost, frames_at, happens, host_cut, host_does, host_work, length, link_after_controller, link_events_in, link_to}
+use Rattle.node_laws.proofs.Words.{loses_power_at, map, memory_at, near_end_in, new_world, refl, replicate, rounds_of_world, sending, site_at, site_lost, steps}
+use Rattle.node_laws.proofs.Words.{subst, true, turns_at, with_memory, with_node, with_site, work_of, world_step, ℕ, ◌*◌, ◌++◌, ◌+◌, ◌==◌, ◌∷◌, ◌≡◌, ◌≤◌}
 use Rattle.node_laws.proofs.telling.Worlds.{site_is}
 use Rattle.node_laws.proofs.links.Deeds.{AreFine}
 use Rattle.node_laws.proofs.links.Works.{IsFineWork, all_done_fine, steps_fine}
@@ -20,7 +17,7 @@ use Rattle.node_laws.proofs.links.Worlds.{IsFineNode, AreFineSites, IsFineSite, 
 use Rattle.node_laws.proofs.links.Worlds.{fine_clean, ports_fine, turns_fine, may_here, memory_fine}
 use Rattle.node_laws.proofs.links.Playing.{MayHappen, plain_reach, sending_fine, starts_fine, starts_then}
 use Rattle.node_laws.proofs.order.Strangers.{step_kept}
-use Rattle.node_laws.specs.acked.InTurn.{CountsFit, IsAckedWithin, TakesNoFrame}
+use Rattle.node_laws.specs.acked.InTurn.{CountsFit}
 use Rattle.node_laws.specs.acked.AckedRounds.{HostAcksAtMost, AreAckedWithin, Leg, AllMayCome, amid_round, frames_taken, rounds_gone}
 use Rattle.node_laws.specs.acked.AckedRounds.{taken_in, world_after_legs}
 use Rattle.node_laws.specs.acked.AckedRounds.Leg.{Comes as LegComes, Rounds}

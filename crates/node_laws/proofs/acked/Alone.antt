@@ -1,15 +1,11 @@
 -- While one end of a link alone acts, at most a window of fragments more count as acknowledged at it: those that the other end accepted before.
-use Rattle.std.proofs.Common.{◌≡◌, ℕ, ◌+◌, ◌≤◌, ◌==◌, Bool, true, false, List, [], ◌∷◌, ◌⊎◌, inl, inr, refl, ap, sym, subst, ◌∙◌, length, arith, map}
-use Rattle.std.specs.Prelude.{is_some}
-use Rattle.std.proofs.lemmas.Bool.{eqb-true}
-use Rattle.node_laws.proofs.Words.{Acts, AllShdlcAllowed, Control, Deliver, EndState, Ignore, LinkState, OnWire, SafeLink, Session, ShdlcEndEvent, ShdlcLink}
-use Rattle.node_laws.proofs.Words.{ShdlcLinkEvent, Turns, Up, Waiting, act_frame, by_test, is_rset, is_up, most_frames, new_end, no_session, reset_with}
-use Rattle.node_laws.proofs.Words.{shdlc_after, shdlc_becomes, shdlc_exchanged, shdlc_happens_at_controller, shdlc_put_all, shdlc_silent, shdlc_turned, stopped}
-use Rattle.node_laws.proofs.Words.{take_answer, taken, took_with, with_shdlc_ended}
+use Rattle.node_laws.proofs.Words.{Acts, AllShdlcAllowed, Bool, Control, Deliver, EndState, Ignore, LinkState, List, NumberedShdlc, OnWire, SafeLink, Session}
+use Rattle.node_laws.proofs.Words.{ShdlcEndEvent, ShdlcLink, ShdlcLinkEvent, Turns, Up, Waiting, [], act_frame, ap, arith, by_test, ended_session, eqb-true}
+use Rattle.node_laws.proofs.Words.{false, frames_of, inl, inr, is_rset, is_some, is_up, length, map, most_frames, new_end, no_session, refl, reset_with}
+use Rattle.node_laws.proofs.Words.{shdlc_after, shdlc_becomes, shdlc_exchanged, shdlc_happens_at_controller, shdlc_number_of, shdlc_put, shdlc_put_all}
+use Rattle.node_laws.proofs.Words.{shdlc_session_of, shdlc_silent, shdlc_turned, stopped, subst, sym, take_answer, taken, took_with, true, with_shdlc_ended, ℕ}
+use Rattle.node_laws.proofs.Words.{◌+◌, ◌==◌, ◌∙◌, ◌∷◌, ◌≡◌, ◌≤◌, ◌⊎◌}
 use Rattle.shdlc_core.specs.declared.answers.LinkState.TheVariants.{Down}
-use Rattle.shdlc_core.specs.Machine.{frames_of}
-use Rattle.link_laws.specs.sessions.Sessions.{NumberedShdlc, shdlc_number_of, shdlc_session_of, ended_session}
-use Rattle.link_laws.specs.sessions.Sessions.{shdlc_put}
 use Rattle.link_laws.specs.sessions.Sessions.ShdlcEndEvent.{Lose, Reset, Cut, Stop}
 use Rattle.link_laws.specs.sessions.Sessions.ShdlcLinkEvent.{AtController, AtHost}
 use Rattle.link_laws.proofs.sessions.Data.{Base, Below, none_ended, of_up}

@@ -1,10 +1,7 @@
 -- In a round of a bare world the ends take frames one after the other, so at most a window of fragments more count as acknowledged at each.
-use Rattle.std.proofs.Common.{◌≡◌, ℕ, zero, suc, ◌*◌, List, [], ◌∷◌, ◌++◌, map, refl, ap, sym, subst, ◌∙◌, arith, length, append-nil}
-use Rattle.std.specs.Prelude.{replicate}
-use Rattle.std.proofs.lemmas.List.{map-append}
-use Rattle.node_laws.proofs.Words.{AcksAtMost, AllAllowed, AllAtController, AllAtHost, AreTakenInTurn, Controller, Good, Host, Link, LinkEvent, Reached}
-use Rattle.node_laws.proofs.Words.{after_link_events, core_of, end_of, event_of, from_start, link_after_all, reached}
-use Rattle.link_laws.specs.messages.Links.{IsStart}
+use Rattle.node_laws.proofs.Words.{AcksAtMost, AllAllowed, AllAtController, AllAtHost, AreTakenInTurn, Controller, Good, Host, IsStart, Link, LinkEvent, List}
+use Rattle.node_laws.proofs.Words.{Reached, [], after_link_events, ap, append-nil, arith, core_of, end_of, event_of, from_start, length, link_after_all, map}
+use Rattle.node_laws.proofs.Words.{map-append, reached, refl, replicate, subst, suc, sym, zero, ℕ, ◌*◌, ◌++◌, ◌∙◌, ◌∷◌, ◌≡◌}
 use Rattle.history.specs.Histories.{Cause}
 use Rattle.history.specs.Histories.Cause.{Taken, Ticked}
 use Rattle.node_laws.specs.rounds.BareRounds.{causes_of_round, link_after_round, causes_of_rounds}

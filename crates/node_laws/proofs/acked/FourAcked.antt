@@ -1,8 +1,6 @@
 -- Four fragments more may indeed count as acknowledged in one round.
-use Rattle.std.proofs.Common.{◌≡◌, [], ◌∷◌, refl}
-use Rattle.std.specs.Prelude.{replicate}
-use Rattle.node_laws.proofs.Words.{AtController, Bare, Give, GoesOut, Link, NoInput, Step, happens, new_link}
-use Rattle.node_laws.specs.acked.InTurn.{acked_at_controller}
+use Rattle.node_laws.proofs.Words.{AtController, Bare, Give, GoesOut, Link, NoInput, Step, [], acked_at_controller, happens, new_link, refl, replicate, ◌∷◌}
+use Rattle.node_laws.proofs.Words.{◌≡◌}
 use Rattle.node_laws.specs.rounds.BareRounds.{link_after_round}
 
 -- the controller's end of a bare link has sent the first four fragments of a message

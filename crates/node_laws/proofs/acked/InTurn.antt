@@ -1,25 +1,22 @@
 -- Where the ends of a link take frames one after the other, at most a window of fragments more count as acknowledged at each of them.
-use Rattle.std.proofs.Common.{◌≡◌, ℕ, ◌+◌, ◌-◌, ◌≤◌, Bool, true, false, List, [], ◌∷◌, ◌++◌, Option, Some, None, refl, ap, sym, subst, ◌∙◌, map}
-use Rattle.std.proofs.Common.{arith, length, append-nil}
-use Rattle.std.specs.Prelude.{nat_le}
-use Rattle.std.proofs.lemmas.Bool.{leb-true}
 use Rattle.node_laws.proofs.Words.{AcksAtMost, Activate, AllAllowed, AllAtController, AllAtHost, AreSendable, AreTakenInTurn, AsksReset, AtController, AtHost}
-use Rattle.node_laws.proofs.Words.{CutOff, EndEvent, Ending, GoesOut, Good, Link, LinkEnd, LinkEvent, Lose, Message, NextFrame, NoInput, NumberedEnd, Reached}
-use Rattle.node_laws.proofs.Words.{Refused, Starts, Step, Stops, TicksWithout, Turn, after_link_events, by_test, core_event, core_of, exchanged, happens}
-use Rattle.node_laws.proofs.Words.{is_open, reset_refusal, steps_at_controller, whole_acked, whole_among, window_of}
-use Rattle.hcp_packet.specs.Packets.{packet_count}
-use Rattle.link_laws.specs.sessions.Sessions.{ShdlcLink as CoreLink, ShdlcEndEvent as CoreEndEvent, ShdlcLinkEvent as CoreLinkEvent}
+use Rattle.node_laws.proofs.Words.{Bool, CoreEndEvent, CoreLink, CutOff, EndEvent, Ending, GoesOut, Good, Link, LinkEnd, LinkEvent, List, Lose, Message}
+use Rattle.node_laws.proofs.Words.{NextFrame, NoInput, None, NumberedEnd, Option, Reached, Refused, Some, Starts, Step, Stops, TakeNoFrames, TakesNoFrame}
+use Rattle.node_laws.proofs.Words.{TicksWithout, Turn, [], acked_at_controller, after_link_events, ap, append-nil, arith, by_test, core_event, core_here}
+use Rattle.node_laws.proofs.Words.{core_of, core_tick_rest, exchanged, false, happens, is_open, leb-true, length, map, nat_le, packet_count, refl}
+use Rattle.node_laws.proofs.Words.{reset_refusal, safe_reached, steps_at_controller, subst, sym, true, whole_acked, whole_among, window_of, ℕ, ◌++◌, ◌+◌, ◌-◌}
+use Rattle.node_laws.proofs.Words.{◌∙◌, ◌∷◌, ◌≡◌, ◌≤◌}
+use Rattle.link_laws.specs.sessions.Sessions.{ShdlcLinkEvent as CoreLinkEvent}
 use Rattle.link_laws.specs.sessions.Sessions.{shdlc_after as core_after}
 use Rattle.link_laws.specs.sessions.Sessions.ShdlcLinkEvent.{AtController as CoreAtController, AtHost as CoreAtHost}
 use Rattle.link_laws.specs.messages.Links.LinkEvent.{Ticks}
-use Rattle.link_laws.specs.messages.Projection.{core_events, core_here, core_step, core_reset, core_ending, core_tick_rest}
+use Rattle.link_laws.specs.messages.Projection.{core_ending, core_events, core_reset, core_step}
 use Rattle.link_laws.specs.messages.Projection.{is_lost_tick}
 use Rattle.link_laws.proofs.messages.Project.{Tells}
-use Rattle.link_laws.proofs.messages.Runs.{run, safe_reached}
+use Rattle.link_laws.proofs.messages.Runs.{run}
 use Rattle.link_laws.proofs.messages.Whole.{sendable}
 use Rattle.node_laws.proofs.telling.Events.{after-append}
-use Rattle.node_laws.specs.acked.InTurn.{TakesNoFrame, TakeNoFrames}
-use Rattle.node_laws.specs.acked.InTurn.{acked_at_controller, acked_at_host}
+use Rattle.node_laws.specs.acked.InTurn.{acked_at_host}
 use Rattle.node_laws.proofs.acked.Alone.{AllNear, AllFar, near_alone, far_alone}
 use Rattle.node_laws.proofs.acked.NoneTaken.{DeliversNone, NoneDelivered, none_added}
 

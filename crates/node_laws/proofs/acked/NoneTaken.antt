@@ -1,15 +1,12 @@
 -- While no end of a link takes a frame, no more fragments count as acknowledged.
-use Rattle.std.proofs.Common.{◌≡◌, ℕ, ◌+◌, ◌≤◌, Bool, true, false, List, [], ◌∷◌, Option, Some, None, refl, ap, ◌∙◌, arith, map}
-use Rattle.std.specs.Prelude.{is_some, nat_lt}
-use Rattle.node_laws.proofs.Words.{Acts, AllShdlcAllowed, Deliver, EndState, Ignore, LinkState, OnWire, ShdlcEndEvent, ShdlcLink, ShdlcLinkEvent, Turns, Up}
-use Rattle.node_laws.proofs.Words.{Waiting, act_frame, by_test, is_up, is_waiting, most_frames, new_end, reset_with, runs_timer, shdlc_after, shdlc_becomes}
-use Rattle.node_laws.proofs.Words.{shdlc_exchanged, shdlc_happens_at_controller, shdlc_put_all, shdlc_silent, shdlc_turned, stopped, tick_answer, ticked}
-use Rattle.node_laws.proofs.Words.{took_with, with_shdlc_ended}
+use Rattle.node_laws.proofs.Words.{Acts, AllShdlcAllowed, AreTurns, Bool, Deliver, EndState, Ignore, LinkState, List, None, OnWire, Option, ShdlcEndEvent}
+use Rattle.node_laws.proofs.Words.{ShdlcLink, ShdlcLinkEvent, ShdlcTurn, Some, Turns, Up, Waiting, [], act_frame, ap, arith, by_test, false, is_some, is_up}
+use Rattle.node_laws.proofs.Words.{is_waiting, map, most_frames, nat_lt, new_end, refl, reset_with, runs_timer, shdlc_after, shdlc_aged}
+use Rattle.node_laws.proofs.Words.{shdlc_all_at_controller, shdlc_becomes, shdlc_exchanged, shdlc_happens, shdlc_happens_at_controller, shdlc_put_all}
+use Rattle.node_laws.proofs.Words.{shdlc_silent, shdlc_ticks_at_controller, shdlc_turned, stopped, tick_answer, ticked, ticks_if_waiting, ticks_or_cut}
+use Rattle.node_laws.proofs.Words.{took_with, true, with_shdlc_ended, ℕ, ◌+◌, ◌∙◌, ◌∷◌, ◌≡◌, ◌≤◌}
 use Rattle.shdlc_core.specs.declared.answers.LinkState.TheVariants.{Down}
-use Rattle.link_laws.specs.sessions.Sessions.{ShdlcTurn}
-use Rattle.link_laws.specs.sessions.Sessions.{shdlc_turn, AreTurns, IsTurn}
-use Rattle.link_laws.specs.sessions.Sessions.{shdlc_all_at_controller, shdlc_ticks_at_controller, shdlc_aged}
-use Rattle.link_laws.specs.sessions.Sessions.{ticks_or_cut, ticks_if_waiting, shdlc_happens}
+use Rattle.link_laws.specs.sessions.Sessions.{IsTurn, shdlc_turn}
 use Rattle.link_laws.specs.sessions.Sessions.ShdlcTurn.{Offer, SetReady}
 use Rattle.link_laws.specs.sessions.Sessions.ShdlcEndEvent.{Lose, Reset, Cut, Stop}
 use Rattle.link_laws.specs.sessions.Sessions.ShdlcLinkEvent.{AtController, AtHost, Tick, TickWithout}

@@ -1,16 +1,13 @@
 -- In a round of a world the ends of each link take frames one after the other: first the controller's, then the host's.
-use Rattle.std.proofs.Common.{◌≡◌, ℕ, zero, suc, ◌==◌, ◌&&◌, Bool, true, false, cond, not, List, [], ◌∷◌, ◌++◌, Option, Some, None}
-use Rattle.std.proofs.Common.{refl, ap, sym, subst, ◌∙◌, length, append_assoc}
-use Rattle.std.specs.Prelude.{replicate}
-use Rattle.node_laws.proofs.Words.{AllAtController, AllAtHost, AreDifferent, AreTakenInTurn, AtController, AtHost, End, Link, LinkEvent, NextFrame, Node}
-use Rattle.node_laws.proofs.Words.{NodeWorld, Site, Takes, all_aged, by_option, by_test, can_happen, controller_takes, controller_ticks, end_c, end_h}
-use Rattle.node_laws.proofs.Words.{end_takes_all, ends_events, ends_in_order, ends_take_all, events_on, exchanged, frames_at, happenings, hosts_in, input_of}
-use Rattle.node_laws.proofs.Words.{is_waiting, link_events_in, link_to, round_events, site_at, site_takes, ticks_on, world_step}
+use Rattle.node_laws.proofs.Words.{AllAtController, AllAtHost, AreDifferent, AreTakenInTurn, AtController, AtHost, Bool, End, Link, LinkEvent, List, NextFrame}
+use Rattle.node_laws.proofs.Words.{Node, NodeWorld, None, Option, Site, Some, TakeNoFrames, Takes, TimePassing, [], all_aged, ap, append_assoc, by_option}
+use Rattle.node_laws.proofs.Words.{by_test, can_happen, cond, controller_takes, controller_ticks, end_c, end_h, end_takes_all, ends_events, ends_in_order}
+use Rattle.node_laws.proofs.Words.{ends_take_all, events_on, exchanged, false, frames_at, happenings, hosts_in, input_of, is_waiting, length, link_events_in}
+use Rattle.node_laws.proofs.Words.{link_to, not, refl, replicate, round_events, site_at, site_takes, subst, suc, sym, tick_so, ticks_on, true, world_step, zero}
+use Rattle.node_laws.proofs.Words.{ℕ, ◌&&◌, ◌++◌, ◌==◌, ◌∙◌, ◌∷◌, ◌≡◌}
 use Rattle.trace_model.specs.declared.line.Line.TheVariants as line
-use Rattle.node_machine.specs.world.World.Happening.{Ticks as TimePassing}
 use Rattle.node_laws.proofs.telling.Nodes.{site_host}
-use Rattle.node_laws.specs.acked.InTurn.{TakeNoFrames}
-use Rattle.node_laws.specs.rounds.LinkEvents.{tick_so, on_site}
+use Rattle.node_laws.specs.rounds.LinkEvents.{on_site}
 use Rattle.node_laws.proofs.rounds.Ends.{ends_of, order_is, ends-append, AreOthers, Split, split, events-append}
 
 -- ## One frame

@@ -1,11 +1,10 @@
 -- A history with a damaged frame, in which REC_ERROR is read and set, is answered.
-use Rattle.std.proofs.Common.{◌≡◌, refl, [], ◌∷◌}
+use Rattle.node_laws.proofs.Words.{Answered, [], end_c, refl, ◌∷◌, ◌≡◌}
 use Rattle.swp_base.specs.Bits.{bits_of_byte}
 use Rattle.trace_model.specs.declared.entry.Entry.TheVariants as entry
 use Rattle.journal_laws.specs.Records.{found_from}
 use Rattle.gate_admin.specs.View.{hosts_where}
 use Rattle.pipe_table.specs.PipeRows.{lowest_free}
-use Rattle.node_laws.proofs.Words.{Answered, end_c}
 use Rattle.node_laws.proofs.answers.Walks.{answered, all_in_turn_still, history_of_lines}
 use Rattle.node_laws.proofs.answers.Schedules.{errors_lines}
 use Rattle.node_laws.proofs.answers.Otherwise.{of_note}

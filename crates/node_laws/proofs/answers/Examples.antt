@@ -1,12 +1,11 @@
 -- Histories of worked examples are answered.
-use Rattle.std.proofs.Common.{refl, [], ◌∷◌}
+use Rattle.node_laws.proofs.Words.{Answered, [], refl, ◌∷◌}
 use Rattle.journal_laws.specs.Records.{found_from}
 use Rattle.gate_admin.specs.View.{hosts_where}
 use Rattle.pipe_table.specs.PipeRows.{lowest_free}
 use Rattle.node_machine.proofs.world.First.{activation_and_first_pipe_lines, parameter_before_opening_lines}
 use Rattle.node_machine.proofs.world.Cuts.{cut_in_first_write_lines, cut_in_second_write_5A_lines, pipes_closed_by_a_cut_lines}
 use Rattle.node_machine.proofs.world.Hosts.{creation_between_hosts_lines, notice_never_answered_lines, relay_and_strangers_lines}
-use Rattle.node_laws.specs.answers.Answered.{Answered}
 use Rattle.node_laws.proofs.answers.Walks.{answered, all_in_turn, history_of_lines}
 
 activation_and_first_pipe : Answered (history_of_lines (2 ∷ []) activation_and_first_pipe_lines)

@@ -1,7 +1,5 @@
 -- A message that is held for room is answered once there is room.
-use Rattle.std.proofs.Common.{◌≡◌, refl, Bool, true, false, [], ◌∷◌}
-use Rattle.std.specs.List.{filter}
-use Rattle.node_laws.proofs.Words.{Answered, Entry, end_c, node_entries}
+use Rattle.node_laws.proofs.Words.{Answered, Bool, Entry, [], end_c, false, filter, node_entries, refl, true, ◌∷◌, ◌≡◌}
 use Rattle.trace_model.specs.declared.entry.Entry.TheVariants as entry
 use Rattle.journal_laws.specs.Records.{found_from}
 use Rattle.gate_admin.specs.View.{hosts_where}

@@ -1,16 +1,10 @@
 -- What a host does with a message is what the first row says that applies, and so it is with a node.
-use Rattle.std.proofs.Common.{◌≡◌, ℕ, Bool, true, false, cond, eqb, List, [], ◌∷◌, length, sym, refl, ap, ◌∙◌, arith}
-use Rattle.std.specs.Prelude.{Option, Some, None, Result, Ok, Err, is_some}
-use Rattle.std.specs.Option.{option_map_or}
-use Rattle.std.proofs.lemmas.Bool.{ne_eqb}
-use Rattle.node_laws.proofs.Words.{Deed, Message, MessageFault, MessageKind, NodeView, OwnView, PipeRow, body_in, by_test, controller_rows, deeds_far}
-use Rattle.node_laws.proofs.Words.{first_row, gate_of_pipe, header_of, host_deeds, instruction_in, is_gate, is_host, pipe_at, pipe_named_in}
-use Rattle.hcp_packet.specs.declared.MessageKind.TheVariants.{Command as IsCommand, Event as IsEvent, Response as IsResponse}
-use Rattle.node_machine.specs.Parts.{EndView}
-use Rattle.node_machine.specs.HostReplies.{is_welcome}
-use Rattle.node_machine.specs.Turns.{deeds_for}
-use Rattle.node_machine.proofs.Walks.{deeds_near}
-use Rattle.node_laws.specs.answers.Rows.{host_rows, answer_rows}
+use Rattle.node_laws.proofs.Words.{Bool, Deed, EndView, Err, IsResponse, List, Message, MessageFault, MessageKind, NodeView, None, Ok, Option, OwnView, PipeRow}
+use Rattle.node_laws.proofs.Words.{Result, Some, [], ap, arith, body_in, by_test, cond, controller_rows, deeds_far, deeds_for, deeds_near, eqb, false}
+use Rattle.node_laws.proofs.Words.{first_row, gate_of_pipe, header_of, host_deeds, host_rows, instruction_in, is_gate, is_host, is_some, is_welcome, length}
+use Rattle.node_laws.proofs.Words.{ne_eqb, option_map_or, pipe_at, pipe_named_in, refl, sym, true, ℕ, ◌∙◌, ◌∷◌, ◌≡◌}
+use Rattle.hcp_packet.specs.declared.MessageKind.TheVariants.{Command as IsCommand, Event as IsEvent}
+use Rattle.node_laws.specs.answers.Rows.{answer_rows}
 use Rattle.node_laws.proofs.answers.Rows.{header_is, controller_by_rows}
 
 -- two bytes or more aren't one

@@ -1,9 +1,8 @@
 -- A notice that is never answered, while its link stays up: its asker gets ANY_E_TIMEOUT at the hundredth tick, and the link is reset.
-use Rattle.std.proofs.Common.{refl, [], ◌∷◌}
+use Rattle.node_laws.proofs.Words.{Answered, [], refl, ◌∷◌}
 use Rattle.journal_laws.specs.Records.{found_from}
 use Rattle.gate_admin.specs.View.{hosts_where}
 use Rattle.pipe_table.specs.PipeRows.{lowest_free}
-use Rattle.node_laws.specs.answers.Answered.{Answered}
 use Rattle.node_laws.proofs.answers.Walks.{answered, all_in_turn, history_of_lines}
 use Rattle.node_laws.proofs.answers.Schedules.{notice_late_lines}
 

@@ -1,19 +1,13 @@
 -- What walks over a history find says of each fact of `Answered` whether it holds.
-use Rattle.std.proofs.Common.{◌≡◌, refl, ap, sym, subst, append_assoc, append-nil, ℕ, Bool, true}
-use Rattle.std.proofs.Common.{false, true≢false, List, [], ◌∷◌, ◌++◌, drop, Option, Some, None}
-use Rattle.std.specs.Prelude.{◌==◌, ◌&&◌, not}
-use Rattle.std.specs.List.{AllByRecursion, list_any}
-use Rattle.std.specs.Option.{option_map_or}
-use Rattle.std.proofs.lemmas.Bool.{and_parts, eqb-true, not-true}
-use Rattle.std.proofs.lemmas.List.Sums.{fold-append}
-use Rattle.node_laws.proofs.Words.{AreDue, AreInTurn, AreReset, AtEachEntry, AtEachOccurrence, End, Entry, IsHeldFor, IsReplied, Message, Moment, NodeHistory}
-use Rattle.node_laws.proofs.Words.{NodesHearFirst, Occurrence, TurnsAscend, by_test, down_in, due, ends_in, entries_in, is_done, is_left_short, is_reset_down}
-use Rattle.node_laws.proofs.Words.{is_reset_due, node_entries, node_of, noted_of_deeds, occurrences_in, oldest, same_end, through, unhandled_after}
-use Rattle.node_laws.proofs.Words.{unhandled_in}
+use Rattle.node_laws.proofs.Words.{AllByRecursion, AreDone, AreDue, AreInTurn, AreLeftShort, AreReset, AtEachEntry, AtEachOccurrence, Bool, End, Entry}
+use Rattle.node_laws.proofs.Words.{IsHeldFor, IsReplied, List, Message, Moment, NodeHistory, NodesHearFirst, None, Occurrence, Option, Some, TurnsAscend, []}
+use Rattle.node_laws.proofs.Words.{and_parts, answerer, ap, append-nil, append_assoc, by_test, down_in, drop, due, ends_in, entries_in, eqb-true, false}
+use Rattle.node_laws.proofs.Words.{fold-append, hears, is_done, is_left_short, is_reset_down, is_reset_due, list_any, node_entries, node_of, not, not-true}
+use Rattle.node_laws.proofs.Words.{noted_of_deeds, occurrences_in, oldest, option_map_or, refl, same_end, subst, sym, through, true, true≢false}
+use Rattle.node_laws.proofs.Words.{unhandled_after, unhandled_in, ℕ, ◌&&◌, ◌++◌, ◌==◌, ◌∷◌, ◌≡◌}
 use Rattle.trace_model.specs.declared.entry.Entry.TheVariants as entry
 use Rattle.node_laws.proofs.turns.Queues.{Becomes, Front, Goes, all_left, doing, front_goes}
-use Rattle.node_laws.specs.answers.Answered.{AreDone, AreLeftShort}
-use Rattle.node_laws.specs.answers.Order.{HearsFirst, answerer, hears}
+use Rattle.node_laws.specs.answers.Order.{HearsFirst}
 use Rattle.node_laws.proofs.answers.Rising.{rise_ascends}
 use Rattle.node_laws.proofs.answers.Splits.{same_at_each, at_events, same_at_events, at_entries, same_at_entries, first_or, rest_of}
 use Rattle.node_laws.proofs.answers.Walks.{answers_found, answers_wanted, found, held_found, held_wanted, turn_found, turn_wanted, wanted}

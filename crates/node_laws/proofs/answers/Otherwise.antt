@@ -1,9 +1,7 @@
 -- Histories with two hosts in which creations end otherwise, or a message is held at a host, are answered.
-use Rattle.std.proofs.Common.{◌≡◌, refl, ◌==◌, Bool, true, false, List, [], ◌∷◌}
-use Rattle.std.specs.Prelude.{not, ◌&&◌}
-use Rattle.std.specs.List.{filter}
+use Rattle.node_laws.proofs.Words.{Answered, Bool, Entry, List, NodeHistory, [], end_c, end_h, false, filter, node_entries, not, refl, same_bytes, true, ◌&&◌}
+use Rattle.node_laws.proofs.Words.{◌==◌, ◌∷◌, ◌≡◌}
 use Rattle.swp_base.specs.declared.link_terms.Cause.TheVariants as cause
-use Rattle.node_laws.proofs.Words.{Answered, Entry, NodeHistory, end_c, end_h, node_entries, same_bytes}
 use Rattle.trace_model.specs.declared.entry.Entry.TheVariants as entry
 use Rattle.journal_laws.specs.Records.{found_from}
 use Rattle.gate_admin.specs.View.{hosts_where}

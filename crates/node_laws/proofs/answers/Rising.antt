@@ -1,11 +1,8 @@
 -- That the ends of a node's turns and holds ascend in an event is found by one walk over its entries.
-use Rattle.std.proofs.Common.{◌≡◌, ℕ, ◌≤◌, arith, Bool, true, false, List, [], ◌∷◌, Option, Some, None, sym, subst}
-use Rattle.std.specs.Prelude.{◌==◌, ◌&&◌, not, nat_lt, if◌then◌else◌}
-use Rattle.std.specs.List.{AllByRecursion, cons_option, filter_map}
-use Rattle.std.specs.Option.{option_map_or}
-use Rattle.std.proofs.lemmas.Bool.{and_parts, eqb-true}
+use Rattle.node_laws.proofs.Words.{AllByRecursion, Bool, End, Entry, IsAscending, List, None, Option, Some, [], and_parts, arith, by_test, cons_option}
+use Rattle.node_laws.proofs.Words.{eqb-true, false, filter_map, if◌then◌else◌, nat_lt, node_of, not, option_map_or, subst, sym, true, turn_link, ℕ, ◌&&◌, ◌==◌}
+use Rattle.node_laws.proofs.Words.{◌∷◌, ◌≡◌, ◌≤◌}
 use Rattle.std.proofs.lemmas.Bool.Decides.{nat_tests}
-use Rattle.node_laws.proofs.Words.{End, Entry, IsAscending, by_test, node_of, turn_link}
 use Rattle.trace_model.specs.declared.entry.Entry.TheVariants as entry
 
 -- the end at which a message has its turn, or is held

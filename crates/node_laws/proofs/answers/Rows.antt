@@ -1,17 +1,13 @@
 -- What a node does with a message is what the first row says that applies.
-use Rattle.std.proofs.Common.{◌≡◌, ℕ, ◌/◌, ◌%◌, Bool, true, false, cond, eqb, ◌&&◌, ◌||◌, List, [], ◌∷◌, length, sym, refl, ap, ap₂, ◌∙◌}
-use Rattle.std.specs.Prelude.{Option, Some, None, Result, Ok, Err}
-use Rattle.std.specs.Option.{option_map_or}
-use Rattle.std.proofs.lemmas.Bool.{cond_both, eqb-true, true≢false}
-use mathlib.Core.Bool.{and-false}
-use Rattle.node_laws.proofs.Words.{About, Decision, Drops, Message, MessageFault, MessageKind, NodeView, Response, Sends, SetOpened, Waits, answers, body_in}
-use Rattle.node_laws.proofs.Words.{by_option, by_test, carried_out, closing, commits, controller_deeds, controller_rows, decided, decision_deeds}
-use Rattle.node_laws.proofs.Words.{deeds_by_relay, far_end, first_of, first_row, gate_deeds, goes_through, header_of, instruction_in, is_opened, kind_deeds}
-use Rattle.node_laws.proofs.Words.{opening, others_opened, own_deeds, own_gate, relay_deeds, relayed_to, served_at, tests_of_pipe, unless_asking, unrelayed}
-use Rattle.hcp_packet.specs.declared.MessageKind.TheVariants.{Command as IsCommand, Event as IsEvent, Response as IsResponse}
+use Rattle.node_laws.proofs.Words.{About, Bool, Decision, Drops, Err, IsResponse, List, Message, MessageFault, MessageKind, NodeView, None, Ok, Option}
+use Rattle.node_laws.proofs.Words.{Response, Result, Sends, SetOpened, Some, Waits, [], administration, and-false, answers, ap, ap₂, body_in, by_option}
+use Rattle.node_laws.proofs.Words.{by_test, carried_out, closing, commits, cond, cond_both, controller_deeds, controller_rows, decided, decides, decision_deeds}
+use Rattle.node_laws.proofs.Words.{deeds_by_relay, eqb, eqb-true, false, far_end, far_host, first_of, first_row, gate_deeds, goes_through, header_of}
+use Rattle.node_laws.proofs.Words.{instruction_in, is_opened, is_order, is_relayed, kind_deeds, length, opening, option_map_or, others_opened, own_deeds}
+use Rattle.node_laws.proofs.Words.{own_gate, refl, relay_deeds, relayed_to, served_at, sym, tests_of_pipe, true, true≢false, unless_asking, unless_refused}
+use Rattle.node_laws.proofs.Words.{unrelayed, ℕ, ◌%◌, ◌&&◌, ◌/◌, ◌||◌, ◌∙◌, ◌∷◌, ◌≡◌}
+use Rattle.hcp_packet.specs.declared.MessageKind.TheVariants.{Command as IsCommand, Event as IsEvent}
 use Rattle.gate_answers.specs.declared.response.Response.TheVariants as response
-use Rattle.gate_admin.specs.Decide.{unless_refused, administration}
-use Rattle.node_laws.specs.answers.Rows.{is_order, far_host, is_relayed, decides}
 
 -- the instruction of a header is the one of its message
 pub header_is : (message : List ℕ) (k : MessageKind) (n : ℕ) → header_of message ≡ Ok (k, n) → n ≡ instruction_in message

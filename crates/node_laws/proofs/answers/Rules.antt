@@ -1,23 +1,16 @@
 -- What holds of each answer of a node: of what each row does, where it is the first one that applies.
-use Rattle.std.proofs.Common.{◌≡◌, inl, inr, ℕ, ◌+◌, Bool, true, false, cond, not, eqb, ◌&&◌, ◌||◌, List, [], ◌∷◌, ◌++◌, length, slice_get, sym, refl}
-use Rattle.std.proofs.Common.{ap, ap₂, ◌∙◌, subst}
-use Rattle.std.specs.Prelude.{Option, Some, None, map, is_none}
-use Rattle.std.specs.List.{AllByRecursion}
-use Rattle.std.specs.Option.{option_map_or}
-use Rattle.std.proofs.lemmas.Bool.{cond_both, and_parts, true≢false}
-use Rattle.node_laws.proofs.Words.{Answer, Ask, AsksAsAllowed, Clear, Command, Commit, Commits, Create, Creation, Decision, Deed, Delete, Ends, Hears, Init}
-use Rattle.node_laws.proofs.Words.{InitFailed, InitMade, InitSame, Message, NodeView, OwnView, Sends, Set, SetOpened, Tells, accepts, agreed, answer_of}
-use Rattle.node_laws.proofs.Words.{answers, body_in, by_option, by_test, carried_out, closing, commit_deeds, commits, controller_rows, decided_as_allowed}
-use Rattle.node_laws.proofs.Words.{deeds_far, end_of_number, far_end, first_of, first_row, has, hosts_where, init_deeds, instruction_in, is_command}
-use Rattle.node_laws.proofs.Words.{is_command_message, is_opened, learned, learns, link_deeds, link_served, opening, orders_of, others_opened, param_in}
-use Rattle.node_laws.proofs.Words.{pipe_named_in, tests_of_pipe}
+use Rattle.node_laws.proofs.Words.{AllByRecursion, Answer, Ask, AsksAsAllowed, Bool, Clear, Command, Commit, Commits, Create, Creation, Decision, Deed, Delete}
+use Rattle.node_laws.proofs.Words.{EndView, Ends, Hears, Init, InitFailed, InitMade, InitSame, List, Message, NodeView, None, Option, OwnView, Sends, Set}
+use Rattle.node_laws.proofs.Words.{SetOpened, Some, Tells, [], accepts, administration, agreed, and_parts, answer_of, answers, ap, ap₂, body_in, by_option}
+use Rattle.node_laws.proofs.Words.{by_test, carried_out, closing, commit_deeds, commits, cond, cond_both, controller_rows, decided_as_allowed, decides}
+use Rattle.node_laws.proofs.Words.{deeds_far, deeds_for, deeds_near, end_of_number, eqb, false, far_end, far_host, first_of, first_row, has, host_rows}
+use Rattle.node_laws.proofs.Words.{hosts_where, init_agreed, init_deeds, inl, inr, instruction_in, is_command, is_command_message, is_none, is_opened, is_order}
+use Rattle.node_laws.proofs.Words.{is_relayed, is_same, learned, learns, length, link_deeds, link_served, map, not, opening, option_map_or, orders_of}
+use Rattle.node_laws.proofs.Words.{others_opened, param_in, pipe_named_in, refl, slice_get, subst, sym, tests_of_pipe, true, true≢false, unless_refused, ℕ}
+use Rattle.node_laws.proofs.Words.{◌&&◌, ◌++◌, ◌+◌, ◌||◌, ◌∙◌, ◌∷◌, ◌≡◌}
 use Rattle.gate_answers.specs.declared.response.Response.TheVariants as response
-use Rattle.gate_admin.specs.Decide.{unless_refused, administration}
-use Rattle.node_machine.specs.Parts.{EndView}
-use Rattle.node_machine.specs.HostReplies.{is_same, init_agreed, deleted_by, created_by}
-use Rattle.node_machine.specs.Turns.{deeds_for}
-use Rattle.node_machine.proofs.Walks.{deeds_near}
-use Rattle.node_laws.specs.answers.Rows.{far_host, is_order, is_relayed, leads_to_gate, waiting_for, decides, host_rows}
+use Rattle.node_machine.specs.HostReplies.{created_by, deleted_by}
+use Rattle.node_laws.specs.answers.Rows.{leads_to_gate, waiting_for}
 use Rattle.node_laws.specs.answers.Rules.{IsForAsker, IsSentAsAllowed, IsAskedAsAllowed, commits_first}
 use Rattle.node_laws.proofs.answers.Rows.{controller_by_rows}
 use Rattle.node_laws.proofs.answers.HostRows.{host_by_rows}

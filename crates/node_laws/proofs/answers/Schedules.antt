@@ -1,8 +1,5 @@
 -- Schedules of further worked examples: a notice that is never answered while its link stays up, and a message that is held for room.
-use Rattle.std.proofs.Common.{ℕ, List, [], ◌∷◌, ◌++◌, Some, None}
-use Rattle.std.specs.Prelude.{replicate}
-use Rattle.std.specs.List.{flat_map}
-use Rattle.node_laws.proofs.Words.{Line, end_c, end_h}
+use Rattle.node_laws.proofs.Words.{Line, List, None, Some, [], end_c, end_h, flat_map, replicate, ℕ, ◌++◌, ◌∷◌}
 use Rattle.trace_model.specs.declared.line.Line.TheVariants as line
 
 -- the link with this host is activated and reset, and its pipe 01 is opened

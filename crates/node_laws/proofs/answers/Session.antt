@@ -1,10 +1,9 @@
 -- A user's session over a cut is answered.
-use Rattle.std.proofs.Common.{refl, [], ◌∷◌}
+use Rattle.node_laws.proofs.Words.{Answered, [], refl, ◌∷◌}
 use Rattle.journal_laws.specs.Records.{found_from}
 use Rattle.gate_admin.specs.View.{hosts_where}
 use Rattle.pipe_table.specs.PipeRows.{lowest_free}
 use Rattle.node_machine.proofs.world.User.{users_session_over_a_cut_lines}
-use Rattle.node_laws.specs.answers.Answered.{Answered}
 use Rattle.node_laws.proofs.answers.Walks.{answered, all_in_turn, history_of_lines}
 
 users_session_over_a_cut : Answered (history_of_lines (2 ∷ []) users_session_over_a_cut_lines)

@@ -1,7 +1,6 @@
 -- Facts at each place of a history follow from two walks over it that find the same.
-use Rattle.std.proofs.Common.{◌≡◌, ap, sym, subst, append_assoc, append-nil, List, [], ◌∷◌, ◌++◌, map}
-use Rattle.std.specs.List.{AllByRecursion}
-use Rattle.node_laws.proofs.Words.{Entry, Happening, Moment, Occurrence}
+use Rattle.node_laws.proofs.Words.{AllByRecursion, Entry, Happening, List, Moment, Occurrence, [], ap, append-nil, append_assoc, map, subst, sym, ◌++◌, ◌∷◌}
+use Rattle.node_laws.proofs.Words.{◌≡◌}
 
 -- the first element, or this one
 abbrev pub first_or : {X : Type 0} → X → List X → X

@@ -1,12 +1,7 @@
 -- The messages that are read to have had no turn are those that came behind the ones that had theirs.
-use Rattle.std.proofs.Common.{◌≡◌, refl, ap, sym, subst, ◌∙◌, ℕ, ◌==◌, Bool, true, false, append_assoc, append-nil, if◌then◌else◌, List, [], ◌∷◌, ◌++◌, drop}
-use Rattle.std.proofs.Common.{Option, Some}
-use Rattle.std.specs.List.{filter_map}
-use Rattle.std.proofs.lemmas.List.Elements.{filter_map-append}
-use Rattle.std.proofs.lemmas.List.Sums.{fold-append}
-use Rattle.std.proofs.lemmas.List.{append_cancel_left}
-use Rattle.node_laws.proofs.Words.{AreInTurn, End, Entry, IsFrontOf, Message, by_test, got_entry, node_of, oldest, same_end, same_end_itself, since_boot}
-use Rattle.node_laws.proofs.Words.{turn_entry_at, unhandled_after, unhandled_in}
+use Rattle.node_laws.proofs.Words.{AreInTurn, Bool, End, Entry, IsFrontOf, List, Message, Option, Some, [], ap, append-nil, append_assoc, append_cancel_left}
+use Rattle.node_laws.proofs.Words.{by_test, drop, false, filter_map, filter_map-append, fold-append, got_entry, if◌then◌else◌, node_of, oldest, refl, same_end}
+use Rattle.node_laws.proofs.Words.{same_end_itself, since_boot, subst, sym, true, turn_entry_at, unhandled_after, unhandled_in, ℕ, ◌++◌, ◌==◌, ◌∙◌, ◌∷◌, ◌≡◌}
 use Rattle.trace_model.specs.declared.entry.Entry.TheVariants as entry
 use Rattle.node_laws.specs.turns.Turns.{AreLeft}
 

@@ -1,12 +1,10 @@
 -- One walk over a history finds whether it is answered.
-use Rattle.std.proofs.Common.{◌≡◌, refl, ap, sym, subst, ℕ, Bool, true, false, true≢false, if◌then◌else◌, List, [], ◌∷◌, ◌++◌, map, Option, Some, None}
-use Rattle.std.specs.Prelude.{◌==◌, ◌&&◌, is_none}
-use Rattle.std.specs.List.{AllByRecursion, filter, list_any}
-use Rattle.std.proofs.lemmas.Bool.{and_parts}
-use Rattle.node_laws.proofs.Words.{Answered, AreDifferent, AreInTurn, Entry, FollowsNodes, Header, IsHeldFor, IsReplied, Line, Moment, NodeHistory, NodeWorld}
-use Rattle.node_laws.proofs.Words.{NodesHearFirst, Occurrence, before_turn, down_in, due, ends_in, entries_in, holds_in, is_answer_of, is_cut_of, is_done}
-use Rattle.node_laws.proofs.Words.{is_left_short, is_reset_down, is_reset_due, lack_at, lack_of, line_step, new_world, node_entries, node_of, noted_of_deeds}
-use Rattle.node_laws.proofs.Words.{occurrences_in, reply, steps_from, through, to_command, until}
+use Rattle.node_laws.proofs.Words.{AllByRecursion, Answered, AreDifferent, AreInTurn, Bool, Entry, FollowsNodes, Header, IsHeldFor, IsReplied, Line, List}
+use Rattle.node_laws.proofs.Words.{Moment, NodeHistory, NodeWorld, NodesHearFirst, None, Occurrence, Option, Some, [], and_parts, ap, before_turn, down_in, due}
+use Rattle.node_laws.proofs.Words.{ends_in, entries_in, false, filter, holds_in, if◌then◌else◌, is_answer_of, is_cut_of, is_done, is_left_short, is_none}
+use Rattle.node_laws.proofs.Words.{is_reset_down, is_reset_due, lack_at, lack_of, line_step, list_any, map, new_world, node_entries, node_of, noted_of_deeds}
+use Rattle.node_laws.proofs.Words.{occurrences_in, refl, reply, steps_from, subst, sym, through, to_command, true, true≢false, until, ℕ, ◌&&◌, ◌++◌, ◌==◌, ◌∷◌}
+use Rattle.node_laws.proofs.Words.{◌≡◌}
 use Rattle.trace_model.specs.declared.entry.Entry.TheVariants as entry
 use Rattle.trace_model.specs.declared.line.Line.TheVariants as line
 use Rattle.node_machine.specs.world.Lines.{misread_in}

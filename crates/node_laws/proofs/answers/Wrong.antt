@@ -1,8 +1,7 @@
 -- Small wrong histories aren't answered: one for each fact.
-use Rattle.std.proofs.Common.{◌≤◌, arith, refl, ap, sym, Bool, true, false, true≢false, List, [], ◌∷◌, ◌++◌, None}
-use Rattle.std.specs.Prelude.{is_some}
+use Rattle.node_laws.proofs.Words.{Answered, Bool, Booted, Boots, CutsEndParts, Entry, Held, List, NodeHistory, None, Occurred, Occurrence, Takes, Ticks, []}
+use Rattle.node_laws.proofs.Words.{ap, arith, end_c, false, is_some, refl, sym, true, true≢false, ◌++◌, ◌∷◌, ◌≤◌}
 use Rattle.swp_base.specs.declared.link_terms.Cause.TheVariants as cause
-use Rattle.node_laws.proofs.Words.{Answered, Booted, Boots, CutsEndParts, Entry, Held, NodeHistory, Occurred, Occurrence, Takes, Ticks, end_c}
 use Rattle.trace_model.specs.declared.entry.Entry.TheVariants.{Up, Down, Emit, Sent, Got, Took, Turn, Command, Cut}
 use Rattle.trace_model.specs.declared.line.Line.TheVariants as line
 use Rattle.hci_tables.specs.declared.command.Command.TheVariants as command

@@ -1,15 +1,13 @@
 -- Small wrong histories of a link that is activated as its causes say aren't legal: those of a reset, and of a memory.
-use Rattle.std.proofs.Common.{◌≡◌, refl, ap, sym, true, true≢false, List, [], ◌∷◌, ◌++◌, get_or, arith, Option, Some, None}
-use Rattle.std.specs.Prelude.{is_some, unwrap_or}
-use Rattle.node_laws.proofs.Words.{Activates, Asked, Entry, IsUpheld, LegalWorld, Memory, Occurrence, Resets, Site, Ticks, end_c, end_h, new_site, new_world}
-use Rattle.node_laws.proofs.Words.{site_at, world_behind}
+use Rattle.node_laws.proofs.Words.{Activates, Asked, Entry, IsUpheld, IsUpheldInTick, LegalWorld, List, Memory, None, Occurrence, Option, Resets, Site, Some}
+use Rattle.node_laws.proofs.Words.{Ticks, [], ap, arith, end_c, end_h, get_or, is_some, new_site, new_world, refl, site_at, sym, true, true≢false, unwrap_or}
+use Rattle.node_laws.proofs.Words.{world_behind, ◌++◌, ◌∷◌, ◌≡◌}
 use Rattle.trace_model.specs.declared.entry.Entry.TheVariants.{Down, Emit, Took, Lost, Active, Command}
 use Rattle.trace_model.specs.declared.entry.LostCause.TheVariants as lost
 use Rattle.hci_tables.specs.declared.command.Command.TheVariants as command
 use Rattle.journal_laws.specs.Records.{found_from}
 use Rattle.gate_admin.specs.View.{hosts_where}
 use Rattle.pipe_table.specs.PipeRows.{lowest_free}
-use Rattle.node_laws.specs.order.Resets.{IsUpheldInTick}
 use Rattle.node_laws.proofs.answers.Wrong.{told, boot, takes}
 use Rattle.node_laws.proofs.answers.WrongWorlds.{boots_host, host_takes}
 

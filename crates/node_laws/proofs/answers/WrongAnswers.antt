@@ -1,7 +1,7 @@
 -- Small wrong histories of nodes aren't answered: for each of five facts of `Answered` one that it alone refuses.
-use Rattle.std.proofs.Common.{◌≤◌, arith, refl, ap, sym, ℕ, true≢false, List, [], ◌∷◌, ◌++◌, replicate, None}
-use Rattle.node_laws.proofs.Words.{Entry, Gives, Held, NodeHistory, Occurred, Occurrence, Takes, end_c, end_h, entries_in}
-use Rattle.trace_model.specs.declared.entry.Entry.TheVariants.{Up, Sent, Got, Acked, Turn, Dropped}
+use Rattle.node_laws.proofs.Words.{Dropped, Entry, Gives, Held, List, NodeHistory, None, Occurred, Occurrence, Takes, [], ap, arith, end_c, end_h, entries_in}
+use Rattle.node_laws.proofs.Words.{refl, replicate, sym, true≢false, ℕ, ◌++◌, ◌∷◌, ◌≤◌}
+use Rattle.trace_model.specs.declared.entry.Entry.TheVariants.{Acked, Got, Sent, Turn, Up}
 use Rattle.trace_model.specs.declared.line.Line.TheVariants as line
 use Rattle.journal_laws.specs.Records.{found_from}
 use Rattle.gate_admin.specs.View.{hosts_where}

@@ -1,11 +1,10 @@
 -- Small wrong histories of nodes aren't legal: those that a part of a fact refuses.
-use Rattle.std.proofs.Common.{refl, sym, true≢false, List, [], ◌∷◌, ◌++◌}
+use Rattle.node_laws.proofs.Words.{Activates, LegalWorld, List, Occurrence, [], refl, sym, true≢false, ◌++◌, ◌∷◌}
 use Rattle.trace_model.specs.declared.entry.Entry.TheVariants.{Command}
 use Rattle.hci_tables.specs.declared.command.Command.TheVariants as command
 use Rattle.journal_laws.specs.Records.{found_from}
 use Rattle.gate_admin.specs.View.{hosts_where}
 use Rattle.pipe_table.specs.PipeRows.{lowest_free}
-use Rattle.node_laws.proofs.Words.{Activates, LegalWorld, Occurrence}
 use Rattle.node_laws.proofs.answers.Wrong.{told, ticks}
 use Rattle.node_laws.proofs.answers.WrongWorlds.{host_alone, gives, sent, emitted, got}
 

@@ -1,17 +1,13 @@
 -- A small wrong history of a link that settles isn't legal, and the law of what has settled refuses it too.
-use Rattle.std.proofs.Common.{◌≡◌, ◌∙◌, refl, ap, sym, ℕ, true≢false, List, [], ◌∷◌, ◌++◌, Some, None}
-use Rattle.std.specs.Prelude.{is_some}
-use Rattle.node_laws.proofs.Words.{AsksReset, AtController, AtHost, Bare, Clf, GoesOut, IsRunOf, IsUpheld, LegalWorld, Link, LinkEvent, NextFrame, NumberedEnd}
-use Rattle.node_laws.proofs.Words.{Occurrence, PowerMode, Ready, Resets, Role, Starts, Step, Uicc, after_link_events, end_c, end_h, entries_in, new_line}
-use Rattle.node_laws.proofs.Words.{new_link_end}
-use Rattle.swp_act.specs.declared.Phase.TheVariants.{Active as IsActive}
+use Rattle.node_laws.proofs.Words.{AsksReset, AtController, AtHost, Bare, Clf, GoesOut, HasSettled, IsActive, IsRunOf, IsSettled, IsUpheld, LegalWorld, Link}
+use Rattle.node_laws.proofs.Words.{LinkEvent, List, NextFrame, None, NumberedEnd, Occurrence, PowerMode, Ready, Resets, Role, Some, Starts, Step, Uicc, []}
+use Rattle.node_laws.proofs.Words.{after_link_events, ap, end_c, end_h, entries_in, is_some, new_line, new_link_end, refl, sure_of, sym, true≢false, ℕ, ◌++◌}
+use Rattle.node_laws.proofs.Words.{◌∙◌, ◌∷◌, ◌≡◌}
 use Rattle.trace_model.specs.declared.entry.LostCause.TheVariants as lost
 use Rattle.trace_model.specs.declared.entry.Entry.TheVariants.{Up, Emit, Took, Lost}
 use Rattle.journal_laws.specs.Records.{found_from}
 use Rattle.gate_admin.specs.View.{hosts_where}
 use Rattle.pipe_table.specs.PipeRows.{lowest_free}
-use Rattle.link_laws.specs.messages.Settled.{IsSettled, sure_of}
-use Rattle.node_laws.specs.order.Told.{HasSettled}
 use Rattle.node_laws.proofs.answers.Wrong.{told, takes}
 use Rattle.node_laws.proofs.answers.WrongWorlds.{host_takes}
 use Rattle.node_laws.proofs.answers.WrongActivated.{activated, site}

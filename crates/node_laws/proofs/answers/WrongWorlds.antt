@@ -1,16 +1,14 @@
 -- Small wrong histories of nodes aren't legal: one for each fact of `LegalWorld`. Where other facts refuse one too, that is said.
-use Rattle.std.proofs.Common.{◌≡◌, ◌≤◌, inl, inr, arith, refl, ap, sym, ℕ, false, true≢false, List, [], ◌∷◌, ◌++◌, None}
-use Rattle.std.specs.Prelude.{is_some}
+use Rattle.node_laws.proofs.Words.{AnyOk, Booted, Boots, Dropped, Entry, FindsCommands, Gives, HciTables, Held, IsCut, IsStillInSession, LegalWorld, LineStep}
+use Rattle.node_laws.proofs.Words.{List, NodeHistory, None, Occurred, Occurrence, PipeRow, Takes, ToldTables, [], ap, arith, end_c, end_h, entries_in, false}
+use Rattle.node_laws.proofs.Words.{inl, inr, is_some, no_tables, refl, sym, true≢false, ℕ, ◌++◌, ◌∷◌, ◌≡◌, ◌≤◌}
 use Rattle.swp_base.specs.declared.link_terms.Cause.TheVariants as cause
-use Rattle.node_laws.proofs.Words.{Booted, Boots, Entry, FindsCommands, Gives, HciTables, Held, IsCut, LegalWorld, LineStep, NodeHistory, Occurred, Occurrence}
-use Rattle.node_laws.proofs.Words.{PipeRow, Takes, ToldTables, end_c, end_h, entries_in, no_tables}
-use Rattle.trace_model.specs.declared.entry.Entry.TheVariants.{Up, Down, Emit, Sent, Got, Acked, Took, Turn, Dropped, Command, AnyOk, Cut}
+use Rattle.trace_model.specs.declared.entry.Entry.TheVariants.{Acked, Command, Cut, Down, Emit, Got, Sent, Took, Turn, Up}
 use Rattle.trace_model.specs.declared.line.Line.TheVariants as line
 use Rattle.hci_tables.specs.declared.command.Command.TheVariants as command
 use Rattle.journal_laws.specs.Records.{found_from}
 use Rattle.gate_admin.specs.View.{hosts_where}
 use Rattle.pipe_table.specs.PipeRows.{lowest_free}
-use Rattle.node_laws.specs.order.Told.{IsStillInSession}
 use Rattle.node_laws.proofs.answers.Walks.{header_of_hosts}
 use Rattle.node_laws.proofs.answers.Wrong.{is_empty, told, boot, comes_up, begins, takes, ticks}
 

@@ -1,22 +1,17 @@
 -- In each pass of the controller no more commands are noted than came of causes.
-use Rattle.std.proofs.Common.{◌≡◌, ℕ, ◌+◌, ◌≤◌, Bool, true, false, cond, eqb, List, [], ◌∷◌, ◌++◌, length, map, sym, refl, ap, ◌∙◌, subst, arith, append-nil}
-use Rattle.std.proofs.Common.{append_assoc, Some, None}
-use Rattle.std.specs.Prelude.{nat_lt, option_to_list}
-use Rattle.std.specs.List.{flat_map}
-use Rattle.std.specs.Option.{option_map_or}
-use Rattle.std.proofs.lemmas.Bool.{true≢false, cond_both}
-use Rattle.std.proofs.lemmas.List.{length-map}
-use Rattle.std.proofs.lemmas.List.Concat.{flat_map-append}
-use Rattle.node_laws.proofs.Words.{Acked, Active, AllByRecursion-append, AreCausedSo, AreDifferent, AreHosts, AsksReset, AtEnd, Comes, ComesTo, Controller}
-use Rattle.node_laws.proofs.Words.{Core, Down, End, Entry, GaveUp, Got, Happening, HasEnds, Host, IfItRuns, IsFrontOf, LinkInput, Message, NextFrame, NoInput}
-use Rattle.node_laws.proofs.Words.{NodeInput, NodeWorld, NumberedEnd, Occurrence, Port, Report, Reset, Running, Site, Start, Starts, Stop, Stops, Takes}
-use Rattle.node_laws.proofs.Words.{TimePasses, Work, after_input, aged, aged_entries, all_aged, all_come, arrival, as_it_ticks, by_option, comes_to}
-use Rattle.node_laws.proofs.Words.{comes_to_pass, commands_by_events, commands_noted, controller_begins, controller_work, deeds_of, end_c, entries_for}
-use Rattle.node_laws.proofs.Words.{entries_in, forgets, frames_noted, goes_through_ends, good_of, got_in, handles, has_come_so, has_freed, has_synced}
-use Rattle.node_laws.proofs.Words.{have_turns, holds_back, hosts_in, hosts_of_ends, if_so, input_at, input_of, is_late, lack, lets_go, link_to, near_end_in}
-use Rattle.node_laws.proofs.Words.{needs, new_world, noted_by_deeds, other_end, owed_in_step, own_side, passes, report, sent_in, site_at, steps, syncs_in, told}
-use Rattle.node_laws.proofs.Words.{told_at, told_late, told_of_coming, told_of_late, unless_cut, whole_acked, wires_for, with_older, world_behind, world_step}
-use Rattle.link_laws.specs.entries.Entries.{End as Side, Entry as Noted}
+use Rattle.node_laws.proofs.Words.{Acked, Active, AllByRecursion-append, AreCausedSo, AreDifferent, AreHosts, AsksReset, AtEnd, Bool, Comes, ComesTo}
+use Rattle.node_laws.proofs.Words.{Controller, Core, Down, End, Entry, GaveUp, Got, Happening, HasEnds, Host, IfItRuns, IsFrontOf, LinkInput, List, Message}
+use Rattle.node_laws.proofs.Words.{NextFrame, NoInput, NodeInput, NodeWorld, None, Noted, NumberedEnd, Occurrence, Port, Report, Reset, Running, Site, Some}
+use Rattle.node_laws.proofs.Words.{Start, Starts, Stop, Stops, Takes, TimePasses, Work, [], after_input, aged, aged_entries, all_aged, all_come, ap, append-nil}
+use Rattle.node_laws.proofs.Words.{append_assoc, arith, arrival, as_it_ticks, by_option, comes_to, comes_to_pass, commands_by_events, commands_noted, cond}
+use Rattle.node_laws.proofs.Words.{cond_both, controller_begins, controller_work, deeds_of, end_c, entries_for, entries_in, eqb, false, flat_map}
+use Rattle.node_laws.proofs.Words.{flat_map-append, forgets, frames_noted, goes_through_ends, good_of, got_in, handles, has_come_so, has_freed, has_synced}
+use Rattle.node_laws.proofs.Words.{have_turns, holds_back, hosts_in, hosts_of_ends, if_so, input_at, input_of, is_late, lack, length, length-map, lets_go}
+use Rattle.node_laws.proofs.Words.{link_to, map, nat_lt, near_end_in, needs, new_world, noted_by_deeds, option_map_or, option_to_list, other_end, owed_in_step}
+use Rattle.node_laws.proofs.Words.{own_side, passes, refl, report, sent_in, site_at, steps, subst, sym, syncs_in, told, told_at, told_late, told_of_coming}
+use Rattle.node_laws.proofs.Words.{told_of_late, true, true≢false, unless_cut, whole_acked, wires_for, with_older, world_behind, world_step, ℕ, ◌++◌, ◌+◌, ◌∙◌}
+use Rattle.node_laws.proofs.Words.{◌∷◌, ◌≡◌, ◌≤◌}
+use Rattle.link_laws.specs.entries.Entries.{End as Side}
 use Rattle.link_laws.specs.entries.Entries.Entry.{Up}
 use Rattle.node_laws.proofs.kept.Sites.{hosts_same as sites_same}
 use Rattle.node_laws.proofs.telling.Lasting.{occurs}

@@ -1,19 +1,14 @@
 -- The ends of hosts between events: none has a frame of activation that is due, and none on its way to it is sent again.
-use Rattle.std.proofs.Common.{◌≡◌, ℕ, ◌+◌, ◌≤◌, Bool, true, false, cond, List, [], ◌∷◌, map, sym, ap, ◌∙◌, subst, arith, None}
-use Rattle.std.specs.Prelude.{not, ◌&&◌}
-use Rattle.std.specs.List.{AllByRecursion}
-use Rattle.std.proofs.lemmas.Bool.{cond_both}
-use Rattle.node_laws.proofs.Words.{AllAllowed, AtController, AtHost, Bare, Clf, Comes, Control, CutOff, Ending, Good, IsClf, IsLine, IsRun, IsUicc, Link}
-use Rattle.node_laws.proofs.Words.{LinkEnd, LinkEvent, LinkInput, Lose, Loss, NextFrame, NoInput, NumberedEnd, OnWire, Reached, Reset, Role, Site, Step, Take}
-use Rattle.node_laws.proofs.Words.{Tick, Turn, Uicc, after_link_events, aged, core_event, core_of, event_step, exchanged, happens}
-use Rattle.node_laws.proofs.Words.{happens_at_controller, has_input, is_waiting, new_line, reached_more, start_good, start_reached}
-use Rattle.node_laws.proofs.Words.{ticked_so, ticks_at_controller}
-use Rattle.swp_base.specs.declared.control_frames.Control.TheVariants.{Act as ActFrame}
+use Rattle.node_laws.proofs.Words.{ActFrame, AllAllowed, AllByRecursion, AtController, AtHost, Bare, Bool, Clf, Comes, Control, CutOff, Ending, Good, IsClf}
+use Rattle.node_laws.proofs.Words.{IsLine, IsRun, IsUicc, Link, LinkEnd, LinkEvent, LinkInput, List, Lose, Loss, NextFrame, NoInput, None, NumberedEnd, OnWire}
+use Rattle.node_laws.proofs.Words.{Reached, Reset, Role, Site, Step, Take, Tick, Turn, Uicc, [], after_link_events, aged, all_so, ap, arith, cond, cond_both}
+use Rattle.node_laws.proofs.Words.{core_event, core_of, event_step, exchanged, false, happens, happens_at_controller, has_input, is_waiting, map, new_line, not}
+use Rattle.node_laws.proofs.Words.{reached_more, start_good, start_reached, subst, sym, ticked_so, ticks_at_controller, true, ℕ, ◌&&◌, ◌+◌, ◌∙◌, ◌∷◌, ◌≡◌, ◌≤◌}
 use Rattle.link_laws.proofs.messages.ActsInOrder.{ActsInOrder, Without, is_again}
 use Rattle.node_laws.proofs.links.Ends.{here_host}
 use Rattle.node_laws.proofs.links.Worlds.{IsFineSite}
-use Rattle.node_laws.proofs.bounds.Syncs.{syncs_on, tries_of, ComesOnce}
-use Rattle.node_laws.proofs.bounds.Links.{Rests, FirstOnce, taken_by, start_by, aged_less, drop_less, input_in, step_in, step_out, tick_out, cut_out}
+use Rattle.node_laws.proofs.bounds.Syncs.{ComesOnce, syncs_on, tries_of}
+use Rattle.node_laws.proofs.bounds.Links.{FirstOnce, Rests, aged_less, cut_out, drop_less, input_in, start_by, step_in, step_out, taken_by, tick_out}
 use Rattle.node_laws.proofs.telling.WorldTicks.{host_left}
 
 -- ## Runs
@@ -64,12 +59,10 @@ calm_of s fine =
     }
 
 pub all_calm : (sites : List Site) → AllByRecursion IsFineSite sites → AllByRecursion IsCalm sites
-all_calm [] fine = tt
-all_calm (s ∷ sites) fine = (calm_of s fine.0, all_calm sites fine.1)
+all_calm sites fine = all_so IsFineSite IsCalm calm_of sites fine
 
 pub all_resting : (sites : List Site) → AllByRecursion IsCalm sites → AllByRecursion IsResting sites
-all_resting [] calm = tt
-all_resting (s ∷ sites) calm = (calm.0.rests, all_resting sites calm.1)
+all_resting sites calm = all_so IsCalm IsResting (λ s b. b.rests) sites calm
 
 -- it stays so where the end of the host stays
 pub still_rest : (g : Site → Site) → ((s : Site) → (g s).link.host.side ≡ s.link.host.side) → (sites : List Site) → AllByRecursion IsResting sites

@@ -1,11 +1,9 @@
 -- Whatever happens to a new world, what its nodes commit is paid for by what came of the causes.
-use Rattle.std.proofs.Common.{◌≡◌, ℕ, ◌+◌, ◌≤◌, Bool, true, List, [], ◌∷◌, ◌++◌, length, sym, refl, ap, ◌∙◌, subst, arith, append-nil, append_assoc}
-use Rattle.std.proofs.lemmas.Bool.{true≢false}
-use Rattle.std.proofs.lemmas.List.{length-map}
-use Rattle.std.proofs.lemmas.List.Concat.{flat_map-append}
-use Rattle.node_laws.proofs.Words.{Activates, AreCausedSo, AreHosts, Boots, End, Entry, FollowsNodes, Gives, Happening, Header, IsFrontOf, MayBoot, NodeHistory}
-use Rattle.node_laws.proofs.Words.{NodeWorld, Occurrence, Resets, Site, all_happen, by_test, can_happen, commands_by, commands_by_events, commands_noted}
-use Rattle.node_laws.proofs.Words.{entries_in, good_of, got_in, new_world, other_end, sent_in, world_behind, world_step}
+use Rattle.node_laws.proofs.Words.{Activates, AreCausedSo, AreHosts, Bool, Boots, End, Entry, FollowsNodes, Gives, Happening, Header, IsFrontOf, List}
+use Rattle.node_laws.proofs.Words.{MayBeCaused, MayBoot, NodeHistory, NodeWorld, Occurrence, Resets, Site, [], all_happen, ap, append-nil, append_assoc, arith}
+use Rattle.node_laws.proofs.Words.{by_test, can_happen, commands_by, commands_by_all, commands_by_events, commands_noted, entries_in, flat_map-append, good_of}
+use Rattle.node_laws.proofs.Words.{got_in, length, length-map, new_world, other_end, refl, sent_in, subst, sym, true, true≢false, world_behind, world_step, ℕ}
+use Rattle.node_laws.proofs.Words.{◌++◌, ◌+◌, ◌∙◌, ◌∷◌, ◌≡◌, ◌≤◌}
 use Rattle.node_laws.proofs.telling.Lasting.{occurs}
 use Rattle.node_laws.proofs.links.Playing.{MayHappen}
 use Rattle.node_laws.proofs.order.Lines.{IsSo, of_none, next_so, history_so}
@@ -15,7 +13,7 @@ use Rattle.node_laws.proofs.turns.Works.{end_at, Moves}
 use Rattle.node_laws.proofs.turns.Worlds.{events_move}
 use Rattle.node_laws.proofs.turns.Lines.{Waiting, none_wait}
 use Rattle.node_laws.proofs.reply_passes.Ordered.{in_turn_of}
-use Rattle.node_laws.specs.bounds.Commands.{MayBeCaused, AllCome, commands_by_all}
+use Rattle.node_laws.specs.bounds.Commands.{AllCome}
 use Rattle.node_laws.proofs.bounds.Costs.{costs, pays, costs-append, pays-append}
 use Rattle.node_laws.proofs.bounds.Calm.{all_calm}
 use Rattle.node_laws.proofs.bounds.Worlds.{world_holds, sites_hold, event_paid}

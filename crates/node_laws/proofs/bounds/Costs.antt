@@ -1,11 +1,10 @@
 -- What is noted is counted: commands that are committed cost, and so do messages that are sent and may bring about others; messages that have
 -- their turns pay for them.
-use Rattle.std.proofs.Common.{◌≡◌, ℕ, ◌+◌, ◌≤◌, ◌&&◌, Bool, true, false, eqb, List, [], ◌∷◌, ◌++◌, refl, ap, arith, Option, Some, None}
-use Rattle.std.specs.Prelude.{not}
-use Rattle.std.specs.List.{AllByRecursion}
-use Rattle.node_laws.proofs.Words.{Controller, Entry, Host, Message, Refused, Report, Sent, entries_for, entry_of, is_command_message, sent_unless, told}
+use Rattle.node_laws.proofs.Words.{AllByRecursion, Bool, Controller, Entry, Host, List, Message, None, Noted, Option, Refused, Report, Sent, Some, [], ap}
+use Rattle.node_laws.proofs.Words.{arith, entries_for, entry_of, eqb, false, is_command_message, not, refl, sent_unless, told, true, ℕ, ◌&&◌, ◌++◌, ◌+◌, ◌∷◌}
+use Rattle.node_laws.proofs.Words.{◌≡◌, ◌≤◌}
 use Rattle.trace_model.specs.declared.entry.Entry.TheVariants as entry
-use Rattle.link_laws.specs.entries.Entries.{End as Side, Entry as Noted}
+use Rattle.link_laws.specs.entries.Entries.{End as Side}
 use Rattle.node_laws.proofs.telling.Reported.{told_all}
 
 -- ## Entries

@@ -1,11 +1,9 @@
 -- What each deed of a node costs, and that a node can always pay for it.
-use Rattle.std.proofs.Common.{◌≡◌, ℕ, ◌+◌, ◌≤◌, true, List, [], ◌∷◌, ◌++◌, length, sym, refl, ap, subst, arith, Option, Some, None}
-use Rattle.std.proofs.lemmas.List.{length-map}
-use Rattle.std.specs.Option.{option_map_or}
-use Rattle.node_laws.proofs.Words.{Asks, Command, Commits, Core, Deed, Drops, Ends, Entry, Give, GoesOn, Hears, Init, IsAnswered, Message, Notice, Orders, Port}
-use Rattle.node_laws.proofs.Words.{Release, Releases, Removed, SaysOk, Sends, SetAside, SetsErrors, Tells, Turn, Waits, Work, Write, after_turn, all_done}
-use Rattle.node_laws.proofs.Words.{body_of, by_option, by_test, commit, commit_writes, count_of, creation_in, done, end_of_node, fails_within, give_refusal}
-use Rattle.node_laws.proofs.Words.{noted_of, noting, own_side, port_at, turn_at, with_desk, with_port}
+use Rattle.node_laws.proofs.Words.{Asks, Command, Commits, Core, Deed, Drops, Ends, Entry, Give, GoesOn, Hears, Init, IsAnswered, List, Message, None, Notice}
+use Rattle.node_laws.proofs.Words.{Option, Orders, Port, Release, Releases, Removed, SaysOk, Sends, SetAside, SetsErrors, Some, Tells, Turn, Waits, Work, Write}
+use Rattle.node_laws.proofs.Words.{[], after_turn, all_done, ap, arith, body_of, by_option, by_test, commit, commit_writes, count_of, creation_in, done}
+use Rattle.node_laws.proofs.Words.{end_of_node, fails_within, give_refusal, length, length-map, noted_of, noting, option_map_or, own_side, port_at, refl, subst}
+use Rattle.node_laws.proofs.Words.{sym, true, turn_at, with_desk, with_port, ℕ, ◌++◌, ◌+◌, ◌∷◌, ◌≡◌, ◌≤◌}
 use Rattle.trace_model.specs.declared.entry.Entry.TheVariants as entry
 use Rattle.link_laws.specs.entries.Entries.{End as Side}
 use Rattle.node_laws.proofs.bounds.Costs.{costs, pays, cost, message_cost, costs-append, pays-append, is_host_side, sent_most}

@@ -1,8 +1,8 @@
 -- What a node keeps and what may come of it: a creation that waits, the unanswered command of a host, and the commands that are left of its
 -- init.
-use Rattle.std.proofs.Common.{◌≡◌, ℕ, ◌+◌, ◌*◌, ◌-◌, ◌≤◌, Bool, true, false, eqb, List, [], ◌∷◌, length, map, refl, ap, ◌∙◌, arith, Option, Some, None}
-use Rattle.std.specs.Option.{option_map_or}
-use Rattle.node_laws.proofs.Words.{Core, Creation, Desk, Init, Notice, Port, Running, asked_at, by_test, changed_if, creation_in, orders_of, port_at, with_port}
+use Rattle.node_laws.proofs.Words.{Bool, Core, Creation, Desk, Init, List, None, Notice, Option, Port, Running, Some, [], ap, arith, asked_at, by_test}
+use Rattle.node_laws.proofs.Words.{changed_if, creation_in, eqb, false, length, map, option_map_or, orders_of, port_at, refl, true, with_port, ℕ, ◌*◌, ◌+◌, ◌-◌}
+use Rattle.node_laws.proofs.Words.{◌∙◌, ◌∷◌, ◌≡◌, ◌≤◌}
 
 -- of a creation that waits come its command and an answer
 abbrev pub waiting : Option Creation → ℕ

@@ -1,17 +1,14 @@
 -- Over a history that follows a schedule, as many commands are noted as its lines ask for.
-use Rattle.std.proofs.Common.{◌≡◌, ℕ, zero, suc, ◌+◌, ◌*◌, ◌≤◌, Bool, true, false, cond, List, [], ◌∷◌, ◌++◌, length, sym, refl, ap, ◌∙◌, subst, arith}
-use Rattle.std.proofs.Common.{Option, Some, None}
-use Rattle.std.specs.Prelude.{replicate, is_some, unwrap_or}
-use Rattle.node_laws.proofs.Words.{AreCausedSo, AreNodeLinesOf, ArePlayable, End, FollowsNodes, Happening, Header, IsNodeHeader, IsNodeLineOf, IsPlayable, Line}
-use Rattle.node_laws.proofs.Words.{NoCause, NodeHistory, NodeWorld, Occurrence, Running, Same, Takes, Ticks, Verdict, all_happen, by_option, by_test}
-use Rattle.node_laws.proofs.Words.{can_happen, commands_by, commands_by_events, commands_noted, entries_in, first_cause, first_verdict, frames_at, goes_on}
-use Rattle.node_laws.proofs.Words.{happenings, happens_by, if_off, line_step, lines_asking, new_world, node_at, occurrences_in, occurrences_of, refusal_in}
-use Rattle.node_laws.proofs.Words.{steps_from, tables_told, taken_of, world_step}
+use Rattle.node_laws.proofs.Words.{AreCausedSo, AreNodeLinesOf, ArePlayable, Bool, End, FollowsNodes, Happening, Header, IsNodeHeader, IsNodeLineOf, IsPlayable}
+use Rattle.node_laws.proofs.Words.{Line, List, MayBeCaused, NoCause, NodeHistory, NodeWorld, None, Occurrence, Option, Running, Same, Some, Takes, Ticks}
+use Rattle.node_laws.proofs.Words.{Verdict, [], all_happen, ap, arith, by_option, by_test, can_happen, commands_by, commands_by_all, commands_by_events}
+use Rattle.node_laws.proofs.Words.{commands_noted, cond, entries_in, false, first_cause, first_verdict, frames_at, goes_on, happenings, happens_by, if_off}
+use Rattle.node_laws.proofs.Words.{is_some, length, line_step, lines_asking, new_world, node_at, occurrences_in, occurrences_of, refl, refusal_in, replicate}
+use Rattle.node_laws.proofs.Words.{steps_from, subst, suc, sym, tables_told, taken_of, true, unwrap_or, world_step, zero, ℕ, ◌*◌, ◌++◌, ◌+◌, ◌∙◌, ◌∷◌, ◌≡◌, ◌≤◌}
 use Rattle.trace_model.specs.declared.entry.NoCause.TheVariants as cause
 use Rattle.trace_model.specs.declared.line.Line.TheVariants as line
 use Rattle.node_laws.proofs.telling.Lasting.{AllMay, AreCaused, events_of_steps, lines_caused, repeated_may, damaged_may, stands_none}
 use Rattle.node_laws.specs.schedules.Ranges.{asking}
-use Rattle.node_laws.specs.bounds.Commands.{MayBeCaused, commands_by_all}
 use Rattle.node_laws.proofs.schedules.Ranges.{hosts_are, hosts_few, playable}
 use Rattle.node_laws.proofs.bounds.Causes.{events_bounded}
 

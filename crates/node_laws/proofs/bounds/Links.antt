@@ -1,15 +1,12 @@
 -- Identifiers of UICCs on a link: those on the wire and those that the host may still send, over what happens there.
-use Rattle.std.proofs.Common.{◌≡◌, ℕ, zero, suc, ◌+◌, ◌-◌, ◌≤◌, Bool, true, false, List, [], ◌∷◌, ◌++◌, length, take, drop, refl, ap, ◌∙◌, arith, Some}
-use Rattle.std.specs.Prelude.{nat_lt, is_some}
-use Rattle.node_laws.proofs.Words.{AsksReset, Bare, Comes, Control, CutOff, Ending, GoesOut, IsUicc, Link, LinkEnd, LinkInput, NextFrame, NoInput, OnWire}
-use Rattle.node_laws.proofs.Words.{Ready, Reset, Role, Start, Starts, Stop, Stops, Take, Tick, Turn, after_input, by_list, by_test, deactivated, ended_by}
-use Rattle.node_laws.proofs.Words.{finished, frames_out, has_input, is_rset, left_after, most_frames, put, put_all, renewed, silent, started}
-use Rattle.node_laws.proofs.Words.{steps_at_controller, ticks_at_controller, turned, with_ended}
-use Rattle.swp_base.specs.declared.control_frames.Control.TheVariants.{Act as ActFrame}
+use Rattle.node_laws.proofs.Words.{ActDue, ActFrame, AsksReset, Bare, Bool, Comes, Control, CutOff, Ending, GoesOut, IsUicc, Link, LinkEnd, LinkInput, List}
+use Rattle.node_laws.proofs.Words.{NextFrame, NoInput, OnWire, Ready, Reset, Role, Some, Start, Starts, Stop, Stops, Take, Tick, Turn, [], after_input}
+use Rattle.node_laws.proofs.Words.{aged_wire, ap, arith, by_list, by_test, deactivated, drop, ended_by, false, finished, fits, frames_out, has_input, is_rset}
+use Rattle.node_laws.proofs.Words.{is_some, left_after, length, most_frames, nat_lt, put, put_all, refl, renewed, silent, started, steps_at_controller, suc}
+use Rattle.node_laws.proofs.Words.{take, ticks_at_controller, true, turned, with_ended, zero, ℕ, ◌++◌, ◌+◌, ◌-◌, ◌∙◌, ◌∷◌, ◌≡◌, ◌≤◌}
 use Rattle.swp_base.specs.declared.control_frames.Act.{Act}
-use Rattle.link_laws.specs.sessions.Sessions.{fits, aged_wire}
 use Rattle.link_laws.specs.sessions.Losses.{is_act}
-use Rattle.link_laws.specs.machine.Machine.{ActDue, among}
+use Rattle.link_laws.specs.machine.Machine.{among}
 use Rattle.link_laws.proofs.messages.ActsInOrder.{NoActs, no_acts}
 use Rattle.link_laws.proofs.messages.Project.{beside-put_all}
 use Rattle.node_laws.proofs.bounds.Syncs.{sync_frame, sync_act, syncs_on, syncs_due, tries_of, may_send, start_of, ComesOnce, input_sends, turned_sends}

@@ -1,13 +1,9 @@
 -- Messages that have their turns were sent: what they pay was paid for, message by message, by the end from which they came.
-use Rattle.std.proofs.Common.{◌≡◌, ℕ, zero, suc, ◌+◌, ◌≤◌, ◌<◌, ◌==◌, Bool, true, List, [], ◌∷◌, ◌++◌, refl, ap, ◌∙◌, arith, Option, Some, None}
-use Rattle.std.specs.Prelude.{not}
-use Rattle.std.specs.List.{cons_option, filter_map}
-use Rattle.std.proofs.lemmas.Bool.{eqb-true, eqb-false, ne_eqb}
-use Rattle.std.proofs.lemmas.List.Elements.{filter_map-append}
-use Rattle.node_laws.proofs.Words.{AreInTurn, End, Entry, IsFrontOf, Message, by_test, good_of, got_entry, got_in, got_in_session, node_number, other_end}
-use Rattle.node_laws.proofs.Words.{said_of, same_end, sent_by, sent_in, since_boot, turn_entry_at}
+use Rattle.node_laws.proofs.Words.{AreInTurn, Bool, End, Entry, IsFrontOf, List, Message, None, Option, Some, [], ap, arith, by_test, cons_option, eqb-false}
+use Rattle.node_laws.proofs.Words.{eqb-true, filter_map, filter_map-append, good_of, got_entry, got_in, got_in_session, is_good, ne_eqb, node_number, not}
+use Rattle.node_laws.proofs.Words.{other_end, refl, said_of, same_end, sent_by, sent_in, since_boot, suc, true, turn_entry_at, zero, ℕ, ◌++◌, ◌+◌, ◌<◌, ◌==◌}
+use Rattle.node_laws.proofs.Words.{◌∙◌, ◌∷◌, ◌≡◌, ◌≤◌}
 use Rattle.trace_model.specs.declared.entry.Entry.TheVariants as entry
-use Rattle.hcp_packet.specs.Packets.{is_good}
 use Rattle.node_laws.proofs.bounds.Costs.{message_cost, worth}
 
 -- ## Messages that weigh

@@ -1,15 +1,11 @@
 -- In the turns of a pass too, in whatever order the ends have them, no more commands are noted than are paid for.
-use Rattle.std.proofs.Common.{◌≡◌, ℕ, ◌+◌, ◌≤◌, Bool, true, false, List, [], ◌∷◌, ◌++◌, sym, refl, ap, ◌∙◌, subst, arith, append-nil}
-use Rattle.std.proofs.Common.{append_assoc, Option, Some, None}
-use Rattle.std.specs.Prelude.{if◌then◌else◌}
-use Rattle.std.specs.List.{cons_option}
-use Rattle.std.specs.Option.{option_map_or}
-use Rattle.std.proofs.lemmas.List.Elements.{filter-append, filter_map-append}
-use Rattle.node_laws.proofs.Words.{AreInTurn, ComesTo, End, Entry, Gets, IsFrontOf, Message, Port, Saying, Work, at_end, by_test, commands_noted, deeds_of}
-use Rattle.node_laws.proofs.Words.{end_of_node, good_of, got_in, got_in_session, handles, holds_back, lets_go, noted_by_deeds, other_end, port_at, said}
-use Rattle.node_laws.proofs.Words.{said_of, same_end, sent_by, sent_in, takes_up}
+use Rattle.node_laws.proofs.Words.{AreInTurn, Bool, ComesTo, End, Entry, Gets, IsFrontOf, List, Message, None, Option, Port, Saying, Some, Work, [], ap}
+use Rattle.node_laws.proofs.Words.{append-nil, append_assoc, arith, at_end, by_test, commands_noted, cons_option, deeds_of, end_of_node, false}
+use Rattle.node_laws.proofs.Words.{filter_map-append, good_of, got_in, got_in_session, handles, holds_back, if◌then◌else◌, is_good, lets_go, noted_by_deeds}
+use Rattle.node_laws.proofs.Words.{option_map_or, other_end, port_at, refl, said, said_of, same_end, sent_by, sent_in, subst, sym, takes_up, true, ℕ, ◌++◌, ◌+◌}
+use Rattle.node_laws.proofs.Words.{◌∙◌, ◌∷◌, ◌≡◌, ◌≤◌}
+use Rattle.std.proofs.lemmas.List.Elements.{filter-append}
 use Rattle.trace_model.specs.declared.entry.Entry.TheVariants as entry
-use Rattle.hcp_packet.specs.Packets.{is_good}
 use Rattle.link_laws.specs.entries.Entries.{End as Side}
 use Rattle.node_laws.proofs.passes.Passing.{comes_so, handles_entries, holds_notes, lets_notes, own_held}
 use Rattle.node_laws.proofs.turns.Queues.{AreStill}

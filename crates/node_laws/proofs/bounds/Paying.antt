@@ -1,8 +1,7 @@
 -- All messages that have their turns were sent, at all ends: so what is noted is paid for by causes alone.
-use Rattle.std.proofs.Common.{◌≡◌, ℕ, zero, suc, ◌+◌, ◌≤◌, ◌==◌, Bool, true, false, List, [], ◌∷◌, ◌++◌, refl, ap, ◌∙◌, arith, Option, Some, None}
-use Rattle.std.specs.Prelude.{not, if◌then◌else◌, replicate, length}
-use Rattle.node_laws.proofs.Words.{AreInTurn, End, Entry, IsFrontOf, Saying, at_end, by_test, commands_noted, good_of, got_in, other_end, said, said_of}
-use Rattle.node_laws.proofs.Words.{same_end, same_end_itself, sent_by, sent_in}
+use Rattle.node_laws.proofs.Words.{AreInTurn, Bool, End, Entry, IsFrontOf, List, None, Option, Saying, Some, [], ap, arith, at_end, by_test, commands_noted}
+use Rattle.node_laws.proofs.Words.{false, good_of, got_in, if◌then◌else◌, length, not, other_end, refl, replicate, said, said_of, same_end, same_end_itself}
+use Rattle.node_laws.proofs.Words.{sent_by, sent_in, suc, true, zero, ℕ, ◌++◌, ◌+◌, ◌==◌, ◌∙◌, ◌∷◌, ◌≡◌, ◌≤◌}
 use Rattle.trace_model.specs.declared.entry.Entry.TheVariants as entry
 use Rattle.history.specs.Filters.Saying.{Sends}
 use Rattle.node_laws.proofs.schedules.Ends.{count, one_at, ends_same, fewer}

@@ -1,11 +1,9 @@
 -- The sessions that histories note have numbers no greater than two for each tick and one for each reset that was asked for.
-use Rattle.std.proofs.Common.{◌≡◌, ℕ, ◌≤◌, List, [], ◌∷◌, ◌++◌, map, Some, refl, ap, subst, sym, arith}
-use Rattle.std.specs.Prelude.{◌==◌}
-use Rattle.std.specs.List.{AllByRecursion}
+use Rattle.node_laws.proofs.Words.{AllByRecursion, AreHosts, ArePlayable, Entry, FollowsNodes, Header, IsLine, IsLinkTold, Line, Link, LinkEvent, List}
+use Rattle.node_laws.proofs.Words.{NodeHistory, Occurrence, Site, Some, [], after_link_events, ap, arith, by_test, entries, entries_for, entries_in, event_of}
+use Rattle.node_laws.proofs.Words.{link_after_all, map, new_line, new_world, occurrences_in, of_link, refl, site_at, subst, sym, world_behind, ℕ, ◌++◌, ◌==◌}
+use Rattle.node_laws.proofs.Words.{◌∷◌, ◌≡◌, ◌≤◌}
 use Rattle.registry.proofs.ValueLemmas.{AllByRecursion-filter as each_filter}
-use Rattle.node_laws.proofs.Words.{AreHosts, ArePlayable, Entry, FollowsNodes, Header, IsLine, IsLinkTold, Line, Link, LinkEvent, NodeHistory, Occurrence, Site}
-use Rattle.node_laws.proofs.Words.{after_link_events, by_test, entries, entries_for, entries_in, event_of, link_after_all, new_line, new_world, occurrences_in}
-use Rattle.node_laws.proofs.Words.{of_link, site_at, world_behind}
 use Rattle.trace_model.specs.Lines.{IsLineOf}
 use Rattle.link_laws.specs.messages.Links.IsStart.{IsBare}
 use Rattle.link_laws.specs.entries.Entries.{trace}

@@ -1,23 +1,18 @@
 -- No session that is noted of a link has a greater number than how many RSETs were put on the link until then.
-use Rattle.std.proofs.Common.{◌≡◌, ℕ, ◌≤◌, Bool, true, false, List, [], ◌∷◌, ◌++◌, length, refl, arith}
-use Rattle.std.specs.Prelude.{nat_lt, is_some}
-use Rattle.std.specs.List.{AllByRecursion}
+use Rattle.node_laws.proofs.Words.{Acked, Activate, AllByRecursion, AsksReset, AtController, AtHost, Bool, Comes, Control, Controller, Cut, CutOff, EndEvent}
+use Rattle.node_laws.proofs.Words.{Ending, Give, GoesOut, Got, HasTick, Host, IsStart, Link, LinkEnd, LinkEvent, LinkInput, List, Lose, Loss, NextFrame}
+use Rattle.node_laws.proofs.Words.{NoInput, Node, NumberedEnd, OnWire, Report, Reset, Restarted, Sent, Start, Starts, Step, Stop, Stops, Take, TicksWithout}
+use Rattle.node_laws.proofs.Words.{TooMany, Turn, [], after_input, after_link_events, aged, aged_entries, all_at_controller, arith, by_list, by_option, by_test}
+use Rattle.node_laws.proofs.Words.{deactivated, ended_by, ending_entries, entries, entries_for, entries_of_events, entry_of, event_entries, exchanged, false}
+use Rattle.node_laws.proofs.Words.{far, finished, first_lost, frames_out, give_refusal, happens, happens_at_controller, has_input, has_restarted, has_taken}
+use Rattle.node_laws.proofs.Words.{here_entries, input_entries, is_rset, is_some, is_up, left_after, length, nat_lt, new_link_end, number_of, pushed_out, put}
+use Rattle.node_laws.proofs.Words.{put_all, put_entries, puts_entries, refl, renewed, report, rest_entries, restart_entries, sent_all, silent, started}
+use Rattle.node_laws.proofs.Words.{step_entries, steps_at_controller, taken_entries, tick_entries, ticks_at_controller, told, told_of, took_with, true, turn}
+use Rattle.node_laws.proofs.Words.{turn_entries, turn_entry, turned, whole_acked, wire_with, with_ended, ℕ, ◌++◌, ◌∷◌, ◌≡◌, ◌≤◌}
 use Rattle.registry.proofs.ValueLemmas.{AllByRecursion-append as each_append}
-use Rattle.node_laws.proofs.Words.{Acked, Activate, AsksReset, AtController, AtHost, Comes, Control, Controller, Cut, CutOff, EndEvent, Ending, Give, GoesOut}
-use Rattle.node_laws.proofs.Words.{Got, Host, Link, LinkEnd, LinkEvent, LinkInput, Lose, Loss, NextFrame, NoInput, Node, NumberedEnd, OnWire, Report, Reset}
-use Rattle.node_laws.proofs.Words.{Restarted, Sent, Start, Starts, Step, Stop, Stops, Take, TicksWithout, TooMany, Turn, after_input, after_link_events, aged}
-use Rattle.node_laws.proofs.Words.{aged_entries, all_at_controller, by_list, by_option, by_test, deactivated, ended_by, ending_entries, entries, entries_for}
-use Rattle.node_laws.proofs.Words.{entries_of_events, entry_of, event_entries, exchanged, far, finished, first_lost, frames_out, give_refusal, happens}
-use Rattle.node_laws.proofs.Words.{happens_at_controller, has_input, has_taken, here_entries, input_entries, is_rset, is_up, left_after, new_link_end}
-use Rattle.node_laws.proofs.Words.{number_of, pushed_out, put, put_all, put_entries, puts_entries, renewed, report, rest_entries, sent_all, silent, started}
-use Rattle.node_laws.proofs.Words.{step_entries, steps_at_controller, taken_entries, tick_entries, ticks_at_controller, told, told_of, took_with, turn}
-use Rattle.node_laws.proofs.Words.{turn_entries, turn_entry, turned, whole_acked, wire_with, with_ended}
-use Rattle.link_laws.specs.machine.Machine.LinkInput.{Tick as HasTick}
-use Rattle.link_laws.specs.messages.Links.{IsStart}
-use Rattle.link_laws.specs.messages.Links.{with_controller, has_restarted}
+use Rattle.link_laws.specs.messages.Links.{with_controller}
 use Rattle.link_laws.specs.messages.Links.LinkEvent.{Ticks}
 use Rattle.link_laws.specs.entries.Entries.{End, Entry}
-use Rattle.link_laws.specs.entries.Entries.{restart_entries}
 use Rattle.link_laws.specs.entries.Entries.Entry.{Up, Tick}
 use Rattle.link_laws.specs.messages.Rsets.{HasLowNumbers}
 use Rattle.node_laws.specs.bounds.Resets.{NotedWithin, AreNotedWithin, SessionWithin, AreSessionsWithin}

@@ -1,21 +1,17 @@
 -- Identifiers of UICCs: how many frames with one an end may still send, and that only a start of it lets it send more.
-use Rattle.std.proofs.Common.{◌≡◌, ℕ, ◌+◌, ◌-◌, ◌≤◌, ◌<◌, Bool, true, false, cond, List, [], ◌∷◌, ◌++◌, map, refl, ap, ◌∙◌, arith, Option, Some, None}
-use Rattle.std.specs.Prelude.{nat_le, is_some, length}
-use Rattle.std.proofs.lemmas.Bool.{cond_both, leb-false}
-use Rattle.node_laws.proofs.Words.{ActEvent, ActOut, Asked, Awaiting, Bare, Clf, Clt, Control, EndState, Fetch, FromNode, Give, I, Inactive, IsUicc, LinkEnd}
-use Rattle.node_laws.proofs.Words.{LinkInput, LinkState, OnWire, Phase, PowerMode, Ready, Reset, Role, Rset, S, SetAside, Start, Stop, SyncId, Take, TakeBroken}
-use Rattle.node_laws.proofs.Words.{TakeUnknown, Tick, Turn, Ua, Uicc, UiccAct, Up, Waiting, act_answer, act_event, act_out, activated, after_input}
-use Rattle.node_laws.proofs.Words.{aside_refusal, by_option, by_test, give_refusal, heard, if_up, is_faulty, is_open, moved, no_act_out, out_ticked, put_down}
-use Rattle.node_laws.proofs.Words.{report, reset_refusal, reset_with, role_after, stopped, take_answer, taken, tick_answer, ticked, took, turn, turned}
-use Rattle.node_laws.proofs.Words.{uicc_step, window_of, with_act}
-use Rattle.swp_base.specs.declared.control_frames.Control.TheVariants.{Act as ActFrame}
+use Rattle.node_laws.proofs.Words.{ActDue, ActEvent, ActFrame, ActOut, ActStart, ActStop, ActTake, ActTick, Asked, Awaiting, Bare, Bool, Clf, Clt, Control}
+use Rattle.node_laws.proofs.Words.{EndState, Fetch, FromNode, Give, I, Inactive, IsUicc, LinkEnd, LinkInput, LinkState, List, None, OnWire, Option, Phase}
+use Rattle.node_laws.proofs.Words.{PowerMode, Ready, Reset, Role, Rset, S, SetAside, Some, Start, Stop, SyncId, Take, TakeBroken, TakeUnknown, Tick, Turn, Ua}
+use Rattle.node_laws.proofs.Words.{Uicc, UiccAct, Up, Waiting, [], act_answer, act_event, act_out, activated, after_input, ap, arith, aside_refusal, by_option}
+use Rattle.node_laws.proofs.Words.{by_test, clf_step, cond, cond_both, false, give_refusal, heard, if_up, in_front, is_faulty, is_open, is_some, leb-false}
+use Rattle.node_laws.proofs.Words.{length, map, moved, nat_le, no_act_out, out_ticked, put_down, refl, report, reset_refusal, reset_with, role_after, stopped}
+use Rattle.node_laws.proofs.Words.{take_answer, taken, tick_answer, ticked, took, true, turn, turned, uicc_step, window_of, with_act, ℕ, ◌++◌, ◌+◌, ◌-◌, ◌<◌}
+use Rattle.node_laws.proofs.Words.{◌∙◌, ◌∷◌, ◌≡◌, ◌≤◌}
 use Rattle.swp_base.specs.declared.control_frames.Act.{Act}
-use Rattle.swp_act.specs.declared.ActEvent.TheVariants.{Start as ActStart, Take as ActTake, Tick as ActTick, Stop as ActStop}
 use Rattle.swp_act.specs.declared.Phase.TheVariants.{Active}
 use Rattle.swp_act.specs.declared.clf.ClfAct.{ClfAct}
-use Rattle.swp_act.specs.Activation.{clf_step, clf_synced, clf_readied, uicc_powered, phase_ticked}
+use Rattle.swp_act.specs.Activation.{clf_readied, clf_synced, phase_ticked, uicc_powered}
 use Rattle.shdlc_core.specs.declared.answers.LinkState.TheVariants.{Down}
-use Rattle.link_laws.specs.machine.Machine.{ActDue, in_front}
 
 -- ## Frames with an identifier
 

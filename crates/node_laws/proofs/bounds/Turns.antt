@@ -1,24 +1,21 @@
 -- Each message that has its turn pays for what is done with it, with what its node keeps.
-use Rattle.std.proofs.Common.{◌≡◌, ℕ, ◌+◌, ◌≤◌, Bool, true, false, cond, eqb, List, [], ◌∷◌, ◌++◌, length, map, slice_get, refl, ap, ◌∙◌, arith}
-use Rattle.std.specs.Prelude.{Option, Some, None, Result, Ok, Err}
-use Rattle.std.specs.List.{filter, range_with_len}
-use Rattle.std.proofs.lemmas.Bool.{cond_both}
+use Rattle.node_laws.proofs.Words.{Answer, Ask, Bool, Clear, Command, Commit, Commits, Controller, Core, Create, Creation, Decision, Deed, Delete, Drops, Ends}
+use Rattle.node_laws.proofs.Words.{Err, GoesOn, Hears, Host, Init, InitFailed, InitMade, InitSame, IsAnswered, IsResponse, List, Message, MessageFault}
+use Rattle.node_laws.proofs.Words.{MessageKind, None, Ok, Option, Orders, Port, Releases, Response, Result, SaysOk, Sends, Set, Some, Tells, Work, [], accepts}
+use Rattle.node_laws.proofs.Words.{agreed, all_done, answer_of, answers_on, ap, arith, asked_at, body_in, body_of, by_option, by_test, commit, commit_writes}
+use Rattle.node_laws.proofs.Words.{cond, cond_both, controller_deeds, controller_holds, count_bytes, count_in, decided, decision_deeds, done, end_of_node}
+use Rattle.node_laws.proofs.Words.{end_view, eqb, fails_within, false, filter, finds_room, first_of, gate_of_pipe, gates, has, header_of, host_deeds}
+use Rattle.node_laws.proofs.Words.{identity_served, identity_value, init_deeds, is_command_message, is_gate, is_up, learned, learned_holds, learns}
+use Rattle.node_laws.proofs.Words.{learns_holds, length, link_deeds, link_served, map, ordered_deeds, ordered_holds, orders_of, own_view, param_in, port_at}
+use Rattle.node_laws.proofs.Words.{range_with_len, refl, response_deeds, slice_get, tests_to_get, tests_to_set, tests_to_set_errors, true, value_in, view_for}
+use Rattle.node_laws.proofs.Words.{view_of, ℕ, ◌++◌, ◌+◌, ◌∙◌, ◌∷◌, ◌≡◌, ◌≤◌}
 use Rattle.std.proofs.lemmas.Option.{slice_get_within}
-use Rattle.node_laws.proofs.Words.{Answer, Ask, Clear, Command, Commit, Commits, Controller, Core, Create, Creation, Decision, Deed, Delete, Drops, Ends}
-use Rattle.node_laws.proofs.Words.{GoesOn, Hears, Host, Init, InitFailed, InitMade, InitSame, IsAnswered, Message, MessageFault, MessageKind, Orders, Port}
-use Rattle.node_laws.proofs.Words.{Releases, Response, SaysOk, Sends, Set, Tells, Work, accepts, agreed, all_done, answer_of, answers_on, asked_at, body_in}
-use Rattle.node_laws.proofs.Words.{body_of, by_option, by_test, commit, commit_writes, controller_deeds, controller_holds, count_in, decided, decision_deeds}
-use Rattle.node_laws.proofs.Words.{done, end_of_node, end_view, fails_within, finds_room, first_of, gate_of_pipe, gates, has, header_of, host_deeds}
-use Rattle.node_laws.proofs.Words.{identity_served, init_deeds, is_command_message, is_gate, is_up, learned, learned_holds, learns, learns_holds, link_deeds}
-use Rattle.node_laws.proofs.Words.{link_served, ordered_deeds, ordered_holds, orders_of, own_view, param_in, port_at, response_deeds, tests_to_get}
-use Rattle.node_laws.proofs.Words.{tests_to_set_errors, value_in, view_for, view_of}
-use Rattle.hcp_packet.specs.declared.MessageKind.TheVariants.{Command as IsCommand, Event as IsEvent, Response as IsResponse}
+use Rattle.hcp_packet.specs.declared.MessageKind.TheVariants.{Command as IsCommand, Event as IsEvent}
 use Rattle.trace_model.specs.declared.entry.Entry.TheVariants as entry
 use Rattle.gate_answers.specs.declared.response.Response.TheVariants as response
-use Rattle.gate_answers.specs.Answers.{tests_to_set}
 use Rattle.gate_admin.specs.View.{hosts_where}
-use Rattle.gate_link.specs.Link.{link_unless_refused, count_bytes}
-use Rattle.gate_identity.specs.Identity.{identity_unless_refused, identity_value}
+use Rattle.gate_link.specs.Link.{link_unless_refused}
+use Rattle.gate_identity.specs.Identity.{identity_unless_refused}
 use Rattle.link_laws.specs.entries.Entries.{End as Side}
 use Rattle.node_machine.proofs.Walks.{init_holds as init_walks}
 use Rattle.node_laws.proofs.bounds.Costs.{message_cost, plain_free, near_most, far_most, off_free}

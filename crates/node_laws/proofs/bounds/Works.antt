@@ -1,17 +1,12 @@
 -- What a node notes in a step is paid for by the messages that have their turns, and by what it kept.
-use Rattle.std.proofs.Common.{◌≡◌, ℕ, ◌+◌, ◌≤◌, Bool, true, false, cond, eqb, List, [], ◌∷◌, map, sym, refl, ap, ◌∙◌, subst, arith, Option, Some, None}
-use Rattle.std.specs.Prelude.{not, ◌&&◌}
-use Rattle.std.specs.List.{flat_map, filter, filter_map, list_any}
-use Rattle.std.specs.Option.{option_map, option_map_or}
-use Rattle.std.proofs.lemmas.Bool.{cond_both}
-use Rattle.std.proofs.lemmas.List.{length-map}
-use Rattle.node_laws.proofs.Words.{AtEnd, Commits, Controller, Core, Creation, Deed, Entry, FetchMessage, Hold, Host, LinkInput, Message, NodeInput, Port}
-use Rattle.node_laws.proofs.Words.{Releases, Reset, Response, Sync, TimePasses, Work, after_input, after_sessions, after_turn, all_come, all_done, all_owed}
-use Rattle.node_laws.proofs.Words.{asked_at, begins_with, by_option, by_test, comes_to_pass, controller_deeds, deeds_of, end_of, end_of_node, end_view}
-use Rattle.node_laws.proofs.Words.{finds_room, forgets, forgotten, goes_through_ends, handles, has_come, have_turns, host_deeds, input_at, is_forgotten}
-use Rattle.node_laws.proofs.Words.{is_kept_sync, is_late, is_over, is_over_at, lack, needs, noting, owed, own_side, own_view, passes, port_at, report}
-use Rattle.node_laws.proofs.Words.{reset_late, steps, synced, times_out, told_at, told_late, turn_at, unless_cut, view_of, whole_acked, with_desk, with_older}
-use Rattle.node_laws.proofs.Words.{without_notice}
+use Rattle.node_laws.proofs.Words.{AtEnd, Bool, Commits, Controller, Core, Creation, Deed, Entry, FetchMessage, Hold, Host, LinkInput, List, Message, NodeInput}
+use Rattle.node_laws.proofs.Words.{None, Option, Port, Releases, Reset, Response, Some, Sync, TimePasses, Work, [], after_input, after_sessions, after_turn}
+use Rattle.node_laws.proofs.Words.{all_come, all_done, all_owed, ap, arith, asked_at, begins_with, by_option, by_test, comes_to_pass, cond, cond_both}
+use Rattle.node_laws.proofs.Words.{controller_deeds, deeds_of, end_of, end_of_node, end_view, eqb, false, filter, filter_map, finds_room, flat_map, forgets}
+use Rattle.node_laws.proofs.Words.{forgotten, goes_through_ends, handles, has_come, have_turns, host_deeds, input_at, is_forgotten, is_kept_sync, is_late}
+use Rattle.node_laws.proofs.Words.{is_over, is_over_at, lack, length-map, list_any, map, needs, not, noting, option_map, option_map_or, owed, own_side}
+use Rattle.node_laws.proofs.Words.{own_view, passes, port_at, refl, report, reset_late, steps, subst, sym, synced, times_out, told_at, told_late, true, turn_at}
+use Rattle.node_laws.proofs.Words.{unless_cut, view_of, whole_acked, with_desk, with_older, without_notice, ℕ, ◌&&◌, ◌+◌, ◌∙◌, ◌∷◌, ◌≡◌, ◌≤◌}
 use Rattle.trace_model.specs.declared.entry.Entry.TheVariants as entry
 use Rattle.gate_answers.specs.declared.response.Response.TheVariants as response
 use Rattle.link_laws.specs.entries.Entries.{End as Side}

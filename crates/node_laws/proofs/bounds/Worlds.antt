@@ -1,38 +1,34 @@
 -- What is noted of an event of a world of nodes is paid for, with what its nodes keep, but for what comes of its cause.
-use Rattle.std.proofs.Common.{◌≡◌, ℕ, ◌+◌, ◌*◌, ◌≤◌, ◌==◌, ◌&&◌, Bool, true, false, cond, eqb, List, [], ◌∷◌, ◌++◌, length, map, sym, refl, ap, ◌∙◌, arith}
-use Rattle.std.proofs.Common.{Option, Some, None, subst}
-use Rattle.std.specs.Prelude.{min}
-use Rattle.node_laws.proofs.Words.{Activates, AreDifferent, Arms, AsksReset, AtController, AtEnd, Bare, Boots, Broken, Comes, Controller, CutOff, Deed, Desk}
-use Rattle.node_laws.proofs.Words.{End, Entry, Gives, GoesOut, Happening, HasEnds, Host, IfItRuns, Init, Inits, IsCut, IsOrderly, IsUicc, Link, LinkEnd}
-use Rattle.node_laws.proofs.Words.{LinkInput, Loses, Loss, Memory, Message, NextFrame, NoInput, NodeInput, NodeWorld, NumberedEnd, OnWire, Plan, Port, Reset}
-use Rattle.node_laws.proofs.Words.{Resets, Running, Site, Start, Starts, Step, Stop, Stops, Take, Takes, Tick, Ticks, TimePasses, Work, activates, after_host}
-use Rattle.node_laws.proofs.Words.{after_planned, aged, aged_entries, all_aged, arrival, beginning, begins_with, boot_found, boot_writes, boot_written, boots}
-use Rattle.node_laws.proofs.Words.{by_boot, by_coming, by_controller, by_controller_tick, by_host, by_host_tick, by_list, by_loss, by_memory, by_option}
-use Rattle.node_laws.proofs.Words.{by_power, by_running, by_test, changed_if, comes_at, comes_to, commands_by, controller_does, controller_ticks}
-use Rattle.node_laws.proofs.Words.{controller_work, counts, end_c, end_h, ending_entries, ending_of, entries_for, exchanged, first_lost, frame_lost}
-use Rattle.node_laws.proofs.Words.{frames_noted, happens, host_cut, host_does, host_tick, host_ticks, hosts_in, hosts_of_ends, hosts_tick, input_at, input_of}
-use Rattle.node_laws.proofs.Words.{is_command_message, is_late_at, link_after_controller, link_to, links_of, loses_power_at, memory_at, near_end_in, near_tick}
-use Rattle.node_laws.proofs.Words.{new_desk, new_link, own_side, port_at, port_for, report, runs_on, sending, site_at, site_lost, site_ticked, site_unticked}
-use Rattle.node_laws.proofs.Words.{steps, turns_at, wires_for, with_error, with_memory, with_node, with_site, work_of, world_step, world_ticks}
-use Rattle.std.proofs.lemmas.Bool.{true≢false, cond_both, eqb-true, eq-eqb}
-use Rattle.std.proofs.lemmas.List.{length-map, length-append}
-use Rattle.std.specs.List.{AllByRecursion, flat_map}
-use Rattle.std.specs.Option.{option_map_or}
+use Rattle.node_laws.proofs.Words.{Activates, AllByRecursion, AreDifferent, Arms, AsksReset, AtController, AtEnd, Bare, Bool, Boots, Broken, Comes, Controller}
+use Rattle.node_laws.proofs.Words.{CutOff, Deed, Desk, End, Entry, Gives, GoesOut, Happening, HasEnds, Host, IfItRuns, Init, Inits, IsCut, IsOrderly, IsUicc}
+use Rattle.node_laws.proofs.Words.{Link, LinkEnd, LinkInput, List, Loses, Loss, Memory, Message, NextFrame, NoInput, NodeInput, NodeWorld, None, NumberedEnd}
+use Rattle.node_laws.proofs.Words.{OnWire, Option, Plan, Port, Reset, Resets, Running, Site, Some, Start, Starts, Step, Stop, Stops, Take, Takes, Tick, Ticks}
+use Rattle.node_laws.proofs.Words.{TimePasses, Work, [], activates, after_host, after_planned, aged, aged_entries, all_aged, ap, arith, arrival, beginning}
+use Rattle.node_laws.proofs.Words.{begins_with, boot_found, boot_writes, boot_written, boots, by_boot, by_coming, by_controller, by_controller_tick, by_host}
+use Rattle.node_laws.proofs.Words.{by_host_tick, by_list, by_loss, by_memory, by_option, by_power, by_running, by_test, changed_if, comes_at, comes_to}
+use Rattle.node_laws.proofs.Words.{commands_by, cond, cond_both, controller_does, controller_ticks, controller_work, counts, end_c, end_h, ending_entries}
+use Rattle.node_laws.proofs.Words.{ending_of, entries_for, eq-eqb, eqb, eqb-true, exchanged, false, first_lost, flat_map, frame_lost, frames_noted, happens}
+use Rattle.node_laws.proofs.Words.{host_cut, host_does, host_tick, host_ticks, hosts_in, hosts_of_ends, hosts_tick, input_at, input_of, is_command_message}
+use Rattle.node_laws.proofs.Words.{is_late_at, length, length-map, link_after_controller, link_to, links_of, loses_power_at, map, memory_at, min, near_end_in}
+use Rattle.node_laws.proofs.Words.{near_tick, new_desk, new_link, option_map_or, own_side, port_at, port_for, refl, report, runs_on, sending, site_at}
+use Rattle.node_laws.proofs.Words.{site_lost, site_ticked, site_unticked, steps, subst, sym, true, true≢false, turns_at, wires_for, with_error, with_memory}
+use Rattle.node_laws.proofs.Words.{with_node, with_site, work_of, world_step, world_ticks, ℕ, ◌&&◌, ◌*◌, ◌++◌, ◌+◌, ◌==◌, ◌∙◌, ◌∷◌, ◌≡◌, ◌≤◌}
+use Rattle.std.proofs.lemmas.List.{length-append}
 use Rattle.link_laws.specs.entries.Entries.{End as Side}
 use Rattle.node_laws.proofs.telling.Nodes.{hosts_same, link_is, site_host}
 use Rattle.node_laws.proofs.telling.Worlds.{site_is}
 use Rattle.node_laws.proofs.links.Ends.{here_host}
-use Rattle.node_laws.proofs.telling.Events.{orderly_map, comes_goes}
-use Rattle.node_laws.proofs.telling.WorldTicks.{near_orderly}
-use Rattle.node_laws.proofs.telling.Frames.{ending_all, arrival_all, lost_all, wires_all}
-use Rattle.node_laws.proofs.bounds.Costs.{IsNoSent, worth, costs, pays, costs-append, pays-append, notes_free, far_most}
-use Rattle.node_laws.proofs.bounds.Holding.{core_holds, ports_hold, desks_hold, node_holds, desks_are, notice_holds}
-use Rattle.node_laws.proofs.bounds.Deeds.{Owes, weights, less}
-use Rattle.node_laws.proofs.bounds.Syncs.{sync_frame, sync_told, input_sync, near_tells, far_tells}
-use Rattle.node_laws.proofs.bounds.Links.{FirstOnce, taken_by, start_by}
-use Rattle.node_laws.proofs.bounds.Calm.{IsResting, IsCalm, all_resting, still_rest, link_holds, near_holds, ticked_holds, ticked_host, near_tick_holds}
-use Rattle.node_laws.proofs.bounds.Calm.{near_tick_host, far_holds, far_tick_holds, far_cut_holds, aged_holds, lost_holds}
-use Rattle.node_laws.proofs.bounds.Works.{syncs_told, steps_owe, begins_owe, flat_costs}
+use Rattle.node_laws.proofs.telling.Events.{comes_goes}
+use Rattle.node_laws.proofs.telling.WorldTicks.{aged_orderly, near_orderly}
+use Rattle.node_laws.proofs.telling.Frames.{arrival_all, ending_all, lost_all, wires_all}
+use Rattle.node_laws.proofs.bounds.Costs.{IsNoSent, costs, costs-append, far_most, notes_free, pays, pays-append, worth}
+use Rattle.node_laws.proofs.bounds.Holding.{core_holds, desks_are, desks_hold, node_holds, notice_holds, ports_hold}
+use Rattle.node_laws.proofs.bounds.Deeds.{Owes, less, weights}
+use Rattle.node_laws.proofs.bounds.Syncs.{far_tells, input_sync, near_tells, sync_frame, sync_told}
+use Rattle.node_laws.proofs.bounds.Links.{FirstOnce, start_by, taken_by}
+use Rattle.node_laws.proofs.bounds.Calm.{IsCalm, IsResting, all_resting, link_holds, near_holds, near_tick_holds, still_rest, ticked_holds, ticked_host}
+use Rattle.node_laws.proofs.bounds.Calm.{aged_holds, far_cut_holds, far_holds, far_tick_holds, lost_holds, near_tick_host}
+use Rattle.node_laws.proofs.bounds.Works.{begins_owe, flat_costs, steps_owe, syncs_told}
 use Rattle.node_laws.proofs.readings.Sites.{near_end_side}
 
 -- ## What nodes keep
@@ -440,7 +436,7 @@ ticks_paid w calm orderly few =
     let none : costs old.1 ≡ 0 =
     flat_costs f (λ s. notes_free s.host (aged_entries Controller s.link.to_controller ++ aged_entries Host s.link.to_host)
     (wires_all IsNoSent (λ w c. tt) Controller Host s.link.to_controller s.link.to_host)) w.sites in
-    let fine : IsOrderly old.0 = orderly_map w w.memory w.controller age (λ s. refl) orderly orderly.controller (λ s n. n) in
+    let fine : IsOrderly old.0 = aged_orderly w orderly in
     let less = sites_less age (λ s. let link = aged_holds s.link in omega (arith, link)) w.sites in
     let behind : IsOrderly (record { memory = old.0.memory; controller = None; sites = near.0.sites }) = near_orderly old.0 fine in
     let rest = hosts_tick_paid near.0.sites behind.nodes behind.hosts (near_known old.0 (still_rest age (λ s. refl) w.sites (all_resting w.sites calm))) in

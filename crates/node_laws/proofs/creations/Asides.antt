@@ -1,12 +1,9 @@
 -- What comes to an end leaves the blocks that are set aside there.
-use Rattle.std.proofs.Common.{◌≡◌, Bool, true, false, cond, Option, Some, None, refl, ◌∙◌}
-use Rattle.std.specs.Prelude.{ℕ, is_some}
-use Rattle.node_laws.proofs.Words.{ActEvent, Clt, Control, I, IsComing, LinkEnd, LinkInput, LinkState, Reset, Rset, S, Start, Stop, Take, Tick, Ua, Up}
-use Rattle.node_laws.proofs.Words.{act_answer, activated, after_input, by_option, by_test, had_tick, heard, is_faulty, is_open, moved, put_down, reset_refusal}
-use Rattle.node_laws.proofs.Words.{role_after, stopped, take_answer, taken, tick_answer, ticked, took, with_act}
-use Rattle.swp_base.specs.declared.control_frames.Control.TheVariants.{Act as ActFrame}
+use Rattle.node_laws.proofs.Words.{ActEvent, ActFrame, ActStart, ActStop, ActTake, ActTick, Bool, Clt, Control, I, IsComing, LinkEnd, LinkInput, LinkState}
+use Rattle.node_laws.proofs.Words.{None, Option, Reset, Rset, S, Some, Start, Stop, Take, Tick, Ua, Up, act_answer, activated, after_input, by_option, by_test}
+use Rattle.node_laws.proofs.Words.{cond, false, had_tick, heard, is_faulty, is_open, is_some, moved, put_down, refl, reset_refusal, role_after, stopped}
+use Rattle.node_laws.proofs.Words.{take_answer, taken, tick_answer, ticked, took, true, with_act, ℕ, ◌∙◌, ◌≡◌}
 use Rattle.swp_base.specs.declared.control_frames.Act.{Act}
-use Rattle.swp_act.specs.declared.ActEvent.TheVariants.{Start as ActStart, Take as ActTake, Tick as ActTick, Stop as ActStop}
 use Rattle.node_laws.proofs.links.Blocks.{moved_aside}
 
 down_aside : (b : Bool) (e : LinkEnd) → (put_down b e).aside ≡ e.aside

@@ -1,11 +1,8 @@
 -- The creations that wait at the ends of a controller, by the hosts of the ends, and those of one asker among them.
-use Rattle.std.proofs.Common.{◌≡◌, ◌⊎◌, inl, inr, ℕ, Bool, true, false, cond, eqb, List, [], ◌∷◌, ◌++◌, map, length, sym, refl, ap, ap₂, ◌∙◌, subst}
-use Rattle.std.proofs.Common.{append_assoc, append-nil, length-append, arith}
-use Rattle.std.specs.Prelude.{Option, Some, None}
-use Rattle.std.specs.List.{AllByRecursion, filter, filter_map}
-use Rattle.std.proofs.lemmas.Bool.{cases_Bool, eqb-true, true≢false, or_parts}
-use Rattle.node_laws.proofs.Words.{AreDifferent, Creation, IsReadSo, Notice, Port, asked_at, asks_for, by_option, by_test, changed_if, creation_in}
-use Rattle.node_laws.proofs.Words.{creations_at, forgets, is_over_at, port_at, with_port, without_notice}
+use Rattle.node_laws.proofs.Words.{AllByRecursion, AreDifferent, Bool, Creation, IsReadSo, List, None, Notice, Option, Port, Some, [], ap, append-nil}
+use Rattle.node_laws.proofs.Words.{append_assoc, ap₂, arith, asked_at, asks_for, by_option, by_test, cases_Bool, changed_if, cond, creation_in, creations_at}
+use Rattle.node_laws.proofs.Words.{eqb, eqb-true, false, filter, filter_map, forgets, inl, inr, is_over_at, length, length-append, map, or_parts, port_at, refl}
+use Rattle.node_laws.proofs.Words.{subst, sym, true, true≢false, with_port, without_notice, ℕ, ◌++◌, ◌∙◌, ◌∷◌, ◌≡◌, ◌⊎◌}
 
 -- the creation for which each host is asked
 abbrev pub Asked : Type 0

@@ -1,14 +1,10 @@
 -- What comes to the ends of a controller: with the session of its asker a creation is neither read nor kept any more.
-use Rattle.std.proofs.Common.{append_assoc, ◌≡◌, ℕ, ◌&&◌, ◌||◌, Bool, true, false, not, cond, eqb, List, [], ◌∷◌, ◌++◌, map, sym, refl, ap, ◌∙◌, subst}
-use Rattle.std.specs.Prelude.{Option, Some, None, is_some, nat_le}
-use Rattle.std.specs.List.{AllByRecursion, flat_map}
-use Rattle.std.specs.Option.{option_map, option_map_or}
-use Rattle.std.proofs.lemmas.Bool.{eqb-true, eqb-false, ne_eqb, true≢false}
-use mathlib.Core.Bool.{or-false, or-true}
-use Rattle.node_laws.proofs.Words.{AreDifferent, AtEnd, Controller, Creation, Entry, IsComing, IsFresh, IsOutside, IsPlain, IsProperBook, IsShut, LinkEnd}
-use Rattle.node_laws.proofs.Words.{LinkInput, NodeInput, Notice, Port, Reset, Tick, TimePasses, Up, Work, after_input, all_come, asked_at, book_in, by_option}
-use Rattle.node_laws.proofs.Words.{by_test, ended_by, has_come, input_at, is_late, is_over, is_over_at, own_side, port_at, report, reset_late, times_out, told}
-use Rattle.node_laws.proofs.Words.{told_at, told_late, whole_acked, with_older}
+use Rattle.node_laws.proofs.Words.{AllByRecursion, AreDifferent, AtEnd, Bool, Controller, Creation, Entry, IsComing, IsFresh, IsOutside, IsPlain, IsProperBook}
+use Rattle.node_laws.proofs.Words.{IsShut, LinkEnd, LinkInput, List, NodeInput, None, Notice, Option, Port, Reset, Some, Tick, TimePasses, Up, Work, []}
+use Rattle.node_laws.proofs.Words.{after_input, all_come, ap, append_assoc, asked_at, book_in, by_option, by_test, cond, ended_by, eqb, eqb-false, eqb-true}
+use Rattle.node_laws.proofs.Words.{false, flat_map, has_come, input_at, is_late, is_over, is_over_at, is_some, map, nat_le, ne_eqb, not, option_map}
+use Rattle.node_laws.proofs.Words.{option_map_or, or-false, or-true, own_side, port_at, refl, report, reset_late, subst, sym, times_out, told, told_at}
+use Rattle.node_laws.proofs.Words.{told_late, true, true≢false, whole_acked, with_older, ℕ, ◌&&◌, ◌++◌, ◌||◌, ◌∙◌, ◌∷◌, ◌≡◌}
 use Rattle.node_laws.proofs.links.Staying.{stays_up}
 use Rattle.node_laws.proofs.links.Noticing.{UpAt, at_all, at_host, outside as from_outside}
 use Rattle.node_laws.proofs.links.Blocks.{IsWithin, input_within}

@@ -1,19 +1,15 @@
 -- What a controller decides on a command: it makes pipes that lead to no administration gate, and asks for those that come on pipe 01
 -- alone.
-use Rattle.std.proofs.Common.{◌≡◌, ℕ, Bool, true, false, cond, not, eqb, ◌&&◌, ◌||◌, List, [], ◌∷◌, refl, sym, ap, ◌∙◌}
-use Rattle.std.specs.Prelude.{Option, Some, None, Ok, is_none}
-use Rattle.std.specs.Option.{option_and_then}
-use Rattle.std.proofs.lemmas.Bool.{cond_both, true≢false, eqb-true, eqb-false, ne_eqb, not-false}
+use Rattle.node_laws.proofs.Words.{Answer, AreProper, Ask, Bool, Clear, Command, Commit, Create, Decision, Delete, HciTables, IsProper, IsProperCommand}
+use Rattle.node_laws.proofs.Words.{LinkView, List, Message, None, Ok, Option, PipeRow, Some, [], all_false, answer_of, ap, by_option, by_test, carried_out}
+use Rattle.node_laws.proofs.Words.{closing, commits_and_tells, cond, cond_both, decided, decided_holds, dest_in, ends_of, eqb, eqb-false, eqb-true, false}
+use Rattle.node_laws.proofs.Words.{far_end, far_end_of, first_of, goes_through, header_of, is_none, is_opened, is_response, ne_eqb, new_row, not, not-false}
+use Rattle.node_laws.proofs.Words.{opening, option_and_then, own_gate, param_in, pipe_at, refl, relayed_to, sym, tests_of_pipe, tests_to_create}
+use Rattle.node_laws.proofs.Words.{told_of_clearing, told_of_deletion, true, true≢false, ℕ, ◌&&◌, ◌||◌, ◌∙◌, ◌∷◌, ◌≡◌}
 use Rattle.hcp_packet.specs.declared.MessageKind.TheVariants.{Command as IsCommand}
-use Rattle.node_laws.proofs.Words.{Answer, AreProper, Ask, Clear, Command, Commit, Create, Decision, Delete, HciTables, IsProperCommand, LinkView, Message}
-use Rattle.node_laws.proofs.Words.{PipeRow, all_false, answer_of, by_option, by_test, carried_out, closing, commits_and_tells, decided, decided_holds, ends_of}
-use Rattle.node_laws.proofs.Words.{far_end, far_end_of, first_of, goes_through, header_of, is_opened, is_response, new_row, opening, own_gate, param_in}
-use Rattle.node_laws.proofs.Words.{pipe_at, relayed_to, tests_of_pipe, told_of_clearing, told_of_deletion}
 use Rattle.gate_answers.specs.declared.response.Response.TheVariants as response
-use Rattle.gate_admin.specs.Decide.{dest_in, dest_gate_in, created}
-use Rattle.gate_admin.specs.Decide.{tests_to_create, tests_to_open}
+use Rattle.gate_admin.specs.Decide.{created, dest_gate_in, tests_to_open}
 use Rattle.gate_admin.proofs.CreationLemmas.{AllFalse}
-use Rattle.node_laws.specs.creations.Worlds.{IsProper}
 use Rattle.node_laws.proofs.creations.Rows.{proper_at}
 use Rattle.tables_laws.proofs.gate.Decisions.{unless}
 

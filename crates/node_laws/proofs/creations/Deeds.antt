@@ -1,14 +1,10 @@
 -- All that a controller does on one message: the creation that a host asked for stays the one that is read.
-use Rattle.std.proofs.Common.{append_assoc, ◌≡◌, ◌⊎◌, inl, inr, ℕ, ◌+◌, ◌≤◌, ◌&&◌, Bool, true, false, cond, eqb, List, [], ◌∷◌, ◌++◌, length, sym, refl, ap}
-use Rattle.std.proofs.Common.{◌∙◌, subst, arith}
-use Rattle.std.specs.Prelude.{Option, Some, None, nat_lt}
-use Rattle.std.specs.List.{AllByRecursion}
-use Rattle.std.specs.Option.{option_map_or}
-use Rattle.std.proofs.lemmas.Bool.{true≢false}
-use Rattle.node_laws.proofs.Words.{Asks, Commits, Creation, Deed, Drops, Entry, Give, IsAnswered, IsAwaited, IsNoticeOf, IsProperBook, IsProperCommand}
-use Rattle.node_laws.proofs.Words.{IsReadSo, LinkEnd, PipeRow, Port, Release, Releases, Removed, SaysOk, Sends, SetAside, SetsErrors, Tells, Up, Waits, Work}
-use Rattle.node_laws.proofs.Words.{after_turn, agreed, all_done, answer_of, book_in, by_test, commit, count_of, done, end_of_node, ends_of, is_response}
-use Rattle.node_laws.proofs.Words.{noted_of, notified, noting, port_at, spare, turn, turn_at, unless_cut, with_port}
+use Rattle.node_laws.proofs.Words.{AllByRecursion, Asks, Bool, Commits, Creation, Deed, Drops, Entry, Give, IsAnswered, IsAwaited, IsNoticeOf, IsProperBook}
+use Rattle.node_laws.proofs.Words.{IsProperCommand, IsReadSo, LinkEnd, List, None, Option, PipeRow, Port, Release, Releases, Removed, SaysOk, Sends, SetAside}
+use Rattle.node_laws.proofs.Words.{SetsErrors, Some, Tells, Up, Waits, Work, [], after_turn, agreed, all_done, answer_of, ap, append_assoc, arith, book_in}
+use Rattle.node_laws.proofs.Words.{by_test, commit, cond, count_of, done, end_of_node, ends_of, eqb, false, inl, inr, is_response, length, nat_lt, noted_of}
+use Rattle.node_laws.proofs.Words.{notified, noting, option_map_or, port_at, refl, spare, subst, sym, true, true≢false, turn, turn_at, unless_cut, with_port, ℕ}
+use Rattle.node_laws.proofs.Words.{◌&&◌, ◌++◌, ◌+◌, ◌∙◌, ◌∷◌, ◌≡◌, ◌≤◌, ◌⊎◌}
 use Rattle.trace_model.specs.declared.entry.Entry.TheVariants as entry
 use Rattle.gate_answers.specs.declared.response.Response.TheVariants as response
 use Rattle.node_laws.proofs.links.Noticing.{turn-phase}

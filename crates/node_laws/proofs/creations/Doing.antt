@@ -1,15 +1,12 @@
 -- A controller does the deeds of a message: the creation that a host asked for stays the one that is read.
-use Rattle.std.proofs.Common.{append_assoc, append-nil, ◌≡◌, ◌⊎◌, inl, inr, ℕ, ◌+◌, ◌-◌, ◌≤◌, ◌&&◌, Bool, true, false, cond, eqb, List, [], ◌∷◌, ◌++◌, length}
-use Rattle.std.proofs.Common.{map, sym, refl, ap, ap₂, ◌∙◌, subst, arith}
-use Rattle.std.specs.Prelude.{Option, Some, None, ◌/◌}
-use Rattle.std.specs.List.{AllByRecursion, fold}
-use Rattle.std.specs.Option.{option_map, option_map_or}
-use Rattle.std.proofs.lemmas.Bool.{cases_Bool, eqb-true, eq-eqb, true≢false, le-ltb}
-use Rattle.node_laws.proofs.Words.{AreProper, Book, Command, Controller, Core, Creation, Desk, Entry, FetchMessage, Give, Hold, IfAwaited, IsAnswered}
-use Rattle.node_laws.proofs.Words.{IsAwaited, IsProperBook, IsProperCommand, IsReadSo, LinkEnd, Message, Port, Release, Removed, SetAside, Turn, Up, Work}
-use Rattle.node_laws.proofs.Words.{after_turn, asked_at, asking_in, body_of, book_after, book_in, by_option, by_test, changed_if, commit, commit_writes}
-use Rattle.node_laws.proofs.Words.{creation_in, done, entries_for, fails_within, give_refusal, in_use, is_response, need, noted_of, notified, noting, own_side}
-use Rattle.node_laws.proofs.Words.{port_at, sent_unless, spare, turn, turn_at, turn_entry, unless_cut, with_desk, with_port}
+use Rattle.node_laws.proofs.Words.{AllByRecursion, AreProper, Book, Bool, Command, Controller, Core, Creation, Desk, Entry, FetchMessage, Give, Hold, IfAwaited}
+use Rattle.node_laws.proofs.Words.{IsAnswered, IsAwaited, IsProperBook, IsProperCommand, IsReadSo, LinkEnd, List, Message, None, Option, Port, Release, Removed}
+use Rattle.node_laws.proofs.Words.{SetAside, Some, Turn, Up, Work, [], after_turn, ap, append-nil, append_assoc, ap₂, arith, asked_at, asking_in, body_of}
+use Rattle.node_laws.proofs.Words.{book_after, book_in, by_option, by_test, cases_Bool, changed_if, commit, commit_writes, cond, creation_in, done, entries_for}
+use Rattle.node_laws.proofs.Words.{eq-eqb, eqb, eqb-true, fails_within, false, fold, give_refusal, in_use, inl, inr, is_response, le-ltb, length, map, need}
+use Rattle.node_laws.proofs.Words.{noted_of, notified, noting, option_map, option_map_or, own_side, port_at, refl, sent_unless, spare, subst, sym, true}
+use Rattle.node_laws.proofs.Words.{true≢false, turn, turn_at, turn_entry, unless_cut, with_desk, with_port, ℕ, ◌&&◌, ◌++◌, ◌+◌, ◌-◌, ◌/◌, ◌∙◌, ◌∷◌, ◌≡◌, ◌≤◌}
+use Rattle.node_laws.proofs.Words.{◌⊎◌}
 use Rattle.trace_model.specs.declared.entry.Entry.TheVariants as entry
 use Rattle.node_laws.proofs.links.Noticing.{turn-phase, at_all, at_host}
 use Rattle.node_laws.proofs.links.Blocks.{IsWithin, turn_within}

@@ -1,21 +1,18 @@
 -- What is read of creations over whatever happens.
-use Rattle.std.proofs.Common.{◌≡◌, ℕ, ◌&&◌, Bool, true, false, not, cond, eqb, List, [], ◌∷◌, ◌++◌, map, sym, refl, ap, ◌∙◌, subst, append-nil}
-use Rattle.std.specs.Prelude.{Option, Some, None}
-use Rattle.std.specs.List.{AllByRecursion, flat_map, find, cons_option, filter_map}
-use Rattle.std.specs.Option.{option_map_or}
-use Rattle.std.proofs.lemmas.Bool.{eqb-true}
-use Rattle.node_laws.proofs.Words.{AllKeep, AreHosts, AreProper, AsksReset, AtController, AtEnd, Bare, Broken, Comes, Controller, CutOff, Deed, Desk, End}
-use Rattle.node_laws.proofs.Words.{Entry, GoesOut, HasEnds, HasSetAside, HciTables, Host, IfAwaited, IfHostNode, IfNoticedUp, IfRuns, IsGoodSite, IsHost}
-use Rattle.node_laws.proofs.Words.{IsProperBook, IsReadSo, IsShut, KeepsNotices, Link, LinkInput, Loss, Memory, NextFrame, NoInput, NodeWorld, NumberedEnd}
-use Rattle.node_laws.proofs.Words.{Port, Reset, Role, Running, RunsSo, Site, Starts, Step, Stops, Take, Tick, TimePasses, Turn, Work, after_controller}
-use Rattle.node_laws.proofs.Words.{after_host, after_input, after_planned, aged, all_aged, arrival, asking_in, begins_with, book_in, boot_found, boot_writes}
-use Rattle.node_laws.proofs.Words.{boot_written, boots, by_boot, by_list, by_loss, by_memory, by_option, by_power, by_running, by_test, comes_at, comes_to}
-use Rattle.node_laws.proofs.Words.{controller_cut, controller_ticks, controller_work, count_of, counts, creation_in, creations_at, creations_of, deactivated}
-use Rattle.node_laws.proofs.Words.{ending_of, entries_for, exchanged, first_lost, found, frame_lost, frames_noted, happens, has_come, has_taken, host_cut}
-use Rattle.node_laws.proofs.Words.{host_does, host_work, hosts_in, input_at, input_of, is_late_at, is_waiting, link_after_controller, link_to, links_of}
-use Rattle.node_laws.proofs.Words.{loses_power_at, memory_at, near_end_in, new_desk, new_link_end, node_at, port_at, port_for, renewed, runs_on, seen_from}
-use Rattle.node_laws.proofs.Words.{sent_all, site_at, site_lost, started, steps, steps_at_controller, ticked_so, turned, turns_at, wires_for, with_error}
-use Rattle.node_laws.proofs.Words.{with_memory, with_node, with_site, work_of}
+use Rattle.node_laws.proofs.Words.{AllByRecursion, AllKeep, AreAwaited, AreHosts, AreProper, AsksReset, AtController, AtEnd, Bare, Bool, Broken, Comes}
+use Rattle.node_laws.proofs.Words.{Controller, CutOff, Deed, Desk, End, Entry, GoesOut, HasEnds, HasSetAside, HciTables, Host, IfAwaited, IfHostNode}
+use Rattle.node_laws.proofs.Words.{IfNoticedUp, IfRuns, IsGoodSite, IsHost, IsProperBook, IsReadSo, IsShut, KeepsNotices, Link, LinkInput, List, Loss, Memory}
+use Rattle.node_laws.proofs.Words.{NextFrame, NoInput, NodeWorld, None, NumberedEnd, Option, Port, Reset, Role, Running, RunsSo, Site, Some, Starts, Step}
+use Rattle.node_laws.proofs.Words.{Stops, Take, Tick, TimePasses, Turn, Work, [], after_controller, after_host, after_input, after_planned, aged, all_aged, ap}
+use Rattle.node_laws.proofs.Words.{append-nil, arrival, asking_in, begins_with, book_in, boot_found, boot_writes, boot_written, boots, by_boot, by_list}
+use Rattle.node_laws.proofs.Words.{by_loss, by_memory, by_option, by_power, by_running, by_test, comes_at, comes_to, cond, cons_option, controller_cut}
+use Rattle.node_laws.proofs.Words.{controller_ticks, controller_work, count_of, counts, creation_in, creations_at, creations_of, deactivated, ending_of}
+use Rattle.node_laws.proofs.Words.{entries_for, eqb, eqb-true, exchanged, false, filter_map, find, first_lost, flat_map, found, frame_lost, frames_noted}
+use Rattle.node_laws.proofs.Words.{happens, has_come, has_taken, host_cut, host_does, host_work, hosts_in, input_at, input_of, is_late_at, is_waiting}
+use Rattle.node_laws.proofs.Words.{link_after_controller, link_to, links_of, loses_power_at, map, memory_at, near_end_in, new_desk, new_link_end, node_at, not}
+use Rattle.node_laws.proofs.Words.{option_map_or, port_at, port_for, refl, renewed, runs_on, seen_from, sent_all, site_at, site_lost, started, steps}
+use Rattle.node_laws.proofs.Words.{steps_at_controller, subst, sym, ticked_so, true, turned, turns_at, wires_for, with_error, with_memory, with_node, with_site}
+use Rattle.node_laws.proofs.Words.{work_of, written_off, ℕ, ◌&&◌, ◌++◌, ◌∙◌, ◌∷◌, ◌≡◌}
 use Rattle.trace_model.specs.declared.entry.Entry.TheVariants as entry
 use Rattle.node_laws.proofs.telling.Events.{site_map}
 use Rattle.node_laws.proofs.telling.Nodes.{site_host, link_is}
@@ -24,9 +21,7 @@ use Rattle.node_laws.proofs.readings.Sites.{near_end_side, comes_outside, lost_q
 use Rattle.node_laws.proofs.notices.Own.{AreOwn}
 use Rattle.node_laws.proofs.notices.Far.{AreFar, far-append, far_flat, quiet_far, IsFarWork, all_do, steps_far, asking_more}
 use Rattle.node_laws.proofs.notices.Sites.{AreGood, good_at, link_shut, frames_quiet, arrival_quiet}
-use Rattle.node_machine.proofs.world.Cases.{written_off}
 use Rattle.node_laws.specs.creations.Creations.{of_asker}
-use Rattle.node_laws.specs.creations.Worlds.{AreAwaited}
 use Rattle.node_laws.proofs.creations.Rows.{proper_found}
 use Rattle.node_laws.proofs.creations.Near.{Reads, far_book, far_reading, new_ready, none_side, IsBegun, begun_at, step_reads}
 use Rattle.node_laws.proofs.creations.Sides.{near_made, tick_made, after_tick, near_side, tick_side}

@@ -1,19 +1,16 @@
 -- Whatever happens, no end of a host has a block set aside.
-use Rattle.std.proofs.Common.{◌≡◌, ◌⊎◌, inl, inr, ℕ, ◌&&◌, Bool, true, false, not, eqb, List, [], ◌∷◌, map, sym, refl, ap, ◌∙◌, subst}
-use Rattle.std.specs.Prelude.{Option, Some, None}
-use Rattle.std.specs.List.{AllByRecursion}
-use Rattle.std.proofs.lemmas.Bool.{cases_Bool, cond_both}
-use Rattle.node_laws.proofs.Words.{Activates, Arms, AsksReset, AtController, AtEnd, Boots, Comes, CutOff, Deed, Desk, End, EndEvent, Ending, Entry, Gives}
-use Rattle.node_laws.proofs.Words.{GoesOut, Happening, HasNoneAside, Host, IfHostNode, Inits, IsCut, IsGoodSite, KeepsNotices, Link, LinkInput, Lose, Loses}
-use Rattle.node_laws.proofs.Words.{Loss, Memory, NextFrame, NoInput, NodeWorld, NumberedEnd, Port, Reset, Resets, Running, Site, Starts, Step, Takes, Ticks}
-use Rattle.node_laws.proofs.Words.{TimePasses, Turn, Work, after_controller, after_host, after_planned, aged, all_aged, arrival, at, beginning, begins_with}
-use Rattle.node_laws.proofs.Words.{boot_found, boot_writes, boot_written, boots, by_boot, by_memory, by_option, by_power, by_running, by_test, changed_if}
-use Rattle.node_laws.proofs.Words.{comes_at, comes_to, controller_does, controller_ticks, controller_work, counts, end_c, end_h, ending_of, entries_for}
-use Rattle.node_laws.proofs.Words.{exchanged, frame_lost, happens, has_input, host_cut, host_does, host_ticks, host_work, hosts_tick, input_of, is_late_at}
-use Rattle.node_laws.proofs.Words.{is_waiting, link_after_controller, link_to, loses_power_at, memory_at, near_end_in, new_site, port_for, seen_from, sending}
-use Rattle.node_laws.proofs.Words.{site_at, steps, ticked_so, ticks_at_controller, turns_at, with_memory, with_site, work_of, world_step}
+use Rattle.node_laws.proofs.Words.{Activates, AllByRecursion, Arms, AsksReset, AtController, AtEnd, Bool, Boots, Comes, CutOff, Deed, Desk, End, EndEvent}
+use Rattle.node_laws.proofs.Words.{Ending, Entry, Gives, GoesOut, Happening, HasNoneAside, Host, IfHostNode, Inits, IsCut, IsGoodSite, KeepsNotices, Link}
+use Rattle.node_laws.proofs.Words.{LinkInput, List, Lose, Loses, Loss, Memory, NextFrame, NoInput, NodeWorld, None, NumberedEnd, Option, Port, Reset, Resets}
+use Rattle.node_laws.proofs.Words.{Running, Site, Some, Starts, Step, Takes, Ticks, TimePasses, Turn, Work, [], after_controller, after_host, after_planned}
+use Rattle.node_laws.proofs.Words.{aged, all_aged, ap, arrival, at, beginning, begins_with, boot_found, boot_writes, boot_written, boots, by_boot, by_memory}
+use Rattle.node_laws.proofs.Words.{by_option, by_power, by_running, by_test, cases_Bool, changed_if, comes_at, comes_to, cond_both, controller_does}
+use Rattle.node_laws.proofs.Words.{controller_ticks, controller_work, counts, end_c, end_h, ending_of, entries_for, eqb, exchanged, false, frame_lost, happens}
+use Rattle.node_laws.proofs.Words.{has_input, host_cut, host_does, host_ticks, host_work, hosts_tick, inl, input_of, inr, is_late_at, is_waiting}
+use Rattle.node_laws.proofs.Words.{link_after_controller, link_to, loses_power_at, map, memory_at, near_end_in, new_site, not, port_for, refl, seen_from}
+use Rattle.node_laws.proofs.Words.{sending, site_at, steps, subst, sym, tick_host, ticked_so, ticks_at_controller, true, turns_at, with_memory, with_site}
+use Rattle.node_laws.proofs.Words.{work_of, world_step, ℕ, ◌&&◌, ◌∙◌, ◌∷◌, ◌≡◌, ◌⊎◌}
 use Rattle.node_laws.proofs.links.Ends.{here_host}
-use Rattle.link_laws.proofs.entries.Together.{ticks_host as tick_host}
 use Rattle.node_laws.proofs.notices.Own.{AreOwn}
 use Rattle.node_laws.proofs.notices.Sites.{AreGood, good_at, sending_own, beginning_own}
 use Rattle.node_laws.proofs.notices.Near.{comes_reads as notices_come}
@@ -80,7 +77,7 @@ host_none w h comes f good keeps a = by_option (site_at w.sites h)
           none =
               keeps (work_of r s.memory.plan (λ n. near_end_in (exchanged s.link) comes) (entries_for s.host
               (arrival Host (exchanged s.link) comes)))
-              (record { number = subst IfHostNode e fine.node; turns = start_none r (λ n. near_end_in (exchanged s.link) comes) })
+              (record { number = subst IfHostNode e fine.node; ends = start_none r (λ n. near_end_in (exchanged s.link) comes) })
 
 comes_none : (w : NodeWorld) (e : End) (comes : Comes) → AreGood w.sites → HaveNoneAside w.sites → HaveNoneAside (comes_at w e comes).0.sites
 comes_none w e comes good a = go (input_of (seen_from e (link_to w.sites e.link)) comes) refl (cases_Bool e.at_host) where
@@ -185,7 +182,7 @@ host_tick_none s good a = by_node s.node refl good.node where
   by_node (Some r) e node =
       ap (λ (l : Link). l.host.side.aside) (on_is r e)
       ∙ tick_none (exchanged s.link) (turns_at (k r) s.host) (ending_of (k r))
-      (none_at (k r) s.host (steps_none TimePasses (work_of r s.memory.plan (λ h. s.link.host) []) (record { number = node; turns = start_none r }))) a
+      (none_at (k r) s.host (steps_none TimePasses (work_of r s.memory.plan (λ h. s.link.host) []) (record { number = node; ends = start_none r }))) a
 
 all_ticked : (sites : List Site) → AreGood sites → HaveNoneAside sites → HaveNoneAside (hosts_tick sites).0
 all_ticked [] good a = tt

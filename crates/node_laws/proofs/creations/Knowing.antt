@@ -1,16 +1,12 @@
 -- What a controller knows of the creations that wait, and the blocks that it sets aside for them, are what is read.
-use Rattle.std.proofs.Common.{◌≡◌, ◌⊎◌, inl, inr, ℕ, ◌≤◌, ◌||◌, Bool, true, false, cond, eqb, List, [], ◌∷◌, ◌++◌, length, sym, refl, ap, ◌∙◌, subst, arith}
-use Rattle.std.specs.Prelude.{◌&&◌, not, is_none, Option, Some, None, is_some, slice_index}
-use Rattle.std.specs.List.{AllByRecursion, find, list_any, range_with_len}
-use Rattle.std.specs.Option.{option_map_or}
-use Rattle.std.proofs.lemmas.Bool.{cases_Bool, eqb-true, eq-eqb, true≢false}
-use mathlib.Core.Bool.{or-false}
-use Rattle.node_laws.proofs.Words.{Command, Creation, Entry, HasNoneAside, HasSetAside, IsReadSo, KeepsCreations, LinkEnd, NodeWorld, PipeRow, Port, Release}
-use Rattle.node_laws.proofs.Words.{Running, Site, aside_in, asked_at, asked_pipes, asking_in, asks_for, by_list, by_option, by_test, creations_at, creations_of}
-use Rattle.node_laws.proofs.Words.{end_c, ends_between, give_refusal, hosts_in, is_asked_pipe, link_to, pipe_at, site_at, turn, waiting_pipes}
+use Rattle.node_laws.proofs.Words.{AllByRecursion, AsidesAreRead, Bool, Command, Creation, Entry, HasNoneAside, HasSetAside, IfKnowsAsRead, IsReadSo}
+use Rattle.node_laws.proofs.Words.{KeepsCreations, KnowsAsRead, LinkEnd, List, NodeWorld, None, Option, PipeRow, Port, Release, Running, Site, Some, [], ap}
+use Rattle.node_laws.proofs.Words.{arith, aside_in, asked_at, asked_pipes, asking_in, asks_for, by_list, by_option, by_test, cases_Bool, cond, creations_at}
+use Rattle.node_laws.proofs.Words.{creations_of, end_c, ends_between, eq-eqb, eqb, eqb-true, false, find, give_refusal, hosts_in, inl, inr, is_asked_pipe}
+use Rattle.node_laws.proofs.Words.{is_none, is_some, length, link_to, list_any, not, option_map_or, or-false, pipe_at, range_with_len, refl, site_at}
+use Rattle.node_laws.proofs.Words.{slice_index, subst, sym, true, true≢false, turn, waiting_pipes, ℕ, ◌&&◌, ◌++◌, ◌||◌, ◌∙◌, ◌∷◌, ◌≡◌, ◌≤◌, ◌⊎◌}
 use Rattle.pipe_table.specs.PipeRows.{is_free, lowest_free}
 use Rattle.node_machine.specs.Controller.{pipe_of}
-use Rattle.node_laws.specs.creations.Creations.{KnowsAsRead, IfKnowsAsRead, AsidesAreRead}
 use Rattle.node_laws.proofs.creations.Doing.{takes_short}
 use Rattle.node_laws.proofs.creations.Asks.{asked_of, one_of, waits, desks_wait}
 use Rattle.node_laws.proofs.creations.Near.{none_side, desks_back}

@@ -1,13 +1,10 @@
 -- What is read of creations over the events of a schedule.
-use Rattle.std.proofs.Common.{◌≡◌, ℕ, List, [], ◌∷◌, ◌++◌, sym, refl, ap, ◌∙◌, subst}
-use Rattle.std.specs.Prelude.{None}
-use Rattle.std.specs.List.{AllByRecursion, flat_map}
-use Rattle.std.proofs.lemmas.List.Concat.{flat_map-append}
-use Rattle.node_laws.proofs.Words.{AreHosts, Entry, FollowsNodes, Happening, Header, IsFew, IsSentByHost, KeepsCreations, Line, LineStep, MayBoot, MayHappen}
-use Rattle.node_laws.proofs.Words.{NodeHistory, NodeWorld, Occurrence, entries_in, happenings, new_world, node_entries, occurrences_in, occurrences_of}
-use Rattle.node_laws.proofs.Words.{refusal_in, steps_from, world_after, world_behind, world_step}
-use Rattle.node_laws.proofs.kept.Lines.{MayAllHappen, line_may, few_front}
-use Rattle.node_laws.proofs.telling.Lasting.{AllMay, boots_may, events_of_steps, AllHold, front_holds, lines_hold, lines_last}
+use Rattle.node_laws.proofs.Words.{AllByRecursion, AreHosts, Entry, FollowsNodes, Happening, Header, IsFew, IsSentByHost, KeepsCreations, Line, LineStep, List}
+use Rattle.node_laws.proofs.Words.{MayBoot, MayHappen, NodeHistory, NodeWorld, None, Occurrence, [], ap, entries_in, flat_map, flat_map-append, happenings}
+use Rattle.node_laws.proofs.Words.{new_world, node_entries, occurrences_in, occurrences_of, refl, refusal_in, subst, sym, world_after, world_behind, world_step}
+use Rattle.node_laws.proofs.Words.{ℕ, ◌++◌, ◌∙◌, ◌∷◌, ◌≡◌}
+use Rattle.node_laws.proofs.kept.Lines.{MayAllHappen, few_front, line_may}
+use Rattle.node_laws.proofs.telling.Lasting.{AllMay, boots_may, history_holds, lines_last}
 use Rattle.node_laws.proofs.creations.Worlds.{begin_keeps, event_keeps}
 
 -- what may happen to nodes and their memories
@@ -38,14 +35,9 @@ pub history_keeps : (header : Header) (lines : List Line) (t : NodeHistory) → 
     → KeepsCreations header.hosts.items (entries_in front) (world_behind (new_world header.hosts.items) front)
 history_keeps header lines t follows are sent few front back q =
     let hosts : List ℕ = header.hosts.items in
-    let H : List Entry → NodeWorld → Type 0 = λ u w. IsFew u → KeepsCreations hosts u w in
-    let P : List Occurrence → Type 0 = λ events. AllHold H May IsSentByHost (lasts hosts are) (lines_may hosts are) [] (new_world hosts) events in
-    let is : events_of_steps (steps_from (new_world hosts) lines) ≡ front ++ back = ap events_of_steps (sym follows.steps_are) ∙ q in
-    let all : IsFew (entries_in front ++ entries_in back) =
-    subst IsFew (ap entries_in q ∙ flat_map-append (λ (o : Occurrence). o.entries) front back) few in
-    front_holds H May IsSentByHost (lasts hosts are) (lines_may hosts are) front back [] (new_world hosts)
-    (subst P is (lines_hold H May IsSentByHost (lasts hosts are) (lines_may hosts are) lines [] (new_world hosts) (begins hosts are) sent))
-    (few_front (entries_in front) (entries_in back) all)
+    history_holds (λ u w. IsFew u → KeepsCreations hosts u w) May IsSentByHost (lasts hosts are) (lines_may hosts are) header lines t follows (begins hosts are)
+    sent front back q
+    (few_front (entries_in front) (entries_in back) (subst IsFew (ap entries_in q ∙ flat_map-append (λ (o : Occurrence). o.entries) front back) few))
 
 pub schedule_keeps : (header : Header) (lines : List Line) (t : NodeHistory) → FollowsNodes header lines t → AreHosts header.hosts.items
     → AllByRecursion IsSentByHost lines → IsFew (node_entries t)

@@ -1,15 +1,10 @@
 -- What is read of creations as the controller of a world has a step.
-use Rattle.std.proofs.Common.{◌≡◌, inl, inr, ℕ, true, false, eqb, List, [], ◌∷◌, ◌++◌, length, map, sym, refl, ap, ◌∙◌, subst, append_assoc, append-nil}
-use Rattle.std.proofs.Common.{arith}
-use Rattle.std.specs.Prelude.{Option, Some, None}
-use Rattle.std.specs.List.{AllByRecursion, find, fold}
-use Rattle.std.specs.Option.{option_map, option_map_or}
-use Rattle.std.proofs.lemmas.Bool.{eqb-true, true≢false}
-use Rattle.node_laws.proofs.Words.{AreDifferent, AreProper, Bare, Book, Creation, Desk, Entry, HasEnds, HasSetAside, IfAwaited, IfNoticedUp, IsFresh, IsHost}
-use Rattle.node_laws.proofs.Words.{IsNoticedUp, IsOutside, IsProperBook, IsReadSo, IsShut, LinkEnd, NodeInput, NodeWorld, NumberedEnd, OnFirst, Plan, Port}
-use Rattle.node_laws.proofs.Words.{Role, Running, Site, Work, asking_in, book_after, book_in, by_list, by_option, by_test, creation_in, creations_at}
-use Rattle.node_laws.proofs.Words.{creations_of, hosts_in, is_up, link_to, new_link, new_link_end, port_at, port_for, renewed, runs_on, sent_all, site_at}
-use Rattle.node_laws.proofs.Words.{steps, work_of}
+use Rattle.node_laws.proofs.Words.{AllByRecursion, AreAwaited, AreDifferent, AreProper, Bare, Book, Creation, Desk, Entry, HasEnds, HasSetAside, IfAwaited}
+use Rattle.node_laws.proofs.Words.{IfNoticedUp, IsFresh, IsHost, IsNoticedUp, IsOutside, IsProperBook, IsReadSo, IsShut, LinkEnd, List, NodeInput, NodeWorld}
+use Rattle.node_laws.proofs.Words.{None, NumberedEnd, OnFirst, Option, Plan, Port, Role, Running, Site, Some, Work, [], ap, append-nil, append_assoc, arith}
+use Rattle.node_laws.proofs.Words.{asking_in, book_after, book_in, by_list, by_option, by_test, creation_in, creations_at, creations_of, eqb, eqb-true, false}
+use Rattle.node_laws.proofs.Words.{find, fold, hosts_in, inl, inr, is_up, length, link_to, map, new_link, new_link_end, option_map, option_map_or, port_at}
+use Rattle.node_laws.proofs.Words.{port_for, refl, renewed, runs_on, sent_all, site_at, steps, subst, sym, true, true≢false, work_of, ℕ, ◌++◌, ◌∙◌, ◌∷◌, ◌≡◌}
 use Rattle.trace_model.specs.declared.entry.Entry.TheVariants as entry
 use Rattle.node_laws.proofs.links.Noticing.{UpAt, at_host}
 use Rattle.node_laws.proofs.links.Blocks.{IsWithin, sent_within}
@@ -18,7 +13,6 @@ use Rattle.node_laws.proofs.telling.Nodes.{ports_for, hosts_same}
 use Rattle.node_laws.proofs.readings.Sites.{sent_phase}
 use Rattle.node_laws.proofs.notices.Own.{IsFar}
 use Rattle.node_laws.proofs.notices.Far.{AreFar, asking_more, far_asks}
-use Rattle.node_laws.specs.creations.Worlds.{AreAwaited}
 use Rattle.node_laws.proofs.creations.Asks.{Asked, asked_of, waits, desks_wait}
 use Rattle.node_laws.proofs.creations.Doing.{EndHas, EndAt, IsOff, Good, many}
 use Rattle.node_laws.proofs.creations.Deeds.{Still, Fine}

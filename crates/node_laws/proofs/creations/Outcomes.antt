@@ -1,13 +1,11 @@
 -- What a message of a host does to the creations that wait at a controller.
-use Rattle.std.proofs.Common.{◌≡◌, ◌⊎◌, inl, inr, ℕ, Bool, true, false, cond, eqb, ◌&&◌, List, [], ◌∷◌, map, refl, sym, ap, ap₂, ◌∙◌, subst}
-use Rattle.std.specs.Prelude.{Option, Some, None, is_some}
-use Rattle.std.specs.List.{AllByRecursion}
-use Rattle.std.proofs.lemmas.Bool.{cases_Bool, true≢false, eqb-true}
-use Rattle.node_laws.proofs.Words.{Answer, AreDifferent, AreProper, Ask, Asks, Command, Commit, Commits, Core, Creation, Decision, Deed, Drops, GoesToFree}
-use Rattle.node_laws.proofs.Words.{IsAnswered, IsAwaited, IsNoticeOf, IsProperCommand, LinkView, Message, Notice, PipeRow, Port, SaysOk, Sends, SetsErrors}
-use Rattle.node_laws.proofs.Words.{Tells, agreed, answer_of, asked_at, asks_for, body_in, by_option, by_test, commit_deeds, controller_deeds, controller_holds}
-use Rattle.node_laws.proofs.Words.{creation_in, decided, decision_deeds, finds_room, gates, goes_through, has, has_link, has_notice, hosts_where}
-use Rattle.node_laws.proofs.Words.{identity_served, is_response, link_deeds, link_served, own_gate, own_view, port_at, view_for, view_of}
+use Rattle.node_laws.proofs.Words.{AllByRecursion, Answer, AreDifferent, AreProper, Ask, Asks, Bool, Command, Commit, Commits, Core, Creation, Decision, Deed}
+use Rattle.node_laws.proofs.Words.{Drops, GoesToFree, IsAnswered, IsAwaited, IsNoticeOf, IsProperCommand, LinkView, List, Message, None, Notice, Option}
+use Rattle.node_laws.proofs.Words.{PipeRow, Port, SaysOk, Sends, SetsErrors, Some, Tells, [], agreed, answer_of, ap, ap₂, asked_at, asks_for, body_in}
+use Rattle.node_laws.proofs.Words.{by_option, by_test, cases_Bool, commit_deeds, cond, controller_deeds, controller_holds, creation_in, decided, decision_deeds}
+use Rattle.node_laws.proofs.Words.{eqb, eqb-true, false, finds_room, gates, goes_through, has, has_link, has_notice, hosts_where, identity_served, inl, inr}
+use Rattle.node_laws.proofs.Words.{is_response, is_some, link_deeds, link_served, map, own_gate, own_view, port_at, refl, subst, sym, true, true≢false}
+use Rattle.node_laws.proofs.Words.{view_for, view_of, ℕ, ◌&&◌, ◌∙◌, ◌∷◌, ◌≡◌, ◌⊎◌}
 use Rattle.gate_answers.specs.declared.response.Response.TheVariants as response
 use Rattle.node_machine.proofs.Walks.{IsServed}
 use Rattle.node_laws.proofs.creations.Asks.{Asked, asked_of, waits, set_asked, none_waits}

@@ -1,14 +1,9 @@
 -- What is read of a creation that a host asked for, over what a controller notes.
-use Rattle.std.proofs.Common.{◌≡◌, ℕ, ◌&&◌, true, cond, eqb, List, [], ◌∷◌, ◌++◌, sym, refl, ap, ◌∙◌, append_assoc}
-use Rattle.std.specs.Prelude.{Option, Some, None, is_some, take, drop}
-use Rattle.std.specs.List.{flat_map, list_any}
-use Rattle.std.proofs.lemmas.List.Sums.{fold-append}
-use mathlib.Core.Bool.{and-false, or-false}
-use Rattle.node_laws.proofs.Words.{Controller, Core, Creation, Entry, IsNoticeOf, LinkInput, Message, Port, Refused, after_input, asking_in, by_option, by_test}
-use Rattle.node_laws.proofs.Words.{end_c, end_of, ended_by, entries_for, is_response, own_side, report, same_end, sent_unless, told_at, whole_acked}
+use Rattle.node_laws.proofs.Words.{Controller, Core, Creation, Entry, IsNoticeOf, LinkInput, List, Message, None, Noted, Option, Port, Refused, Some, []}
+use Rattle.node_laws.proofs.Words.{after_input, and-false, ap, append_assoc, asking_after, asking_in, by_option, by_test, cond, drop, end_c, end_of, ended_by}
+use Rattle.node_laws.proofs.Words.{entries_for, eqb, flat_map, fold-append, is_response, is_some, list_any, or-false, own_side, refl, report, same_end}
+use Rattle.node_laws.proofs.Words.{sent_unless, sym, take, told_at, true, whole_acked, ℕ, ◌&&◌, ◌++◌, ◌∙◌, ◌∷◌, ◌≡◌}
 use Rattle.trace_model.specs.declared.entry.Entry.TheVariants as entry
-use Rattle.link_laws.specs.entries.Entries.{Entry as Noted}
-use Rattle.node_machine.specs.world.NodeFilters.{asking_after}
 use Rattle.node_laws.proofs.readings.Silent.{told_rest, rest_quiet}
 use Rattle.node_laws.proofs.notices.Reading.{same_near, reads, reads_append, told_reads}
 use Rattle.node_laws.proofs.notices.Far.{asks, asking_more, far_asks, quiet_far}

@@ -1,15 +1,11 @@
 -- No pipe of a controller leads to its administration gate, but pipe 01 of each host.
-use Rattle.std.proofs.Common.{◌≡◌, ℕ, Bool, false, cond, eqb, ltb, List, [], ◌∷◌, map, take, subst}
-use Rattle.std.specs.Prelude.{not, Some}
-use Rattle.std.specs.List.{AllByRecursion}
-use Rattle.std.proofs.lemmas.Bool.{cond_both}
+use Rattle.node_laws.proofs.Words.{AllByRecursion, AreProper, Book, Bool, Clear, Command, Create, Delete, HciTables, IsProper, IsProperBook, IsProperCommand}
+use Rattle.node_laws.proofs.Words.{List, PipeRow, Set, SetOpened, Some, Sync, [], after_commands, all_append, apply, cond, cond_both, eqb, false, ltb, map}
+use Rattle.node_laws.proofs.Words.{new_book, no_tables, not, pid_of, pipe_at, subst, take, with_command, with_found, ℕ, ◌∷◌, ◌≡◌}
 use Rattle.sorted_rows.specs.Rows.{rows_before, rows_behind}
-use Rattle.node_laws.proofs.Words.{AreProper, Book, Clear, Command, Create, Delete, HciTables, IsProperBook, IsProperCommand, PipeRow, Set, SetOpened, Sync}
-use Rattle.node_laws.proofs.Words.{after_commands, apply, new_book, no_tables, pid_of, pipe_at, with_command, with_found}
 use Rattle.pipe_table.specs.PipeRows.{joins_host, as_opened, with_opened, all_closed}
 use Rattle.hci_tables.specs.Tables.{with_static}
-use Rattle.registry.proofs.ValueLemmas.{AllByRecursion-append as all_append, AllByRecursion-filter, AllByRecursion-take}
-use Rattle.node_laws.specs.creations.Worlds.{IsProper}
+use Rattle.registry.proofs.ValueLemmas.{AllByRecursion-filter, AllByRecursion-take}
 
 all_same : {X : Type 0} (P : X → Type 0) (f : X → X) → ((x : X) → P x → P (f x)) → (xs : List X) → AllByRecursion P xs → AllByRecursion P (map f xs)
 all_same P f one [] a = tt

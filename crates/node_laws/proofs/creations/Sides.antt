@@ -1,14 +1,11 @@
 -- The end of a controller on a link of its world is what its step makes of it.
-use Rattle.std.proofs.Common.{◌≡◌, ℕ, Bool, true, false, not, cond, eqb, List, [], map, sym, refl, ap, ◌∙◌, subst}
-use Rattle.std.specs.Prelude.{Option, Some, None, is_some}
-use Rattle.std.specs.List.{flat_map}
-use Rattle.std.specs.Option.{option_map}
-use Rattle.std.proofs.lemmas.Bool.{true≢false}
-use Rattle.node_laws.proofs.Words.{AsksReset, AtEnd, Comes, Desk, Entry, GoesOut, IsShut, Link, LinkEnd, LinkInput, NextFrame, NoInput, NodeInput, Notice, Port}
-use Rattle.node_laws.proofs.Words.{Reset, Start, Starts, Stop, Stops, Take, Tick, TimePasses, Turn, Up, Work, after_input, after_sessions, after_turn, all_come}
-use Rattle.node_laws.proofs.Words.{all_owed, by_list, by_option, by_test, changed_if, forgets, forgotten, has_come, has_input, has_taken, input_at, input_of}
-use Rattle.node_laws.proofs.Words.{is_late, is_open, is_waiting, noting, port_at, reset_late, sent_all, steps, steps_at_controller, synced, ticked_so}
-use Rattle.node_laws.proofs.Words.{ticks_at_controller, times_out, turn, turn_at, turned, with_desk, with_older, with_port, without_notice}
+use Rattle.node_laws.proofs.Words.{AsksReset, AtEnd, Bool, Comes, Desk, Entry, GoesOut, IsShut, Link, LinkEnd, LinkInput, List, NextFrame, NoInput, NodeInput}
+use Rattle.node_laws.proofs.Words.{None, Notice, Option, Port, Reset, Some, Start, Starts, Stop, Stops, Take, Tick, TimePasses, Turn, Up, Work, [], after_input}
+use Rattle.node_laws.proofs.Words.{after_sessions, after_turn, all_come, all_owed, ap, by_list, by_option, by_test, changed_if, cond, eqb, false, flat_map}
+use Rattle.node_laws.proofs.Words.{forgets, forgotten, has_come, has_input, has_taken, input_at, input_of, is_late, is_open, is_some, is_waiting, map, not}
+use Rattle.node_laws.proofs.Words.{noting, option_map, port_at, refl, reset_late, sent_all, steps, steps_at_controller, subst, sym, synced, ticked_so}
+use Rattle.node_laws.proofs.Words.{ticks_at_controller, times_out, true, true≢false, turn, turn_at, turned, with_desk, with_older, with_port, without_notice, ℕ}
+use Rattle.node_laws.proofs.Words.{◌∙◌, ◌≡◌}
 use Rattle.shdlc_core.specs.declared.answers.LinkState.TheVariants.{Down}
 use Rattle.node_laws.proofs.links.Noticing.{UpAt, at_all}
 use Rattle.node_laws.proofs.telling.Accounts.{at_changed, turned-append}

@@ -1,15 +1,11 @@
 -- A whole step of a controller: the creation that a host asked for stays the one that is read.
-use Rattle.std.proofs.Common.{◌≡◌, ◌⊎◌, inl, inr, ℕ, ◌+◌, ◌-◌, ◌&&◌, Bool, true, false, not, cond, eqb, List, [], ◌∷◌, ◌++◌, length, map, sym, refl, ap, ◌∙◌}
-use Rattle.std.proofs.Common.{subst, append-nil, arith}
-use Rattle.std.specs.Prelude.{Option, Some, None}
-use Rattle.std.specs.List.{AllByRecursion, flat_map, filter, filter_map}
-use Rattle.std.specs.Option.{option_map, option_map_or}
-use Rattle.std.proofs.lemmas.Bool.{cases_Bool, eqb-true}
-use Rattle.node_laws.proofs.Words.{AreDifferent, AreProper, AtEnd, Commits, Core, Creation, Deed, Entry, HciTables, IfAwaited, IsAwaited, IsFresh, IsHost}
-use Rattle.node_laws.proofs.Words.{IsOutside, IsProperCommand, IsReadSo, IsShut, NodeInput, Port, Release, Releases, Response, Sends, Sync, TimePasses, Work}
-use Rattle.node_laws.proofs.Words.{after_sessions, all_come, all_done, all_owed, answer_of, answers_and_passes, asked_at, by_list, by_option, by_test, commit}
-use Rattle.node_laws.proofs.Words.{finds_room, forgets, forgotten, input_at, is_forgotten, is_kept_sync, is_over, is_over_at, is_response, owed, passes}
-use Rattle.node_laws.proofs.Words.{port_at, report, steps, synced, times_out, turn_at, unless_cut, without_notice}
+use Rattle.node_laws.proofs.Words.{AllByRecursion, AreDifferent, AreProper, AtEnd, Bool, Commits, Core, Creation, Deed, Entry, HciTables, IfAwaited, IsAwaited}
+use Rattle.node_laws.proofs.Words.{IsFresh, IsHost, IsOutside, IsProperCommand, IsReadSo, IsShut, List, NodeInput, None, Option, Port, Release, Releases}
+use Rattle.node_laws.proofs.Words.{Response, Sends, Some, Sync, TimePasses, Work, [], after_sessions, all_come, all_done, all_owed, answer_of}
+use Rattle.node_laws.proofs.Words.{answers_and_passes, ap, append-nil, arith, asked_at, by_list, by_option, by_test, cases_Bool, commit, cond, eqb, eqb-true}
+use Rattle.node_laws.proofs.Words.{false, filter, filter_map, finds_room, flat_map, forgets, forgotten, inl, input_at, inr, is_forgotten, is_kept_sync, is_over}
+use Rattle.node_laws.proofs.Words.{is_over_at, is_response, length, map, not, option_map, option_map_or, owed, passes, port_at, refl, report, steps, subst, sym}
+use Rattle.node_laws.proofs.Words.{synced, times_out, true, turn_at, unless_cut, without_notice, ℕ, ◌&&◌, ◌++◌, ◌+◌, ◌-◌, ◌∙◌, ◌∷◌, ◌≡◌, ◌⊎◌}
 use Rattle.gate_answers.specs.declared.response.Response.TheVariants as response
 use Rattle.node_laws.proofs.links.Noticing.{UpAt, at_all}
 use Rattle.node_laws.proofs.telling.Steps.{without_same, forgets_same}

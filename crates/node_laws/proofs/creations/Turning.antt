@@ -1,13 +1,10 @@
 -- A controller has its turns: the creation that a host asked for stays the one that is read.
-use Rattle.std.proofs.Common.{◌≡◌, inl, ℕ, true, false, eqb, List, [], ◌∷◌, ◌++◌, map, sym, refl, ap, ◌∙◌, subst, arith}
-use Rattle.std.specs.Prelude.{Option, Some, None, is_some, nat_lt}
-use Rattle.std.specs.List.{AllByRecursion}
-use Rattle.std.specs.Option.{option_map_or}
-use Rattle.std.proofs.lemmas.Bool.{eqb-true, ne_eqb, eq-eqb, true≢false, ltb-false, lt-ltb}
-use Rattle.node_laws.proofs.Words.{AllReach, AreDifferent, Asks, Creation, Deed, Entry, FetchMessage, GoesToFree, Hold, IfAwaited, IsAwaited, IsHost, Message}
-use Rattle.node_laws.proofs.Words.{Notice, Port, Work, after_turn, asked_at, asks_for, by_option, by_test, changed_if, controller_deeds, creation_in, deeds_of}
-use Rattle.node_laws.proofs.Words.{end_of_node, goes_through_ends, handles, has_link, have_turns, holds_back, is_held, is_up, lack, lets_go, need, needs}
-use Rattle.node_laws.proofs.Words.{noting, passes, port_at, spare, turn_at, unless_cut, view_of, with_desk, with_port}
+use Rattle.node_laws.proofs.Words.{AllByRecursion, AllReach, AreDifferent, Asks, Creation, Deed, Entry, FetchMessage, GoesToFree, Hold, IfAwaited, IsAwaited}
+use Rattle.node_laws.proofs.Words.{IsHost, List, Message, None, Notice, Option, Port, Some, Work, [], after_turn, ap, arith, asked_at, asks_for, by_option}
+use Rattle.node_laws.proofs.Words.{by_test, changed_if, controller_deeds, creation_in, deeds_of, end_of_node, eq-eqb, eqb, eqb-true, false, goes_through_ends}
+use Rattle.node_laws.proofs.Words.{handles, has_link, have_turns, holds_back, inl, is_held, is_some, is_up, lack, lets_go, lt-ltb, ltb-false, map, nat_lt}
+use Rattle.node_laws.proofs.Words.{ne_eqb, need, needs, noting, option_map_or, passes, port_at, refl, spare, subst, sym, true, true≢false, turn_at, unless_cut}
+use Rattle.node_laws.proofs.Words.{view_of, with_desk, with_port, ℕ, ◌++◌, ◌∙◌, ◌∷◌, ◌≡◌}
 use Rattle.trace_model.specs.declared.entry.Entry.TheVariants as entry
 use Rattle.node_laws.proofs.links.Noticing.{at_all}
 use Rattle.node_laws.proofs.links.Reaching.{controller_reach}

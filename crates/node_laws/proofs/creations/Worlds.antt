@@ -1,15 +1,13 @@
 -- What a world keeps of the creations that wait over each event.
-use Rattle.std.proofs.Common.{◌≡◌, ℕ, ◌-◌, ◌^◌, ◌≤◌, ◌&&◌, Bool, false, not, eqb, List, [], ◌∷◌, ◌++◌, length, map, replicate, sym, refl}
-use Rattle.std.proofs.Common.{ap, ◌∙◌, subst, append_assoc, append-nil}
-use Rattle.std.specs.Prelude.{Option, Some, None}
-use Rattle.std.proofs.lemmas.Bool.{cond_both}
-use Rattle.node_laws.proofs.Words.{Activates, AllKeep, AreHosts, Arms, AsksReset, AtEnd, Bare, Boots, Clf, Comes, Controller, End, Ending, Entry, Gives}
+use Rattle.node_laws.proofs.Words.{Activates, AllKeep, AreHosts, Arms, AsksReset, AtEnd, Bare, Bool, Boots, Clf, Comes, Controller, End, Ending, Entry, Gives}
 use Rattle.node_laws.proofs.Words.{GoesOut, Happening, HasSetAside, Host, IfItRuns, IfNoticedUp, Inits, IsCut, IsShut, KeepsCreations, KeepsNotices, Link}
-use Rattle.node_laws.proofs.Words.{LinkEnd, LinkInput, Loses, MayBoot, MayHappen, NextFrame, NodeWorld, Reset, Resets, Running, Site, Starts, Step, Takes, Tick}
-use Rattle.node_laws.proofs.Words.{Ticks, TimePasses, Turn, Work, activates, after_controller, after_input, aged, aged_entries, all_aged, beginning, by_option}
-use Rattle.node_laws.proofs.Words.{by_test, comes_at, commands_in, controller_does, controller_ticks, controller_work, creations_of, end_c, end_h, ending_of}
-use Rattle.node_laws.proofs.Words.{entries_for, has_input, hosts_in, hosts_tick, input_of, is_late_at, is_waiting, link_to, memory_at, new_clf, new_site}
-use Rattle.node_laws.proofs.Words.{new_world, seen_from, sending, sent_all, steps, ticked_so, ticks_at_controller, turns_at, work_of, world_step, world_ticks}
+use Rattle.node_laws.proofs.Words.{LinkEnd, LinkInput, List, Loses, MayBoot, MayHappen, NextFrame, NodeWorld, None, Option, Reset, Resets, Running, Site, Some}
+use Rattle.node_laws.proofs.Words.{Starts, Step, Takes, Tick, Ticks, TimePasses, Turn, Work, [], activates, after_controller, after_input, aged, aged_entries}
+use Rattle.node_laws.proofs.Words.{all_aged, ap, append-nil, append_assoc, beginning, by_option, by_test, comes_at, commands_in, cond_both, controller_does}
+use Rattle.node_laws.proofs.Words.{controller_ticks, controller_work, creations_of, end_c, end_h, ending_of, entries_for, eqb, false, has_input, hosts_in}
+use Rattle.node_laws.proofs.Words.{hosts_tick, input_of, is_late_at, is_waiting, length, link_to, map, memory_at, new_clf, new_site, new_world, not, refl}
+use Rattle.node_laws.proofs.Words.{replicate, seen_from, sending, sent_all, steps, subst, sym, ticked_so, ticks_at_controller, turns_at, work_of, world_step}
+use Rattle.node_laws.proofs.Words.{world_ticks, ℕ, ◌&&◌, ◌++◌, ◌-◌, ◌^◌, ◌∙◌, ◌∷◌, ◌≡◌, ◌≤◌}
 use Rattle.node_laws.proofs.links.Blocks.{IsWithin, input_within, sent_within}
 use Rattle.node_laws.proofs.kept.Kept.{all_begin}
 use Rattle.node_laws.proofs.kept.Lines.{world_goes}

@@ -1,13 +1,11 @@
 -- A commit that is cut: which bank is in use then.
-use Rattle.std.proofs.Common.{◌≡◌, ◌⊎◌, inl, inr, ℕ, ◌+◌, ◌<◌, Bool, true, false, cond, List, [], length, slice_index, sym, refl, ap, ◌∙◌, arith}
-use Rattle.std.specs.Prelude.{IsSome}
-use Rattle.std.proofs.lemmas.Bool.{true≢false}
-use Rattle.node_laws.proofs.Words.{AreTables, Command, FindsRoom, HciTables, IsCommand, IsRecordable, Journal, Knows, Memory, State, Write, after_planned}
-use Rattle.node_laws.proofs.Words.{after_writes, append_writes, apply, body_of, by_option, by_test, commit_writes, committed, compact_writes, count_of, current}
-use Rattle.node_laws.proofs.Words.{fails_within, is_opened_gate, journal, opens_gate, record_fits, room_writes, snapshot_bodies, with_room}
-use Rattle.journal_laws.specs.Banks.{other, bank_place}
+use Rattle.node_laws.proofs.Words.{AreTables, Bool, Command, FindsRoom, HciTables, IsCommand, IsRecordable, IsSome, Journal, Knows, List, Memory, State, Write}
+use Rattle.node_laws.proofs.Words.{[], after_planned, after_writes, ap, append_writes, apply, arith, body_of, by_option, by_test, commit_writes, committed}
+use Rattle.node_laws.proofs.Words.{compact_writes, cond, count_of, current, fails_within, false, in_use_is, inl, inr, is_opened_gate, journal, length}
+use Rattle.node_laws.proofs.Words.{opens_gate, other, record_fits, refl, room_writes, slice_index, snapshot_bodies, sym, true, true≢false, with_room, ℕ, ◌+◌}
+use Rattle.node_laws.proofs.Words.{◌<◌, ◌∙◌, ◌≡◌, ◌⊎◌}
+use Rattle.journal_laws.specs.Banks.{bank_place}
 use Rattle.journal_laws.specs.Operations.{open_bank, close_bank}
-use Rattle.journal_laws.proofs.InUse.{in_use_is}
 use Rattle.nv_journal.proofs.Compacting as compacting
 use Rattle.node_laws.proofs.kept.Commits.{says_of, can, room_knows, next_of}
 use Rattle.node_laws.proofs.cuts.Filled.{IsFilled}

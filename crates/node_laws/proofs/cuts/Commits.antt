@@ -1,12 +1,10 @@
 -- A commit that is cut: what its last gate decides.
-use Rattle.std.proofs.Common.{◌≡◌, ◌⊎◌, inl, inr, ℕ, ◌+◌, ◌-◌, ◌^◌, ◌<◌, ◌≤◌, ◌==◌, true, false, List, length, slice_index, sym, refl, ap, ◌∙◌, subst, arith}
-use Rattle.std.proofs.Common.{length-append}
-use Rattle.std.specs.Prelude.{Option, Some, None, nat_le}
-use Rattle.std.proofs.lemmas.Bool.{and_parts, and_from, both_ways, eqb-true, eq-eqb, leb-true, leb-false, and_cases, true≢false, false_from_ne_true}
-use Rattle.node_laws.proofs.Words.{AreTables, BootFinds, Command, FindsRoom, HciTables, IsAllOrNothing, IsCommand, IsRecordable, Knows, Memory, Plan, State}
-use Rattle.node_laws.proofs.Words.{Write, after_planned, after_writes, append_writes, apply, body_of, by_test, commit_writes, committed, count_of, fails_within}
-use Rattle.node_laws.proofs.Words.{is_opened_gate, journal, opens_gate, record_fits, room_writes, with_room}
-use Rattle.journal_laws.specs.Journal.{left}
+use Rattle.node_laws.proofs.Words.{AreTables, BootFinds, Command, FindsRoom, HciTables, IsAllOrNothing, IsCommand, IsRecordable, Knows, List, Memory, None}
+use Rattle.node_laws.proofs.Words.{Option, Plan, Some, State, Write, after_planned, after_writes, and_from, and_parts, ap, append_writes, apply, arith, body_of}
+use Rattle.node_laws.proofs.Words.{both_ways, by_test, commit_writes, committed, count_of, eq-eqb, eqb-true, fails_within, false, inl, inr, is_opened_gate}
+use Rattle.node_laws.proofs.Words.{journal, leb-false, leb-true, left, length, length-append, nat_le, opens_gate, record_fits, refl, room_writes, slice_index}
+use Rattle.node_laws.proofs.Words.{subst, sym, true, true≢false, with_room, ℕ, ◌+◌, ◌-◌, ◌<◌, ◌==◌, ◌^◌, ◌∙◌, ◌≡◌, ◌≤◌, ◌⊎◌}
+use Rattle.std.proofs.lemmas.Bool.{and_cases, false_from_ne_true}
 use Rattle.journal_laws.proofs.Cuts.{length-cut}
 use Rattle.nv_journal.proofs.Appending as appending
 use Rattle.hci_store.proofs.CutShort.{room_count}

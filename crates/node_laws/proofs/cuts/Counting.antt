@@ -1,9 +1,6 @@
 -- How many writes a command makes.
-use Rattle.std.proofs.Common.{◌≡◌, Bool, true, false, cond, length, refl, sym}
-use Rattle.std.specs.Prelude.{Option, Some, None, IsSome}
-use Rattle.std.proofs.lemmas.Bool.{true≢false}
-use Rattle.node_laws.proofs.Words.{Command, HciTables, Reckoning, Side, State, body_of, commit_writes, current, record_fits, state_of, writes_of}
-use Rattle.journal_laws.specs.Journal.{is_open_beside}
+use Rattle.node_laws.proofs.Words.{Bool, Command, HciTables, IsSome, None, Option, Reckoning, Side, Some, State, body_of, commit_writes, cond, current, false}
+use Rattle.node_laws.proofs.Words.{is_open_beside, length, record_fits, refl, state_of, sym, true, true≢false, writes_of, ◌≡◌}
 
 pub two_writes : (c : Command) (r : Reckoning) → record_fits (state_of r.memory.content) (body_of c) ≡ true → length (writes_of c r) ≡ 2
 two_writes c r is = rw is refl

@@ -1,7 +1,5 @@
 -- How a step of a node ends in which it loses its power.
-use Rattle.std.proofs.Common.{◌≡◌, inl, inr, ℕ, true, List, [], ◌∷◌, ◌++◌, sym, ap, ◌∙◌, append_assoc}
-use Rattle.std.proofs.lemmas.Bool.{true≢false}
-use Rattle.node_laws.proofs.Words.{Command, Entry, Memory, Work}
+use Rattle.node_laws.proofs.Words.{Command, Entry, List, Memory, Work, [], ap, append_assoc, inl, inr, sym, true, true≢false, ℕ, ◌++◌, ◌∙◌, ◌∷◌, ◌≡◌}
 use Rattle.trace_model.specs.declared.entry.Entry.TheVariants as entry
 use Rattle.node_laws.proofs.kept.Doing.{GoesOn_or_lost}
 

@@ -1,16 +1,13 @@
 -- What whatever happens leaves of what is known of each node, and how its entries come.
-use Rattle.std.proofs.Common.{◌≡◌, ◌⊎◌, inl, inr, ℕ, ◌-◌, ◌^◌, ◌≤◌, ◌&&◌, Bool, true, false, cond, eqb, List, [], ◌∷◌, ◌++◌, length, sym, refl, ap, ◌∙◌, subst}
-use Rattle.std.proofs.Common.{arith}
-use Rattle.std.specs.Prelude.{Option, Some, None, is_some}
-use Rattle.std.specs.List.{AllByRecursion, fold}
-use Rattle.std.proofs.lemmas.Bool.{cond_both, cases_Bool, eq-eqb, ne_eqb, eqb-true, eqb-false}
-use Rattle.node_laws.proofs.Words.{Activates, AllKeep, AreHosts, Arms, AsksReset, AtEnd, Boots, Comes, Controller, Core, EachIsAsRead, End, Entry}
-use Rattle.node_laws.proofs.Words.{FindsExactly, Gives, Happening, Host, Inits, IsAllowedStill, IsCut, IsHost, IsOnOrder, LinkInput, Lose, Loses, Loss}
-use Rattle.node_laws.proofs.Words.{MayBeDone, MayHappen, Memory, Message, NextFrame, NoInput, NodeWorld, Orders, Plan, Reckoning, Resets, Running, Sends, Site}
-use Rattle.node_laws.proofs.Words.{SiteKeeps, Starts, Takes, Ticks, activates, after_planned, at, beginning, begins_with, begun_by, boot_writes, boots, by_list}
-use Rattle.node_laws.proofs.Words.{by_test, changed_if, comes_at, commands_in, count_of, counts, end_c, end_h, entries_for, fails_within, first_lost, found}
-use Rattle.node_laws.proofs.Words.{frame_lost, happens, host_does, input_of, is_command_message, link_to, links_of, loses_power_at, memory_at, node_at}
-use Rattle.node_laws.proofs.Words.{reckoned, seen_from, sending, site_at, steps, with_memory, with_node, with_site, world_step}
+use Rattle.node_laws.proofs.Words.{Activates, AllByRecursion, AllKeep, AreHosts, Arms, AsksReset, AtEnd, Bool, Boots, Comes, Controller, Core, EachIsAsRead}
+use Rattle.node_laws.proofs.Words.{End, Entry, FindsExactly, Gives, Happening, Host, Inits, IsAllowedStill, IsCut, IsCutAsPlanned, IsHost, IsOnOrder, LinkInput}
+use Rattle.node_laws.proofs.Words.{List, Lose, Loses, Loss, MayBeDone, MayHappen, Memory, Message, NextFrame, NoInput, NodeWorld, None, Option, Orders, Plan}
+use Rattle.node_laws.proofs.Words.{Reckoning, Resets, Running, Sends, Site, SiteKeeps, Some, Starts, Takes, Ticks, [], activates, after_planned, ap, arith, at}
+use Rattle.node_laws.proofs.Words.{beginning, begins_with, begun_by, boot_writes, boots, by_list, by_test, cases_Bool, changed_if, comes_at, commands_in, cond}
+use Rattle.node_laws.proofs.Words.{cond_both, count_of, counts, end_c, end_h, entries_for, eq-eqb, eqb, eqb-false, eqb-true, fails_within, false, first_lost}
+use Rattle.node_laws.proofs.Words.{fold, found, frame_lost, happens, host_does, inl, input_of, inr, is_command_message, is_some, length, link_to, links_of}
+use Rattle.node_laws.proofs.Words.{loses_power_at, memory_at, ne_eqb, node_at, reckoned, reckoned_within, refl, seen_from, sending, site_at, steps, subst, sym}
+use Rattle.node_laws.proofs.Words.{true, with_memory, with_node, with_site, world_step, ℕ, ◌&&◌, ◌++◌, ◌-◌, ◌^◌, ◌∙◌, ◌∷◌, ◌≡◌, ◌≤◌, ◌⊎◌}
 use Rattle.trace_model.specs.declared.entry.Entry.TheVariants as entry
 use Rattle.node_laws.proofs.kept.Asking.{same_new}
 use Rattle.node_laws.proofs.kept.Plainly.{plain_entries}
@@ -19,7 +16,7 @@ use Rattle.node_laws.proofs.kept.Stepping.{steps_fine}
 use Rattle.node_laws.proofs.kept.Sites.{site_found}
 use Rattle.node_laws.proofs.kept.Events.{no_order, comes_goes}
 use Rattle.node_laws.proofs.kept.Reckoned.{IsNothingFor, other_idles}
-use Rattle.node_laws.specs.cuts.Histories.{reckoned_within, IsBootedBy, IsCutAsPlanned}
+use Rattle.node_laws.specs.cuts.Histories.{IsBootedBy}
 use Rattle.node_laws.proofs.cuts.Standing.{Stands, exact_idle, stands_same}
 use Rattle.node_laws.proofs.cuts.Worlds.{IsThere, StandsAt, ExactAt, plain_exact, none_exact, controller_exact, host_exact}
 use Rattle.node_laws.proofs.cuts.Powers.{booting, boot_cut, boot_found, boot_run, cut_stands, armed_stands}

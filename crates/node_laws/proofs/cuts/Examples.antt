@@ -1,14 +1,11 @@
 -- What is read of the controller in the worked examples of cuts computes.
-use Rattle.std.proofs.Common.{◌≡◌, refl, ℕ, Bool, true, false, List, [], ◌∷◌, take, length}
-use Rattle.std.specs.Prelude.{is_some}
-use Rattle.std.specs.List.{flat_map}
-use Rattle.node_laws.proofs.Words.{Line, LineStep, Occurrence, Reckoning, new_world, occurrences_of, steps_from}
+use Rattle.node_laws.proofs.Words.{Bool, Line, LineStep, List, Occurrence, Reckoning, [], false, flat_map, is_some, length, new_world, occurrences_of}
+use Rattle.node_laws.proofs.Words.{reckoning_in, refl, steps_from, take, true, ℕ, ◌∷◌, ◌≡◌}
 use Rattle.journal_laws.specs.Records.{found_from}
 use Rattle.gate_admin.specs.View.{hosts_where}
 use Rattle.pipe_table.specs.PipeRows.{lowest_free}
 use Rattle.node_machine.proofs.world.Boots.{boot_cut_at_first_write_lines, boot_cut_at_second_write_lines}
 use Rattle.node_machine.proofs.world.Cuts.{cut_in_first_write_lines, cut_in_second_write_13_lines, cut_in_second_write_FF_lines, cut_in_second_write_5A_lines}
-use Rattle.node_laws.specs.cuts.Histories.{reckoning_in}
 
 abbrev events_of : List Line → List Occurrence
 events_of lines = flat_map (λ (s : LineStep). occurrences_of s.outcome) (steps_from (new_world (2 ∷ [])) lines)

@@ -1,14 +1,10 @@
 -- What a memory leaves whose failing write is planned: the write that was torn, and its fill.
-use Rattle.std.proofs.Common.{◌≡◌, ◌⊎◌, inl, inr, ℕ, zero, suc, ◌+◌, ◌-◌, ◌<◌, ◌%◌, ◌==◌, true, false, cond, List, [], ◌∷◌, ◌++◌, length, get_or, slice_index}
-use Rattle.std.proofs.Common.{sym, refl, ap, ◌∙◌, subst, arith}
-use Rattle.std.specs.Prelude.{Option, Some, None}
-use Rattle.std.proofs.lemmas.Bool.{ne_eqb}
+use Rattle.node_laws.proofs.Words.{List, Memory, None, Option, Plan, Some, Write, [], after_planned, after_writes, ap, arith, cond, cycled, false, get_or, inl}
+use Rattle.node_laws.proofs.Words.{inr, is_next, length, memory_after, ne_eqb, overwritten, plan_after, plan_on, refl, slice_index, subst, suc, sym, torn_bytes}
+use Rattle.node_laws.proofs.Words.{true, zero, ℕ, ◌%◌, ◌++◌, ◌+◌, ◌-◌, ◌<◌, ◌==◌, ◌∙◌, ◌∷◌, ◌≡◌, ◌⊎◌}
 use Rattle.std.proofs.lemmas.List.FromFn.{length-map-range_with_len}
-use Rattle.node_laws.proofs.Words.{Memory, Plan, Write, after_planned, after_writes, is_next, memory_after, overwritten, plan_after, torn_bytes}
-use Rattle.swp_base.specs.InMemory.{cycled}
 use Rattle.journal_laws.specs.Writes.{IsCut}
 use Rattle.node_laws.proofs.kept.Planned.{content_on, content_torn}
-use Rattle.journal_laws.proofs.Planned.{plan_of_memory_after as plan_on}
 
 -- The first k of these writes were made whole, and the range of the next one was filled with these bytes, over and over.
 abbrev pub IsFilled : ℕ → List ℕ → List Write → List ℕ → List ℕ → Type 0

@@ -1,11 +1,10 @@
 -- Writes of which the last opens a gate, and what is left where one of them is torn.
-use Rattle.std.proofs.Common.{◌≡◌, ◌⊎◌, inl, inr, ℕ, zero, suc, ◌+◌, ◌==◌, ◌&&◌, true, false, cond, List, [], ◌∷◌, ◌++◌, length, slice_index, sym, ap, ◌∙◌}
-use Rattle.std.proofs.Common.{subst, arith}
-use Rattle.std.proofs.lemmas.Bool.{cases_eq, and_left, and_right, ne_eqb, eqb-true}
-use Rattle.node_laws.proofs.Words.{IsAllOrNothing, Write, after_writes, is_opened_gate, journal, overwritten}
+use Rattle.node_laws.proofs.Words.{IsAllOrNothing, List, Write, [], after_writes, and_right, ap, arith, cases_eq, cond, cycled, eqb-true, false, inl, inr}
+use Rattle.node_laws.proofs.Words.{is_opened_gate, journal, last_place, length, ne_eqb, overwritten, slice_index, subst, suc, sym, true, zero, ℕ, ◌&&◌, ◌++◌}
+use Rattle.node_laws.proofs.Words.{◌+◌, ◌==◌, ◌∙◌, ◌∷◌, ◌≡◌, ◌⊎◌}
+use Rattle.std.proofs.lemmas.Bool.{and_left}
 use Rattle.swp_base.proofs.WriteLemmas.{length-overwritten}
-use Rattle.swp_base.specs.InMemory.{cycled}
-use Rattle.journal_laws.specs.Writes.{FitIn, last_place}
+use Rattle.journal_laws.specs.Writes.{FitIn}
 use Rattle.node_laws.proofs.cuts.Filled.{IsFilled, filled_cut, one_filled}
 use Rattle.journal_laws.proofs.Cuts.{at_place as byte_there}
 

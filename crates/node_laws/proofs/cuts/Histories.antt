@@ -1,27 +1,20 @@
 -- What is known of each node at each event of a history.
-use Rattle.std.proofs.Common.{◌≡◌, inl, inr, ℕ, suc, ◌-◌, ◌^◌, ◌≤◌, ◌||◌, true, false, eqb, List, [], ◌∷◌, ◌++◌, length, map, sym, refl, ap, ◌∙◌, subst}
-use Rattle.std.proofs.Common.{arith, append_assoc, append-nil, Bool, cond}
-use Rattle.std.specs.Option.{option_map_or}
-use Rattle.std.proofs.lemmas.List.Folds.{list_any-append}
-use Rattle.node_laws.proofs.Words.{AllKeep, AreHosts, Arms, Book, Boots, Command, CutBehindCommand, EachIsAsRead, Entry, FindsBy, FindsCommands, FindsExactly}
-use Rattle.node_laws.proofs.Words.{FollowsNodes, Happening, Header, IsCut, IsFew, IsNodeOf, IsSentByHost, Line, LineStep, MayHappen, Memory, NodeHistory}
-use Rattle.node_laws.proofs.Words.{NodeWorld, Occurrence, Reckoning, Side, Site, after_planned, begun_by, body_of, book_in, boot_writes, by_test, commands_in}
-use Rattle.node_laws.proofs.Words.{current, entries_in, format_writes, fresh, happenings, last_in, memory_at, new_book, new_memory, new_site, new_world}
-use Rattle.node_laws.proofs.Words.{node_at, node_entries, occurrences_in, occurrences_of, reckoned, reckoning_of, record_fits, site_at, state_of, with_found}
-use Rattle.node_laws.proofs.Words.{with_written, world_behind, world_step}
-use Rattle.journal_laws.specs.Journal.{is_open_beside}
-use Rattle.std.specs.Prelude.{Option, IsSome, Some, None, replicate}
-use Rattle.std.specs.List.{AllByRecursion, list_any, flat_map, fold}
-use Rattle.std.proofs.lemmas.Bool.{cond_both, cond-true, cond-false, eqb-true, true≢false}
+use Rattle.node_laws.proofs.Words.{AllByRecursion, AllKeep, AreHosts, Arms, Book, Bool, Boots, Command, CutBehindCommand, EachIsAsRead, Entry, FindsBy}
+use Rattle.node_laws.proofs.Words.{FindsCommands, FindsExactly, FollowsNodes, Happening, Header, IsAsRead, IsCut, IsCutAsPlanned, IsFew, IsNodeOf, IsSentByHost}
+use Rattle.node_laws.proofs.Words.{IsSome, Line, LineStep, List, MayHappen, Memory, NodeHistory, NodeWorld, None, Occurrence, Option, Reckoning, Side, Site}
+use Rattle.node_laws.proofs.Words.{Some, [], after_planned, ap, append-nil, append_assoc, arith, begun_by, body_of, book_in, boot_writes, by_test, commands_in}
+use Rattle.node_laws.proofs.Words.{cond, cond-false, cond-true, cond_both, current, entries_in, eqb, eqb-true, false, flat_map, fold, fold-append}
+use Rattle.node_laws.proofs.Words.{format_writes, fresh, happenings, inl, inr, is_open_beside, last_in, length, list_any, list_any-append, map, memory_at}
+use Rattle.node_laws.proofs.Words.{new_book, new_memory, new_site, new_world, node_at, node_entries, occurrences_in, occurrences_of, option_map_or, reckoned}
+use Rattle.node_laws.proofs.Words.{reckoned_within, reckoning_in, reckoning_of, record_fits, refl, replicate, site_at, state_of, subst, suc, sym, true}
+use Rattle.node_laws.proofs.Words.{true≢false, with_event, with_found, with_written, world_behind, world_step, ℕ, ◌++◌, ◌-◌, ◌^◌, ◌||◌, ◌∙◌, ◌∷◌, ◌≡◌, ◌≤◌}
 use Rattle.std.proofs.lemmas.Grind.{flat_map-append}
-use Rattle.std.proofs.lemmas.List.Sums.{fold-append}
 use Rattle.trace_model.specs.declared.entry.Entry.TheVariants as entry
-use Rattle.node_laws.specs.kept.Reckonings.{IsAsRead}
 use Rattle.node_laws.proofs.kept.Lines.{MayAllHappen, line_may, world_goes}
 use Rattle.node_laws.proofs.kept.Kept.{all_begin, blank_finds, are_kept}
 use Rattle.node_laws.proofs.telling.Lasting.{AllMay, AreCaused, lines_caused}
-use Rattle.node_laws.specs.cuts.Histories.{CommandsWriteSo, MemoriesHold, boots_it, BootsWriteSo, with_event}
-use Rattle.node_laws.specs.cuts.Histories.{reckoned_within, reckoning_in, AreFoundExactly, StandsInMemories, IsCutAsPlanned, AreCutAsPlanned, KeptExactly}
+use Rattle.node_laws.specs.cuts.Histories.{AreCutAsPlanned, AreFoundExactly, BootsWriteSo, CommandsWriteSo, KeptExactly, MemoriesHold, StandsInMemories}
+use Rattle.node_laws.specs.cuts.Histories.{boots_it}
 use Rattle.node_laws.proofs.cuts.Counting.{two_writes, snapshot_writes}
 use Rattle.node_laws.proofs.cuts.Standing.{FindsMany, Stands, book_then}
 use Rattle.node_laws.proofs.cuts.Worlds.{IsThere, StandsAt, memory_far, node_far}

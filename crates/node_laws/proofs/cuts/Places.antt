@@ -1,10 +1,8 @@
 -- A node of a world that is changed, and the others, which stay.
-use Rattle.std.proofs.Common.{◌≡◌, ◌⊎◌, inl, inr, ℕ, true, false, eqb, List, [], ◌∷◌, map, sym, refl, ap, ◌∙◌, subst}
-use Rattle.std.specs.Prelude.{Option, Some, None}
-use Rattle.std.specs.List.{AllByRecursion}
-use Rattle.std.proofs.lemmas.Bool.{cases_Bool, ne_eqb, eqb-true}
-use Rattle.node_laws.proofs.Words.{AllKeep, AreHosts, AtController, CutOff, Entry, IfRuns, IsHost, Memory, NoInput, NodeWorld, Running, RunsSo, Site, SiteKeeps}
-use Rattle.node_laws.proofs.Words.{Step, controller_cut, happens, host_cut, loses_power_at, memory_at, node_at, site_at, with_memory, with_node, with_site}
+use Rattle.node_laws.proofs.Words.{AllByRecursion, AllKeep, AreHosts, AtController, CutOff, Entry, IfRuns, IsHost, List, Memory, NoInput, NodeWorld, None}
+use Rattle.node_laws.proofs.Words.{Option, Running, RunsSo, Site, SiteKeeps, Some, Step, [], ap, cases_Bool, controller_cut, eqb, eqb-true, false, happens}
+use Rattle.node_laws.proofs.Words.{host_cut, inl, inr, loses_power_at, map, memory_at, ne_eqb, node_at, refl, site_at, subst, sym, true, with_memory, with_node}
+use Rattle.node_laws.proofs.Words.{with_site, ℕ, ◌∙◌, ◌∷◌, ◌≡◌, ◌⊎◌}
 use Rattle.node_laws.proofs.kept.Sites.{site_found}
 use Rattle.node_laws.proofs.telling.Events.{site_map}
 use Rattle.node_laws.proofs.cuts.Worlds.{IsThere, memory_far, node_far, with_here, with_there}

@@ -1,17 +1,11 @@
 -- What a boot, a cut or a plan leaves of what is known of each node.
-use Rattle.std.proofs.Common.{◌≡◌, ℕ, ◌-◌, ◌^◌, ◌≤◌, min, Bool, true, false, cond, List, [], ◌∷◌, ◌++◌, take, length, sym, refl, ap, ◌∙◌, subst, arith}
-use Rattle.std.proofs.Common.{append-nil}
-use Rattle.std.specs.Prelude.{Option, Some, None, is_some}
-use Rattle.std.specs.Option.{option_map_or}
-use Rattle.std.specs.List.{fold}
-use Rattle.std.proofs.lemmas.Bool.{eq-eqb, true≢false}
-use Rattle.node_laws.proofs.Words.{Book, BootFinds, Entry, FindsBy, FindsExactly, HciTables, Memory, Plan, Reckoning, Running, RunsSo, after_commands}
-use Rattle.node_laws.proofs.Words.{after_planned, book_in, boot_writes, by_option, close, count_of, current, fails_within, format_writes, found, no_tables}
-use Rattle.node_laws.proofs.Words.{reckoned, state_of, with_found}
+use Rattle.node_laws.proofs.Words.{Book, Bool, BootFinds, Entry, FindsBy, FindsExactly, HciTables, List, Memory, None, Option, Plan, Reckoning, Running, RunsSo}
+use Rattle.node_laws.proofs.Words.{Some, [], after_commands, after_planned, ap, append-nil, arith, book_in, boot_writes, by_option, close, cond, count_of}
+use Rattle.node_laws.proofs.Words.{current, eq-eqb, fails_within, false, fold, format_writes, found, is_some, length, min, no_tables, none_within}
+use Rattle.node_laws.proofs.Words.{option_map_or, reckoned, refl, started_state, state_of, subst, sym, take, true, true≢false, with_found, ℕ, ◌++◌, ◌-◌, ◌^◌}
+use Rattle.node_laws.proofs.Words.{◌∙◌, ◌∷◌, ◌≡◌, ◌≤◌}
 use Rattle.trace_model.specs.declared.entry.Entry.TheVariants as entry
 use Rattle.journal_laws.specs.Writes.{IsCut}
-use Rattle.journal_laws.specs.Operations.{started_state}
-use Rattle.journal_laws.proofs.Planned.{none_within}
 use Rattle.hci_store.proofs.Starting.{counted}
 use Rattle.node_laws.proofs.kept.Books.{closed_book}
 use Rattle.node_laws.proofs.kept.Planned.{planned_cut}

@@ -1,15 +1,11 @@
 -- What is known of a node by what is read of it, and what an event of one node leaves of that.
-use Rattle.std.proofs.Common.{◌≡◌, inl, inr, ℕ, suc, ◌-◌, ◌^◌, ◌&&◌, ◌||◌, min, Bool, true, false, not, cond, List, [], ◌∷◌, ◌++◌, take, length, map, sym}
-use Rattle.std.proofs.Common.{refl, ap, ◌∙◌, subst, arith, append_assoc, append-nil, length-append}
-use Rattle.std.specs.Prelude.{Option, Some, IsSome, is_some}
-use Rattle.std.specs.List.{AllByRecursion, fold, list_any}
-use Rattle.std.proofs.lemmas.List.Folds.{list_any-append}
-use Rattle.std.proofs.lemmas.Bool.{ne_eqb, eq-eqb, true≢false}
+use Rattle.node_laws.proofs.Words.{AllByRecursion, Book, Bool, BootFinds, Command, EachIsAsRead, Entry, FindsBy, IsSome, List, Memory, Option, Port, Reckoning}
+use Rattle.node_laws.proofs.Words.{Running, Some, StillRuns, Work, Write, [], after_commands, after_planned, ap, append-nil, append_assoc, arith, body_of}
+use Rattle.node_laws.proofs.Words.{book_after, book_in, by_test, close, commands_in, commit, commit_writes, cond, count_of, current, eq-eqb, fails_within}
+use Rattle.node_laws.proofs.Words.{false, fold, inl, inr, is_some, length, length-append, list_any, list_any-append, map, min, ne_eqb, no_tables, not}
+use Rattle.node_laws.proofs.Words.{opens_gate, or-false, reckoned, reckoning_of, refl, runs_on, subst, suc, sym, take, true, true≢false, with_written}
+use Rattle.node_laws.proofs.Words.{writes_of, ℕ, ◌&&◌, ◌++◌, ◌-◌, ◌^◌, ◌||◌, ◌∙◌, ◌∷◌, ◌≡◌}
 use Rattle.std.proofs.Math.Seq.{take-append_seam, take-length}
-use mathlib.Core.Bool.{or-false}
-use Rattle.node_laws.proofs.Words.{Book, BootFinds, Command, EachIsAsRead, Entry, FindsBy, Memory, Port, Reckoning, Running, StillRuns, Work, Write}
-use Rattle.node_laws.proofs.Words.{after_commands, after_planned, body_of, book_after, book_in, by_test, close, commands_in, commit, commit_writes, count_of}
-use Rattle.node_laws.proofs.Words.{current, fails_within, no_tables, opens_gate, reckoned, reckoning_of, runs_on, with_written, writes_of}
 use Rattle.trace_model.specs.declared.entry.Entry.TheVariants as entry
 use Rattle.node_laws.specs.kept.Books.{HasLostIn}
 use Rattle.node_laws.proofs.kept.Books.{book_more, closed_book}

@@ -1,15 +1,12 @@
 -- A commit of a node in a step: the plan from the beginning of the step decides what a boot finds.
-use Rattle.std.proofs.Common.{◌≡◌, ◌⊎◌, inl, inr, ℕ, suc, ◌+◌, ◌-◌, ◌^◌, ◌≤◌, ◌==◌, ◌&&◌, min, Bool, true, false, cond, List, [], ◌∷◌, ◌++◌, length}
-use Rattle.std.proofs.Common.{slice_index, sym, refl, ap, ◌∙◌, subst, arith, append_assoc, append-nil, length-append}
-use Rattle.std.specs.Prelude.{Option, Some, None, nat_le}
-use Rattle.std.proofs.lemmas.Bool.{cases_Bool, and_parts, both_ways, leb-true, true≢false}
+use Rattle.node_laws.proofs.Words.{Book, Bool, BootFinds, Command, Entry, FindsRoom, IsCommand, List, Memory, None, Option, Plan, Some, StillRuns, Work, Write}
+use Rattle.node_laws.proofs.Words.{[], after_commands, after_planned, and_parts, ap, append-nil, append_assoc, apply, arith, body_of, book_in, both_ways}
+use Rattle.node_laws.proofs.Words.{by_option, by_test, cases_Bool, close, commands_in, commit, commit_writes, committed, cond, count_of, fails_within, false}
+use Rattle.node_laws.proofs.Words.{inl, inr, is_next, is_opened_gate, leb-true, length, length-append, loses_power, memory_after, min, nat_le, no_tables}
+use Rattle.node_laws.proofs.Words.{noting, one_more, opens_gate, overwritten, plan_after, plan_on, refl, slice_index, subst, suc, sym, torn_bytes, true}
+use Rattle.node_laws.proofs.Words.{true≢false, ℕ, ◌&&◌, ◌++◌, ◌+◌, ◌-◌, ◌==◌, ◌^◌, ◌∙◌, ◌∷◌, ◌≡◌, ◌≤◌, ◌⊎◌}
 use Rattle.std.proofs.lemmas.Bool.Decides.{nat_tests}
-use Rattle.node_laws.proofs.Words.{Book, BootFinds, Command, Entry, FindsRoom, IsCommand, Memory, Plan, StillRuns, Work, Write, after_commands, after_planned}
-use Rattle.node_laws.proofs.Words.{apply, body_of, book_in, by_option, by_test, close, commands_in, commit, commit_writes, committed, count_of, fails_within}
-use Rattle.node_laws.proofs.Words.{is_next, is_opened_gate, loses_power, memory_after, no_tables, noting, opens_gate, overwritten, plan_after, torn_bytes}
-use Rattle.swp_base.specs.Outside.{one_more}
 use Rattle.trace_model.specs.declared.entry.Entry.TheVariants as entry
-use Rattle.journal_laws.proofs.Planned.{plan_of_memory_after as plan_on}
 use Rattle.node_laws.proofs.kept.Commits.{finds_closed, commit_count}
 use Rattle.node_laws.proofs.kept.Books.{book_more, book_command, closed_command, closed_book}
 use Rattle.node_laws.proofs.cuts.Commits.{planned_opened, planned_closed}

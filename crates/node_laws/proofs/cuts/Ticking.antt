@@ -1,13 +1,10 @@
 -- What a tick leaves of what is known of each node.
-use Rattle.std.proofs.Common.{◌≡◌, ◌⊎◌, inl, inr, ℕ, true, false, eqb, List, [], ◌∷◌, ◌++◌, map, sym, refl, ap, ◌∙◌, subst}
-use Rattle.std.specs.Prelude.{Option, Some, None}
-use Rattle.std.specs.List.{AllByRecursion, fold, flat_map}
-use Rattle.std.proofs.lemmas.Bool.{cases_Bool, cond-true, cond-false, eqb-true, eqb-false}
-use Rattle.node_laws.proofs.Words.{AllKeep, AreDifferent, AreHosts, Controller, Entry, GoesOut, Host, IsHost, IsOf, NodeKeeps, NodeWorld, Reckoning, Running}
-use Rattle.node_laws.proofs.Words.{Site, SiteKeeps, TimePasses, Work, after_planned, aged, aged_entries, all_aged, controller_ticks, ending_of, entries_for}
-use Rattle.node_laws.proofs.Words.{exchanged, frames_noted, host_ticks, hosts_tick, is_late_at, link_to, reckoned, runs_on, site_at, steps, ticked_so}
-use Rattle.node_laws.proofs.Words.{ticks_at_controller, turns_at, work_of, world_ticks}
-use Rattle.registry.proofs.ValueLemmas.{AllByRecursion-append as all_append}
+use Rattle.node_laws.proofs.Words.{AllByRecursion, AllKeep, AreDifferent, AreHosts, Controller, Entry, GoesOut, Host, IsHost, IsOf, List, NodeKeeps, NodeWorld}
+use Rattle.node_laws.proofs.Words.{None, Option, Reckoning, Running, Site, SiteKeeps, Some, TimePasses, Work, [], after_planned, aged, aged_entries, all_aged}
+use Rattle.node_laws.proofs.Words.{all_append, ap, cases_Bool, cond-false, cond-true, controller_ticks, ending_of, entries_for, eqb, eqb-false, eqb-true}
+use Rattle.node_laws.proofs.Words.{exchanged, false, flat_map, fold, frames_noted, host_ticks, hosts_tick, inl, inr, is_late_at, link_to, map, reckoned, refl}
+use Rattle.node_laws.proofs.Words.{runs_on, site_at, steps, subst, sym, ticked_so, ticks_at_controller, true, turns_at, work_of, world_ticks, ℕ, ◌++◌, ◌∙◌, ◌∷◌}
+use Rattle.node_laws.proofs.Words.{◌≡◌, ◌⊎◌}
 use Rattle.node_laws.proofs.kept.Plainly.{plain_entries, plain_flat}
 use Rattle.node_laws.proofs.kept.Doing.{GoesOn_or_lost}
 use Rattle.node_laws.proofs.kept.Stepping.{steps_fine}

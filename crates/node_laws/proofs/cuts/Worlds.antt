@@ -1,13 +1,10 @@
 -- What a step of the controller or of a host leaves of what is known of each node.
-use Rattle.std.proofs.Common.{◌≡◌, ◌⊎◌, inl, inr, ℕ, false, eqb, List, [], ◌∷◌, ◌++◌, map, sym, refl, ap, ◌∙◌, subst, arith}
-use Rattle.std.specs.Prelude.{Option, Some, None, is_some}
-use Rattle.std.specs.List.{AllByRecursion, flat_map}
-use Rattle.std.proofs.lemmas.Bool.{eq-eqb, ne_eqb, eqb-true, eqb-false}
-use Rattle.node_laws.proofs.Words.{AllKeep, AreHosts, Comes, Controller, Entry, Host, IsHost, IsOnOrder, IsPlain, Memory, NodeKeeps, NodeWorld, Reckoning}
-use Rattle.node_laws.proofs.Words.{Running, Site, SiteKeeps, StillRuns, Work, after_controller, after_host, after_planned, arrival, by_option, by_test}
-use Rattle.node_laws.proofs.Words.{changed_if, comes_to, controller_does, controller_work, entries_for, exchanged, frames_noted, host_does, host_work}
-use Rattle.node_laws.proofs.Words.{link_after_controller, link_to, memory_at, near_end_in, node_at, runs_on, site_at, wires_for, with_site, work_of}
-use Rattle.registry.proofs.ValueLemmas.{AllByRecursion-append as all_append}
+use Rattle.node_laws.proofs.Words.{AllByRecursion, AllKeep, AreHosts, Comes, Controller, Entry, Host, IsHost, IsOnOrder, IsPlain, List, Memory, NodeKeeps}
+use Rattle.node_laws.proofs.Words.{NodeWorld, None, Option, Reckoning, Running, Site, SiteKeeps, Some, StillRuns, Work, [], after_controller, after_host}
+use Rattle.node_laws.proofs.Words.{after_planned, all_append, ap, arith, arrival, by_option, by_test, changed_if, comes_to, controller_does, controller_work}
+use Rattle.node_laws.proofs.Words.{entries_for, eq-eqb, eqb, eqb-false, eqb-true, exchanged, false, flat_map, frames_noted, host_does, host_work, inl, inr}
+use Rattle.node_laws.proofs.Words.{is_some, link_after_controller, link_to, map, memory_at, ne_eqb, near_end_in, node_at, refl, runs_on, site_at, subst, sym}
+use Rattle.node_laws.proofs.Words.{wires_for, with_site, work_of, ℕ, ◌++◌, ◌∙◌, ◌∷◌, ◌≡◌, ◌⊎◌}
 use Rattle.node_laws.proofs.kept.Plainly.{plain_entries, plain_flat}
 use Rattle.node_laws.proofs.kept.Doing.{GoesOn_or_lost}
 use Rattle.node_laws.proofs.kept.Standing.{runs_begun, told_ended}

@@ -1,25 +1,18 @@
 -- Something comes to an end of the controller: in this event it answers before its first turn exactly what is due.
-use Rattle.std.proofs.Common.{◌≡◌, ℕ, ◌&&◌, ◌||◌, Bool, true, false, cond, eqb, List, [], ◌∷◌, ◌++◌, sym, refl, ap, ap₂, ◌∙◌, subst}
-use Rattle.std.proofs.Common.{append-nil}
-use Rattle.std.specs.Prelude.{◌==◌, is_some, not, Option, Some, None}
-use Rattle.std.specs.List.{AllByRecursion, filter, flat_map, list_any}
-use Rattle.std.specs.Option.{option_map_or}
-use Rattle.std.proofs.lemmas.Bool.{true≢false}
-use Rattle.std.proofs.lemmas.List.Concat.{flat_map-append}
-use mathlib.Core.Bool.{or-false}
-use Rattle.registry.proofs.ValueLemmas.{AllByRecursion-append as all_append}
-use Rattle.node_laws.proofs.Words.{AnswersSo, AreDifferent, AreHosts, AreNamed, AreNotOf, AreSessionsRead, AsksReset, AtEnd, Bare, Comes, Command, Controller}
-use Rattle.node_laws.proofs.Words.{Creation, Desk, End, Entry, Happening, HasEnds, HasRoomForAll, HciTables, IfRuns, IsClf, IsDueAt, IsFresh, IsNamed}
-use Rattle.node_laws.proofs.Words.{IsNoAnswer, IsOrderly, Link, LinkEnd, LinkInput, LinkState, NextFrame, NoInput, NodeWorld, NumberedEnd, Occurrence, OnWire}
-use Rattle.node_laws.proofs.Words.{Port, ReadsBetween, Reset, Response, Running, RunsSo, Site, Start, Starts, Stop, Stops, Take, Work, after_controller, age_in}
-use Rattle.node_laws.proofs.Words.{all_flat, arrival, asking_in, begun_at, by_option, by_test, comes_to, controller_begins, controller_does, creation_read}
-use Rattle.node_laws.proofs.Words.{down_in, due, end_c, end_of, ended_by, ends_session, entries_for, entries_in, frames_noted, goes_down, has_come, has_come_so}
-use Rattle.node_laws.proofs.Words.{hosts_in, hosts_of_ends, input_at, input_of, is_answer_of, is_late_in, is_of_node, is_over, is_own_reset, is_tick, link_to}
-use Rattle.node_laws.proofs.Words.{lpdu_of, near_end_in, new_link, new_sync, node_of, noted_of_deeds, notice_in, number_now, owed, owed_in, port_at, port_for}
-use Rattle.node_laws.proofs.Words.{report, same_end, session_now, session_of_port, site_at, steps, synced, syncs_in, tables_in, told_of_coming, wires_for}
+use Rattle.node_laws.proofs.Words.{AllByRecursion, AnswersSo, AreDifferent, AreHosts, AreNamed, AreNotOf, AreSessionsRead, AsksReset, AtEnd, Bare, Bool, Comes}
+use Rattle.node_laws.proofs.Words.{Command, Controller, Creation, Desk, End, Entry, Happening, HasEnds, HasRoomForAll, HciTables, IfRuns, IsClf, IsDueAt}
+use Rattle.node_laws.proofs.Words.{IsFresh, IsNamed, IsNoAnswer, IsOrderly, IsUpNow, Link, LinkEnd, LinkInput, LinkState, List, NextFrame, NoInput, NodeWorld}
+use Rattle.node_laws.proofs.Words.{None, NumberedEnd, Occurrence, OnWire, Option, Port, ReadsBetween, Reset, Response, Running, RunsSo, Site, Some, Start}
+use Rattle.node_laws.proofs.Words.{Starts, Stop, Stops, Take, Work, [], after_controller, age_in, all_append, all_flat, ap, append-nil, ap₂, arrival, asking_in}
+use Rattle.node_laws.proofs.Words.{begun_at, by_option, by_test, comes_to, cond, controller_begins, controller_does, creation_read, down_in, due, end_c, end_of}
+use Rattle.node_laws.proofs.Words.{ended_by, ends_session, entries_for, entries_in, eqb, false, filter, flat_map, flat_map-append, frames_noted, goes_down}
+use Rattle.node_laws.proofs.Words.{has_come, has_come_so, hosts_in, hosts_of_ends, input_at, input_of, is_answer_of, is_late_in, is_of_node, is_over}
+use Rattle.node_laws.proofs.Words.{is_own_reset, is_some, is_tick, link_to, list_any, lpdu_of, near_end_in, new_link, new_sync, node_of, not, noted_of_deeds}
+use Rattle.node_laws.proofs.Words.{notice_in, number_now, option_map_or, or-false, owed, owed_in, port_at, port_for, refl, report, same_end, session_now}
+use Rattle.node_laws.proofs.Words.{session_of_port, site_at, steps, still_asked, subst, sym, synced, syncs_in, tables_in, told_of_coming, true, true≢false}
+use Rattle.node_laws.proofs.Words.{wires_for, ℕ, ◌&&◌, ◌++◌, ◌==◌, ◌||◌, ◌∙◌, ◌∷◌, ◌≡◌}
 use Rattle.trace_model.specs.declared.entry.Entry.TheVariants as entry
 use Rattle.gate_answers.specs.declared.response.Response.TheVariants as response
-use Rattle.shdlc_core.specs.declared.answers.LinkState.TheVariants.{Up as IsUpNow}
 use Rattle.node_laws.proofs.telling.Nodes.{Stands, hosts_same, link_is, stands}
 use Rattle.node_laws.proofs.links.Noticing.{at_host}
 use Rattle.node_laws.proofs.passes.InSteps.{IsBehind, step_notes, IsOfStep}
@@ -34,7 +27,6 @@ use Rattle.node_laws.proofs.notices.Far.{AreFar, far_reads}
 use Rattle.node_laws.proofs.notices.Reading.{notice_more}
 use Rattle.node_laws.proofs.notices.Sites.{arrival_quiet}
 use Rattle.node_laws.proofs.steps.Ports.{at_port}
-use Rattle.node_laws.specs.answers.Unasked.{still_asked}
 use Rattle.node_laws.proofs.dues.Ended.{any_cause, ends_at}
 use Rattle.node_laws.proofs.dues.Freed.{IsElse, come_found, come_none, come_so, same_port}
 use Rattle.node_laws.proofs.dues.Near.{near_due}

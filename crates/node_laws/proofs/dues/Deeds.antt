@@ -1,19 +1,15 @@
 -- What a controller owes in a step is what is read: by the sessions that end, and by the notices that are late.
-use Rattle.std.proofs.Common.{◌≡◌, ℕ, ◌&&◌, Bool, true, false, cond, List, [], ◌∷◌, ◌++◌, map, sym, refl, ap, ap₂, ◌∙◌, subst, append-nil}
-use Rattle.std.specs.Prelude.{not, Option, Some, None}
-use Rattle.std.specs.List.{AllByRecursion, filter, flat_map}
-use Rattle.std.specs.Option.{option_map_or}
-use Rattle.std.proofs.lemmas.Bool.{true≢false}
-use Rattle.node_laws.proofs.Words.{AreDifferent, AreHosts, AreNamed, Creation, Entry, NodeInput, Occurrence, Port, Response, Work, asked_at, asking_in}
-use Rattle.node_laws.proofs.Words.{by_option, creation_read, down_in, end_c, entries_in, forgets, goes_down, has_come_so, hosts_of_ends, is_late_in, is_over}
-use Rattle.node_laws.proofs.Words.{is_over_at, notice_in, owed, owed_in, owed_in_step, port_at}
+use Rattle.node_laws.proofs.Words.{AllByRecursion, AreDifferent, AreHosts, AreNamed, Bool, Creation, Entry, List, NodeInput, None, Occurrence, Option, Port}
+use Rattle.node_laws.proofs.Words.{Response, Some, Work, [], ap, append-nil, ap₂, asked_at, asking_in, by_option, cond, creation_read, down_in, end_c}
+use Rattle.node_laws.proofs.Words.{entries_in, false, filter, flat_map, forgets, goes_down, has_come_so, hosts_of_ends, is_late_in, is_over, is_over_at, map}
+use Rattle.node_laws.proofs.Words.{not, notice_in, option_map_or, owed, owed_in, owed_in_step, port_at, refl, still_asked, subst, sym, true, true≢false, ℕ}
+use Rattle.node_laws.proofs.Words.{◌&&◌, ◌++◌, ◌∙◌, ◌∷◌, ◌≡◌}
 use Rattle.gate_answers.specs.declared.response.Response.TheVariants as response
 use Rattle.node_laws.proofs.telling.Steps.{forgets_same}
 use Rattle.node_laws.proofs.links.Noticing.{at_host}
 use Rattle.node_laws.proofs.creations.Asks.{Asked, asked_of, waits}
 use Rattle.node_laws.proofs.creations.Coming.{ComeAt, over_at}
 use Rattle.node_laws.proofs.creations.Doing.{many}
-use Rattle.node_laws.specs.answers.Unasked.{still_asked}
 use Rattle.node_laws.proofs.dues.Ended.{any_cause, asking_behind, downs_are, downs_end, kept_behind, read_behind, unless_over}
 use Rattle.node_laws.proofs.dues.Freed.{come, come_different}
 use Rattle.node_laws.proofs.replies.Creations.{IsIn, asked_same, awaited_same, in_waits}

@@ -1,14 +1,8 @@
 -- What is read behind the sessions that end in an event: sessions, and creations that wait.
-use Rattle.std.proofs.Common.{◌≡◌, ℕ, ◌&&◌, ◌||◌, Bool, true, false, cond, eqb, List, [], ◌∷◌, ◌++◌, sym, refl, ap, ◌∙◌, subst, append_assoc, append-nil}
-use Rattle.std.specs.Prelude.{Option, Some, None}
-use Rattle.std.specs.List.{AllByRecursion, filter}
-use Rattle.std.specs.Option.{option_map_or}
-use Rattle.std.proofs.lemmas.Bool.{true≢false}
-use Rattle.std.proofs.lemmas.List.Sums.{fold-append}
-use Rattle.swp_base.specs.declared.link_terms.Cause.{Cause as EndedBy}
-use Rattle.node_laws.proofs.Words.{Creation, End, Entry, Notice, PipeRow, Port, asked_at, asking_in, body_in, by_option, by_test, creation_in, creation_read}
-use Rattle.node_laws.proofs.Words.{end_c, ends_session, forgets, instruction_in, is_down, is_forgotten, is_over_at, pipe_named_in, same_bytes, same_end}
-use Rattle.node_laws.proofs.Words.{session_now}
+use Rattle.node_laws.proofs.Words.{AllByRecursion, Bool, Creation, End, EndedBy, Entry, List, None, Notice, Option, PipeRow, Port, Some, [], ap, append-nil}
+use Rattle.node_laws.proofs.Words.{append_assoc, asked_at, asking_in, body_in, by_option, by_test, cond, creation_in, creation_read, end_c, ends_session, eqb}
+use Rattle.node_laws.proofs.Words.{false, filter, fold-append, forgets, instruction_in, is_down, is_forgotten, is_over_at, option_map_or, pipe_named_in, refl}
+use Rattle.node_laws.proofs.Words.{same_bytes, same_end, session_now, subst, sym, true, true≢false, ℕ, ◌&&◌, ◌++◌, ◌||◌, ◌∙◌, ◌∷◌, ◌≡◌}
 use Rattle.trace_model.specs.declared.entry.Entry.TheVariants as entry
 use Rattle.node_laws.proofs.worlds.Downs.{ends_in_list}
 

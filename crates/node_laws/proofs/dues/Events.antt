@@ -1,17 +1,15 @@
 -- In each event of a history what the controller answers before its first turn is exactly what is due.
-use Rattle.std.proofs.Common.{◌≡◌, ℕ, ◌≤◌, false, cond, List, [], ◌∷◌, ◌++◌, length, sym, refl, ap, ◌∙◌, subst, append_assoc, append-nil}
-use Rattle.std.specs.Prelude.{◌==◌, IsTrue, Some, None, unwrap_or}
-use Rattle.std.specs.List.{AllByRecursion, flat_map}
-use Rattle.std.proofs.lemmas.Bool.{true≢false}
-use Rattle.node_laws.proofs.Words.{Activates, AreDue, AreHosts, AreNodeLinesOf, AreNotOf, ArePlayable, Arms, AsksReset, AtEachOccurrence, AtEnd, Boots, Comes}
-use Rattle.node_laws.proofs.Words.{Controller, Deed, End, Entry, FollowsNodes, Gives, Happening, Header, Host, Inits, IsBegunByHost, IsClf, IsCut, IsDueAt}
-use Rattle.node_laws.proofs.Words.{IsFew, IsNodeHeader, IsNodeLineOf, IsOrderly, IsSentByHost, Line, LinkInput, Loses, Loss, NextFrame, NoInput, NodeHistory}
-use Rattle.node_laws.proofs.Words.{NodeWorld, Occurrence, OnWire, ReadsBetween, Resets, Site, Starts, Takes, Ticks, Work, all_aged, beginning, begins_with}
-use Rattle.node_laws.proofs.Words.{begun_at, boot_found, boots, by_boot, by_coming, by_controller, by_controller_tick, by_loss, by_test, comes_at, comes_to}
-use Rattle.node_laws.proofs.Words.{commands_by_events, controller_does, controller_ticks, controller_work, count_of, end_c, end_h, entries_for, entries_in}
-use Rattle.node_laws.proofs.Words.{first_lost, first_verdict, frame_lost, frames_at, frames_noted, happenings, host_does, hosts_tick, input_of, is_answer_of}
-use Rattle.node_laws.proofs.Words.{is_tick, link_to, near_tick, new_world, node_entries, node_of, occurrences_in, refusal_in, sending, site_at, steps}
-use Rattle.node_laws.proofs.Words.{tables_in, taken_of, wires_for, world_behind, world_step, world_ticks}
+use Rattle.node_laws.proofs.Words.{Activates, AllByRecursion, AreDue, AreHosts, AreNodeLinesOf, AreNotOf, ArePlayable, Arms, AsksReset, AtEachOccurrence, AtEnd}
+use Rattle.node_laws.proofs.Words.{Boots, Comes, Controller, Deed, End, Entry, FollowsNodes, Gives, Happening, Header, Host, Inits, IsBegunByHost, IsClf, IsCut}
+use Rattle.node_laws.proofs.Words.{IsDueAt, IsFew, IsNodeHeader, IsNodeLineOf, IsOrderly, IsSentByHost, IsTrue, Line, LinkInput, List, Loses, Loss, NextFrame}
+use Rattle.node_laws.proofs.Words.{NoInput, NodeHistory, NodeWorld, None, Occurrence, OnWire, ReadsBetween, Resets, Site, Some, Starts, Takes, Ticks, Work, []}
+use Rattle.node_laws.proofs.Words.{all_aged, all_append, ap, append-nil, append_assoc, beginning, begins_with, begun_at, boot_found, boots, by_boot, by_coming}
+use Rattle.node_laws.proofs.Words.{by_controller, by_controller_tick, by_loss, by_test, comes_at, comes_to, commands_by_events, cond, controller_does}
+use Rattle.node_laws.proofs.Words.{controller_ticks, controller_work, count_of, end_c, end_h, entries_for, entries_in, false, first_lost, first_verdict}
+use Rattle.node_laws.proofs.Words.{flat_map, frame_lost, frames_at, frames_noted, happenings, host_does, hosts_tick, input_of, is_answer_of, is_tick, length}
+use Rattle.node_laws.proofs.Words.{link_to, near_tick, new_world, node_entries, node_of, occurrences_in, refl, refusal_in, sending, site_at, steps, subst, sym}
+use Rattle.node_laws.proofs.Words.{tables_in, taken_of, true≢false, unwrap_or, wires_for, world_behind, world_step, world_ticks, ℕ, ◌++◌, ◌==◌, ◌∙◌, ◌∷◌, ◌≡◌}
+use Rattle.node_laws.proofs.Words.{◌≤◌}
 use Rattle.trace_model.specs.declared.entry.Entry.TheVariants as entry
 use Rattle.trace_model.specs.declared.line.Line.TheVariants as line
 use Rattle.link_laws.specs.entries.Entries.{End as Side}
@@ -39,7 +37,6 @@ use Rattle.node_laws.proofs.worlds.Lifting.{far_not}
 use Rattle.node_laws.proofs.worlds.Order.{unanswered_all}
 use Rattle.node_laws.proofs.worlds.Resetting.{IsReadBefore}
 use Rattle.node_laws.proofs.worlds.Taking.{off_zero}
-use Rattle.registry.proofs.ValueLemmas.{AllByRecursion-append as all_append}
 
 -- ## Lines
 

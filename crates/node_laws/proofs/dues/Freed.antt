@@ -1,14 +1,10 @@
 -- A step of a controller: as its pass begins each answer that it owes is taken, and goes out in the session that its asker had as the step began.
-use Rattle.std.proofs.Common.{◌≡◌, ◌⊎◌, inl, inr, ℕ, ◌||◌, Bool, true, false, cond, eqb, List, [], ◌∷◌, ◌++◌, map, sym, refl, ap, ◌∙◌, subst, append-nil}
-use Rattle.std.specs.Prelude.{Option, Some, None}
-use Rattle.std.specs.List.{AllByRecursion, filter, filter_map, flat_map}
-use Rattle.std.specs.Option.{option_map_or}
-use Rattle.std.proofs.lemmas.Bool.{eqb-true, true≢false}
-use Rattle.node_laws.proofs.Words.{AreDifferent, AreHosts, AtEnd, Commits, Creation, Deed, Entry, IsFresh, IsOutside, LinkEnd, LinkInput, LinkState}
-use Rattle.node_laws.proofs.Words.{NodeInput, Port, Release, Releases, Tick, TimePasses, Up, Work, after_sessions, all_done, all_synced_hold, asked_at, by_test}
-use Rattle.node_laws.proofs.Words.{done, forgets, forgotten, forgotten_hold, has_come, has_come_so, has_freed, has_synced, hosts_of_ends}
-use Rattle.node_laws.proofs.Words.{input_at, is_over, is_over_at, is_up, owed, owed_in_step, port_at, reset_late, session_of_port}
-use Rattle.node_laws.proofs.Words.{syncs_in, with_older, without_notice}
+use Rattle.node_laws.proofs.Words.{AllByRecursion, AreDifferent, AreHosts, AtEnd, Bool, Commits, Creation, Deed, Entry, IsFresh, IsOutside, LinkEnd, LinkInput}
+use Rattle.node_laws.proofs.Words.{LinkState, List, NodeInput, None, Option, Port, Release, Releases, Some, Tick, TimePasses, Up, Work, [], after_sessions}
+use Rattle.node_laws.proofs.Words.{all_done, all_synced_hold, ap, append-nil, asked_at, by_test, cond, done, eqb, eqb-true, false, filter, filter_map, flat_map}
+use Rattle.node_laws.proofs.Words.{forgets, forgotten, forgotten_hold, has_come, has_come_so, has_freed, has_synced, hosts_of_ends, inl, input_at, inr, is_over}
+use Rattle.node_laws.proofs.Words.{is_over_at, is_up, map, option_map_or, owed, owed_in_step, port_at, refl, reset_late, session_of_port, subst, sym, syncs_in}
+use Rattle.node_laws.proofs.Words.{true, true≢false, with_older, without_notice, ℕ, ◌++◌, ◌||◌, ◌∙◌, ◌∷◌, ◌≡◌, ◌⊎◌}
 use Rattle.gate_answers.specs.declared.response.Response.TheVariants as response
 use Rattle.node_laws.proofs.steps.Ports.{at_port, come_host, forgets_host, late_host, without_host}
 use Rattle.node_laws.proofs.telling.Away.{at_map, none_map}

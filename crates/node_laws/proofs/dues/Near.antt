@@ -1,12 +1,9 @@
 -- In an event in which the controller has a step it answers before its first turn exactly what is due.
-use Rattle.std.proofs.Common.{◌≡◌, ℕ, false, cond, List, [], ◌++◌, sym, ap, ap₂, ◌∙◌, subst}
-use Rattle.std.specs.Prelude.{◌-◌, ◌^◌, min, length, Option, Some, None}
-use Rattle.std.specs.List.{AllByRecursion, flat_map}
-use Rattle.std.specs.Option.{option_map_or}
-use Rattle.node_laws.proofs.Words.{AnswersSo, AreHosts, AreNamed, Command, Deed, Entry, Happening, IsDueAt, IsNoAnswer, NodeInput, Occurrence, Port, Work}
-use Rattle.node_laws.proofs.Words.{asking_in, begun_at, commands_in, down_in, due, end_c, entries_in, entries_of_reply, goes_down, has_come_so, is_late_in}
-use Rattle.node_laws.proofs.Words.{is_over, is_over_at, new_sync, notice_in, owed_in, owed_in_step, port_at, session_now, session_of_port, steps, syncs_in}
-use Rattle.node_laws.proofs.Words.{tables_in}
+use Rattle.node_laws.proofs.Words.{AllByRecursion, AnswersSo, AreHosts, AreNamed, Command, Deed, Entry, Happening, IsDueAt, IsNoAnswer, List, NodeInput, None}
+use Rattle.node_laws.proofs.Words.{Occurrence, Option, Port, Some, Work, [], ap, ap₂, asking_in, begun_at, commands_in, cond, down_in, due, end_c, entries_in}
+use Rattle.node_laws.proofs.Words.{entries_of_reply, false, flat_map, goes_down, has_come_so, is_late_in, is_over, is_over_at, length, min, new_sync, notice_in}
+use Rattle.node_laws.proofs.Words.{option_map_or, owed_in, owed_in_step, port_at, session_now, session_of_port, steps, subst, sym, syncs_in, tables_in, ℕ, ◌++◌}
+use Rattle.node_laws.proofs.Words.{◌-◌, ◌^◌, ◌∙◌, ◌≡◌}
 use Rattle.node_laws.proofs.power.Parts.{AreOwn}
 use Rattle.node_laws.proofs.creations.Coming.{over_at}
 use Rattle.node_laws.proofs.dues.Deeds.{owed_read}

@@ -1,9 +1,7 @@
 -- What a controller notes in a step of its deeds before its pass: the identifier that it keeps, and what it owes.
-use Rattle.std.proofs.Common.{◌≡◌, ℕ, true, false, cond, List, [], ◌∷◌, ◌++◌, sym, refl, ap, ◌∙◌, subst, arith}
-use Rattle.std.specs.Prelude.{Option, Some, None}
-use Rattle.std.specs.List.{AllByRecursion}
-use Rattle.node_laws.proofs.Words.{Command, Commits, Deed, Entry, IsReplyNoted, Work, all_done, by_test, commit, count_of, entries_of_reply, goes_in}
-use Rattle.node_laws.proofs.Words.{next_count, noted_by_deeds, session_of_port, unless_cut}
+use Rattle.node_laws.proofs.Words.{AllByRecursion, Command, Commits, Deed, Entry, IsReplyNoted, List, None, Option, Some, Work, [], all_done, ap, arith}
+use Rattle.node_laws.proofs.Words.{by_test, commit, cond, count_of, entries_of_reply, false, goes_in, next_count, noted_by_deeds, refl, session_of_port, subst}
+use Rattle.node_laws.proofs.Words.{sym, true, unless_cut, ℕ, ◌++◌, ◌∙◌, ◌∷◌, ◌≡◌}
 use Rattle.trace_model.specs.declared.entry.Entry.TheVariants as entry
 use Rattle.node_laws.proofs.passes.Replying.{noted_so}
 use Rattle.node_laws.proofs.creations.Doing.{off_is, on_is}

@@ -1,14 +1,9 @@
 -- What a controller owes to askers is sent, since the blocks for it are free, and what is noted of that are these messages.
-use Rattle.std.proofs.Common.{◌≡◌, ℕ, ◌+◌, ◌≤◌, ◌||◌, Bool, true, false, cond, eqb, List, [], ◌∷◌, ◌++◌, length, sym, refl, ap, ap₂, ◌∙◌}
-use Rattle.std.proofs.Common.{subst, length-append, arith}
-use Rattle.std.specs.Prelude.{Option, Some, None}
-use Rattle.std.specs.List.{AllByRecursion, filter, filter_map, flat_map}
-use Rattle.std.specs.Option.{option_map_or}
-use Rattle.std.proofs.lemmas.Bool.{eq-eqb}
-use Rattle.registry.proofs.ValueLemmas.{AllByRecursion-append as all_append}
-use Rattle.node_laws.proofs.Words.{AreTaken, CountsCommands, Creation, Deed, Entry, Give, HciTables, Message, Port, Release, Releases, Response, Sends, State}
-use Rattle.node_laws.proofs.Words.{TakesMessage, Work, after_turn, all_done, all_owed, answer_of, asked_at, by_test, end_of_number, entries_of_reply, in_use}
-use Rattle.node_laws.proofs.Words.{owed, port_at, turn_at}
+use Rattle.node_laws.proofs.Words.{AllByRecursion, AreTaken, Bool, CountsCommands, Creation, Deed, Entry, Give, HciTables, List, Message, None, Option, Port}
+use Rattle.node_laws.proofs.Words.{Release, Releases, Response, Sends, Some, State, TakesMessage, Work, [], after_turn, all_append, all_done, all_owed}
+use Rattle.node_laws.proofs.Words.{answer_of, ap, ap₂, arith, asked_at, by_test, cond, end_of_number, entries_of_reply, eq-eqb, eqb, false, filter, filter_map}
+use Rattle.node_laws.proofs.Words.{flat_map, in_use, length, length-append, option_map_or, owed, port_at, refl, subst, sym, true, turn_at, ℕ, ◌++◌, ◌+◌, ◌||◌}
+use Rattle.node_laws.proofs.Words.{◌∙◌, ◌∷◌, ◌≡◌, ◌≤◌}
 use Rattle.trace_model.specs.declared.entry.Entry.TheVariants as entry
 use Rattle.gate_answers.specs.declared.response.Response.TheVariants as response
 use Rattle.node_laws.proofs.creations.Asks.{Asked, waits, owes}

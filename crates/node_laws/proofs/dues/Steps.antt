@@ -1,16 +1,11 @@
 -- Before its first turn in a step a controller answers with the identifier that it keeps and with what it owes, and with nothing else.
-use Rattle.std.proofs.Common.{◌≡◌, ℕ, true, false, cond, List, [], ◌∷◌, ◌++◌, map, sym, refl, ap, ◌∙◌, subst, append_assoc, append-nil}
-use Rattle.std.specs.Prelude.{Option, Some}
-use Rattle.std.specs.List.{AllByRecursion}
-use Rattle.std.proofs.lemmas.Bool.{true≢false}
-use Rattle.registry.proofs.ValueLemmas.{AllByRecursion-append as all_append}
-use Rattle.node_laws.proofs.Words.{AnswersSo, AreHosts, ArePassed, BeginWithTurn, ComesTo, Command, Cut, Deed, Entry, IsNoAnswer, IsReplyNoted, IsTurnSo}
-use Rattle.node_laws.proofs.Words.{NodeInput, Port, Restarted, Work, all_done, all_owed_hold, by_test, comes_to_pass, entries_for, entries_of_reply, forgets}
-use Rattle.node_laws.proofs.Words.{has_come_so, has_freed, has_synced, hosts_of_ends, is_answer_of, is_cut_of, is_over_at, is_turn_of, noted_by_deeds}
-use Rattle.node_laws.proofs.Words.{owed_in_step, passes, port_at, session_of_port, steps, syncs_in, told, told_of_coming, unless_cut}
+use Rattle.node_laws.proofs.Words.{AllByRecursion, AnswersSo, AreHosts, ArePassed, BeginWithTurn, ComesTo, Command, Cut, Deed, Entry, IsNoAnswer, IsReplyNoted}
+use Rattle.node_laws.proofs.Words.{IsTurnSo, List, NodeInput, Noted, Option, Port, Restarted, Some, Ticked, Work, [], all_append, all_done, all_owed_hold, ap}
+use Rattle.node_laws.proofs.Words.{append-nil, append_assoc, by_test, comes_to_pass, cond, entries_for, entries_of_reply, false, forgets, has_come_so}
+use Rattle.node_laws.proofs.Words.{has_freed, has_synced, hosts_of_ends, is_answer_of, is_cut_of, is_over_at, is_turn_of, map, noted_by_deeds, owed_in_step}
+use Rattle.node_laws.proofs.Words.{passes, port_at, refl, session_of_port, steps, subst, sym, syncs_in, told, told_of_coming, true, true≢false, unless_cut, ℕ}
+use Rattle.node_laws.proofs.Words.{◌++◌, ◌∙◌, ◌∷◌, ◌≡◌}
 use Rattle.trace_model.specs.declared.entry.Entry.TheVariants as entry
-use Rattle.link_laws.specs.entries.Entries.{Entry as Noted}
-use Rattle.link_laws.specs.entries.Entries.Entry.{Tick as Ticked}
 use Rattle.node_laws.specs.passes.Passing.ComesTo.{Begins}
 use Rattle.node_laws.proofs.passes.Coming.{coming_all}
 use Rattle.node_laws.proofs.passes.Before.{before_entries, steps_are}

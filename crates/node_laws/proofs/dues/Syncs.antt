@@ -1,17 +1,12 @@
 -- The identifier that a controller keeps in a step is the one that a frame brings, unless it is kept.
-use Rattle.std.proofs.Common.{◌≡◌, ℕ, ◌&&◌, Bool, true, false, cond, eqb, List, [], ◌∷◌, ◌++◌, sym, refl, ap, ◌∙◌, subst, append-nil}
-use Rattle.std.specs.Prelude.{not, Option, Some, None}
-use Rattle.std.specs.List.{AllByRecursion, flat_map}
-use Rattle.std.specs.Option.{option_map_or}
-use Rattle.std.proofs.lemmas.Bool.{cond_both, eq-eqb, eqb-true}
+use Rattle.node_laws.proofs.Words.{ActStart, ActStop, ActTake, ActTick, AllByRecursion, AreDifferent, AtEnd, Bare, Bool, Clf, Command, Commits, Control, Core}
+use Rattle.node_laws.proofs.Words.{Deed, HciTables, Inactive, IsClf, LinkEnd, LinkInput, List, None, Option, Phase, Port, PowerMode, Ready, Reset, Role, Some}
+use Rattle.node_laws.proofs.Words.{Start, Stop, Sync, SyncId, Take, Tick, TimePasses, Uicc, [], act_out, ap, append-nil, by_test, clf_step, cond, cond_both}
+use Rattle.node_laws.proofs.Words.{eq-eqb, eqb, eqb-true, false, finds_room, flat_map, hosts_of_ends, input_at, is_kept_sync, is_open, not, option_map_or}
+use Rattle.node_laws.proofs.Words.{port_at, refl, report, subst, sym, synced, true, ℕ, ◌&&◌, ◌++◌, ◌∙◌, ◌∷◌, ◌≡◌}
 use Rattle.swp_base.specs.declared.control_frames.Act.{Act}
-use Rattle.node_laws.proofs.Words.{AreDifferent, AtEnd, Bare, Clf, Command, Commits, Control, Core, Deed, HciTables, Inactive, IsClf, LinkEnd, LinkInput, Phase}
-use Rattle.node_laws.proofs.Words.{Port, PowerMode, Ready, Reset, Role, Start, Stop, Sync, SyncId, Take, Tick, TimePasses, Uicc, act_out, by_test, finds_room}
-use Rattle.node_laws.proofs.Words.{hosts_of_ends, input_at, is_kept_sync, is_open, port_at, report, synced}
 use Rattle.swp_base.specs.declared.control_frames.Control.TheVariants as control
-use Rattle.swp_act.specs.declared.ActEvent.TheVariants.{Start as ActStart, Stop as ActStop, Take as ActTake, Tick as ActTick}
 use Rattle.swp_act.specs.declared.clf.ClfAct.{ClfAct}
-use Rattle.swp_act.specs.Activation.{clf_step}
 use Rattle.node_laws.proofs.dues.Noted.{one_command}
 use Rattle.node_laws.proofs.dues.Taken.{brought, keeps_new}
 use Rattle.node_laws.proofs.kept.Stepping.{synced_other, ticked_sync}

@@ -1,21 +1,17 @@
 -- What a controller takes as identifiers are those that are read off LPDUs, and nothing else in a step is read so.
-use Rattle.std.proofs.Common.{◌≡◌, ◌⊎◌, inl, inr, ℕ, ◌+◌, ◌*◌, ◌/◌, ◌%◌, ◌≤◌, Bool}
-use Rattle.std.proofs.Common.{true, false, cond, List, [], ◌∷◌, ◌++◌, length, sym, refl, ap, ◌∙◌}
-use Rattle.std.proofs.Common.{subst, arith}
-use Rattle.std.specs.Prelude.{◌==◌, find, nat_le, nat_lt, Option, Some, None, Result, Ok, Err}
-use Rattle.std.specs.List.{AllByRecursion, flat_map}
-use Rattle.std.proofs.lemmas.Bool.{and_right, lt-leb, true≢false}
-use Rattle.registry.proofs.ValueLemmas.{AllByRecursion-append as all_append}
-use Rattle.node_laws.proofs.Words.{AreNotOf, Commits, Control, Controller, Cut, CutOff, Deed, End, Ending, Entry, GoesOut, HciTables, Host, Link, LinkEnd, Loss}
-use Rattle.node_laws.proofs.Words.{NodeInput, OnWire, PowerMode, Ready, Report, Restarted, Site, Sync, SyncId, TooMany, Took, Work, aged_entries, by_option}
-use Rattle.node_laws.proofs.Words.{by_test, end_c, ending_entries, ending_of, entries_for, far, first_lost, frames_noted, frames_out, is_kept_sync, is_of_node}
-use Rattle.node_laws.proofs.Words.{lpdu_of, new_sync, node_of, port_at, pushed_out, put, put_entries, puts_entries, told, told_of_coming, wire_with}
+use Rattle.node_laws.proofs.Words.{AllByRecursion, AreNotOf, Bool, Commits, Control, Controller, Cut, CutOff, Deed, End, Ending, Entry, Err, GoesOut, HciTables}
+use Rattle.node_laws.proofs.Words.{Host, Link, LinkEnd, List, Loss, LpduRow, NodeInput, None, Noted, Ok, OnWire, Option, PowerMode, Ready, Report, Restarted}
+use Rattle.node_laws.proofs.Words.{Result, Site, Some, Sync, SyncId, Ticked, TooMany, Took, Work, [], aged_entries, all_append, and_right, ap, arith, by_option}
+use Rattle.node_laws.proofs.Words.{by_test, cond, end_c, ending_entries, ending_of, entries_for, false, far, find, first_lost, flat_map, frames_noted}
+use Rattle.node_laws.proofs.Words.{frames_out, inl, inr, is_kept_sync, is_of_node, is_within, kind_number, length, lpdu_of, lpdu_row_of, nat_le, nat_lt}
+use Rattle.node_laws.proofs.Words.{new_sync, node_of, port_at, pushed_out, put, put_entries, puts_entries, read_by, refl, subst, sym, table, told}
+use Rattle.node_laws.proofs.Words.{told_of_coming, true, true≢false, wire_with, ℕ, ◌%◌, ◌*◌, ◌++◌, ◌+◌, ◌/◌, ◌==◌, ◌∙◌, ◌∷◌, ◌≡◌, ◌≤◌, ◌⊎◌}
+use Rattle.std.proofs.lemmas.Bool.{lt-leb}
 use Rattle.swp_base.specs.declared.control_frames.Control.TheVariants as control
 use Rattle.swp_lpdu.specs.declared.LpduFault.{LpduFault}
-use Rattle.swp_lpdu.specs.Controls.{LpduRow, control_of, is_within, kind_number, lpdu_row_of, read_by, table}
+use Rattle.swp_lpdu.specs.Controls.{control_of}
 use Rattle.trace_model.specs.declared.entry.Entry.TheVariants as entry
-use Rattle.link_laws.specs.entries.Entries.{End as Side, Entry as Noted}
-use Rattle.link_laws.specs.entries.Entries.Entry.{Tick as Ticked}
+use Rattle.link_laws.specs.entries.Entries.{End as Side}
 use Rattle.node_laws.proofs.passes.Coming.{coming_all}
 use Rattle.node_laws.proofs.telling.Reported.{told_all}
 

@@ -1,22 +1,17 @@
 -- In a tick of the world the controller answers before its first turn exactly what is due.
-use Rattle.std.proofs.Common.{◌≡◌, ℕ, ◌||◌, Bool, true, false, eqb, List, [], ◌∷◌, ◌++◌, map, sym, refl, ap, ap₂, ◌∙◌, subst, append_assoc}
-use Rattle.std.proofs.Common.{append-nil}
-use Rattle.std.specs.Prelude.{Some, None}
-use Rattle.std.specs.List.{AllByRecursion, flat_map}
-use Rattle.registry.proofs.ValueLemmas.{AllByRecursion-append as all_append}
-use Rattle.node_laws.proofs.Words.{AreDifferent, AreHosts, AreNotOf, Controller, Entry, HasEnds, HciTables, Host, IfReads, IsClf, IsDueAt, IsNamed, IsNoAnswer}
-use Rattle.node_laws.proofs.Words.{IsOrderly, Link, LinkEnd, NodeWorld, NumberedEnd, Occurrence, Port, ReadsBetween, Running, Site, Ticks, TimePasses, Work}
-use Rattle.node_laws.proofs.Words.{after_near_tick, aged, aged_entries, all_aged, all_flat, as_it_ticks, asking_in, by_option, by_test, controller_ticks, end_c}
-use Rattle.node_laws.proofs.Words.{entries_for, entries_in, frames_noted, has_come_so, hosts_in, hosts_of_ends, hosts_tick, is_answer_of, is_late, is_late_in}
-use Rattle.node_laws.proofs.Words.{is_over, is_own_reset, link_to, near_tick, new_sync, notice_in, number_now, port_at, reset_late, session_now}
-use Rattle.node_laws.proofs.Words.{session_of_port, site_at, steps, syncs_in, tables_in, told_of_coming, world_ticks}
-use Rattle.swp_base.specs.declared.link_terms.Cause.{Cause as EndedBy}
-use Rattle.node_laws.proofs.telling.Events.{orderly_map}
+use Rattle.node_laws.proofs.Words.{AllByRecursion, AreDifferent, AreHosts, AreNotOf, Bool, Controller, EndedBy, Entry, HasEnds, HciTables, Host, IfReads, IsClf}
+use Rattle.node_laws.proofs.Words.{IsDueAt, IsNamed, IsNoAnswer, Link, LinkEnd, List, NodeWorld, None, NumberedEnd, Occurrence, Port, ReadsBetween, Running}
+use Rattle.node_laws.proofs.Words.{Site, Some, Ticks, TimePasses, Work, [], after_near_tick, aged, aged_entries, all_aged, all_append, all_flat, ap, append-nil}
+use Rattle.node_laws.proofs.Words.{append_assoc, ap₂, as_it_ticks, asking_in, by_option, by_test, controller_ticks, end_c, entries_for, entries_in, eqb, false}
+use Rattle.node_laws.proofs.Words.{flat_map, frames_noted, has_come_so, hosts_in, hosts_of_ends, hosts_tick, is_answer_of, is_late, is_late_in, is_over}
+use Rattle.node_laws.proofs.Words.{is_own_reset, link_to, map, near_tick, new_sync, notice_in, number_now, port_at, refl, reset_late, session_now}
+use Rattle.node_laws.proofs.Words.{session_of_port, site_at, steps, subst, sym, syncs_in, tables_in, told_of_coming, true, world_ticks, ℕ, ◌++◌, ◌||◌, ◌∙◌, ◌∷◌}
+use Rattle.node_laws.proofs.Words.{◌≡◌}
 use Rattle.node_laws.proofs.telling.Nodes.{Stands, hosts_same, link_is, stands}
-use Rattle.node_laws.proofs.telling.WorldTicks.{near_orderly}
+use Rattle.node_laws.proofs.telling.WorldTicks.{aged_orderly}
 use Rattle.node_laws.proofs.passes.InSteps.{IsBehind, step_notes}
 use Rattle.node_laws.proofs.passes.Replying.{session_in}
-use Rattle.node_laws.proofs.power.Events.{both_nodes, near_ticks_part, none_zero, others_tick}
+use Rattle.node_laws.proofs.power.Events.{near_ticks_part, ticked_others}
 use Rattle.node_laws.proofs.power.Parts.{AreOwn, part_own}
 use Rattle.node_laws.proofs.creations.Near.{far_reading}
 use Rattle.node_laws.proofs.notices.Far.{AreFar, far_reads}
@@ -26,7 +21,7 @@ use Rattle.node_laws.proofs.dues.Comes.{front_own, nothing_due, owed_off, sessio
 use Rattle.node_laws.proofs.dues.Ended.{either_ends, ends_at}
 use Rattle.node_laws.proofs.dues.Freed.{IsElse, come_found, come_none, come_so, same_port}
 use Rattle.node_laws.proofs.dues.Near.{near_due}
-use Rattle.node_laws.proofs.dues.Steps.{AreOfLink, links_are, mute_both, IsOfLink}
+use Rattle.node_laws.proofs.dues.Steps.{AreOfLink, IsOfLink, links_are, mute_both}
 use Rattle.node_laws.proofs.dues.Syncs.{ticks_none}
 use Rattle.node_laws.proofs.dues.Taken.{IsTookless, IsUnread, aged_tookless, coming_tookless, frames_tookless, others_unread, tookless_all, unread_flat}
 use Rattle.node_laws.proofs.replies.Ends.{all_found}
@@ -70,15 +65,8 @@ module _ (hosts : List ℕ) (are : AreHosts hosts) (past : List Occurrence) (w :
   abbrev Due : List Entry → Type 0
   Due es = IsDueAt hosts past (record { cause = Ticks; entries = es }) 0
 
-  orderly : IsOrderly old
-  orderly =
-      orderly_map w w.memory w.controller (λ (x : Site). record x { link = aged x.link }) (λ x. refl) before.orderly before.orderly.controller (λ x n. n)
-
   others : AreNotOf 0 far
-  others =
-      let kept : IsOrderly (record { memory = old.memory; controller = None; sites = (controller_ticks old).0.sites }) = near_orderly old orderly in
-      others_tick 0 (controller_ticks old).0.sites (none_zero (controller_ticks old).0.sites kept.hosts)
-      (both_nodes (controller_ticks old).0.sites kept.hosts kept.nodes)
+  others = ticked_others w before.orderly
 
   lead_answers : AllByRecursion (λ x. is_answer_of 0 x ≡ false) lead
   lead_answers = unanswered_all 0 lead (aged_unanswered w.sites)
@@ -240,7 +228,7 @@ module _ (hosts : List ℕ) (are : AreHosts hosts) (past : List Occurrence) (w :
     owned : AreOwn 0 last.entries
     owned =
         front_own last.entries frames
-        (subst (λ (p : NodeWorld × List Entry). AreOwn 0 p.1) ticks_are (part_own 0 (controller_ticks old).1 (near_ticks_part old orderly)))
+        (subst (λ (p : NodeWorld × List Entry). AreOwn 0 p.1) ticks_are (part_own 0 (controller_ticks old).1 (near_ticks_part old (aged_orderly w before.orderly))))
 
     pub on_due : Due es
     on_due =

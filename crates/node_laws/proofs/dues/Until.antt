@@ -1,7 +1,6 @@
 -- The answers of the controller before its first turn, behind entries that tell of none.
-use Rattle.std.proofs.Common.{◌≡◌, ◌||◌, false, cond, List, [], ◌∷◌, ◌++◌, refl, sym, ap, ◌∙◌}
-use Rattle.std.specs.List.{AllByRecursion, filter, list_any}
-use Rattle.node_laws.proofs.Words.{AnswersSo, Entry, before_turn, by_test, is_answer_of, is_cut_of, is_turn_of, to_command}
+use Rattle.node_laws.proofs.Words.{AllByRecursion, AnswersSo, Entry, List, [], ap, before_turn, by_test, cond, false, filter, is_answer_of, is_cut_of}
+use Rattle.node_laws.proofs.Words.{is_turn_of, list_any, refl, sym, to_command, ◌++◌, ◌||◌, ◌∙◌, ◌∷◌, ◌≡◌}
 use Rattle.node_laws.proofs.worlds.Late.{before_first, late_all}
 
 -- an entry is no turn of the controller, no answer of it and no loss of its power

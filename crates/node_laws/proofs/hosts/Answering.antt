@@ -1,11 +1,7 @@
 -- What a host answers until its next turn, as it is read off what was noted behind its turn.
-use Rattle.std.proofs.Common.{◌≡◌, ℕ, ◌+◌, ◌≤◌, ◌||◌, Bool, true, false, cond, List, [], ◌∷◌, ◌++◌, sym, refl, ap, ap₂, ◌∙◌, subst}
-use Rattle.std.proofs.Common.{append_assoc, append-nil, arith}
-use Rattle.std.specs.Prelude.{not, take}
-use Rattle.std.specs.List.{AllByRecursion, filter, list_any, prefix_len}
-use Rattle.std.proofs.lemmas.Bool.{eq-eqb, true≢false}
-use Rattle.node_laws.proofs.Words.{AnswersSo, Command, Entry, IsReplyNoted, before_turn, by_test, commands_noted, is_answer_of, is_cut_of, is_turn_of, node_of}
-use Rattle.node_laws.proofs.Words.{to_command}
+use Rattle.node_laws.proofs.Words.{AllByRecursion, AnswersSo, Bool, Command, Entry, IsReplyNoted, List, [], ap, append-nil, append_assoc, ap₂, arith}
+use Rattle.node_laws.proofs.Words.{before_turn, by_test, commands_noted, cond, eq-eqb, false, filter, is_answer_of, is_cut_of, is_turn_of, list_any, node_of}
+use Rattle.node_laws.proofs.Words.{not, prefix_len, refl, subst, sym, take, to_command, true, true≢false, ℕ, ◌++◌, ◌+◌, ◌||◌, ◌∙◌, ◌∷◌, ◌≡◌, ◌≤◌}
 use Rattle.trace_model.specs.declared.entry.Entry.TheVariants as entry
 use Rattle.node_laws.proofs.reply_passes.Growing.{commits-append}
 use Rattle.node_laws.proofs.worlds.Late.{before_first}

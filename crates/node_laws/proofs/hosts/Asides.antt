@@ -1,81 +1,28 @@
 -- No end of a host has a block set aside, at each turn of a step.
-use Rattle.std.proofs.Common.{◌≡◌, ℕ, false, eqb, List, map, length, sym, refl, ap, ◌∙◌, subst}
-use Rattle.std.specs.Prelude.{Some, None}
-use Rattle.std.specs.List.{AllByRecursion}
-use Rattle.node_laws.proofs.Words.{About, Asks, AtEnd, ComesTo, Command, Commits, Deed, Desk, Drops, Ends, FetchMessage, Give, GoesOn, Hears, Hold, IsAnswered}
-use Rattle.node_laws.proofs.Words.{IsOutside, Message, NodeInput, Orders, Port, Release, Releases, Removed, Reset, SaysOk, Sends, SetsErrors, Tells, Tick}
-use Rattle.node_laws.proofs.Words.{TimePasses, Turn, Work, after_sessions, after_turn, all_changed, all_come, all_done, all_map, anyone, asked_at, body_of}
-use Rattle.node_laws.proofs.Words.{by_test, comes_to_pass, commit, commit_writes, deeds_of, done, fails_within, forgets, forgotten, has_come, has_come_so}
-use Rattle.node_laws.proofs.Words.{has_freed, has_synced, input_at, is_forgotten, is_late, is_over, notified, noting, owed_in_step, reset_late, syncs_in}
-use Rattle.node_laws.proofs.Words.{turn_at, with_desk, with_older, with_port, without_notice}
-use Rattle.node_laws.proofs.steps.StepWalks.{Lasts, all_last, got_at, handled, holds, lets, unless}
+use Rattle.node_laws.proofs.Words.{AtEnd, ComesTo, IsOutside, List, Message, NodeInput, None, Port, Reset, Tick, TimePasses, Work, after_sessions, all_come}
+use Rattle.node_laws.proofs.Words.{all_done, all_map, ap, asked_at, by_test, comes_to_pass, deeds_of, eqb, forgets, forgotten, has_come, has_come_so, has_freed}
+use Rattle.node_laws.proofs.Words.{has_synced, input_at, is_forgotten, is_late, is_over, map, owed_in_step, reset_late, syncs_in, with_older, without_notice, ℕ}
+use Rattle.node_laws.proofs.Words.{◌∙◌, ◌≡◌}
+use Rattle.node_laws.proofs.steps.StepWalks.{Lasts, all_last, handled, holds, lets, unless}
 use Rattle.node_laws.proofs.steps.Ports.{sessions_node}
 use Rattle.node_laws.proofs.passes.Passing.{comes_so}
 use Rattle.node_laws.proofs.notices.Own.{IsOwn, all_owed_own, all_synced_own, deeds_own, forgotten_own}
 use Rattle.node_laws.proofs.creations.Asides.{input_aside}
-use Rattle.node_laws.proofs.creations.HostSides.{SetsNone, turn_none}
+use Rattle.node_laws.proofs.creations.HostSides.{EachEndHas, ends_last, turn_none}
 
 -- no block is set aside at an end
 abbrev pub HasNone : Port → Type 0
 HasNone p = p.side.aside ≡ 0
 
 -- so it is with each end of a node that isn't the controller
-pub record HaveNone (w : Work) : Type 0 where
-  pub number : eqb w.core.node 0 ≡ false
-  pub ends : AllByRecursion HasNone w.ports
-
-changed : (h : ℕ) (f : Port → Port) → ((p : Port) → HasNone p → HasNone (f p)) → (ports : List Port) → AllByRecursion HasNone ports
-    → AllByRecursion HasNone (with_port h f ports)
-changed h f one ports a = all_changed HasNone (λ p. eqb p.desk.host h) f one ports a
-
-turns : (h : ℕ) (t : Turn) (w : Work) → SetsNone t → HaveNone w → HaveNone (turn_at h t w)
-turns h t w is a = record { number = a.number; ends = changed h (after_turn t) (λ p b. turn_none p.side t is b) w.ports a.ends }
-
-desks : (h : ℕ) (f : Desk → Desk) (w : Work) → HaveNone w → HaveNone (with_desk h f w)
-desks h f w a = record { number = a.number; ends = changed h (λ (p : Port). record p { desk = f p.desk }) (λ p b. b) w.ports a.ends }
-
-tells : (h : ℕ) (about : About) (message : List ℕ) (w : Work) → HaveNone w → HaveNone (notified h about message w)
-tells h about message w a =
-    desks h (λ d. record d { notice = Some (record { about = about; age = 0 }) }) (turn_at h (Give (1, message)) w) (turns h (Give (1, message)) w tt a)
-
-commits : (c : Command) (w : Work) → HaveNone w → HaveNone (commit c w)
-commits c w a = by_test (fails_within (length (commit_writes w.core.journal w.core.tables (body_of c))) w.plan)
-    (λ q. rw q (record { number = a.number; ends = a.ends }))
-    (λ q. rw q (record { number = a.number; ends = a.ends }))
-
-same : (w v : Work) → v.core.node ≡ w.core.node → v.ports ≡ w.ports → HaveNone w → HaveNone v
-same w v node ports a = record { number = ap (λ n. eqb n 0) node ∙ a.number; ends = subst (AllByRecursion HasNone) (sym ports) a.ends }
-
-does : (h : ℕ) (d : Deed) (w : Work) → IsOwn d → HaveNone w → HaveNone (done h d w)
-does h (Commits c) w q a = commits c w a
-does h (Sends to m) w q a = turns to (Give m) w tt a
-does h SaysOk w q a = same w (done h SaysOk w) refl refl a
-does h (Asks to message c) w q a = absurd q
-does h (Releases asker) w q a = turns asker Release w tt a
-does h (Tells to message) w q a = tells to Removed message w a
-does h IsAnswered w q a = desks h (λ d. record d { notice = None }) w a
-does h (Drops pid) w q a = same w (done h (Drops pid) w) refl refl a
-does h (SetsErrors errors) w q a = desks h (λ d. record d { errors = errors }) w a
-does h (Orders message) w q a =
-    let v : Work = record w { core = record w.core { command = Some message } } in turns h (Give (1, message)) v tt (same w v refl refl a)
-does h Hears w q a = same w (done h Hears w) refl refl a
-does h (GoesOn i) w q a = same w (done h (GoesOn i) w) refl refl a
-does h (Ends e) w q a = same w (done h (Ends e) w) refl refl a
+abbrev pub HaveNone : Work → Type 0
+HaveNone w = EachEndHas HasNone w
 
 abbrev Any : ℕ → Message → Type 0
 Any h m = Unit {0}
 
 none_lasts : Lasts HaveNone IsOwn Any
-none_lasts = record {
-  does = does;
-  turn_told = λ h m w any a. same w (noting _ w) refl refl a;
-  held_told = λ h need spare w a. same w (noting _ w) refl refl a;
-  fetched = λ h w a. turns h FetchMessage w tt a;
-  held = λ h flag w a. turns h (Hold flag) w tt a;
-  marked = λ h flag w a. desks h (λ d. record d { holds = flag }) w a;
-  come = λ h w a. anyone (Any h) (λ m. tt) (got_at h w);
-  causes = λ h m w any a. deeds_own w.core w.ports h m a.number;
-}
+none_lasts = ends_last HasNone (λ t p is b. turn_none p.side t is b) (λ f p b. b)
 
 -- ## Steps
 

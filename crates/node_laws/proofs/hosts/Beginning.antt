@@ -1,13 +1,9 @@
 -- A host has a step: as its pass begins, what it keeps is what is read.
-use Rattle.std.proofs.Common.{◌≡◌, inr, ℕ, true, false, eqb, List, [], ◌∷◌, ◌++◌, sym, refl, ap, ◌∙◌, subst}
-use Rattle.std.specs.Prelude.{Option, Some, None}
-use Rattle.std.specs.Option.{option_map_or}
-use Rattle.std.specs.List.{AllByRecursion}
-use Rattle.std.proofs.lemmas.Bool.{cond-true, eq-eqb, true≢false}
-use Rattle.node_laws.proofs.Words.{AreDifferent, AreNoTurns, ArePortsRead, Comes, Entry, HasEnds, HoldsInStep, Host, IfHostRuns, IfRuns, Init, IsFresh}
-use Rattle.node_laws.proofs.Words.{IsOutside, IsPlain, Link, LinkEnd, LinkState, Message, NoInput, NodeInput, NumberedEnd, Port, Running, RunsSo, Site, Work}
-use Rattle.node_laws.proofs.Words.{arrival, comes_to_pass, end_h, entries_for, has_come, hosts_of_ends, input_at, order_of, own_side, port_at, steps}
-use Rattle.node_laws.proofs.Words.{waiting_at, work_of}
+use Rattle.node_laws.proofs.Words.{AllByRecursion, AreDifferent, AreNoTurns, ArePortsRead, Comes, Entry, HasEnds, HoldsInStep, Host, IfHostRuns, IfRuns, Init}
+use Rattle.node_laws.proofs.Words.{IsFresh, IsOutside, IsPlain, Link, LinkEnd, LinkState, List, Message, NoInput, NodeInput, None, NumberedEnd, Option, Port}
+use Rattle.node_laws.proofs.Words.{Running, RunsSo, Site, Some, Work, [], ap, arrival, comes_to_pass, cond-true, end_h, entries_for, eq-eqb, eqb, false}
+use Rattle.node_laws.proofs.Words.{has_come, hosts_of_ends, input_at, inr, option_map_or, order_of, own_side, port_at, refl, steps, subst, sym, true}
+use Rattle.node_laws.proofs.Words.{true≢false, waiting_at, work_of, ℕ, ◌++◌, ◌∙◌, ◌∷◌, ◌≡◌}
 use Rattle.node_laws.proofs.kept.Doing.{GoesOn_or_lost}
 use Rattle.node_laws.proofs.kept.Plainly.{plain_entries}
 use Rattle.node_laws.proofs.kept.Standing.{runs_begun}

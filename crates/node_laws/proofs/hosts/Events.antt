@@ -1,37 +1,32 @@
 -- In each event a host makes a step, or nothing is noted of it: so each message that has its turn there, or is noted as held, is answered as is
 -- read, and the first one that is left lacks room.
-use Rattle.std.proofs.Common.{◌≡◌, ◌⊎◌, inl, inr, ℕ, ◌≤◌, ◌||◌, Bool, true, false, eqb, List, [], ◌∷◌, ◌++◌, Some, None, map, refl, sym, ap, ap₂, ◌∙◌}
-use Rattle.std.proofs.Common.{subst, append_assoc, append-nil}
-use Rattle.std.specs.Prelude.{◌==◌, Option}
-use Rattle.std.specs.List.{AllByRecursion, flat_map}
-use Rattle.std.proofs.lemmas.Bool.{eq-eqb, eqb-true, ne_eqb, true≢false}
-use Rattle.registry.proofs.ValueLemmas.{AllByRecursion-append as all_append}
-use Rattle.node_laws.proofs.Words.{Activates, AreDifferent, AreNoTurns, AreNotOf, ArePortsRead, Arms, AsksReset, AtEnd, Boots, Comes, Controller, End, Entry}
-use Rattle.node_laws.proofs.Words.{Gives, GoesOut, Happening, HoldsInStep, Host, IfItRuns, Init, Inits, IsCut, IsHeldFor, IsHost, IsOrderly, IsOutside}
-use Rattle.node_laws.proofs.Words.{IsReplied, Link, LinkInput, Loses, Lost, NextFrame, NodeInput, NodeWorld, NumberedEnd, Occurrence, OnWire, Resets, Running}
-use Rattle.node_laws.proofs.Words.{Site, Start, Starts, Step, Take, Takes, Ticks, TimePasses, Work, aged, aged_entries, all_aged, all_flat, arrival, beginning}
-use Rattle.node_laws.proofs.Words.{boots, by_coming, by_controller, by_controller_tick, by_host_tick, by_option, by_test, comes_at, comes_to, comes_to_pass}
-use Rattle.node_laws.proofs.Words.{controller_ticks, controller_work, end_c, end_h, ending_of, entries_for, entries_in, exchanged, frame_lost, frames_at}
-use Rattle.node_laws.proofs.Words.{frames_noted, host_begins_step, host_tick, host_ticks, hosts_in, hosts_tick, init_begun, init_in, input_of, is_left_short}
-use Rattle.node_laws.proofs.Words.{link_after_controller, link_to, makes_step, near_end_in, near_tick, node_of, sending, site_at, site_ticked, site_unticked}
-use Rattle.node_laws.proofs.Words.{steps, ticks_host, turn_link, turns_at, wires_for, work_of, world_step, world_ticks}
-use Rattle.link_laws.specs.entries.Entries.{Entry as Noted}
+use Rattle.node_laws.proofs.Words.{Activates, AllByRecursion, AreDifferent, AreNoTurns, AreNotOf, ArePortsRead, Arms, AsksReset, AtEnd, Bool, Boots, Comes}
+use Rattle.node_laws.proofs.Words.{Controller, End, Entry, Gives, GoesOut, Happening, HoldsInStep, Host, IfItRuns, Init, Inits, IsCut, IsHeldFor, IsHost}
+use Rattle.node_laws.proofs.Words.{IsOrderly, IsOutside, IsReplied, Link, LinkInput, List, Loses, Lost, NextFrame, NodeInput, NodeWorld, None, Noted}
+use Rattle.node_laws.proofs.Words.{NumberedEnd, Occurrence, OnWire, Option, Resets, Running, Site, Some, Start, Starts, Step, Take, Takes, Ticks, TimePasses}
+use Rattle.node_laws.proofs.Words.{Work, [], aged, aged_entries, all_aged, all_append, all_flat, ap, append-nil, append_assoc, ap₂, arrival, beginning, boots}
+use Rattle.node_laws.proofs.Words.{by_coming, by_controller, by_controller_tick, by_host_tick, by_option, by_test, comes_at, comes_to, comes_to_pass}
+use Rattle.node_laws.proofs.Words.{controller_ticks, controller_work, end_c, end_h, ending_of, entries_for, entries_in, eq-eqb, eqb, eqb-true, exchanged, false}
+use Rattle.node_laws.proofs.Words.{flat_map, frame_lost, frames_at, frames_noted, host_begins_step, host_tick, host_ticks, hosts_in, hosts_tick, init_begun}
+use Rattle.node_laws.proofs.Words.{init_in, inl, input_of, inr, is_left_short, link_after_controller, link_to, makes_step, map, ne_eqb, near_end_in, near_tick}
+use Rattle.node_laws.proofs.Words.{node_of, refl, sending, site_at, site_ticked, site_unticked, steps, subst, sym, ticks_host, true, true≢false, turn_link}
+use Rattle.node_laws.proofs.Words.{turns_at, wires_for, work_of, world_step, world_ticks, ℕ, ◌++◌, ◌==◌, ◌||◌, ◌∙◌, ◌∷◌, ◌≡◌, ◌≤◌, ◌⊎◌}
 use Rattle.link_laws.specs.entries.Entries.{End as Side}
-use Rattle.node_laws.proofs.telling.Events.{comes_goes, orderly_map, site_map}
+use Rattle.node_laws.proofs.telling.Events.{comes_goes, site_map}
 use Rattle.node_laws.proofs.telling.Nodes.{link_is, site_host}
 use Rattle.node_laws.proofs.telling.Shapes.{frames_uncut}
-use Rattle.node_laws.proofs.telling.WorldTicks.{near_orderly}
+use Rattle.node_laws.proofs.telling.WorldTicks.{aged_orderly, ticked_orderly}
 use Rattle.node_laws.proofs.links.Ends.{here_host}
 use Rattle.node_laws.proofs.order.Knowing.{WasThere, was_there}
 use Rattle.node_laws.proofs.order.Lines.{IsSo}
 use Rattle.node_laws.proofs.power.Doing.{Runs as Power}
-use Rattle.node_laws.proofs.power.Events.{AreNodes, both_nodes, comes_part, near_ticks_part, others_tick}
+use Rattle.node_laws.proofs.power.Events.{AreNodes, comes_part, near_ticks_part, others_tick, ticked_nodes}
 use Rattle.node_laws.proofs.power.Parts.{own_not, part_own}
 use Rattle.node_laws.proofs.readings.Sites.{comes_outside, near_end_side}
 use Rattle.node_laws.proofs.views.Events.{aged_entries_still, ticks_leave}
 use Rattle.node_laws.proofs.views.Leaving.{IsStill, Leaves, still_leaves}
 use Rattle.node_laws.proofs.views.Nodes.{arrival_still, frames_still, others_step}
-use Rattle.node_laws.proofs.views.Worlds.{AreFine, near_other}
+use Rattle.node_laws.proofs.views.Worlds.{AreFine, near_other, orderly_fine}
 use Rattle.node_laws.specs.reply_passes.Counts.{commands_noted as commits}
 use Rattle.node_laws.proofs.passes.Turnless.{beginning_turnless, sending_turnless}
 use Rattle.node_laws.proofs.read_rooms.HostLines.{activated_read, host_read, ticked_read}
@@ -432,18 +427,11 @@ module _ (hosts : List ℕ) (past : List Occurrence) (w : NodeWorld) (so : IsSo 
       abbrev near : NodeWorld × List Entry
       near = controller_ticks old
 
-      old_orderly : IsOrderly old
-      old_orderly =
-          orderly_map w w.memory w.controller (λ (x : Site). record x { link = aged x.link }) (λ x. refl) so.well.orderly so.well.orderly.controller (λ x m. m)
-
-      kept : IsOrderly (record { memory = old.memory; controller = None; sites = near.0.sites })
-      kept = near_orderly old old_orderly
-
       nodes : AreNodes near.0.sites
-      nodes = both_nodes near.0.sites kept.hosts kept.nodes
+      nodes = ticked_nodes w so.well.orderly
 
       fine : AreFine near.0.sites
-      fine = record { different = kept.different; hosts = kept.hosts; nodes = kept.nodes }
+      fine = orderly_fine (record { memory = w.memory; controller = None; sites = near.0.sites }) (ticked_orderly w so.well.orderly)
 
       old_stands : StandsIn old.sites
       old_stands = mapped (λ (x : Site). record x { link = aged x.link }) (λ s. refl) (λ s. refl) (λ s. refl) w.sites stands
@@ -462,7 +450,7 @@ module _ (hosts : List ℕ) (past : List Occurrence) (w : NodeWorld) (so : IsSo 
           (λ r q. off_mapped (site_ticked (near_tick old r)) (λ s. refl) (λ s. refl) old.sites) is)
 
       near_not : AreNotOf n near.1
-      near_not = own_not 0 n near.1 zero_off (part_own 0 near.1 (near_ticks_part old old_orderly))
+      near_not = own_not 0 n near.1 zero_off (part_own 0 near.1 (near_ticks_part old (aged_orderly w so.well.orderly)))
 
       near_leaves : AllByRecursion (Leaves (end_h n)) near.1
       near_leaves =
@@ -472,7 +460,7 @@ module _ (hosts : List ℕ) (past : List Occurrence) (w : NodeWorld) (so : IsSo 
           let frames : List Entry = flat_map (λ (s : Site). frames_noted Controller s.host s.link v) old.sites in
           all_append (Leaves (end_h n)) v.entries frames
           (others_step (end_h n) 0 Controller (hosts_in old.sites) r old.memory.plan (λ h. (link_to old.sites h).controller) [] TimePasses
-          (near_node old r old_orderly q) refl (near_other (end_h n) real refl (hosts_in old.sites)) tt)
+          (near_node old r (aged_orderly w so.well.orderly) q) refl (near_other (end_h n) real refl (hosts_in old.sites)) tt)
           (still_leaves (end_h n) frames (all_flat (IsStill (end_h n)) (λ (s : Site). frames_noted Controller s.host s.link v)
           (λ s. frames_still (end_h n) Controller s.host s.link v) old.sites)))
 

@@ -1,19 +1,15 @@
 -- In a history the generation of each host's memory is at most one above the commands that were noted.
-use Rattle.std.proofs.Common.{◌≡◌, inr, ℕ, ◌+◌, ◌≤◌, Bool, true, false, cond, eqb, List, [], ◌∷◌, ◌++◌, map, sym, refl, ap, ◌∙◌, subst}
-use Rattle.std.proofs.Common.{append_assoc, append-nil, arith}
-use Rattle.std.specs.Prelude.{◌&&◌, Some, replicate}
-use Rattle.std.specs.List.{AllByRecursion}
-use Rattle.std.proofs.lemmas.Bool.{eqb-true}
-use Rattle.node_laws.proofs.Words.{Activates, AllKeep, AreDifferent, AreHosts, Arms, AsksReset, AtEnd, Boots, Comes, Deed, End, Entry, FollowsNodes, Gives}
-use Rattle.node_laws.proofs.Words.{Happening, Header, Host, IfRuns, Inits, IsCut, IsFew, IsHost, IsOf, IsSentByHost, Journal, Line, LinkInput, Loses, Loss}
-use Rattle.node_laws.proofs.Words.{Memory, NextFrame, NoInput, NodeHistory, NodeWorld, Occurrence, Orders, Plan, Resets, Running, RunsSo, Sends, Site}
-use Rattle.node_laws.proofs.Words.{SiteKeeps, Starts, Takes, Ticks, TimePasses, Work, after_host, after_planned, aged, all_aged, arrival, beginning}
-use Rattle.node_laws.proofs.Words.{begins_with, boot_found, boot_writes, boot_written, boots, by_boot, by_coming, by_controller, by_controller_tick, by_host}
-use Rattle.node_laws.proofs.Words.{by_host_tick, by_loss, by_memory, by_power, by_running, by_test, changed_if, comes_at, controller_does, controller_ticks}
-use Rattle.node_laws.proofs.Words.{count_of, end_c, end_h, entries_for, entries_in, exchanged, frame_lost, frames_noted, fresh, host_cut, host_does, host_tick}
-use Rattle.node_laws.proofs.Words.{host_ticks, host_work, hosts_in, hosts_tick, is_command_message, loses_power_at, memory_at, near_end_in, near_tick}
-use Rattle.node_laws.proofs.Words.{new_world, no_journal, node_entries, occurrences_in, sending, site_at, site_ticked, site_unticked, steps, wires_for}
-use Rattle.node_laws.proofs.Words.{with_site, work_of, world_behind, world_step, world_ticks}
+use Rattle.node_laws.proofs.Words.{Activates, AllByRecursion, AllKeep, AreDifferent, AreHosts, Arms, AsksReset, AtEnd, Bool, Boots, Comes, Deed, End, Entry}
+use Rattle.node_laws.proofs.Words.{FollowsNodes, Gives, Happening, Header, Host, IfRuns, Inits, IsCut, IsFew, IsHost, IsOf, IsSentByHost, Journal, Line}
+use Rattle.node_laws.proofs.Words.{LinkInput, List, Loses, Loss, Memory, NextFrame, NoInput, NodeHistory, NodeWorld, Occurrence, Orders, Plan, Resets, Running}
+use Rattle.node_laws.proofs.Words.{RunsSo, Sends, Site, SiteKeeps, Some, Starts, Takes, Ticks, TimePasses, Work, [], after_host, after_planned, aged, all_aged}
+use Rattle.node_laws.proofs.Words.{ap, append-nil, append_assoc, arith, arrival, beginning, begins_with, boot_found, boot_writes, boot_written, boots, by_boot}
+use Rattle.node_laws.proofs.Words.{by_coming, by_controller, by_controller_tick, by_host, by_host_tick, by_loss, by_memory, by_power, by_running, by_test}
+use Rattle.node_laws.proofs.Words.{changed_if, comes_at, cond, controller_does, controller_ticks, count_of, end_c, end_h, entries_for, entries_in, eqb}
+use Rattle.node_laws.proofs.Words.{eqb-true, exchanged, false, frame_lost, frames_noted, fresh, host_cut, host_does, host_tick, host_ticks, host_work, hosts_in}
+use Rattle.node_laws.proofs.Words.{hosts_tick, inr, is_command_message, loses_power_at, map, memory_at, near_end_in, near_tick, new_world, no_journal}
+use Rattle.node_laws.proofs.Words.{node_entries, occurrences_in, refl, replicate, sending, site_at, site_ticked, site_unticked, steps, subst, sym, true}
+use Rattle.node_laws.proofs.Words.{wires_for, with_site, work_of, world_behind, world_step, world_ticks, ℕ, ◌&&◌, ◌++◌, ◌+◌, ◌∙◌, ◌∷◌, ◌≡◌, ◌≤◌}
 use Rattle.trace_model.specs.declared.entry.Entry.TheVariants as entry
 use Rattle.node_laws.proofs.kept.Events.{comes_goes}
 use Rattle.node_laws.proofs.kept.Plainly.{plain_entries}

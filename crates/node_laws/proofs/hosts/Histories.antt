@@ -1,11 +1,8 @@
 -- Over histories hosts stand as is read, so each message that has its turn at a host, or is noted as held there, is answered as is read.
-use Rattle.std.proofs.Common.{◌≡◌, ℕ, ◌≤◌, List, ◌∷◌, ◌++◌, refl, sym, ap, subst, ◌∙◌, arith}
-use Rattle.std.specs.Prelude.{None, Some}
-use Rattle.std.specs.List.{AllByRecursion}
-use Rattle.std.proofs.lemmas.List.Concat.{flat_map-append}
-use Rattle.node_laws.proofs.Words.{AreHosts, ArePlayable, AtEachEntry, Entry, FollowsNodes, HasNoneAside, Header, IsBegunByHost, IsFew, IsHeldFor, IsHost}
-use Rattle.node_laws.proofs.Words.{IsInitOfHost, IsReplied, IsSentByHost, Line, NodeHistory, NodeWorld, Occurrence, Site, SiteKeeps, SiteReads, end_h}
-use Rattle.node_laws.proofs.Words.{entries_in, init_in, new_world, node_entries, occurrences_in, site_at, steps_from, world_behind}
+use Rattle.node_laws.proofs.Words.{AllByRecursion, AreHosts, ArePlayable, AtEachEntry, Entry, FollowsNodes, HasNoneAside, Header, IsBegunByHost, IsFew}
+use Rattle.node_laws.proofs.Words.{IsHeldFor, IsHost, IsInitOfHost, IsReplied, IsSentByHost, Line, List, NodeHistory, NodeWorld, None, Occurrence, Site}
+use Rattle.node_laws.proofs.Words.{SiteKeeps, SiteReads, Some, ap, arith, end_h, entries_in, flat_map-append, init_in, new_world, node_entries, occurrences_in}
+use Rattle.node_laws.proofs.Words.{refl, site_at, steps_from, subst, sym, world_behind, ℕ, ◌++◌, ◌∙◌, ◌∷◌, ◌≡◌, ◌≤◌}
 use Rattle.node_laws.proofs.telling.Lasting.{AreCaused, events_of_steps, lines_caused}
 use Rattle.node_laws.proofs.telling.Nodes.{site_host}
 use Rattle.node_laws.proofs.telling.Orderly.{new_orderly}
@@ -15,9 +12,9 @@ use Rattle.node_laws.proofs.order.Lines.{IsSo, history_so}
 use Rattle.node_laws.proofs.readings.Lines.{events_read}
 use Rattle.node_laws.proofs.creations.Lines.{history_keeps}
 use Rattle.node_laws.proofs.views.InitEvents.{MayKeep}
-use Rattle.node_laws.proofs.views.InitLines.{line_may}
+use Rattle.node_laws.proofs.views.InitLines.{front_keeps, line_may, new_keeps}
 use Rattle.node_laws.proofs.views.InitWorlds.{AtSite, Keeps}
-use Rattle.node_laws.proofs.views.Lines.{events_so, none_zero, real_of}
+use Rattle.node_laws.proofs.views.Lines.{events_so, real_of}
 use Rattle.node_laws.proofs.views.Lines.{IsSo as AllSo}
 use Rattle.node_laws.proofs.views.Nodes.{IfKeeps}
 use Rattle.node_laws.proofs.views.Worlds.{far_node, host_node}
@@ -28,11 +25,11 @@ use Rattle.node_laws.proofs.worlds.Done.{IsAtRest, history_rests}
 use Rattle.node_laws.proofs.worlds.Events.{waiting_from}
 use Rattle.node_laws.proofs.worlds.Everywhere.{IsAnsweredFar}
 use Rattle.node_laws.proofs.worlds.Histories.{of_hosts}
-use Rattle.node_laws.proofs.worlds.Quiet.{front_keeps, new_keeps}
 use Rattle.node_laws.proofs.hosts.Events.{event_so}
 use Rattle.node_laws.proofs.hosts.Grown.{IsGrownAt, history_sites}
 use Rattle.node_laws.proofs.hosts.Standing.{HostStands}
 use Rattle.node_laws.proofs.hosts.Turns.{errors_behind}
+use Rattle.node_laws.proofs.readings.NoticedWorlds.{numbers}
 
 module _ (header : Header) (lines : List Line) (t : NodeHistory) (follows : FollowsNodes header lines t) (are : AreHosts header.hosts.items)
     (playable : ArePlayable lines) (sent : AllByRecursion IsSentByHost lines) (inits : AllByRecursion IsInitOfHost lines)
@@ -62,7 +59,7 @@ module _ (header : Header) (lines : List Line) (t : NodeHistory) (follows : Foll
     keeps : (n : ℕ) (host : IsHost n) → Keeps n host w (init_in past n)
     keeps n host =
         let same : events_of_steps (steps_from (new_world hosts) lines) ≡ past ++ back = sym (ap events_of_steps follows.steps_are) ∙ parts in
-        front_keeps n host past back (new_world hosts) None (new_orderly hosts are.different (none_zero hosts are.all)) (new_keeps n host hosts)
+        front_keeps n host past back (new_world hosts) None (new_orderly hosts are.different (numbers hosts are.all)) (new_keeps n host hosts)
         (subst (AreCaused MayKeep (new_world hosts)) same (lines_caused MayKeep IsBegunByHost line_may lines (new_world hosts) sides))
 
     pub stands : (n : ℕ) (s : Site) → site_at w.sites n ≡ Some s → HostStands u (init_in past n) s

@@ -1,10 +1,8 @@
 -- What a host keeps in the midst of a step is what is read off all entries until there: its command, its init, REC_ERROR, its tables and the count of
 -- its commands. It lasts over its turns.
-use Rattle.std.proofs.Common.{◌≡◌, inl, inr, ℕ, true, false, List, [], ◌∷◌, sym, refl, ◌∙◌, subst}
-use Rattle.std.specs.Prelude.{Option, None}
-use Rattle.std.proofs.lemmas.Bool.{true≢false}
-use Rattle.node_laws.proofs.Words.{Deed, Entry, ErrorCount, Init, IsHost, IsOnOrder, LastsOverTurns, LinkState, Memory, Message, StillRuns, Work, deeds_of}
-use Rattle.node_laws.proofs.Words.{end_h, handles, holds_back, lacking, lets_go, waiting_at}
+use Rattle.node_laws.proofs.Words.{Deed, Entry, ErrorCount, Init, IsHost, IsOnOrder, LastsOverTurns, LinkState, List, Memory, Message, None, Option, StillRuns}
+use Rattle.node_laws.proofs.Words.{Work, [], deeds_of, end_h, false, handles, holds_back, inl, inr, lacking, lets_go, refl, subst, sym, true, true≢false}
+use Rattle.node_laws.proofs.Words.{waiting_at, ℕ, ◌∙◌, ◌∷◌, ◌≡◌}
 use Rattle.node_laws.proofs.kept.Doing.{GoesOn_or_lost}
 use Rattle.node_laws.proofs.kept.Turning.{deeds_fit, deeds_may, handles_fine, holds_fine, lets_fine}
 use Rattle.node_laws.proofs.passes.Ends.{HasFirst, has_first}

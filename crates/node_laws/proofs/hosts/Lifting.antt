@@ -1,11 +1,8 @@
 -- What is replied in a pass of a host, among the entries of an event.
-use Rattle.std.proofs.Common.{◌≡◌, ℕ, ◌≤◌, false, List, [], ◌∷◌, ◌++◌, Some, None, refl, sym, ap, ◌∙◌, subst, append_assoc, arith}
-use Rattle.std.specs.Prelude.{Option}
-use Rattle.std.specs.List.{AllByRecursion}
-use Rattle.registry.proofs.ValueLemmas.{AllByRecursion-append as all_append}
-use Rattle.node_laws.proofs.Words.{AreNoTurns, AreNotOf, ArePassed, ComesTo, Entry, Happening, Init, IsHeldFor, IsHost, IsNoTurn, IsReplied, Moment, NodeInput}
-use Rattle.node_laws.proofs.Words.{Occurrence, Work, by_test, comes_to_pass, entries_in, hosts_of_ends, init_begun, init_in, is_answer_of, is_cut_of}
-use Rattle.node_laws.proofs.Words.{is_of_node, noted_before_pass, passes, steps, turn_link}
+use Rattle.node_laws.proofs.Words.{AllByRecursion, AreNoTurns, AreNotOf, ArePassed, ComesTo, Entry, Happening, Init, IsHeldFor, IsHost, IsNoTurn, IsReplied}
+use Rattle.node_laws.proofs.Words.{List, Moment, NodeInput, None, Occurrence, Option, Some, Work, [], all_append, ap, append_assoc, arith, by_test}
+use Rattle.node_laws.proofs.Words.{comes_to_pass, entries_in, false, hosts_of_ends, init_begun, init_in, is_answer_of, is_cut_of, is_of_node, noted_before_pass}
+use Rattle.node_laws.proofs.Words.{passes, refl, steps, subst, sym, turn_link, ℕ, ◌++◌, ◌∙◌, ◌∷◌, ◌≡◌, ◌≤◌}
 use Rattle.trace_model.specs.declared.entry.Entry.TheVariants as entry
 use Rattle.node_laws.proofs.telling.Walks.{AreUncut, IsUncut}
 use Rattle.node_laws.specs.passes.Passing.ComesTo.{Begins}

@@ -1,13 +1,9 @@
 -- Each message that has its turn in a pass of a host is replied to as is read, and each that is held is the first one there, and lacks what is noted.
-use Rattle.std.proofs.Common.{◌≡◌, ℕ, ◌≤◌, true, false, List, [], ◌∷◌, ◌++◌, sym, refl, ap, ◌∙◌, subst, append_assoc, append-nil, arith}
-use Rattle.std.specs.Prelude.{Option, Some, None}
-use Rattle.std.specs.Option.{option_and_then}
-use Rattle.std.proofs.lemmas.Bool.{true≢false}
-use Rattle.std.proofs.lemmas.List.{append_cancel_left}
 use Rattle.node_laws.proofs.Words.{ArePassed, ArePortsRead, BeginWithTurn, ComesTo, End, Entry, HadTurn, HasRoomForAll, Host, Init, IsHeldFor, IsHost}
-use Rattle.node_laws.proofs.Words.{IsReplied, IsWaitingRead, LinkState, Memory, Moment, WasHeld, Work, deeds_of, end_h, end_of, end_of_node, handles, holds_in}
-use Rattle.node_laws.proofs.Words.{hosts_of_ends, is_held_at, lack_at, lack_of, lacking, node_of, noted_by_deeds, oldest, own_side, passes, takes_up}
-use Rattle.node_laws.proofs.Words.{unhandled_in, until, waiting_at, waits_behind}
+use Rattle.node_laws.proofs.Words.{IsReplied, IsWaitingRead, LinkState, List, Memory, Moment, None, Option, Some, WasHeld, Work, [], ap, append-nil}
+use Rattle.node_laws.proofs.Words.{append_assoc, append_cancel_left, arith, deeds_of, end_h, end_of, end_of_node, false, handles, holds_in, hosts_of_ends}
+use Rattle.node_laws.proofs.Words.{is_held_at, lack_at, lack_of, lacking, node_of, noted_by_deeds, oldest, option_and_then, own_side, passes, refl, subst, sym}
+use Rattle.node_laws.proofs.Words.{takes_up, true, true≢false, unhandled_in, until, waiting_at, waits_behind, ℕ, ◌++◌, ◌∙◌, ◌∷◌, ◌≡◌, ◌≤◌}
 use Rattle.trace_model.specs.declared.entry.Entry.TheVariants as entry
 use Rattle.node_laws.specs.passes.Passing.ComesTo.{Begins}
 use Rattle.node_laws.proofs.passes.Passing.{comes_lasts, comes_so, through}

@@ -1,14 +1,10 @@
 -- As it handles a message a host gives its own end one message at most, and tells of nothing but itself.
-use Rattle.std.proofs.Common.{◌≡◌, ℕ, ◌≤◌, Bool, true, false, cond, eqb, List, [], ◌∷◌, ◌++◌, refl, sym, ap, ap₂, ◌∙◌, subst, arith}
-use Rattle.std.specs.Prelude.{Option, Some, None}
-use Rattle.std.specs.List.{AllByRecursion}
-use Rattle.std.specs.Option.{option_map_or}
-use Rattle.std.proofs.lemmas.Bool.{cond_both, eq-eqb}
-use Rattle.node_laws.proofs.Words.{Asks, Clear, Command, Commits, Core, Create, Deed, Delete, Drops, Ends, Entry, GiveOnce, GoesOn, Hears, Init, IsAnswered}
-use Rattle.node_laws.proofs.Words.{IsPlain, MayBeDone, Message, Orders, Port, Releases, SaysOk, Sends, Set, SetsErrors, State, Tells, accepts, body_in}
-use Rattle.node_laws.proofs.Words.{by_option, by_test, commands_noted, end_of_node, end_of_number, end_view, entries_of_reply, finds_room, host_deeds}
-use Rattle.node_laws.proofs.Words.{host_holds, init_deeds, init_holds, is_answer_of, learned, learned_holds, learns, learns_holds, link_deeds, link_served}
-use Rattle.node_laws.proofs.Words.{next_count, node_of, ordered_deeds, ordered_holds, own_view, sent_in_session}
+use Rattle.node_laws.proofs.Words.{AllByRecursion, Asks, Bool, Clear, Command, Commits, Core, Create, Deed, Delete, Drops, Ends, Entry, GiveOnce, GoesOn, Hears}
+use Rattle.node_laws.proofs.Words.{Init, IsAnswered, IsPlain, List, MayBeDone, Message, None, Option, Orders, Port, Releases, SaysOk, Sends, Set, SetsErrors}
+use Rattle.node_laws.proofs.Words.{Some, State, Tells, [], accepts, ap, ap₂, arith, body_in, by_option, by_test, commands_noted, cond, cond_both, end_of_node}
+use Rattle.node_laws.proofs.Words.{end_of_number, end_view, entries_of_reply, eq-eqb, eqb, false, finds_room, host_deeds, host_holds, init_deeds, init_holds}
+use Rattle.node_laws.proofs.Words.{is_answer_of, learned, learned_holds, learns, learns_holds, link_deeds, link_served, next_count, node_of, option_map_or}
+use Rattle.node_laws.proofs.Words.{ordered_deeds, ordered_holds, own_view, refl, sent_in_session, subst, sym, true, ℕ, ◌++◌, ◌∙◌, ◌∷◌, ◌≡◌, ◌≤◌}
 use Rattle.trace_model.specs.declared.entry.Entry.TheVariants as entry
 use Rattle.node_laws.proofs.replies.Answering.{most_of}
 

@@ -1,11 +1,8 @@
 -- What a host keeps between its steps, over what other nodes note and do.
-use Rattle.std.proofs.Common.{◌≡◌, ℕ, ◌&&◌, false, cond, eqb, List, [], ◌∷◌, ◌++◌, sym, refl, ap, ◌∙◌, subst}
-use Rattle.std.specs.Prelude.{Option, Some, None}
-use Rattle.std.specs.Option.{option_map}
-use Rattle.std.specs.List.{AllByRecursion, fold}
-use Rattle.node_laws.proofs.Words.{AreNotOf, Book, Entry, Init, IsHost, IsSilent, Last, LeavesInit, Link, LinkEnd, Running, Site, SiteKeeps, SiteKeepsInit}
-use Rattle.node_laws.proofs.Words.{SiteReads, book_after, book_in, end_h, holds_in, is_command_message, is_of_node, is_response, last_after, last_in, no_errors}
-use Rattle.node_laws.proofs.Words.{with_command, with_found, with_response}
+use Rattle.node_laws.proofs.Words.{AllByRecursion, AreNotOf, Book, Entry, Init, IsHost, IsSilent, Last, LeavesInit, Link, LinkEnd, List, None, Option, Running}
+use Rattle.node_laws.proofs.Words.{Site, SiteKeeps, SiteKeepsInit, SiteReads, Some, [], ap, book_after, book_in, cond, end_h, eqb, false, fold, holds_in}
+use Rattle.node_laws.proofs.Words.{is_command_message, is_of_node, is_response, last_after, last_in, no_errors, option_map, refl, subst, sym, with_command}
+use Rattle.node_laws.proofs.Words.{with_found, with_response, ℕ, ◌&&◌, ◌++◌, ◌∙◌, ◌∷◌, ◌≡◌}
 use Rattle.trace_model.specs.declared.entry.Entry.TheVariants as entry
 use Rattle.node_laws.proofs.kept.Books.{book_more, last_more}
 use Rattle.node_laws.proofs.kept.Standing.{IsSame, keeps_same}

@@ -1,27 +1,21 @@
 -- At its turn a message gets from a host the reply that is read, and lacks what is read.
-use Rattle.std.proofs.Common.{◌≡◌, ◌⊎◌, inl, inr, ℕ, ◌-◌, ◌^◌, Bool, true, false, cond, eqb, List, [], ◌∷◌, ◌++◌, length, sym, refl, ap, ap₂, ◌∙◌}
-use Rattle.std.proofs.Common.{subst, arith}
-use Rattle.std.specs.Prelude.{min, is_some, Option, Some, None}
+use Rattle.node_laws.proofs.Words.{AllByRecursion, AnswersSo, ArePortsRead, Bool, Deed, Entry, ErrorCount, HasRoomForAll, Host, Init, IsHost, IsReplied}
+use Rattle.node_laws.proofs.Words.{IsReplyNoted, LinkState, List, MayBeDone, Memory, Message, Moment, None, Option, Port, Some, Work, [], ap, ap₂, arith}
+use Rattle.node_laws.proofs.Words.{cases_Bool, commands_in, cond, cond-true, count_of, deeds_far, deeds_of, end_h, end_of_number, end_read, end_view}
+use Rattle.node_laws.proofs.Words.{entries_of_reply, eq-eqb, eqb, eqb-true, errors_in, false, finds_room, first_lack, handles, host_deeds, inl, inr, is_one_of}
+use Rattle.node_laws.proofs.Words.{is_some, is_up, is_up_read, lack, lack_of, lacking, length, min, ne_eqb, needs, no_errors, noted_by_deeds, noted_of_deeds}
+use Rattle.node_laws.proofs.Words.{option_and_then, option_map_or, or-false, order_in, own_read, own_view, port_at, refl, reply, same_number, session_now}
+use Rattle.node_laws.proofs.Words.{session_of_port, spare, spare_at, spare_read, spare_with, subst, sym, tables_in, takes_up, true, until, view_read, ℕ, ◌++◌}
+use Rattle.node_laws.proofs.Words.{◌-◌, ◌^◌, ◌∙◌, ◌∷◌, ◌≡◌, ◌⊎◌}
 use mathlib.Core.Path.{fun_ext}
-use Rattle.std.specs.List.{AllByRecursion}
-use Rattle.std.specs.Option.{option_and_then, option_map_or}
-use Rattle.std.proofs.lemmas.Bool.{cases_Bool, cond-true, eq-eqb, eqb-true, ne_eqb}
-use mathlib.Core.Bool.{or-false}
-use Rattle.node_laws.proofs.Words.{AnswersSo, ArePortsRead, Deed, Entry, ErrorCount, HasRoomForAll, Host, Init, IsHost, IsReplied, IsReplyNoted, LinkState}
-use Rattle.node_laws.proofs.Words.{MayBeDone, Memory, Message, Moment, Port, Work, commands_in, count_of, deeds_far, deeds_of, end_h, end_of_number, end_view}
-use Rattle.node_laws.proofs.Words.{entries_of_reply, errors_in, finds_room, first_lack, handles, host_deeds, is_one_of, is_up, is_up_read, lack, lack_of}
-use Rattle.node_laws.proofs.Words.{lacking, needs, no_errors, noted_by_deeds, noted_of_deeds, order_in, own_read, own_view, port_at, reply, same_number}
-use Rattle.node_laws.proofs.Words.{session_now, session_of_port, spare, spare_at, spare_read, tables_in, takes_up, until}
 use Rattle.trace_model.specs.declared.entry.Entry.TheVariants as entry
-use Rattle.node_machine.specs.Carrying.{spare_with}
 use Rattle.node_laws.proofs.kept.Turning.{deeds_may}
 use Rattle.node_laws.proofs.passes.Counts.{counts_one, reply_noted}
 use Rattle.node_laws.proofs.views.Answering.{reads_init}
 use Rattle.node_laws.proofs.views.Doing.{HasErrors}
 use Rattle.node_laws.proofs.views.Going.{deeds_is}
 use Rattle.node_laws.proofs.views.Leaving.{reads, reads_append}
-use Rattle.node_laws.specs.answers.Moments.{end_read, is_linked}
-use Rattle.node_laws.specs.answers.Moments.{view_read}
+use Rattle.node_laws.specs.answers.Moments.{is_linked}
 use Rattle.node_laws.proofs.replies.Turns.{lack_alike, some_if}
 use Rattle.node_laws.proofs.hosts.Answering.{AreUnanswered, TrailsOff, answers_so}
 use Rattle.node_laws.proofs.hosts.Asides.{HasNone, HaveNone}

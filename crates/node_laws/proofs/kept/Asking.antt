@@ -1,8 +1,6 @@
 -- Ends where no creation waits that didn't wait before.
-use Rattle.std.proofs.Common.{◌≡◌, ◌⊎◌, inl, inr, ℕ, Bool, true, false, eqb, eqb-true, List, [], ◌∷◌, map, sym, refl, ap, ◌∙◌}
-use Rattle.std.specs.Prelude.{Some}
-use Rattle.std.proofs.lemmas.Bool.{cases_Bool, cond-true, cond-false}
-use Rattle.node_laws.proofs.Words.{Creation, HciTables, MayWait, Port, asked_at, changed_if, port_at}
+use Rattle.node_laws.proofs.Words.{Bool, Creation, HciTables, List, MayWait, Port, Some, [], ap, asked_at, cases_Bool, changed_if, cond-false, cond-true, eqb}
+use Rattle.node_laws.proofs.Words.{eqb-true, false, inl, inr, map, port_at, refl, sym, true, ℕ, ◌∙◌, ◌∷◌, ◌≡◌, ◌⊎◌}
 
 -- each creation that waits at an end waited there before
 abbrev pub NoneNew : List Port → List Port → Type 0

@@ -1,17 +1,11 @@
 -- What is read of a node after more entries.
-use Rattle.std.proofs.Common.{◌≡◌, inl, inr, ℕ, ◌-◌, ◌^◌, min, cond, eqb, List, [], ◌∷◌, ◌++◌, take, length, sym, refl, ap, ◌∙◌, subst, arith, append_assoc}
-use Rattle.std.proofs.Common.{append-nil, length-append}
-use Rattle.std.specs.List.{AllByRecursion, fold}
-use Rattle.std.proofs.lemmas.Bool.{cond_both, eq-eqb}
-use Rattle.std.proofs.lemmas.List.Sums.{fold-append}
+use Rattle.node_laws.proofs.Words.{AllByRecursion, AreToldBehind, Book, BootFinds, Command, CommandLast, CutBehindCommand, Entry, HciTables, IsOf, IsPlain}
+use Rattle.node_laws.proofs.Words.{IsSome, IsTold, Last, List, NothingYet, WouldFind, [], after_commands, all_so, ap, append-nil, append_assoc, apply, arith}
+use Rattle.node_laws.proofs.Words.{book_after, book_in, close, cond, cond_both, current, eq-eqb, eqb, fold, fold-append, inl, inr, last_after, last_in, length}
+use Rattle.node_laws.proofs.Words.{length-append, min, new_book, no_tables, refl, subst, sym, take, with_command, with_found, ℕ, ◌++◌, ◌-◌, ◌^◌, ◌∙◌, ◌∷◌, ◌≡◌}
 use Rattle.std.proofs.Math.Seq.{take-append_seam, take-length}
-use Rattle.node_laws.proofs.Words.{AreToldBehind, Book, BootFinds, Command, CutBehindCommand, Entry, HciTables, IsOf, IsPlain, Last, WouldFind, after_commands}
-use Rattle.node_laws.proofs.Words.{apply, book_after, book_in, close, current, last_after, last_in, new_book, no_tables, with_command, with_found}
 use Rattle.trace_model.specs.declared.entry.Entry.TheVariants as entry
-use Rattle.std.specs.Prelude.{IsSome}
 use Rattle.hci_store.proofs.Closing.{close-close, same_closed}
-use Rattle.node_machine.specs.world.NodeLegal.Last.{NothingYet, CommandLast}
-use Rattle.node_laws.specs.kept.Books.{IsTold}
 use Rattle.node_laws.proofs.kept.Commits.{finds_closed}
 
 pub book_more : (t es : List Entry) (n : ℕ) → book_in (t ++ es) n ≡ fold (book_after n) (book_in t n) es
@@ -66,8 +60,7 @@ plain_told t [] all = tt
 plain_told t (e ∷ es) all = (plain_told_one t e all.0, plain_told (t ++ e ∷ []) es all.1)
 
 pub plain_own : (n : ℕ) (es : List Entry) → AllByRecursion IsPlain es → AllByRecursion (IsOf n) es
-plain_own n [] all = tt
-plain_own n (e ∷ es) all = (plain_own_one n e all.0, plain_own n es all.1)
+plain_own n es all = all_so IsPlain (IsOf n) (plain_own_one n) es all
 
 pub told_append : (t xs ys : List Entry) → AreToldBehind t xs → AreToldBehind (t ++ xs) ys → AreToldBehind t (xs ++ ys)
 told_append t [] ys a b = subst (λ x. AreToldBehind x ys) (append-nil t) b

@@ -1,25 +1,19 @@
 -- What a node keeps over a boot.
-use Rattle.std.proofs.Common.{◌≡◌, ◌⊎◌, inl, inr, ℕ, suc, ◌-◌, ◌^◌, ◌≤◌, min, true, false, cond, List, [], ◌∷◌, ◌++◌, length, map, take, sym, refl, ap, ◌∙◌}
-use Rattle.std.proofs.Common.{subst, arith, length-take, eqb}
-use Rattle.std.specs.Prelude.{Option, Some, None, IsSome, is_some}
-use Rattle.std.specs.Option.{option_map_or}
-use Rattle.std.specs.List.{AllByRecursion, fold}
-use Rattle.std.proofs.lemmas.Bool.{cond_both, eq-eqb, true≢false}
-use Rattle.node_laws.proofs.Words.{AreTables, AreTables-apply, Book, BootFinds, Command, Creation, CutBehindCommand, Desk, Entry, FindsCommands, HciTables}
-use Rattle.node_laws.proofs.Words.{IsCommand, IsRecordable, Knows, Memory, NodeKeeps, NumberedEnd, Port, Running, RunsSo, Side, State, WaitsFor, WouldFind}
-use Rattle.node_laws.proofs.Words.{after_commands, after_planned, after_writes, applied, apply, asked_at, book_in, boot_writes, by_test, close, commands_in}
-use Rattle.node_laws.proofs.Words.{count_of, current, fails_within, format_writes, found, is_command, last_in, new_desk, no_tables, port_at, port_for, state_of}
-use Rattle.node_laws.proofs.Words.{with_found}
+use Rattle.node_laws.proofs.Words.{AllByRecursion, AreTables, AreTables-apply, AreTables-close, AreTables-none, Book, BootFinds, Command, Creation}
+use Rattle.node_laws.proofs.Words.{CutBehindCommand, Desk, Entry, FindsCommands, HciTables, IsCommand, IsRecordable, IsSome, Knows, List, Memory, NodeKeeps}
+use Rattle.node_laws.proofs.Words.{None, NumberedEnd, Option, Port, Running, RunsSo, Side, Some, State, WaitsFor, WouldFind, [], after_commands, after_planned}
+use Rattle.node_laws.proofs.Words.{after_writes, ap, applied, apply, arith, asked_at, book_in, boot_writes, by_test, close, command_of, commands_in, cond}
+use Rattle.node_laws.proofs.Words.{cond_both, count_of, current, eq-eqb, eqb, fails_within, false, fold, format_writes, found, inl, inr, is_command, is_some}
+use Rattle.node_laws.proofs.Words.{last_in, length, length-take, map, min, new_desk, no_tables, none_within, option_map_or, port_at, port_for, records, refl}
+use Rattle.node_laws.proofs.Words.{spelled_by, started_state, state_of, subst, suc, sym, tables_of, take, true, true≢false, with_found, ℕ, ◌++◌, ◌-◌, ◌^◌, ◌∙◌}
+use Rattle.node_laws.proofs.Words.{◌∷◌, ◌≡◌, ◌≤◌, ◌⊎◌}
 use Rattle.trace_model.specs.declared.entry.Entry.TheVariants as entry
 use Rattle.journal_laws.specs.Writes.{IsCut}
-use Rattle.journal_laws.specs.Journal.{records, count}
-use Rattle.journal_laws.specs.Operations.{formatted, started_state}
-use Rattle.journal_laws.proofs.Planned.{none_within}
+use Rattle.journal_laws.specs.Journal.{count}
+use Rattle.journal_laws.specs.Operations.{formatted}
 use Rattle.nv_journal.specs.Kept.{Says}
 use Rattle.nv_journal.proofs.Formatting.{says_formatted, format_all_or_nothing, no_records_then}
-use Rattle.hci_tables.specs.Bodies.{spelled_by, if_command, command_of}
-use Rattle.tables_laws.proofs.tables.SortedTables.{AreTables-close, AreTables-none}
-use Rattle.hci_store.specs.Image.{tables_of}
+use Rattle.hci_tables.specs.Bodies.{if_command}
 use Rattle.hci_store.proofs.Recorded.{recordable-none, recordable-close, recordable-apply}
 use Rattle.hci_store.proofs.Closing.{close-close}
 use Rattle.hci_store.proofs.CutShort.{holds_still}

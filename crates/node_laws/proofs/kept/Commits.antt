@@ -1,16 +1,11 @@
 -- A commit, whole or cut, over a memory that holds what a node knows.
-use Rattle.std.proofs.Common.{◌≡◌, ◌⊎◌, inl, inr, ℕ, zero, suc, ◌+◌, ◌-◌, ◌^◌, ◌<◌, ◌≤◌, min, Bool, true, false, cond, nat_lt, List, [], ◌∷◌, ◌++◌, length, sym}
-use Rattle.std.proofs.Common.{refl, ap, ◌∙◌, subst, arith}
-use Rattle.std.specs.Prelude.{Option, Some, None, IsSome, option_map}
-use Rattle.std.proofs.lemmas.Bool.{leb-true, ltb-true}
-use Rattle.node_laws.proofs.Words.{AreTables, BootFinds, Command, FindsRoom, HciTables, IsAllOrNothing, IsCommand, IsRecordable, Journal, Knows, Memory, Side}
-use Rattle.node_laws.proofs.Words.{State, Write, after_planned, after_writes, append_writes, apply, body_of, close, commit_writes, committed, compact_writes}
-use Rattle.node_laws.proofs.Words.{count_of, current, fails_within, journal, overwritten, record_fits, room_writes, snapshot_bodies, with_room}
-use Rattle.journal_laws.specs.Banks.{other}
+use Rattle.node_laws.proofs.Words.{AreTables, Bool, BootFinds, Command, FindsRoom, HciTables, IsAllOrNothing, IsCommand, IsRecordable, IsSome, IsSound, Journal}
+use Rattle.node_laws.proofs.Words.{Knows, List, Memory, None, Option, Side, Some, State, Write, [], after_planned, after_writes, ap, append_writes, apply}
+use Rattle.node_laws.proofs.Words.{arith, body_of, close, commit_writes, committed, compact_writes, cond, count_of, current, fails_within, false, in_use_is}
+use Rattle.node_laws.proofs.Words.{inl, inr, journal, leb-true, left, length, ltb-true, min, nat_lt, option_map, other, overwritten, record_fits, refl}
+use Rattle.node_laws.proofs.Words.{room_writes, snapshot_bodies, subst, suc, sym, true, with_room, zero, ℕ, ◌++◌, ◌+◌, ◌-◌, ◌<◌, ◌^◌, ◌∙◌, ◌∷◌, ◌≡◌, ◌≤◌, ◌⊎◌}
 use Rattle.journal_laws.specs.Writes.{IsCut}
-use Rattle.journal_laws.specs.Journal.{left, IsSound}
 use Rattle.journal_laws.specs.Operations.{HasRoomForBody, CanCompact, appended, compacted}
-use Rattle.journal_laws.proofs.InUse.{in_use_is}
 use Rattle.journal_laws.proofs.Kept.{append_count, compact_count, same_count}
 use Rattle.journal_laws.proofs.Cuts.{length-after, length-cut}
 use Rattle.nv_journal.specs.Kept.{Says}

@@ -1,16 +1,12 @@
 -- What a controller decides may be recorded.
-use Rattle.std.proofs.Common.{◌≡◌, ℕ, ◌<◌, ◌≤◌, Bool, true, false, cond, eqb, leb, ltb, ◌&&◌, ◌||◌, List, sym, refl, ap, ◌∙◌, subst, inl, inr, arith}
-use Rattle.std.specs.Prelude.{Option, Some, None, IsTrue, IsSome, is_none}
-use Rattle.std.specs.Option.{option_and_then}
-use Rattle.std.proofs.lemmas.Bool.{cond_both, cases_eq, eqb-true, ne_eqb, true≢false, and_from, le-leb, lt-ltb, not-false}
+use Rattle.node_laws.proofs.Words.{AreTables, Bool, HciTables, IsCommand, IsRecordableDecision, IsSome, IsTrue, LinkView, List, None, Option, PipeRow}
+use Rattle.node_laws.proofs.Words.{SetOpened, Some, all_false, and_from, ap, arith, cases_eq, cond, cond_both, decided, decided_holds, eqb, eqb-true, false}
+use Rattle.node_laws.proofs.Words.{far_end, far_end_of, inl, inr, is_allowed, is_host, is_kept, is_none, le-leb, leb, lt-ltb, ltb, ne_eqb, not-false}
+use Rattle.node_laws.proofs.Words.{option_and_then, param_in, pid_of, pipe_at, refl, subst, sym, tests_of_pipe, tests_to_delete, tests_to_set_it, true}
+use Rattle.node_laws.proofs.Words.{true≢false, value_in, ℕ, ◌&&◌, ◌<◌, ◌||◌, ◌∙◌, ◌≡◌, ◌≤◌}
 use Rattle.sorted_rows.proofs.RowLemmas.{row_of-within}
 use Rattle.registry.specs.Access.{access_of}
-use Rattle.node_laws.proofs.Words.{AreTables, HciTables, IsCommand, IsRecordableDecision, LinkView, PipeRow, SetOpened, all_false, decided, decided_holds}
-use Rattle.node_laws.proofs.Words.{far_end, far_end_of, is_host, is_kept, param_in, pid_of, pipe_at, tests_of_pipe, value_in}
-use Rattle.hci_tables.specs.Commands.{is_allowed}
 use Rattle.gate_answers.specs.Answers.{is_unknown_access, is_read_only}
-use Rattle.gate_admin.specs.Decide.{tests_to_set_it}
-use Rattle.gate_admin.specs.Decide.{tests_to_delete}
 use Rattle.gate_admin.proofs.CreationLemmas.{AllFalse, creation-recordable}
 
 row_dynamic : (t : HciTables) (h pipe : ℕ) → AreTables t → is_none (option_and_then (far_end_of h) (pipe_at t.rows pipe)) ≡ false → (2 ≤ pipe) × (pipe < 112)

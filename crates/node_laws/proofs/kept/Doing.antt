@@ -1,26 +1,21 @@
 -- What a node keeps while it does the deeds of a message.
-use Rattle.std.specs.List.{AllByRecursion, fold}
-use Rattle.std.proofs.Common.{eqb, eqb-true, ◌≡◌, ◌⊎◌, inl, inr, ℕ, ◌+◌, ◌-◌, ◌^◌, min, true, false, List, [], ◌∷◌, ◌++◌, length, sym, refl, ap, ◌∙◌, subst}
-use Rattle.std.proofs.Common.{arith, append_assoc, length-append}
-use Rattle.std.specs.Prelude.{Option, Some, None}
-use Rattle.std.proofs.lemmas.Bool.{cases_Bool}
-use Rattle.node_laws.proofs.Words.{AreTables-apply, Asks, Book, BootFinds, Command, Commits, Creation, CutBehindCommand, Deed, Drops, Ends, Entry, FindsRoom}
-use Rattle.node_laws.proofs.Words.{Give, GoesOn, HciTables, Hears, Init, IsAllowedFor, IsAllowedStill, IsAnswered, IsCommand, IsOf, IsOnOrder, MayBeDone}
-use Rattle.node_laws.proofs.Words.{MayWait, Memory, Orders, Port, Reckoning, Release, Releases, Removed, SaysOk, Sends, SetAside, SetsErrors, State, StillRuns}
-use Rattle.node_laws.proofs.Words.{Tells, Waits, Work, WouldFind, Write, after_commands, after_planned, all_done, apply, asked_at, body_of, book_in, by_test}
-use Rattle.node_laws.proofs.Words.{changed_if, close, commands_in, commit, commit_writes, committed, count_of, done, end_of_node, fails_within, keeps, last_in}
-use Rattle.node_laws.proofs.Words.{loses_power, no_tables, notified, noting, port_at, reckoned, reckoning_of, tables_in, turn_at, unless_cut, with_command}
+use Rattle.node_laws.proofs.Words.{AllByRecursion, AreTables-apply, Asks, Book, BootFinds, Command, Commits, Creation, CutBehindCommand, Deed, Drops, Ends}
+use Rattle.node_laws.proofs.Words.{Entry, FindsRoom, Give, GoesOn, HciTables, Hears, Init, IsAllowedBy, IsAllowedFor, IsAllowedStill, IsAnswered, IsCommand}
+use Rattle.node_laws.proofs.Words.{IsOf, IsOnOrder, List, MayBeDone, MayWait, Memory, None, Option, Orders, Port, Reckoning, Release, Releases, Removed, SaysOk}
+use Rattle.node_laws.proofs.Words.{Sends, SetAside, SetsErrors, Some, State, StillRuns, Tells, Waits, Work, WouldFind, Write, [], after_commands, after_planned}
+use Rattle.node_laws.proofs.Words.{all_append, all_done, ap, append_assoc, apply, arith, asked_at, body_of, book_in, by_test, cases_Bool, changed_if, close}
+use Rattle.node_laws.proofs.Words.{commands_in, commit, commit_writes, committed, count_of, done, end_of_node, eqb, eqb-true, fails_within, false, fold, inl}
+use Rattle.node_laws.proofs.Words.{inr, keeps, last_in, length, length-append, loses_power, min, no_tables, notified, noting, plan_behind, port_at, reckoned}
+use Rattle.node_laws.proofs.Words.{reckoning_of, refl, subst, sym, tables_in, true, turn_at, unless_cut, with_command, ℕ, ◌++◌, ◌+◌, ◌-◌, ◌^◌, ◌∙◌, ◌∷◌, ◌≡◌}
+use Rattle.node_laws.proofs.Words.{◌⊎◌}
 use Rattle.trace_model.specs.declared.entry.Entry.TheVariants as entry
 use Rattle.hci_store.proofs.Recorded.{recordable-apply}
 use Rattle.node_laws.proofs.kept.Asking.{NoneNew, same_new, new_then, may_still, port_found}
-use Rattle.node_machine.specs.Carrying.{plan_behind}
-use Rattle.node_machine.specs.world.NodeLegal.{IsAllowedBy}
 use Rattle.node_laws.proofs.kept.Reckoned.{fold_book, make_more, make_ok, command_makes}
 use Rattle.node_laws.specs.kept.Books.{HasLostPower}
 use Rattle.node_laws.proofs.kept.Planned.{planned_whole, after_planned-append}
 use Rattle.node_laws.proofs.kept.Commits.{planned_knows, planned_left, planned_used, commit_count}
 use Rattle.node_laws.proofs.kept.Books.{book_command, book_more, last_cut, closed_book, closed_command, finds_all, finds_less, would_at, told_append}
-use Rattle.registry.proofs.ValueLemmas.{AllByRecursion-append as all_append}
 use Rattle.node_laws.proofs.kept.Plainly.{hosts_map, waits_map, changed_host, changed_waits, runs_plainly, plainly_then, plainly_turn, plainly_desk}
 use Rattle.node_laws.proofs.kept.Plainly.{plainly_noting}
 use Rattle.node_laws.proofs.kept.Plainly.{plainly_core, plainly_notified, Plainly}

@@ -1,17 +1,14 @@
 -- What all nodes keep over what happens to the world.
-use Rattle.std.proofs.Common.{◌+◌, min, ◌≡◌, ◌⊎◌, inl, inr, ℕ, ◌-◌, ◌^◌, ◌≤◌, Bool, true, false, cond, eqb, ◌&&◌, List, [], ◌∷◌, ◌++◌, length, map, sym, refl}
-use Rattle.std.proofs.Common.{ap, ap₂, ◌∙◌, subst, append-nil}
-use Rattle.std.specs.Prelude.{Option, Some, None, is_some}
-use Rattle.std.specs.List.{AllByRecursion}
-use Rattle.std.specs.Option.{option_map_or}
-use Rattle.std.proofs.lemmas.Bool.{cond_both, cases_Bool, eqb-true, eqb-false, true≢false}
-use Rattle.node_laws.proofs.Words.{AllKeep, AreHosts, AreToldBehind, AtController, AtEnd, Book, Broken, Comes, Controller, Core, CutOff, Desk, End, Entry, Host}
-use Rattle.node_laws.proofs.Words.{IfRuns, Init, IsAllowedStill, IsHost, IsOf, IsOnOrder, IsPlain, Link, LinkEvent, Loss, MayBeDone, Memory, Message, NoInput}
-use Rattle.node_laws.proofs.Words.{NodeKeeps, NodeWorld, NumberedEnd, Orders, Plan, Running, Sends, Site, SiteKeeps, Starts, Step, WaitsFor, activates}
-use Rattle.node_laws.proofs.Words.{after_planned, asked_at, beginning, begins_with, book_in, boot_writes, boots, by_coming, by_loss, by_test, changed_if}
-use Rattle.node_laws.proofs.Words.{comes_at, commands_in, controller_cut, count_of, counts, creation_in, end_c, end_h, entries_for, fails_within, first_lost}
-use Rattle.node_laws.proofs.Words.{found, frame_lost, happens, host_cut, host_does, is_command_message, link_to, loses_power_at, memory_at, new_book}
-use Rattle.node_laws.proofs.Words.{new_memory, node_at, port_at, port_for, sending, site_at, site_lost, steps, with_error, with_found, with_memory, with_site}
+use Rattle.node_laws.proofs.Words.{AllByRecursion, AllKeep, AreHosts, AreToldBehind, AtController, AtEnd, Book, Bool, Broken, Comes, Controller, Core, CutOff}
+use Rattle.node_laws.proofs.Words.{Desk, End, Entry, Host, IfRuns, Init, IsAllowedStill, IsHost, IsOf, IsOnOrder, IsPlain, Link, LinkEvent, List, Loss}
+use Rattle.node_laws.proofs.Words.{MayBeDone, Memory, Message, NoInput, NodeKeeps, NodeWorld, None, NumberedEnd, Option, Orders, Plan, Running, Sends, Site}
+use Rattle.node_laws.proofs.Words.{SiteKeeps, Some, Starts, Step, WaitsFor, [], activates, after_planned, ap, append-nil, ap₂, asked_at, beginning, begins_with}
+use Rattle.node_laws.proofs.Words.{book_in, boot_writes, boots, by_coming, by_loss, by_test, cases_Bool, changed_if, comes_at, commands_in, cond, cond_both}
+use Rattle.node_laws.proofs.Words.{controller_cut, count_of, counts, creation_in, end_c, end_h, entries_for, eqb, eqb-false, eqb-true, fails_within, false}
+use Rattle.node_laws.proofs.Words.{first_lost, found, frame_lost, happens, host_cut, host_does, inl, inr, is_command_message, is_some, length, link_to}
+use Rattle.node_laws.proofs.Words.{loses_power_at, map, memory_at, min, new_book, new_memory, node_at, option_map_or, port_at, port_for, refl, sending, site_at}
+use Rattle.node_laws.proofs.Words.{site_lost, steps, subst, sym, true, true≢false, with_error, with_found, with_memory, with_site, ℕ, ◌&&◌, ◌++◌, ◌+◌, ◌-◌, ◌^◌}
+use Rattle.node_laws.proofs.Words.{◌∙◌, ◌∷◌, ◌≡◌, ◌≤◌, ◌⊎◌}
 use Rattle.trace_model.specs.declared.entry.Entry.TheVariants as entry
 use Rattle.node_laws.proofs.kept.Asking.{NoneNew, same_new, may_still, map_found, map_two}
 use Rattle.node_laws.specs.kept.Worlds.{IsStranger}

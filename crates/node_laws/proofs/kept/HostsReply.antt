@@ -1,16 +1,15 @@
 -- A host may do what it does with a message.
-use Rattle.std.proofs.Common.{◌≡◌, ◌⊎◌, ℕ, ◌+◌, ◌≤◌, zero, suc, Bool, true, false, not, cond, eqb, leb, ◌&&◌, subst, List, [], ◌∷◌, ◌++◌, map, slice_get}
-use Rattle.std.proofs.Common.{add-one, eqb-true, sym, refl, ap, ◌∙◌, inl, inr}
-use Rattle.std.specs.Prelude.{Option, Some, None, is_some}
-use Rattle.std.specs.Option.{option_map_or}
-use Rattle.std.proofs.lemmas.Bool.{cond_both, and_parts, and_from, le-leb, lt-ltb}
-use Rattle.node_laws.proofs.Words.{AreTables, Clear, Command, Commits, Core, Create, Deed, Delete, Ends, HciTables, Init, InitSame, IsCommand, IsOnOrder}
-use Rattle.node_laws.proofs.Words.{MayBeDone, Message, PipeRow, Port, Set, State, accepts, answer_of, body_in, by_test, end_of_node, end_view, finds_room}
-use Rattle.node_laws.proofs.Words.{host_deeds, host_holds, init_deeds, is_command, is_dynamic, is_host, learned, learned_holds, learns, learns_holds}
-use Rattle.node_laws.proofs.Words.{link_served, ordered_deeds, ordered_holds, orders_of, own_view, pid_of, pipe_at, pipe_named_in}
+use Rattle.node_laws.proofs.Words.{AreTables, Bool, Clear, Command, Commits, Core, Create, Deed, Delete, Ends, HciTables, Init, InitSame, IsCommand, IsOnOrder}
+use Rattle.node_laws.proofs.Words.{List, MayBeDone, Message, None, Option, PipeRow, Port, Set, Some, State, [], accepts, and_from, and_parts, answer_of, ap}
+use Rattle.node_laws.proofs.Words.{body_in, by_test, cond, cond_both, end_of_node, end_view, eqb, eqb-true, false, finds_room, host_deeds, host_holds}
+use Rattle.node_laws.proofs.Words.{init_agreed, init_deeds, inl, inr, is_command, is_dynamic, is_host, is_same, is_some, is_welcome, le-leb, learned}
+use Rattle.node_laws.proofs.Words.{learned_holds, learns, learns_holds, leb, link_served, lt-ltb, map, not, option_map_or, ordered_deeds, ordered_holds}
+use Rattle.node_laws.proofs.Words.{orders_of, own_view, pid_of, pipe_at, pipe_named_in, refl, slice_get, subst, suc, sym, true, zero, ℕ, ◌&&◌, ◌++◌, ◌+◌, ◌∙◌}
+use Rattle.node_laws.proofs.Words.{◌∷◌, ◌≡◌, ◌≤◌, ◌⊎◌}
+use Rattle.std.proofs.Common.{add-one}
 use Rattle.sorted_rows.proofs.RowLemmas.{row_of-within}
 use Rattle.gate_answers.specs.declared.response.Response.TheVariants as response
-use Rattle.node_machine.specs.HostReplies.{is_open_gate, is_welcome, is_same, init_agreed}
+use Rattle.node_machine.specs.HostReplies.{is_open_gate}
 use Rattle.node_laws.proofs.kept.Replies.{commit_may, link_may}
 
 -- a pipe that a message names is closed

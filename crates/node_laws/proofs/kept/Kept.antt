@@ -1,21 +1,17 @@
 -- Commands are kept over power cuts.
-use Rattle.std.proofs.Common.{◌≡◌, inl, inr, ℕ, suc, ◌+◌, ◌-◌, ◌^◌, ◌≤◌, min, cond, eqb, List, [], ◌∷◌, ◌++◌, length, map, sym, refl, ap, ◌∙◌}
-use Rattle.std.proofs.Common.{subst, arith, append_assoc, append-nil, length-append, length-take}
-use Rattle.std.specs.Prelude.{None, replicate}
-use Rattle.std.specs.List.{AllByRecursion, flat_map, fold}
+use Rattle.node_laws.proofs.Words.{AllByRecursion, AllKeep, AreHosts, AreToldBehind, Book, BootFinds, CommandLast, CutBehindCommand, Entry, FindsCommands}
+use Rattle.node_laws.proofs.Words.{FollowsNodes, HciTables, Header, IsFew, IsSentByHost, IsSound, IsTold, IsUnformatted, Journal, Last, Line, LineStep, List}
+use Rattle.node_laws.proofs.Words.{NodeHistory, NodeKeeps, None, NothingYet, Site, SiteKeeps, ToldTables, [], ap, append-nil, append_assoc, applied, arith}
+use Rattle.node_laws.proofs.Words.{book_after, book_in, by_test, close, commands_in, cond, entries_in, eq-eqb, eqb, eqb-true, flat_map, fold, fresh, inl, inr}
+use Rattle.node_laws.proofs.Words.{journal, last_after, last_in, length, length-append, length-take, map, min, new_memory, new_site, new_world, no_journal}
+use Rattle.node_laws.proofs.Words.{no_tables, node_entries, occurrences_of, refl, replicate, steps_from, subst, suc, sym, tables_in, world_after, ℕ, ◌++◌, ◌+◌}
+use Rattle.node_laws.proofs.Words.{◌-◌, ◌^◌, ◌∙◌, ◌∷◌, ◌≡◌, ◌≤◌}
 use Rattle.std.proofs.lemmas.Grind.{flat_map-append}
-use Rattle.std.proofs.lemmas.Bool.{eqb-true, eq-eqb}
-use Rattle.node_laws.proofs.Words.{AllKeep, AreHosts, AreToldBehind, Book, BootFinds, CutBehindCommand, Entry, FindsCommands, FollowsNodes, HciTables, Header}
-use Rattle.node_laws.proofs.Words.{IsFew, IsSentByHost, Journal, Last, Line, LineStep, NodeHistory, NodeKeeps, Site, SiteKeeps, ToldTables, applied, book_after}
-use Rattle.node_laws.proofs.Words.{book_in, by_test, close, commands_in, entries_in, fresh, journal, last_after, last_in, new_memory, new_site, new_world}
-use Rattle.node_laws.proofs.Words.{no_journal, no_tables, node_entries, occurrences_of, steps_from, tables_in, world_after}
 use Rattle.trace_model.specs.declared.entry.Entry.TheVariants as entry
-use Rattle.journal_laws.specs.Journal.{unformatted, IsSound}
-use Rattle.journal_laws.specs.Operations.{IsUnformatted}
+use Rattle.journal_laws.specs.Journal.{unformatted}
 use Rattle.hci_store.specs.Image.{are_commands}
 use Rattle.node_machine.specs.world.NodeLegal.{AreFound, AreAllAnswered, AreAnswered, Kept, Allowed}
-use Rattle.node_machine.specs.world.NodeLegal.Last.{NothingYet, CommandLast, OtherLast}
-use Rattle.node_laws.specs.kept.Books.{IsTold}
+use Rattle.node_machine.specs.world.NodeLegal.Last.{OtherLast}
 use Rattle.node_laws.proofs.kept.Books.{book_more, last_more}
 use Rattle.node_laws.proofs.kept.Lines.{TellsRight, TellRight, Schedule, schedule_goes, entries_of}
 

@@ -1,16 +1,13 @@
 -- What all nodes keep over the lines of a schedule.
-use Rattle.std.proofs.Common.{◌≡◌, ◌⊎◌, inl, inr, ℕ, zero, suc, ◌-◌, ◌^◌, ◌≤◌, Bool, true, false, cond, eqb, ◌&&◌, List, [], ◌∷◌, ◌++◌, length, sym, refl, ap}
-use Rattle.std.proofs.Common.{◌∙◌, subst, arith, append_assoc}
-use Rattle.std.specs.Prelude.{Option, Some, None, is_some, replicate, IsTrue}
-use Rattle.std.specs.List.{AllByRecursion, flat_map}
+use Rattle.node_laws.proofs.Words.{Activates, AllByRecursion, AllKeep, AreHosts, Arms, AsksReset, Bool, Boots, End, Entry, Gives, Happening, IfRuns, Inits}
+use Rattle.node_laws.proofs.Words.{IsCut, IsFew, IsHost, IsSentByHost, IsTrue, Line, LineOutcome, LineStep, List, Loses, LostFor, MayHappen, NextFrame, NoCause}
+use Rattle.node_laws.proofs.Words.{NodeWorld, None, NotUp, Occurrence, Option, Refused, Resets, Running, Same, Site, SiteKeeps, Some, Takes, Ticks, ToldTables}
+use Rattle.node_laws.proofs.Words.{Undetected, Verdict, [], all_happen, ap, append_assoc, arith, by_option, by_test, can_happen, cases_Bool, commands_in, cond}
+use Rattle.node_laws.proofs.Words.{entries_in, eqb, eqb-true, false, first_cause, first_verdict, flat_map, frames_at, give_refusal, goes_on, happenings}
+use Rattle.node_laws.proofs.Words.{happens_by, has_order, if_not_sent, if_off, if_waiting, inl, inr, is_command_message, is_some, length, line_step, machine_in}
+use Rattle.node_laws.proofs.Words.{ne_eqb, node_at, node_of, occurrences_of, refl, refusal_in, replicate, site_at, steps_from, subst, suc, sym, tables_in}
+use Rattle.node_laws.proofs.Words.{tables_told, taken_of, true, true≢false, world_after, world_step, zero, ℕ, ◌&&◌, ◌++◌, ◌-◌, ◌^◌, ◌∙◌, ◌∷◌, ◌≡◌, ◌≤◌, ◌⊎◌}
 use Rattle.std.proofs.lemmas.Grind.{flat_map-append}
-use Rattle.std.proofs.lemmas.Bool.{cases_Bool, eqb-true, true≢false, ne_eqb}
-use Rattle.node_laws.proofs.Words.{Activates, AllKeep, AreHosts, Arms, AsksReset, Boots, End, Entry, Gives, Happening, IfRuns, Inits, IsCut, IsFew, IsHost}
-use Rattle.node_laws.proofs.Words.{IsSentByHost, Line, LineOutcome, LineStep, Loses, LostFor, MayHappen, NextFrame, NoCause, NodeWorld, NotUp, Occurrence}
-use Rattle.node_laws.proofs.Words.{Refused, Resets, Running, Same, Site, SiteKeeps, Takes, Ticks, ToldTables, Undetected, Verdict, all_happen, by_option}
-use Rattle.node_laws.proofs.Words.{by_test, can_happen, commands_in, entries_in, first_cause, first_verdict, frames_at, give_refusal, goes_on, happenings}
-use Rattle.node_laws.proofs.Words.{happens_by, has_order, if_not_sent, if_off, if_waiting, is_command_message, line_step, machine_in, node_at, node_of}
-use Rattle.node_laws.proofs.Words.{occurrences_of, refusal_in, site_at, steps_from, tables_in, tables_told, taken_of, world_after, world_step}
 use Rattle.trace_model.specs.declared.entry.NoCause.TheVariants as cause
 use Rattle.trace_model.specs.declared.line.Line.TheVariants as line
 use Rattle.node_laws.proofs.kept.Sites.{site_found}

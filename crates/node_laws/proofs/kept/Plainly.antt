@@ -1,21 +1,15 @@
 -- What changes nothing of what a node keeps.
-use Rattle.std.proofs.Common.{◌≡◌, ℕ, ◌-◌, ◌^◌, min, length, Bool, true, false, ◌==◌, List, [], ◌∷◌, ◌++◌, map, sym, refl, ap, ap₂, ◌∙◌, subst, append_assoc}
-use Rattle.std.proofs.Common.{append-nil}
-use Rattle.std.specs.Prelude.{Option, Some, None}
-use Rattle.std.specs.List.{AllByRecursion, flat_map}
-use Rattle.std.specs.Option.{option_map_or}
-use Rattle.node_laws.proofs.Words.{About, AreTables, AreToldBehind, Book, Core, Creation, Cut, Desk, Entry, FetchMessage, Give, Init, IsOf, IsPlain}
-use Rattle.node_laws.proofs.Words.{IsRecordable, Knows, MayWait, Memory, Port, Restarted, StillRuns, Turn, WaitsAt, WaitsFor, Work, after_planned, after_turn}
-use Rattle.node_laws.proofs.Words.{asked_at, book_in, changed_if, count_of, creation_in, entries_for, entry_of, hosts_of_ends, noted_of, notified, noting}
-use Rattle.node_laws.proofs.Words.{own_side, port_at, reckoning_of, turn_at, turn_entry, with_desk}
-use Rattle.link_laws.specs.entries.Entries.{Entry as Noted}
+use Rattle.node_laws.proofs.Words.{About, AllByRecursion, AreTables, AreToldBehind, Book, Bool, Core, Creation, Cut, Desk, Entry, FetchMessage, Give, Init}
+use Rattle.node_laws.proofs.Words.{IsOf, IsPlain, IsRecordable, Knows, List, MakeOf, MayWait, Memory, None, Noted, Option, Port, Restarted, Some, StillRuns}
+use Rattle.node_laws.proofs.Words.{Turn, WaitsAt, WaitsFor, Work, [], after_planned, after_turn, all_append, ap, append-nil, append_assoc, ap₂, asked_at}
+use Rattle.node_laws.proofs.Words.{book_in, changed_if, count_of, creation_in, entries_for, entry_of, false, flat_map, hosts_of_ends, length, map, min}
+use Rattle.node_laws.proofs.Words.{noted_of, notified, noting, option_map_or, own_side, port_at, reckoning_of, refl, subst, sym, true, turn_at, turn_entry}
+use Rattle.node_laws.proofs.Words.{with_desk, ℕ, ◌++◌, ◌-◌, ◌==◌, ◌^◌, ◌∙◌, ◌∷◌, ◌≡◌}
 use Rattle.link_laws.specs.entries.Entries.Entry.{Tick}
-use Rattle.node_laws.specs.kept.Reckonings.{MakeOf}
 use Rattle.node_laws.proofs.kept.Reckoned.{plain_idles, make_idle}
 use Rattle.node_laws.specs.kept.Books.{WaitsAbout}
 use Rattle.node_laws.proofs.kept.Asking.{NoneNew, same_new, new_then, may_still, map_new, changed_new}
 use Rattle.node_laws.proofs.kept.Books.{plain_book, plain_told, plain_own, told_append}
-use Rattle.registry.proofs.ValueLemmas.{AllByRecursion-append as all_append}
 
 -- nothing is written and committed, and what is noted is plain
 pub record Plainly (w v : Work) : Type 0 where

@@ -1,15 +1,13 @@
 -- What planned writes leave of a memory.
-use Rattle.std.proofs.Common.{◌≡◌, ℕ, ◌%◌, Bool, true, false, not, cond, List, [], ◌∷◌, ◌++◌, length, get_or, sym, refl, ap, ◌∙◌, subst, inl, inr, ◌⊎◌}
-use Rattle.std.specs.Prelude.{Option, Some, None}
-use Rattle.std.proofs.lemmas.Bool.{cases_Bool, true≢false, not-true, not-false}
+use Rattle.node_laws.proofs.Words.{Bool, List, Memory, None, Option, Plan, Some, Write, [], after_planned, after_writes, ap, cases_Bool, cond, fails_within}
+use Rattle.node_laws.proofs.Words.{false, get_or, inl, inr, is_next, length, memory_after, not, not-false, not-true, one_more, overwritten, plan_after}
+use Rattle.node_laws.proofs.Words.{plan_behind, plan_on, refl, subst, sym, torn_bytes, true, true≢false, ℕ, ◌%◌, ◌++◌, ◌∙◌, ◌∷◌, ◌≡◌, ◌⊎◌}
 use Rattle.std.proofs.lemmas.List.FromFn.{length-map-range_with_len}
-use Rattle.node_laws.proofs.Words.{Memory, Plan, Write, after_planned, after_writes, fails_within, is_next, memory_after, overwritten, plan_after, torn_bytes}
 use Rattle.swp_base.specs.InMemory.{WritesAsPlanned}
-use Rattle.swp_base.specs.Outside.{one_more, IsWritten}
+use Rattle.swp_base.specs.Outside.{IsWritten}
 use Rattle.journal_laws.specs.Writes.{IsCut, AreMade}
 use Rattle.journal_laws.proofs.Made.{made_whole, made_in_part}
-use Rattle.journal_laws.proofs.Planned.{planned_answer, plan_of_memory_after as plan_on}
-use Rattle.node_machine.specs.Carrying.{plan_behind}
+use Rattle.journal_laws.proofs.Planned.{planned_answer}
 
 pub content_on : (m : Memory) (at : ℕ) (bytes : List ℕ) → is_next m.plan ≡ false → (memory_after m at bytes).content ≡ overwritten m.content at bytes
 content_on m at bytes later =

@@ -1,12 +1,9 @@
 -- What is read of a node with its memory after more entries.
-use Rattle.std.proofs.Common.{◌≡◌, ℕ, ◌&&◌, true, false, not, cond, eqb, List, [], ◌∷◌, ◌++◌, length, sym, refl, ap, ◌∙◌, subst}
-use Rattle.std.specs.List.{AllByRecursion, fold}
-use Rattle.std.proofs.lemmas.Bool.{cond_both, eq-eqb, ne_eqb}
-use Rattle.std.proofs.lemmas.List.Sums.{fold-append}
-use Rattle.node_laws.proofs.Words.{Command, EachIsAsRead, Entry, HciTables, IsOf, IsPlain, Memory, Reckoning, State, after_planned, body_of, book_after}
-use Rattle.node_laws.proofs.Words.{commit_writes, fails_within, is_cut_of, opens_gate, reckoned, state_of, with_command, with_found, with_written, writes_of}
+use Rattle.node_laws.proofs.Words.{AllByRecursion, Command, EachIsAsRead, Entry, HciTables, IsAsRead, IsOf, IsPlain, List, MakeOf, Memory, Reckoning, State, []}
+use Rattle.node_laws.proofs.Words.{after_planned, all_so, ap, body_of, book_after, commit_writes, cond, cond_both, eq-eqb, eqb, fails_within, false, fold}
+use Rattle.node_laws.proofs.Words.{fold-append, is_cut_of, length, ne_eqb, not, opens_gate, reckoned, refl, state_of, subst, sym, true, with_command}
+use Rattle.node_laws.proofs.Words.{with_found, with_written, writes_of, ℕ, ◌&&◌, ◌++◌, ◌∙◌, ◌∷◌, ◌≡◌}
 use Rattle.trace_model.specs.declared.entry.Entry.TheVariants as entry
-use Rattle.node_laws.specs.kept.Reckonings.{IsAsRead, MakeOf}
 
 -- ## Books
 
@@ -61,8 +58,7 @@ other_nothing m n (entry.AnyOk k j) other is = record { same = λ r. refl; uncut
 other_nothing m n _ other is = record { same = λ r. refl; uncut = refl; as_read = λ r. tt }
 
 pub plain_idles : (n : ℕ) (es : List Entry) → AllByRecursion IsPlain es → AllByRecursion (IsNothingFor n) es
-plain_idles n [] all = tt
-plain_idles n (e ∷ es) all = (plain_nothing n e all.0, plain_idles n es all.1)
+plain_idles n es all = all_so IsPlain (IsNothingFor n) (plain_nothing n) es all
 
 pub other_idles : (m n : ℕ) (es : List Entry) → (m ≡ n → ⊥) → AllByRecursion (IsOf m) es → AllByRecursion (IsNothingFor n) es
 other_idles m n [] other all = tt

@@ -1,11 +1,9 @@
 -- A controller may do what it does with a message.
-use Rattle.std.proofs.Common.{◌≡◌, ℕ, ◌≤◌, subst, Bool, true, false, List, [], ◌∷◌, refl}
-use Rattle.std.specs.Prelude.{Option, Some, None, map}
-use Rattle.std.specs.List.{AllByRecursion}
-use Rattle.node_laws.proofs.Words.{About, Answer, AreTables, Ask, Command, Commit, Core, Creation, Decision, Deed, Forgotten, IsCommand, IsOnOrder}
-use Rattle.node_laws.proofs.Words.{IsRecordableDecision, LinkView, MayBeDone, Message, Notice, Port, Removed, State, Tells, Waits, WaitsAt, WaitsFor, agreed}
-use Rattle.node_laws.proofs.Words.{body_in, commit_deeds, controller_deeds, controller_holds, creation_in, decided, decision_deeds, finds_room, has}
-use Rattle.node_laws.proofs.Words.{hosts_where, link_deeds, link_served, own_view, view_for, view_of}
+use Rattle.node_laws.proofs.Words.{About, AllByRecursion, Answer, AreTables, Ask, Bool, Command, Commit, Core, Creation, Decision, Deed, Forgotten, IsCommand}
+use Rattle.node_laws.proofs.Words.{IsOnOrder, IsRecordableDecision, LinkView, List, MayBeDone, Message, None, Notice, Option, Port, Removed, Some, State, Tells}
+use Rattle.node_laws.proofs.Words.{Waits, WaitsAt, WaitsFor, [], agreed, body_in, commit_deeds, controller_deeds, controller_holds, creation_in, decided}
+use Rattle.node_laws.proofs.Words.{decision_deeds, false, finds_room, has, hosts_where, link_deeds, link_served, map, own_view, refl, subst, true, view_for}
+use Rattle.node_laws.proofs.Words.{view_of, ℕ, ◌∷◌, ◌≡◌, ◌≤◌}
 use Rattle.node_laws.proofs.steps.Ports.{at_port}
 use Rattle.node_laws.proofs.kept.Deciding.{decided_recordable}
 

@@ -1,9 +1,7 @@
 -- What hosts keep while one of them changes.
-use Rattle.std.proofs.Common.{◌≡◌, ◌⊎◌, inl, inr, ℕ, Bool, true, false, eqb, List, [], ◌∷◌, map, sym, refl, ap, ap₂, ◌∙◌, subst}
-use Rattle.std.specs.Prelude.{None, Some}
-use Rattle.std.specs.List.{AllByRecursion}
-use Rattle.std.proofs.lemmas.Bool.{cond_both, cases_Bool, eqb-true, cond-true, cond-false}
-use Rattle.node_laws.proofs.Words.{AreDifferent, Entry, Site, SiteKeeps, by_test, changed_if, site_at, with_site}
+use Rattle.node_laws.proofs.Words.{AllByRecursion, AreDifferent, Bool, Entry, List, None, Site, SiteKeeps, Some, [], ap, ap₂, by_test, cases_Bool, changed_if}
+use Rattle.node_laws.proofs.Words.{cond-false, cond-true, cond_both, eqb, eqb-true, false, inl, inr, map, refl, site_at, subst, sym, true, with_site, ℕ, ◌∙◌}
+use Rattle.node_laws.proofs.Words.{◌∷◌, ◌≡◌, ◌⊎◌}
 
 -- the hosts
 abbrev pub hosts_in : List Site → List ℕ

@@ -1,13 +1,10 @@
 -- The snapshot of tables fits into a bank.
-use Rattle.std.proofs.Common.{◌≡◌, ℕ, ◌+◌, ◌*◌, ◌-◌, ◌≤◌, Bool, true, false, cond, List, [], ◌∷◌, ◌++◌, length, map, filter, arith}
-use Rattle.std.specs.List.{AllByRecursion}
-use Rattle.std.proofs.lemmas.Bool.{and_parts}
+use Rattle.node_laws.proofs.Words.{AllByRecursion, AreTables, Bool, Command, HciTables, IsCommand, IsRecordable, List, PipeRow, [], and_parts, arith, body_of}
+use Rattle.node_laws.proofs.Words.{cond, false, filter, is_allowed, is_kept, length, map, pid_of, snapshot_bodies, true, ℕ, ◌*◌, ◌++◌, ◌+◌, ◌-◌, ◌∷◌, ◌≡◌, ◌≤◌}
 use Rattle.sorted_rows.proofs.RowLemmas.{length-rows}
 use Rattle.journal_laws.specs.Records.{used}
-use Rattle.node_laws.proofs.Words.{AreTables, Command, HciTables, IsCommand, IsRecordable, PipeRow, body_of, is_kept, pid_of, snapshot_bodies}
 use Rattle.registry.specs.declared.value.RegValue.{RegValue}
 use Rattle.registry.specs.Values.{place_of_value}
-use Rattle.hci_tables.specs.Commands.{is_allowed}
 use Rattle.hci_tables.specs.Tables.{sync_host, static_place}
 use Rattle.hci_store.specs.Snapshots.{sync_command, set_command, create_command, open_command, static_command, snapshot_of}
 use Rattle.hci_store.proofs.ReadAgain.{short_value}

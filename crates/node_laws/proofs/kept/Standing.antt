@@ -1,11 +1,9 @@
 -- What a node keeps between its steps.
-use Rattle.std.proofs.Common.{◌≡◌, inl, inr, ℕ, ◌-◌, ◌^◌, min, true, false, cond, eqb, List, [], ◌∷◌, ◌++◌, length, map, sym, refl, ap, ◌∙◌, subst, append-nil}
-use Rattle.std.specs.Prelude.{Option, Some, None}
-use Rattle.std.specs.List.{AllByRecursion, fold}
-use Rattle.std.proofs.lemmas.Bool.{ne_eqb}
-use Rattle.node_laws.proofs.Words.{AreToldBehind, Book, Desk, Entry, IfRuns, IsOf, IsPlain, Knows, Last, Memory, NodeKeeps, NumberedEnd, Port, Running, RunsSo}
-use Rattle.node_laws.proofs.Words.{StillRuns, WaitsAt, WaitsFor, Work, WouldFind, after_planned, book_after, book_in, close, count_of, hosts_of_ends}
-use Rattle.node_laws.proofs.Words.{last_after, last_in, port_for, reckoning_of, runs_on, with_command, with_found, work_of}
+use Rattle.node_laws.proofs.Words.{AllByRecursion, AreToldBehind, Book, Desk, Entry, IfRuns, IsOf, IsPlain, Knows, Last, List, Memory, NodeKeeps, None}
+use Rattle.node_laws.proofs.Words.{NumberedEnd, Option, Port, Running, RunsSo, Some, StillRuns, WaitsAt, WaitsFor, Work, WouldFind, [], after_planned, ap}
+use Rattle.node_laws.proofs.Words.{append-nil, book_after, book_in, close, cond, count_of, eqb, false, fold, hosts_of_ends, inl, inr, last_after, last_in}
+use Rattle.node_laws.proofs.Words.{length, map, min, ne_eqb, port_for, reckoning_of, refl, runs_on, subst, sym, true, with_command, with_found, work_of, ℕ}
+use Rattle.node_laws.proofs.Words.{◌++◌, ◌-◌, ◌^◌, ◌∙◌, ◌∷◌, ◌≡◌}
 use Rattle.trace_model.specs.declared.entry.Entry.TheVariants as entry
 use Rattle.node_laws.proofs.kept.Reckoned.{idle_make, other_test, plain_idles}
 use Rattle.node_laws.proofs.kept.Books.{book_more, last_more, plain_book, plain_last, plain_told, plain_own, closed_book, finds_all}

@@ -1,23 +1,19 @@
 -- What a node keeps in a step.
-use Rattle.std.proofs.Common.{◌≡◌, ◌⊎◌, inl, inr, ℕ, ◌+◌, true, false, not, cond, eqb, leb, ◌&&◌, List, [], ◌∷◌, ◌++◌, map, sym, refl, ap, ◌∙◌, subst}
-use Rattle.std.proofs.Common.{append-nil}
-use Rattle.std.specs.Prelude.{Option, Some, None}
-use Rattle.std.specs.List.{AllByRecursion, flat_map, list_any}
-use Rattle.std.proofs.lemmas.Bool.{cond_both, cases_Bool, and_parts, and_from, le-leb, eqb-true, true≢false}
-use Rattle.node_laws.proofs.Words.{ActOut, AreDifferent, AreHosts, AreTables, AtEnd, Awaiting, Bare, Clf, Commits, Core, Creation, Deed, Entry, Give, HciTables}
-use Rattle.node_laws.proofs.Words.{Inactive, Init, IsAllowedStill, IsCommand, IsHost, IsNodeNumber, IsOnOrder, IsPlain, LinkInput, MayBeDone, MayWait, Memory}
-use Rattle.node_laws.proofs.Words.{NodeInput, Notice, Phase, Port, Release, Releases, Reset, Role, Sends, State, StillRuns, Sync, TimePasses, Uicc, WaitsAt}
-use Rattle.node_laws.proofs.Words.{WaitsFor, Work, act_answer, act_out, after_input, after_sessions, all_come, all_done, all_owed, all_owed_hold, apply}
-use Rattle.node_laws.proofs.Words.{asked_at, by_option, creation_in, finds_room, forgets, forgotten, forgotten_hold, has_come, hosts_of_ends, input_at}
-use Rattle.node_laws.proofs.Words.{is_forgotten, is_kept_sync, is_late, is_open, is_over, out_ticked, own_side, passes, report, reset_late, steps, synced}
-use Rattle.node_laws.proofs.Words.{times_out, told, told_at, told_late, turn_at, unless_cut, whole_acked, with_older, without_notice}
-use Rattle.swp_act.specs.declared.ActEvent.TheVariants.{Tick as ActTick}
+use Rattle.node_laws.proofs.Words.{ActOut, ActTick, AllByRecursion, AreDifferent, AreHosts, AreTables, AtEnd, Awaiting, Bare, Clf, Commits, Core, Creation}
+use Rattle.node_laws.proofs.Words.{Deed, Entry, Give, HciTables, Inactive, Init, IsAllowedStill, IsCommand, IsHost, IsNodeNumber, IsOnOrder, IsPlain, LinkInput}
+use Rattle.node_laws.proofs.Words.{List, MayBeDone, MayWait, Memory, NodeInput, None, Notice, Option, Phase, Port, Release, Releases, Reset, Role, Sends, Some}
+use Rattle.node_laws.proofs.Words.{State, StillRuns, Sync, TimePasses, Uicc, WaitsAt, WaitsFor, Work, [], act_answer, act_out, after_input, after_sessions}
+use Rattle.node_laws.proofs.Words.{all_append, all_come, all_done, all_owed, all_owed_hold, and_from, and_parts, ap, append-nil, apply, asked_at, by_option}
+use Rattle.node_laws.proofs.Words.{cases_Bool, cond, cond_both, creation_in, eqb, eqb-true, false, finds_room, flat_map, forgets, forgotten, forgotten_hold}
+use Rattle.node_laws.proofs.Words.{has_come, hosts_of_ends, inl, input_at, inr, is_forgotten, is_kept_sync, is_late, is_open, is_over, le-leb, leb, list_any}
+use Rattle.node_laws.proofs.Words.{map, not, out_ticked, own_side, passes, refl, report, reset_late, steps, subst, sym, synced, times_out, told, told_at}
+use Rattle.node_laws.proofs.Words.{told_late, true, true≢false, turn_at, unless_cut, whole_acked, with_older, without_notice, ℕ, ◌&&◌, ◌++◌, ◌+◌, ◌∙◌, ◌∷◌, ◌≡◌}
+use Rattle.node_laws.proofs.Words.{◌⊎◌}
 use Rattle.swp_base.specs.declared.control_frames.Act.{Act}
 use Rattle.swp_act.specs.declared.Phase.TheVariants.{Active}
 use Rattle.node_laws.proofs.steps.Values.{whitelist_left}
 use Rattle.node_laws.proofs.steps.Waits.{within, same_list}
 use Rattle.node_laws.proofs.kept.Asking.{same_new}
-use Rattle.registry.proofs.ValueLemmas.{AllByRecursion-append as all_append}
 use Rattle.node_laws.proofs.kept.Plainly.{Plainly, runs_plainly, plainly_same, plainly_core, plainly_ports, plainly_then, plainly_map, plain_flat}
 use Rattle.node_laws.proofs.kept.Plainly.{plain_entries}
 use Rattle.node_laws.proofs.kept.Doing.{uncut, GoesOn_or_lost, all_fine}

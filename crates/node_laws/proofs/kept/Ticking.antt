@@ -1,11 +1,10 @@
 -- What all nodes keep over a tick.
-use Rattle.std.proofs.Common.{◌≡◌, inl, inr, ℕ, false, eqb, List, [], ◌∷◌, ◌++◌, map, sym, refl, ap, ap₂, ◌∙◌, subst, arith, append_assoc, append-nil}
-use Rattle.std.specs.List.{AllByRecursion, flat_map}
+use Rattle.node_laws.proofs.Words.{AllByRecursion, AllKeep, AreDifferent, AreHosts, AreToldBehind, Controller, Entry, Host, IsHost, IsOf, List, NodeKeeps}
+use Rattle.node_laws.proofs.Words.{NodeWorld, Site, SiteKeeps, TimePasses, Work, [], after_planned, aged, aged_entries, all_aged, ap, append-nil, append_assoc}
+use Rattle.node_laws.proofs.Words.{ap₂, arith, book_in, by_controller_tick, by_host_tick, controller_ticks, entries_for, eqb, exchanged, false, flat_map}
+use Rattle.node_laws.proofs.Words.{frames_noted, host_tick, host_ticks, hosts_tick, inl, inr, last_in, link_to, map, near_tick, refl, runs_on, site_ticked}
+use Rattle.node_laws.proofs.Words.{site_unticked, subst, sym, work_of, world_ticks, ℕ, ◌++◌, ◌∙◌, ◌∷◌, ◌≡◌}
 use Rattle.std.proofs.lemmas.Bool.{eqb-false}
-use Rattle.node_laws.proofs.Words.{AllKeep, AreDifferent, AreHosts, AreToldBehind, Controller, Entry, Host, IsHost, IsOf, NodeKeeps, NodeWorld, Site, SiteKeeps}
-use Rattle.node_laws.proofs.Words.{TimePasses, Work, after_planned, aged, aged_entries, all_aged, book_in, by_controller_tick, by_host_tick, controller_ticks}
-use Rattle.node_laws.proofs.Words.{entries_for, exchanged, frames_noted, host_tick, host_ticks, hosts_tick, last_in, link_to, near_tick, runs_on, site_ticked}
-use Rattle.node_laws.proofs.Words.{site_unticked, work_of, world_ticks}
 use Rattle.node_laws.proofs.kept.Books.{told_append}
 use Rattle.node_laws.proofs.kept.Plainly.{plain_entries, plain_flat}
 use Rattle.node_laws.proofs.kept.Doing.{GoesOn_or_lost}

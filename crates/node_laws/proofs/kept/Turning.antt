@@ -1,13 +1,9 @@
 -- What a node keeps in its turns.
-use Rattle.std.proofs.Common.{◌∙◌, ◌≡◌, inl, inr, ℕ, ◌≤◌, true, false, eqb, List, [], ◌∷◌, sym, refl, subst, arith}
-use Rattle.std.specs.Prelude.{Option, Some, None}
-use Rattle.std.specs.List.{AllByRecursion}
-use Rattle.std.specs.Option.{option_map_or}
-use Rattle.node_laws.proofs.Words.{Deed, Entry, FetchMessage, Hold, IsAllowedStill, IsHost, IsNodeNumber, IsOnOrder, MayBeDone, Memory, Message, Port}
-use Rattle.node_laws.proofs.Words.{StillRuns, Work, by_option, by_test, deeds_of, end_of_node, goes_through_ends, handles, have_turns, holds_back}
-use Rattle.node_laws.proofs.Words.{hosts_of_ends, is_held, lack, lets_go, needs, noting, passes, port_at, turn_at, unless_cut, with_desk}
+use Rattle.node_laws.proofs.Words.{AllByRecursion, Deed, Entry, FetchMessage, Hold, IsAllowedStill, IsHost, IsNodeNumber, IsOnOrder, List, MayBeDone, Memory}
+use Rattle.node_laws.proofs.Words.{Message, None, Option, Port, Some, StillRuns, Work, [], arith, by_option, by_test, deeds_of, end_of_node, eq-eqb, eqb, false}
+use Rattle.node_laws.proofs.Words.{goes_through_ends, handles, have_turns, holds_back, hosts_of_ends, inl, inr, is_held, lack, lets_go, needs, noting}
+use Rattle.node_laws.proofs.Words.{option_map_or, passes, port_at, refl, subst, sym, true, turn_at, unless_cut, with_desk, ℕ, ◌∙◌, ◌∷◌, ◌≡◌, ◌≤◌}
 use Rattle.node_laws.proofs.steps.Waits.{message_allowed}
-use Rattle.std.proofs.lemmas.Bool.{eq-eqb}
 use Rattle.trace_model.specs.declared.entry.Entry.TheVariants as entry
 use Rattle.node_laws.proofs.kept.Plainly.{Plainly, runs_plainly, plainly_then, plainly_turn, plainly_desk, plainly_noting}
 use Rattle.node_laws.proofs.kept.Doing.{uncut, stays_cut, GoesOn_or_lost, all_fine}

@@ -1,16 +1,13 @@
 -- What all nodes keep over an event.
-use Rattle.std.proofs.Common.{◌≡◌, ℕ, false, eqb, List, [], ◌∷◌, ◌++◌, map, sym, refl, ap, ◌∙◌, subst, arith, append_assoc, append-nil}
-use Rattle.std.specs.Prelude.{Option, Some, None}
-use Rattle.std.specs.List.{AllByRecursion, flat_map}
-use Rattle.std.specs.Option.{option_map_or}
-use Rattle.std.proofs.lemmas.Bool.{eqb-false, true≢false}
-use Rattle.node_laws.proofs.Words.{AllKeep, AreDifferent, AreHosts, AreToldBehind, Comes, Controller, Entry, Host, IsHost, IsOf, IsOnOrder, IsPlain, Link}
-use Rattle.node_laws.proofs.Words.{Memory, NodeKeeps, NodeWorld, Port, Running, Site, SiteKeeps, Work, after_host, after_planned, arrival, by_controller}
-use Rattle.node_laws.proofs.Words.{by_host, comes_to, controller_does, controller_work, ending_entries, ending_of, entries_for, exchanged, frames_noted}
-use Rattle.node_laws.proofs.Words.{host_does, host_work, link_after_controller, link_to, near_end_in, port_at, runs_on, site_at, wires_for, with_site, work_of}
+use Rattle.node_laws.proofs.Words.{AllByRecursion, AllKeep, AreDifferent, AreHosts, AreToldBehind, Comes, Controller, Entry, Host, IsHost, IsOf, IsOnOrder}
+use Rattle.node_laws.proofs.Words.{IsPlain, Link, List, Memory, NodeKeeps, NodeWorld, None, Option, Port, Running, Site, SiteKeeps, Some, Work, [], after_host}
+use Rattle.node_laws.proofs.Words.{after_planned, all_append, ap, append-nil, append_assoc, arith, arrival, by_controller, by_host, comes_to, controller_does}
+use Rattle.node_laws.proofs.Words.{controller_work, ending_entries, ending_of, entries_for, eqb, exchanged, false, flat_map, frames_noted, host_does, host_work}
+use Rattle.node_laws.proofs.Words.{link_after_controller, link_to, map, near_end_in, option_map_or, port_at, refl, runs_on, site_at, subst, sym, true≢false}
+use Rattle.node_laws.proofs.Words.{wires_for, with_site, work_of, ℕ, ◌++◌, ◌∙◌, ◌∷◌, ◌≡◌}
+use Rattle.std.proofs.lemmas.Bool.{eqb-false}
 use Rattle.link_laws.specs.entries.Entries.{End as Side}
 use Rattle.node_laws.proofs.kept.Books.{plain_told, plain_own, told_append}
-use Rattle.registry.proofs.ValueLemmas.{AllByRecursion-append as all_append}
 use Rattle.node_laws.proofs.kept.Plainly.{plain_entries, plain_flat}
 use Rattle.node_laws.proofs.kept.Doing.{GoesOn_or_lost}
 use Rattle.node_laws.proofs.kept.Standing.{plain_same, other_same, keeps_same, runs_begun, keeps_ended, told_ended}

@@ -1,25 +1,19 @@
 -- The blocks in use at each end of a link, those set aside and those that are spare are 128.
-use Rattle.std.proofs.Common.{◌≡◌, ℕ, ◌+◌, ◌-◌, ◌≤◌, Bool, true, false, cond, List, [], ◌∷◌, ◌++◌, length, Option, Some, None, refl, ap, sym, subst, ◌∙◌, arith}
-use Rattle.std.specs.Prelude.{◌==◌, not, nat_le, nat_lt, drop, is_some}
-use Rattle.std.specs.List.{AllByRecursion}
-use Rattle.std.proofs.lemmas.Bool.{true≢false, ltb-false, ltb-true}
-use Rattle.node_laws.proofs.Words.{ActEvent, Activate, ArePlayable, Asked, AtController, AtHost, Bare, Clt, Control, EndEvent, EndState, Fetch, FetchMessage}
-use Rattle.node_laws.proofs.Words.{FromNode, Give, Hold, I, Line, Link, LinkEnd, LinkEvent, LinkInput, LinkState, Message, Release, Reset, Role, Rset, S}
-use Rattle.node_laws.proofs.Words.{SetAside, Site, Start, Starts, Step, Stop, Take, TakeBroken, TakeUnknown, Tick, TicksWithout, Turn, Ua, Up, Waiting}
-use Rattle.node_laws.proofs.Words.{act_answer, activated, after_input, after_link_events, aged, all_at_controller, by_list, by_option, by_test, exchanged}
-use Rattle.node_laws.proofs.Words.{frame_fetched, give_refusal, had_tick, happens, happens_at_controller, heard, if_up, in_use, is_faulty, is_open, most_frames}
-use Rattle.node_laws.proofs.Words.{moved, need, need_of_all, new_line, new_link_end, new_world, put_down, renewed, reset_refusal, reset_with, role_after}
-use Rattle.node_laws.proofs.Words.{sent_all, spare, steps_at_controller, stopped, take_answer, taken, tick_answer, ticked, ticks_at_controller, took, turn}
-use Rattle.node_laws.proofs.Words.{turned, whole_among, window_of, with_act, world_after}
-use Rattle.swp_base.specs.declared.control_frames.Control.TheVariants.{Act as ActFrame}
+use Rattle.node_laws.proofs.Words.{ActEvent, ActFrame, ActStart, ActStop, ActTake, ActTick, Activate, AllByRecursion, ArePlayable, Asked, AtController, AtHost}
+use Rattle.node_laws.proofs.Words.{Bare, Bool, Clt, Control, EndEvent, EndState, Fetch, FetchMessage, FromNode, Give, Hold, I, Line, Link, LinkEnd, LinkEvent}
+use Rattle.node_laws.proofs.Words.{LinkInput, LinkState, List, Message, None, Option, Release, Reset, Role, Rset, S, SetAside, Site, Some, Start, Starts, Step}
+use Rattle.node_laws.proofs.Words.{Stop, Take, TakeBroken, TakeUnknown, Tick, TicksWithout, Turn, Ua, Up, Waiting, [], act_answer, activated, after_input}
+use Rattle.node_laws.proofs.Words.{after_link_events, aged, all_at_controller, ap, arith, by_list, by_option, by_test, cond, drop, exchanged, false}
+use Rattle.node_laws.proofs.Words.{frame_fetched, give_refusal, given, had_tick, happens, happens_at_controller, heard, if_up, in_use, is_faulty, is_open}
+use Rattle.node_laws.proofs.Words.{is_some, length, ltb-false, ltb-true, most_frames, moved, nat_le, nat_lt, need, need_of_all, new_line, new_link_end}
+use Rattle.node_laws.proofs.Words.{new_world, not, packet_count, put_down, refl, renewed, reset_by, reset_refusal, reset_with, role_after, sent_all, spare}
+use Rattle.node_laws.proofs.Words.{steps_at_controller, stopped, subst, sym, take_answer, taken, tick_answer, tick_host, ticked, ticks_at_controller, took}
+use Rattle.node_laws.proofs.Words.{true, true≢false, turn, turned, whole_among, window_of, with_act, with_ready, world_after, ℕ, ◌++◌, ◌+◌, ◌-◌, ◌==◌, ◌∙◌, ◌∷◌}
+use Rattle.node_laws.proofs.Words.{◌≡◌, ◌≤◌}
 use Rattle.swp_base.specs.declared.control_frames.Act.{Act}
-use Rattle.swp_act.specs.declared.ActEvent.TheVariants.{Start as ActStart, Take as ActTake, Tick as ActTick, Stop as ActStop}
 use Rattle.shdlc_core.specs.declared.answers.LinkState.TheVariants.{Down}
-use Rattle.shdlc_core.specs.Machine.{with_ready, fetched}
+use Rattle.shdlc_core.specs.Machine.{fetched}
 use Rattle.link_laws.proofs.sessions.Ties.{fetched-phase, after_frames-phase}
-use Rattle.hcp_packet.specs.Packets.{packet_count}
-use Rattle.link_laws.specs.machine.Machine.{reset_by}
-use Rattle.link_laws.specs.machine.Machine.{given}
 use Rattle.link_laws.proofs.machine.Shifts.{IsNotUp, Shift, taken_shift, ticked_shift, reset_shift}
 use Rattle.link_laws.proofs.machine.Shifts.Shift.{Stays, Ends, Renews, Begins, Rests}
 use Rattle.link_laws.proofs.machine.Sound.{SentAfter, whole_more, whole_few, need_less, need_more}
@@ -27,7 +21,6 @@ use Rattle.link_laws.specs.messages.Links.LinkEvent.{Ticks}
 use Rattle.link_laws.proofs.messages.Finishing.{reset_tells}
 use Rattle.node_laws.specs.links.Runs.{SharesOut}
 use Rattle.node_laws.proofs.links.Ends.{here_is, tick_is, here_host}
-use Rattle.link_laws.proofs.entries.Together.{ticks_host as tick_host}
 use Rattle.node_laws.proofs.links.Obeying.{obey}
 use Rattle.link_laws.proofs.machine.Reports.{shdlc_is as moved_shdlc, moved_sent as sent_moved}
 use Rattle.link_laws.proofs.entries.Stepping.{fetched_acked as frames_acked, one_fetched_acked}

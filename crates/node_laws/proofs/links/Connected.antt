@@ -1,11 +1,7 @@
 -- A host that gets a notice is connected.
-use Rattle.std.proofs.Common.{◌≡◌, ℕ, Bool, true, false, cond, List, [], ◌∷◌, refl, sym}
-use Rattle.std.specs.Prelude.{Option, Some, None}
-use Rattle.std.specs.List.{AllByRecursion}
-use Rattle.std.specs.Option.{option_map_or, option_and_then}
-use Rattle.std.proofs.lemmas.Bool.{true≢false}
-use Rattle.node_laws.proofs.Words.{Answer, Ask, Commit, Decision, HciTables, LinkView, by_test, decided, decided_holds, far_end_of, has, hosts_where}
-use Rattle.node_laws.proofs.Words.{is_connected, mask_of, param_in, pipe_at, shares, told_of_clearing}
+use Rattle.node_laws.proofs.Words.{AllByRecursion, Answer, Ask, Bool, Commit, Decision, HciTables, LinkView, List, None, Option, Some, [], by_test, cond}
+use Rattle.node_laws.proofs.Words.{decided, decided_holds, false, far_end_of, has, hosts_where, is_connected, mask_of, option_and_then, option_map_or, param_in}
+use Rattle.node_laws.proofs.Words.{pipe_at, refl, shares, sym, told_of_clearing, true, true≢false, ℕ, ◌∷◌, ◌≡◌}
 use Rattle.node_laws.proofs.links.Masking.{nobody, alone, from_mask, all_in}
 
 -- they are connected

@@ -1,14 +1,11 @@
 -- Each answer and each notice that a gate decides on has a byte.
-use Rattle.std.proofs.Common.{ℕ, ◌<◌, eqb, List, [], ◌∷◌, length, arith}
-use Rattle.std.specs.Prelude.{Option, Some, None}
-use Rattle.std.specs.List.{AllByRecursion}
-use Rattle.node_laws.proofs.Words.{Answer, Ask, Clear, Command, Commit, Decision, Delete, HciTables, LinkView, Response, answer_of, by_test, commits_and_tells}
-use Rattle.node_laws.proofs.Words.{count_in, decided, decided_holds, ends_of, first_of, has, hosts_where, identity_served, link_served, mask_of, new_row}
-use Rattle.node_laws.proofs.Words.{others_opened, param_in, tests_to_get, tests_to_set_errors, told_of_clearing, told_of_deletion, value_in}
+use Rattle.node_laws.proofs.Words.{AllByRecursion, Answer, Ask, Clear, Command, Commit, Decision, Delete, HciTables, LinkView, List, None, Option, Response}
+use Rattle.node_laws.proofs.Words.{Some, [], answer_of, arith, by_test, commits_and_tells, count_bytes, count_in, decided, decided_holds, ends_of, eqb}
+use Rattle.node_laws.proofs.Words.{first_of, has, hosts_where, identity_served, identity_value, length, link_served, mask_of, new_row, others_opened, param_in}
+use Rattle.node_laws.proofs.Words.{tests_to_get, tests_to_set, tests_to_set_errors, told_of_clearing, told_of_deletion, value_in, ℕ, ◌<◌, ◌∷◌}
 use Rattle.gate_answers.specs.declared.response.Response.TheVariants as response
-use Rattle.gate_answers.specs.Answers.{tests_to_set}
-use Rattle.gate_link.specs.Link.{count_bytes, link_unless_refused as link_unless}
-use Rattle.gate_identity.specs.Identity.{identity_value, identity_unless_refused as identity_unless}
+use Rattle.gate_link.specs.Link.{link_unless_refused as link_unless}
+use Rattle.gate_identity.specs.Identity.{identity_unless_refused as identity_unless}
 use Rattle.node_laws.proofs.links.Masking.{nobody}
 
 -- it has a byte

@@ -1,10 +1,8 @@
 -- What nodes send may be sent: it is on pipes that aren't reserved, and not empty.
-use Rattle.std.proofs.Common.{ℕ, ◌<◌, Bool, true, false, List, [], subst, arith}
-use Rattle.std.specs.Prelude.{Option, Some, None}
-use Rattle.std.specs.List.{AllByRecursion}
-use Rattle.node_laws.proofs.Words.{Answer, Ask, Asks, Command, Commit, Core, Creation, Decision, Deed, Desk, IsSendable, LinkView, Message, Orders, Port, Sends}
-use Rattle.node_laws.proofs.Words.{Tells, agreed, answer_of, answers_on, body_in, commit_deeds, controller_deeds, controller_holds, creation_in, decided}
-use Rattle.node_laws.proofs.Words.{decision_deeds, finds_room, gates, has, hosts_where, identity_served, link_deeds, link_served, own_view, view_for, view_of}
+use Rattle.node_laws.proofs.Words.{AllByRecursion, Answer, Ask, Asks, Bool, Command, Commit, Core, Creation, Decision, Deed, Desk, IsSendable, LinkView, List}
+use Rattle.node_laws.proofs.Words.{Message, None, Option, Orders, Port, Sends, Some, Tells, [], agreed, answer_of, answers_on, arith, body_in, commit_deeds}
+use Rattle.node_laws.proofs.Words.{controller_deeds, controller_holds, creation_in, decided, decision_deeds, false, finds_room, gates, has, hosts_where}
+use Rattle.node_laws.proofs.Words.{identity_served, link_deeds, link_served, own_view, subst, true, view_for, view_of, ℕ, ◌<◌}
 use Rattle.node_laws.proofs.steps.Ports.{at_port}
 use Rattle.node_machine.proofs.Walks.{told_hold}
 use Rattle.node_laws.proofs.links.Decisions.{IsSpoken, Speaks, decided_speaks, link_spoken, identity_spoken}

@@ -1,14 +1,12 @@
 -- What holds of the end of a link over all that may happen to it.
-use Rattle.std.proofs.Common.{◌≡◌, Bool, true, false, cond, List, [], ◌∷◌, refl, ap, sym, subst, ◌∙◌}
-use Rattle.std.specs.Prelude.{is_some, ◌==◌}
-use Rattle.node_laws.proofs.Words.{ActEvent, AsksReset, Bare, Clf, Clt, Comes, Control, CutOff, EndEvent, Ending, Fetch, FromNode, GoesOut, I, IsClf, IsUicc}
-use Rattle.node_laws.proofs.Words.{Link, LinkEnd, LinkInput, Lose, NextFrame, NoInput, Reset, Role, Rset, S, Start, Starts, Step, Stop, Stops, Take, TakeBroken}
-use Rattle.node_laws.proofs.Words.{TakeUnknown, Tick, Turn, Ua, Uicc, activated, activated_role, after_input, by_list, by_test, ended_by, finished}
-use Rattle.node_laws.proofs.Words.{frame_fetched, had_tick, happens_at_controller, has_taken, heard, host_ended, host_finished, is_faulty, is_open, is_up}
-use Rattle.node_laws.proofs.Words.{moved, moved_role, new_link_end, put_down, renewed, reset_role, role_after, sent_all, silent, steps_at_controller, stopped}
-use Rattle.node_laws.proofs.Words.{take_answer, taken, tick_answer, ticked, ticks_at_controller, took, turned, turned_role, with_ended}
-use Rattle.swp_base.specs.declared.control_frames.Control.TheVariants.{Act as ActFrame}
-use Rattle.swp_act.specs.declared.ActEvent.TheVariants.{Take as ActTake, Tick as ActTick, Start as ActStart, Stop as ActStop}
+use Rattle.node_laws.proofs.Words.{ActEvent, ActFrame, ActStart, ActStop, ActTake, ActTick, AsksReset, Bare, Bool, Clf, Clt, Comes, Control, CutOff, EndEvent}
+use Rattle.node_laws.proofs.Words.{Ending, Fetch, FromNode, GoesOut, I, IsClf, IsUicc, Link, LinkEnd, LinkInput, List, Lose, NextFrame, NoInput, Reset, Role}
+use Rattle.node_laws.proofs.Words.{Rset, S, Start, Starts, Step, Stop, Stops, Take, TakeBroken, TakeUnknown, Tick, Turn, Ua, Uicc, [], activated}
+use Rattle.node_laws.proofs.Words.{activated_role, after_input, ap, by_list, by_test, cond, ended_by, false, finished, frame_fetched, had_tick}
+use Rattle.node_laws.proofs.Words.{happens_at_controller, has_taken, heard, host_ended, host_finished, is_faulty, is_open, is_some, is_up, moved, moved_role}
+use Rattle.node_laws.proofs.Words.{new_link_end, put_down, refl, renewed, reset_role, role_after, sent_all, silent, steps_at_controller, stopped, subst, sym}
+use Rattle.node_laws.proofs.Words.{take_answer, taken, tick_answer, ticked, ticks_at_controller, took, true, turned, turned_role, with_ended, ◌==◌, ◌∙◌, ◌∷◌}
+use Rattle.node_laws.proofs.Words.{◌≡◌}
 use Rattle.node_laws.proofs.links.Got.{Clean, input_clean, turned_clean}
 use Rattle.link_laws.proofs.entries.Settling.{down_role}
 

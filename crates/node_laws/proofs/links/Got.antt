@@ -1,22 +1,16 @@
 -- What came at an end may be sent on: its messages aren't empty, and their pipes aren't reserved.
-use Rattle.std.proofs.Common.{◌≡◌, ℕ, zero, suc, ◌<◌, Bool, true, false, cond, List, [], ◌∷◌, ◌++◌, length, Option, refl, sym, subst, ◌∙◌, arith}
-use Rattle.std.specs.Prelude.{drop, nat_lt, is_some, ◌%◌, ◌==◌}
-use Rattle.std.specs.List.{AllByRecursion}
-use Rattle.std.proofs.lemmas.Bool.{ltb-true, true≢false}
-use Rattle.node_laws.proofs.Words.{AreSendable, Asked, Clt, Control, Fetch, FetchMessage, FromNode, Give, Hold, I, LinkEnd, LinkInput, Message, Release, Reset}
-use Rattle.node_laws.proofs.Words.{Rset, S, Session, SetAside, Start, Stop, Take, TakeBroken, TakeUnknown, Tick, Turn, Ua, activated, after_input}
-use Rattle.node_laws.proofs.Words.{aside_refusal, by_option, by_test, frame_fetched, give_refusal, good_of, had_tick, heard, if_up, is_faulty, is_open, moved}
-use Rattle.node_laws.proofs.Words.{put_down, reset_refusal, reset_with, started, stopped, taken, tick_answer, ticked, took, turn, turned, window_of}
-use Rattle.swp_base.specs.declared.control_frames.Control.TheVariants.{Act as ActFrame}
-use Rattle.swp_act.specs.declared.ActEvent.TheVariants.{Take as ActTake, Tick as ActTick, Start as ActStart, Stop as ActStop}
+use Rattle.node_laws.proofs.Words.{ActDue, ActFrame, ActStart, ActStop, ActTake, ActTick, AllByRecursion, AreSendable, Asked, Bool, Clt, Control, Fetch}
+use Rattle.node_laws.proofs.Words.{FetchMessage, FromNode, Give, Hold, I, LinkEnd, LinkInput, List, Message, Option, Release, Reset, Rset, S, Session, SetAside}
+use Rattle.node_laws.proofs.Words.{Start, Stop, Take, TakeBroken, TakeUnknown, Tick, Turn, Ua, [], activated, activated_got, after_input, all_append, arith}
+use Rattle.node_laws.proofs.Words.{aside_refusal, by_option, by_test, cond, deactivated, drop, false, frame_fetched, give_refusal, good_of, had_tick, heard}
+use Rattle.node_laws.proofs.Words.{if_up, is_faulty, is_good, is_open, is_some, length, ltb-true, moved, moved_got, nat_lt, put_down, refl, reset_by}
+use Rattle.node_laws.proofs.Words.{reset_refusal, reset_with, started, stopped, subst, suc, sym, taken, tick_answer, ticked, took, true, true≢false, turn}
+use Rattle.node_laws.proofs.Words.{turned, window_of, zero, ℕ, ◌%◌, ◌++◌, ◌<◌, ◌==◌, ◌∙◌, ◌∷◌, ◌≡◌}
 use Rattle.hcp_packet.specs.declared.Packet.{Packet}
-use Rattle.hcp_packet.specs.Packets.{packets_in, is_good}
+use Rattle.hcp_packet.specs.Packets.{packets_in}
 use Rattle.hcp_chain.specs.Joining.{join_step, message_in, given_by, is_fifth, grown}
-use Rattle.link_laws.specs.machine.Machine.{ActDue, messages_got}
-use Rattle.link_laws.specs.machine.Machine.{deactivated, news}
-use Rattle.link_laws.specs.machine.Machine.{reset_by}
-use Rattle.link_laws.proofs.machine.Kept.{moved_got, down_got, activated_got}
-use Rattle.registry.proofs.ValueLemmas.{AllByRecursion-append as all_append}
+use Rattle.link_laws.specs.machine.Machine.{messages_got, news}
+use Rattle.link_laws.proofs.machine.Kept.{down_got}
 
 -- ## Lists
 

@@ -1,12 +1,10 @@
 -- What hosts send may be sent.
-use Rattle.std.proofs.Common.{ℕ, ◌<◌, List, [], arith}
-use Rattle.std.specs.List.{AllByRecursion}
-use Rattle.node_laws.proofs.Words.{Clear, Command, Core, Create, Delete, Init, IsSendable, Message, OfHost, Port, accepts, answer_of, body_in, end_view}
-use Rattle.node_laws.proofs.Words.{finds_room, gates, host_deeds, host_holds, identity_served, link_served, ordered_deeds, ordered_holds, orders_of, own_view}
+use Rattle.node_laws.proofs.Words.{AllByRecursion, AllByRecursion-get, Clear, Command, Core, Create, Delete, Init, IsSendable, List, Message, OfHost, Port, []}
+use Rattle.node_laws.proofs.Words.{accepts, answer_of, arith, body_in, end_view, finds_room, gates, host_deeds, host_holds, identity_served, link_served}
+use Rattle.node_laws.proofs.Words.{ordered_deeds, ordered_holds, orders_hold, orders_of, own_view, ℕ, ◌<◌}
 use Rattle.gate_answers.specs.declared.response.Response.TheVariants as response
-use Rattle.registry.proofs.ValueLemmas.{AllByRecursion-get}
 use Rattle.node_laws.proofs.links.Decisions.{IsSpoken, link_spoken, identity_spoken}
-use Rattle.node_machine.proofs.Walks.{all_heard, orders_hold}
+use Rattle.node_machine.proofs.Walks.{all_heard}
 use Rattle.node_laws.proofs.links.Deeds.{IsFine, AreFine, answers_fine, commit_fine, link_fine, low}
 
 accepts_fine : (core : Core) (c : Command) → AreFine (accepts (own_view core) c)

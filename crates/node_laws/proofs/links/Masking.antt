@@ -1,11 +1,8 @@
 -- A host that is in the mask of the hosts that pass a test passes it.
-use Rattle.std.proofs.Common.{◌≡◌, ℕ, zero, suc, ◌/◌, ◌%◌, ◌≤◌, Bool, true, eqb, List, [], ◌∷◌, refl, sym, ap, ◌∙◌, arith}
-use Rattle.std.specs.Prelude.{nat_le}
-use Rattle.std.specs.List.{filter, AllByRecursion}
-use Rattle.std.proofs.lemmas.Bool.{true≢false, leb-true}
+use Rattle.node_laws.proofs.Words.{AllByRecursion, Bool, List, [], ap, arith, by_test, eqb, filter, has, leb-true, mask_of, nat_le, refl, suc, sym, true}
+use Rattle.node_laws.proofs.Words.{true≢false, zero, ℕ, ◌%◌, ◌/◌, ◌∙◌, ◌∷◌, ◌≡◌, ◌≤◌}
 use Rattle.gate_admin.specs.View.{hosts_where}
 use Rattle.node_laws.proofs.steps.Masks.{bit_most, bit_none, digits}
-use Rattle.node_laws.proofs.Words.{by_test, has, mask_of}
 
 zero_one : (n : ℕ) → n ≡ 0 → eqb n 1 ≡ true → ⊥
 zero_one n z q = absurd (true≢false (sym q ∙ ap (λ k. eqb k 1) z))

@@ -1,21 +1,17 @@
 -- A notice that isn't answered stands only at an end that is up.
-use Rattle.std.proofs.Common.{◌≡◌, ℕ, ◌==◌, ◌||◌, Bool, true, false, List, [], ◌∷◌, length, Option, Some, None, map, refl, ap, sym, subst, ◌∙◌}
-use Rattle.std.specs.Prelude.{is_some}
-use Rattle.std.specs.List.{AllByRecursion, flat_map}
-use Rattle.std.specs.Option.{option_map, option_map_or}
-use Rattle.std.proofs.lemmas.Bool.{true≢false, eqb-true}
+use Rattle.node_laws.proofs.Words.{About, AllByRecursion, AllReach, Asks, AtEnd, Bool, Command, Commits, Core, Deed, Desk, Drops, Ends, FetchMessage, Give}
+use Rattle.node_laws.proofs.Words.{GoesOn, Hears, Hold, IsAnswered, IsBegun, IsComing, IsNoticedUp, IsOutside, LinkEnd, LinkInput, LinkState, List, Message}
+use Rattle.node_laws.proofs.Words.{NodeInput, None, Notice, OnFirst, Option, Orders, Port, Reaches, Release, Releases, Removed, SaysOk, Sends, SetAside}
+use Rattle.node_laws.proofs.Words.{SetsErrors, Some, Tells, Tick, TimePasses, Turn, Up, Waiting, Waits, Work, [], after_sessions, after_turn, all_come}
+use Rattle.node_laws.proofs.Words.{all_owed, all_owed_hold, all_synced_hold, anyone, ap, aside_refusal, asked_at, body_of, by_option, by_test, changed_if}
+use Rattle.node_laws.proofs.Words.{commit, commit_writes, controller_deeds, deeds_of, done, end_of_node, ended_by, eqb-true, fails_within, false, flat_map}
+use Rattle.node_laws.proofs.Words.{forgets, forgotten, forgotten_hold, give_refusal, has_come, has_link, input_at, is_forgotten, is_late, is_over, is_some}
+use Rattle.node_laws.proofs.Words.{is_up, length, map, notified, noting, option_map, option_map_or, port_at, refl, reset_late, steps, subst, sym, synced}
+use Rattle.node_laws.proofs.Words.{times_out, true, true≢false, turn, turn_at, view_of, with_desk, with_older, with_port, without_notice, ℕ, ◌==◌, ◌||◌, ◌∙◌}
+use Rattle.node_laws.proofs.Words.{◌∷◌, ◌≡◌}
 use Rattle.trace_model.specs.declared.entry.Entry.TheVariants as entry
-use Rattle.node_laws.proofs.Words.{About, AllReach, Asks, AtEnd, Command, Commits, Core, Deed, Desk, Drops, Ends, FetchMessage, Give, GoesOn, Hears, Hold}
-use Rattle.node_laws.proofs.Words.{IsAnswered, IsComing, IsNoticedUp, IsOutside, LinkEnd, LinkInput, LinkState, Message, NodeInput, Notice, OnFirst, Orders}
-use Rattle.node_laws.proofs.Words.{Port, Release, Releases, Removed, SaysOk, Sends, SetAside, SetsErrors, Tells, Tick, TimePasses, Turn, Up, Waiting, Waits}
-use Rattle.node_laws.proofs.Words.{Work, after_sessions, after_turn, all_come, all_owed, all_owed_hold, all_synced_hold, anyone, aside_refusal, asked_at}
-use Rattle.node_laws.proofs.Words.{body_of, by_option, by_test, changed_if, commit, commit_writes, controller_deeds, deeds_of, done, end_of_node, ended_by}
-use Rattle.node_laws.proofs.Words.{fails_within, forgets, forgotten, forgotten_hold, give_refusal, has_come, has_link, input_at, is_forgotten, is_late, is_over}
-use Rattle.node_laws.proofs.Words.{is_up, notified, noting, port_at, reset_late, steps, synced, times_out, turn, turn_at, view_of, with_desk, with_older}
-use Rattle.node_laws.proofs.Words.{with_port, without_notice}
 use Rattle.shdlc_core.specs.declared.answers.LinkState.TheVariants.{Down}
 use Rattle.link_laws.proofs.sessions.Ties.{ready-phase as ready_phase}
-use Rattle.node_laws.specs.links.Notices.{Reaches, IsBegun}
 use Rattle.node_laws.proofs.links.Staying.{stays_up}
 use Rattle.node_laws.proofs.links.Reaching.{controller_reach}
 use Rattle.node_laws.proofs.steps.StepWalks.{Lasts, rest_lasts}

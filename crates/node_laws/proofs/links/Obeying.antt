@@ -1,22 +1,17 @@
 -- What holds of runs of the law of one link holds of each link of a world of nodes.
-use Rattle.std.proofs.Common.{◌≡◌, ℕ, List, [], ◌∷◌, subst}
-use Rattle.std.specs.Prelude.{Some}
-use Rattle.std.specs.List.{AllByRecursion}
-use Rattle.node_laws.proofs.Words.{ArePlayable, AreUpTogether, Chain, IsLine, IsRun, IsRunOf, Line, Link, LinkEvent, OnWire, Site, Take, Up, ended_by, new_line}
-use Rattle.node_laws.proofs.Words.{new_world, number_of, talk_of, world_after}
-use Rattle.link_laws.specs.messages.Links.{talk_now}
+use Rattle.node_laws.proofs.Words.{AllByRecursion, ArePlayable, AreUpTogether, Chain, IsLine, IsRun, IsRunOf, IsSettled, Line, Link, LinkEvent, List, OnWire}
+use Rattle.node_laws.proofs.Words.{Site, Some, Take, Up, all_so, ended_by, new_line, new_world, number_of, one_number, subst, sure_of, talk_now, talk_of}
+use Rattle.node_laws.proofs.Words.{world_after, ℕ, ◌∷◌, ◌≡◌}
 use Rattle.link_laws.specs.messages.Order.{InOrder}
 use Rattle.link_laws.specs.messages.Quiet.{AllDelivered, IsQuiet, losses_of}
-use Rattle.link_laws.specs.messages.Settled.{IsSettled, sure_of}
-use Rattle.link_laws.proofs.messages.Whole.{in_order_here, in_order_there, no_chain_here, no_chain_there, one_number}
+use Rattle.link_laws.proofs.messages.Whole.{in_order_here, in_order_there, no_chain_here, no_chain_there}
 use Rattle.link_laws.proofs.messages.Quiet.{all_here, all_there, up_together}
 use Rattle.node_laws.proofs.links.Playing.{links_run}
 
 -- what holds of each run holds of each link
 all_obey : (P : Link → Type 0) → ((l : Link) → IsRun l → P l) → (sites : List Site) → AllByRecursion (λ (s : Site). IsRun s.link) sites
     → AllByRecursion (λ (s : Site). P s.link) sites
-all_obey P one [] a = tt
-all_obey P one (s ∷ sites) a = (one s.link a.0, all_obey P one sites a.1)
+all_obey P one sites a = all_so (λ (s : Site). IsRun s.link) (λ (s : Site). P s.link) (λ s b. one s.link b) sites a
 
 pub obey : (P : Link → Type 0) → ((l : Link) → IsRun l → P l) → (hosts : List ℕ) (lines : List Line) → ArePlayable lines
     → AllByRecursion (λ (s : Site). P s.link) (world_after (new_world hosts) lines).sites

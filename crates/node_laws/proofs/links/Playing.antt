@@ -1,14 +1,12 @@
 -- Whatever lines are played, each link of the world is a run of the law of one link.
-use Rattle.std.proofs.Common.{◌≡◌, ℕ, ◌==◌, Bool, true, false, cond, zero, suc, List, [], ◌∷◌, refl, sym, subst, arith}
-use Rattle.std.specs.Prelude.{Option, Some, None, map, ◌&&◌, is_some, replicate, unwrap_or}
-use Rattle.std.specs.List.{AllByRecursion}
-use Rattle.node_laws.proofs.Words.{Activates, ArePlayable, Arms, AsksReset, AtController, AtEnd, Boots, CanCome, Comes, Deed, End, Gives, Happening, Inits}
-use Rattle.node_laws.proofs.Words.{IsCut, IsPlayable, IsRun, IsSendable, IsWindow, Line, Link, Loses, LostFor, Message, NextFrame, NoCause, NoInput, NodeWorld}
-use Rattle.node_laws.proofs.Words.{OnDemand, Resets, Same, Site, Start, Starts, Step, Stops, Takes, Ticks, Undetected, Verdict, Work, activates, all_happen}
-use Rattle.node_laws.proofs.Words.{beginning, begins_with, by_coming, by_option, by_some, by_test, can_happen, comes_at, controller_work, end_c, end_h}
-use Rattle.node_laws.proofs.Words.{ending_of, exchanged, first_cause, first_verdict, frames_at, goes_on, happens, happens_by, host_does, if_off}
-use Rattle.node_laws.proofs.Words.{is_command_message, line_step, link_after_controller, memory_at, new_site, new_world, refusal_in, sending, steps, taken_of}
-use Rattle.node_laws.proofs.Words.{turns_at, world_after, world_step}
+use Rattle.node_laws.proofs.Words.{Activates, AllByRecursion, ArePlayable, Arms, AsksReset, AtController, AtEnd, Bool, Boots, CanCome, Comes, Deed, End, Gives}
+use Rattle.node_laws.proofs.Words.{Happening, Inits, IsCut, IsPlayable, IsRun, IsSendable, IsWindow, Line, Link, List, Loses, LostFor, Message, NextFrame}
+use Rattle.node_laws.proofs.Words.{NoCause, NoInput, NodeWorld, None, OnDemand, Option, Resets, Same, Site, Some, Start, Starts, Step, Stops, Takes, Ticks}
+use Rattle.node_laws.proofs.Words.{Undetected, Verdict, Work, [], activates, all_happen, arith, beginning, begins_with, by_coming, by_option, by_some, by_test}
+use Rattle.node_laws.proofs.Words.{can_happen, comes_at, cond, controller_work, end_c, end_h, ending_of, exchanged, false, first_cause, first_verdict}
+use Rattle.node_laws.proofs.Words.{frames_at, goes_on, happens, happens_by, host_does, if_off, is_command_message, is_some, line_step, link_after_controller}
+use Rattle.node_laws.proofs.Words.{map, memory_at, new_site, new_world, refl, refusal_in, replicate, sending, steps, subst, suc, sym, taken_of, true, turns_at}
+use Rattle.node_laws.proofs.Words.{unwrap_or, world_after, world_step, zero, ℕ, ◌&&◌, ◌==◌, ◌∷◌, ◌≡◌}
 use Rattle.trace_model.specs.declared.entry.NoCause.TheVariants as no
 use Rattle.trace_model.specs.declared.line.Line.TheVariants as line
 use Rattle.link_laws.proofs.messages.Runs.{IsIdleClf, started_clf, can_start}

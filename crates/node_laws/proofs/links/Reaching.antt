@@ -1,15 +1,10 @@
 -- A controller tells and asks only hosts whose links are up.
-use Rattle.std.proofs.Common.{◌≡◌, ℕ, true, false, List, [], ◌∷◌}
-use Rattle.std.specs.Prelude.{Option, Some, None}
-use Rattle.std.specs.List.{AllByRecursion}
-use Rattle.std.specs.Option.{option_map_or}
-use Rattle.node_laws.proofs.Words.{AllReach, Answer, Ask, AsksAsAllowed, Command, Commit, Core, Create, Decision, HciTables, IsAskedFor, LinkView, Message}
-use Rattle.node_laws.proofs.Words.{OfDecision, Plain, Port, all_of_controller, body_in, controller_deeds, decided, decided_as_allowed, has, has_link}
-use Rattle.node_laws.proofs.Words.{hosts_where, is_connected, is_connected_at, is_opened, is_up, port_at, view_for, view_of}
-use Rattle.node_laws.specs.links.Notices.{Reaches}
+use Rattle.node_laws.proofs.Words.{AllByRecursion, AllReach, Answer, Ask, AsksAsAllowed, Command, Commit, Core, Create, Decision, HciTables, IsAskedFor}
+use Rattle.node_laws.proofs.Words.{LinkView, List, Message, None, OfDecision, Option, Plain, Port, Reaches, Some, [], all_of_controller, and_parts, body_in}
+use Rattle.node_laws.proofs.Words.{controller_deeds, decided, decided_as_allowed, false, has, has_link, hosts_where, is_connected, is_connected_at, is_opened}
+use Rattle.node_laws.proofs.Words.{is_up, option_map_or, port_at, true, view_for, view_of, ℕ, ◌∷◌, ◌≡◌}
 use Rattle.node_laws.proofs.links.Masking.{from_mask}
 use Rattle.node_laws.proofs.links.Connected.{AreConnected, decided_tells, TellsConnected}
-use Rattle.std.proofs.lemmas.Bool.{and_parts}
 
 -- the link with this host is up
 abbrev pub IsLinked : List Port → ℕ → Type 0

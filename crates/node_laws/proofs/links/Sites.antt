@@ -1,17 +1,13 @@
 -- The link of each host is a run of the law of one link, over all that happens to it.
-use Rattle.std.proofs.Common.{◌≡◌, Bool, true, false, cond, List, [], ◌∷◌, ◌++◌, refl, ap, sym, subst, ◌∙◌}
-use Rattle.std.specs.Prelude.{None, not, ◌&&◌}
-use Rattle.node_laws.proofs.Words.{AllAllowed, AreSendableTurns, AsksReset, AtController, AtHost, Bare, CanCome, Clf, Comes, CutOff, EndEvent, Ending, GoesOut}
-use Rattle.node_laws.proofs.Words.{IsClf, IsEvent, IsRun, IsRunOf, IsUicc, IsWindow, Link, LinkEvent, Lose, Loss, NextFrame, NoInput, Node, NumberedEnd, Reset}
-use Rattle.node_laws.proofs.Words.{Role, Starts, Step, Stops, TicksWithout, Turn, Uicc, after_link_events, aged, exchanged, happens, happens_at_controller}
-use Rattle.node_laws.proofs.Words.{has_input, is_waiting, new_line, ticked_so, ticks_at_controller}
+use Rattle.node_laws.proofs.Words.{AllAllowed, AreSendableTurns, AsksReset, AtController, AtHost, Bare, Bool, CanCome, CanEnd, Clf, Comes, CutOff, EndEvent}
+use Rattle.node_laws.proofs.Words.{Ending, GoesOut, IsClf, IsEvent, IsRun, IsRunOf, IsUicc, IsWindow, Link, LinkEvent, List, Lose, Loss, NextFrame, NoInput}
+use Rattle.node_laws.proofs.Words.{Node, None, NumberedEnd, Reset, Role, Starts, Step, Stops, TicksWithout, Turn, Uicc, [], after_link_events, aged, ap}
+use Rattle.node_laws.proofs.Words.{clf_starts, cond, exchanged, false, happens, happens_at_controller, has_input, is_waiting, new_line, not, refl, subst, sym}
+use Rattle.node_laws.proofs.Words.{tick_host, ticked_so, ticks_at_controller, true, ◌&&◌, ◌++◌, ◌∙◌, ◌∷◌, ◌≡◌}
 use Rattle.link_laws.specs.messages.Links.{IfLine}
-use Rattle.link_laws.specs.messages.Links.{CanEnd}
 use Rattle.link_laws.specs.messages.Links.LinkEvent.{Ticks}
-use Rattle.link_laws.proofs.messages.Runs.{clf_starts}
 use Rattle.node_laws.proofs.links.Got.{Clean}
 use Rattle.node_laws.proofs.links.Ends.{here_host, here_clf, here_uicc, here_clean, tick_clf, tick_uicc, tick_clean}
-use Rattle.link_laws.proofs.entries.Together.{ticks_host as tick_host}
 
 -- ## Runs
 

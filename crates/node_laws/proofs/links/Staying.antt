@@ -1,15 +1,10 @@
 -- An end that is up stays so unless its session ends.
-use Rattle.std.proofs.Common.{◌≡◌, Bool, true, false, cond, Option, Some, None, refl, ap, sym, subst, ◌∙◌}
-use Rattle.std.specs.Prelude.{is_some}
-use Rattle.std.proofs.lemmas.Bool.{true≢false}
-use Rattle.node_laws.proofs.Words.{ActEvent, Asked, Cause, Chain, Clt, Control, EndState, I, IsComing, LinkEnd, LinkInput, Reset, Rset, S, Start, Stop, Take}
-use Rattle.node_laws.proofs.Words.{Tick, Ua, Up, act_answer, activated, after_input, by_option, by_test, ended_by, had_tick, heard, if_up, is_faulty, is_open}
-use Rattle.node_laws.proofs.Words.{moved, put_down, reset_refusal, role_after, take_answer, taken, tick_answer, ticked, with_act}
-use Rattle.swp_base.specs.declared.control_frames.Control.TheVariants.{Act as ActFrame}
+use Rattle.node_laws.proofs.Words.{ActEvent, ActFrame, ActTake, ActTick, Asked, Bool, ByAct, Cause, Chain, Clt, Control, EndState, I, IsComing, LinkEnd}
+use Rattle.node_laws.proofs.Words.{LinkInput, None, Option, Reset, Rset, S, Some, Start, Stop, Take, Tick, Ua, Up, act_answer, activated, after_input, ap}
+use Rattle.node_laws.proofs.Words.{by_option, by_test, cond, ended_by, ended_by_act, false, had_tick, heard, if_up, is_faulty, is_open, is_some, moved}
+use Rattle.node_laws.proofs.Words.{put_down, refl, reset_refusal, role_after, subst, sym, take_answer, taken, tick_answer, ticked, true, true≢false, with_act}
+use Rattle.node_laws.proofs.Words.{◌∙◌, ◌≡◌}
 use Rattle.swp_base.specs.declared.control_frames.Act.{Act}
-use Rattle.swp_base.specs.declared.link_terms.Cause.TheVariants.{Act as ByAct}
-use Rattle.swp_act.specs.declared.ActEvent.TheVariants.{Take as ActTake, Tick as ActTick}
-use Rattle.link_laws.specs.machine.Machine.{ended_by_act}
 use Rattle.link_laws.proofs.machine.Shifts.{Shift, taken_shift, ticked_shift}
 use Rattle.link_laws.proofs.machine.Shifts.Shift.{Stays, Ends, Renews, Begins, Rests}
 use Rattle.link_laws.proofs.machine.Reports.{shdlc_is as shdlc_moved}

@@ -1,16 +1,13 @@
 -- What a node does in a step is what it may do to its ends.
-use Rattle.std.proofs.Common.{◌≡◌, ℕ, ◌==◌, Bool, true, false, List, [], ◌∷◌, ◌++◌, length, refl, subst, arith}
-use Rattle.std.specs.Prelude.{Option, Some, None, map}
-use Rattle.std.specs.List.{AllByRecursion, flat_map}
-use Rattle.std.specs.Option.{option_map_or}
+use Rattle.node_laws.proofs.Words.{About, AllByRecursion, AreSendable, AreSendableTurns, Asks, AtEnd, Bool, Command, Commits, Core, Deed, Desk, FetchMessage}
+use Rattle.node_laws.proofs.Words.{Forgotten, Give, Hold, IsAnswered, IsSendable, LinkInput, List, Message, NodeInput, None, Notice, Option, Orders, Port}
+use Rattle.node_laws.proofs.Words.{Release, Releases, Removed, Reset, Sends, SetAside, SetsErrors, Some, Tells, TimePasses, Turn, Waits, Work, []}
+use Rattle.node_laws.proofs.Words.{after_sessions, after_turn, all_changed, all_come, all_done, all_map, all_owed, all_owed_hold, all_synced_hold, arith}
+use Rattle.node_laws.proofs.Words.{asked_at, body_of, by_option, by_test, commit, commit_writes, creation_in, deeds_of, done, fails_within, false, flat_map}
+use Rattle.node_laws.proofs.Words.{forgets, forgotten, forgotten_hold, handles, has_come, holds_back, input_at, is_forgotten, is_late, is_over, length, lets_go}
+use Rattle.node_laws.proofs.Words.{map, notified, noting, older_notice, option_map_or, port_at, refl, reset_late, steps, subst, synced, times_out, true}
+use Rattle.node_laws.proofs.Words.{turn_at, with_desk, with_older, with_port, without_notice, ℕ, ◌++◌, ◌==◌, ◌∷◌, ◌≡◌}
 use Rattle.trace_model.specs.declared.entry.Entry.TheVariants as entry
-use Rattle.node_laws.proofs.Words.{About, AreSendable, AreSendableTurns, Asks, AtEnd, Command, Commits, Core, Deed, Desk, FetchMessage, Forgotten, Give, Hold}
-use Rattle.node_laws.proofs.Words.{IsAnswered, IsSendable, LinkInput, Message, NodeInput, Notice, Orders, Port, Release, Releases, Removed, Reset, Sends}
-use Rattle.node_laws.proofs.Words.{SetAside, SetsErrors, Tells, TimePasses, Turn, Waits, Work, after_sessions, after_turn, all_changed, all_come, all_done}
-use Rattle.node_laws.proofs.Words.{all_map, all_owed, all_owed_hold, all_synced_hold, asked_at, body_of, by_option, by_test, commit, commit_writes, creation_in}
-use Rattle.node_laws.proofs.Words.{deeds_of, done, fails_within, forgets, forgotten, forgotten_hold, handles, has_come, holds_back, input_at, is_forgotten}
-use Rattle.node_laws.proofs.Words.{is_late, is_over, lets_go, notified, noting, older_notice, port_at, reset_late, steps, synced, times_out, turn_at, with_desk}
-use Rattle.node_laws.proofs.Words.{with_older, with_port, without_notice}
 use Rattle.node_laws.proofs.links.Got.{Clean, one_clean, input_clean}
 use Rattle.node_laws.proofs.links.Decisions.{IsSpoken}
 use Rattle.node_laws.proofs.links.Deeds.{HasAnswer, IsTrueDesk, IsFine, AreFine, AreTrue, low, controller_fine}

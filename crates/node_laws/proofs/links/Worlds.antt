@@ -1,21 +1,18 @@
 -- Each link of a world of nodes is a run of the law of one link.
-use Rattle.std.proofs.Common.{◌≡◌, ℕ, ◌==◌, Bool, true, false, List, [], ◌∷◌, refl, ap, sym, subst}
-use Rattle.std.specs.Prelude.{Option, Some, None, map, not, ◌&&◌}
-use Rattle.std.specs.List.{AllByRecursion}
-use Rattle.node_laws.proofs.Words.{AreSendableTurns, AsksReset, AtController, Broken, CanCome, Comes, CutOff, Desk, End, Ending, GoesOut, Link, Lose, Loss}
-use Rattle.node_laws.proofs.Words.{Memory, NextFrame, NoInput, Node, NodeWorld, NumberedEnd, Port, Running, Site, Step, TimePasses, Turn, Work}
-use Rattle.node_laws.proofs.Words.{after_controller, after_host, after_planned, aged, all_aged, all_map, at, boot_found, boot_writes, boot_written, boots}
-use Rattle.node_laws.proofs.Words.{by_boot, by_controller, by_controller_tick, by_host, by_host_tick, by_list, by_loss, by_memory, by_option, by_power}
-use Rattle.node_laws.proofs.Words.{by_running, by_test, changed_if, comes_to, controller_cut, controller_does, controller_ticks, controller_work, counts}
-use Rattle.node_laws.proofs.Words.{ending_of, exchanged, frame_lost, happens, host_cut, host_does, host_tick, host_ticks, host_work, hosts_tick, is_late_at}
-use Rattle.node_laws.proofs.Words.{is_waiting, link_after_controller, link_to, links_of, loses_power_at, memory_at, near_end_in, near_tick, new_desk, port_at}
-use Rattle.node_laws.proofs.Words.{port_for, runs_on, site_at, site_lost, ticked_so, ticks_at_controller, turns_at, with_error, with_memory, with_node}
-use Rattle.node_laws.proofs.Words.{with_site, work_of, world_ticks}
+use Rattle.node_laws.proofs.Words.{AllByRecursion, AreSendableTurns, AsksReset, AtController, Bool, Broken, CanCome, Comes, CutOff, Desk, End, Ending, GoesOut}
+use Rattle.node_laws.proofs.Words.{Link, List, Lose, Loss, Memory, NextFrame, NoInput, Node, NodeWorld, None, NumberedEnd, Option, Port, Running, Site, Some}
+use Rattle.node_laws.proofs.Words.{Step, TimePasses, Turn, Work, [], after_controller, after_host, after_planned, aged, all_aged, all_map, ap, at, boot_found}
+use Rattle.node_laws.proofs.Words.{boot_writes, boot_written, boots, by_boot, by_controller, by_controller_tick, by_host, by_host_tick, by_list, by_loss}
+use Rattle.node_laws.proofs.Words.{by_memory, by_option, by_power, by_running, by_test, changed_if, comes_to, controller_cut, controller_does, controller_ticks}
+use Rattle.node_laws.proofs.Words.{controller_work, counts, ending_of, exchanged, false, frame_lost, happens, host_cut, host_does, host_tick, host_ticks}
+use Rattle.node_laws.proofs.Words.{host_work, hosts_tick, is_late_at, is_waiting, link_after_controller, link_to, links_of, loses_power_at, map, memory_at}
+use Rattle.node_laws.proofs.Words.{near_end_in, near_tick, new_desk, not, port_at, port_for, refl, runs_on, site_at, site_lost, subst, sym, tick_host}
+use Rattle.node_laws.proofs.Words.{ticked_so, ticks_at_controller, true, turns_at, with_error, with_memory, with_node, with_site, work_of, world_ticks, ℕ, ◌&&◌}
+use Rattle.node_laws.proofs.Words.{◌==◌, ◌∷◌, ◌≡◌}
 use Rattle.node_laws.proofs.links.Got.{Clean}
 use Rattle.node_laws.proofs.links.Deeds.{IsTrueDesk}
 use Rattle.node_laws.proofs.links.Works.{AreFinePorts, IsFineWork, fine_at, steps_fine}
 use Rattle.node_laws.proofs.links.Ends.{here_host}
-use Rattle.link_laws.proofs.entries.Together.{ticks_host as tick_host}
 use Rattle.node_laws.proofs.links.Sites.{IsFineLink, MayCome, controller_steps, host_steps, controller_loses, host_loses, ticks_fine}
 
 -- ## What is kept

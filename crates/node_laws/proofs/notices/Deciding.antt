@@ -1,13 +1,10 @@
 -- Which notices the administration gate decides on.
-use Rattle.std.proofs.Common.{◌≡◌, ℕ, ◌≤◌, inl, inr, Bool, true, false, cond, eqb, List, [], ◌∷◌, length, refl, sym, ◌∙◌, arith}
-use Rattle.std.specs.Prelude.{Option, Some, None}
-use Rattle.std.specs.List.{AllByRecursion}
-use Rattle.std.specs.Option.{option_map_or, option_and_then}
-use Rattle.std.proofs.lemmas.Bool.{cond_both, eqb-true, eqb-false, ne_eqb, true≢false}
-use Rattle.node_laws.proofs.Words.{Answer, Ask, Clear, Command, Commit, Create, Decision, Delete, HciTables, IsAbout, JoinTwo, LinkView, PipeRow, Removed}
-use Rattle.node_laws.proofs.Words.{Response, Set, SetOpened, answer_of, by_test, commits, commits_and_tells, decided, decided_holds, ends_of, far_end_of, has}
-use Rattle.node_laws.proofs.Words.{hosts_where, is_connected, is_notice, mask_of, new_row, others_opened, param_in, pipe_at, shares, told_of_clearing}
-use Rattle.node_laws.proofs.Words.{told_of_deletion, value_in}
+use Rattle.node_laws.proofs.Words.{AllByRecursion, Answer, Ask, Bool, Clear, Command, Commit, Create, Decision, Delete, HciTables, IsAbout, JoinTwo, LinkView}
+use Rattle.node_laws.proofs.Words.{List, None, Option, PipeRow, Removed, Response, Set, SetOpened, Some, [], answer_of, arith, by_test, commits}
+use Rattle.node_laws.proofs.Words.{commits_and_tells, cond, cond_both, decided, decided_holds, ends_of, eqb, eqb-false, eqb-true, false, far_end_of, has}
+use Rattle.node_laws.proofs.Words.{hosts_where, inl, inr, is_connected, is_notice, length, mask_of, ne_eqb, new_row, option_and_then, option_map_or}
+use Rattle.node_laws.proofs.Words.{others_opened, param_in, pipe_at, refl, shares, sym, told_of_clearing, told_of_deletion, true, true≢false, value_in, ℕ, ◌∙◌}
+use Rattle.node_laws.proofs.Words.{◌∷◌, ◌≡◌, ◌≤◌}
 use Rattle.gate_answers.specs.declared.response.Response.TheVariants as response
 use Rattle.tables_laws.proofs.gate.Decisions.{joins_two}
 use Rattle.node_laws.proofs.links.Masking.{nobody, alone, from_mask, all_in}

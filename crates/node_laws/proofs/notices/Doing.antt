@@ -1,29 +1,21 @@
 -- A controller does the deeds of a message: its unanswered notice to a host stays the one that is read.
-use Rattle.std.proofs.Common.{append_assoc, ◌≡◌, ◌⊎◌, inl, inr, ℕ, ◌&&◌, Bool, true, false, eqb, List, [], ◌∷◌, ◌++◌, length, map, sym, refl, ap, ◌∙◌, subst}
-use Rattle.std.specs.Prelude.{Option, Some, None, is_some}
-use Rattle.std.specs.List.{AllByRecursion}
-use Rattle.std.specs.Option.{option_map, option_map_or, option_and_then}
-use Rattle.std.proofs.lemmas.Bool.{cases_Bool, eqb-true, eqb-false, ne_eqb, eq-eqb}
-use Rattle.std.proofs.lemmas.Bool.{true≢false}
-use Rattle.node_laws.proofs.Words.{About, AreTables, AreTables-apply, Asks, Command, Commits, Controller, Core, Deed, Desk, Drops, Entry, Give, IsAbout}
-use Rattle.node_laws.proofs.Words.{IsCommand, IsHost, IsKeptNotice, IsRightAbout, IsRightNotice, JoinTwo, Message, Notice, Port, Release, Releases, Removed}
-use Rattle.node_laws.proofs.Words.{SaysOk, Sends, SetAside, SetsErrors, Tells, Turn, Waits, Work, Write, after_turn, all_done, body_of, by_cut, by_test}
-use Rattle.node_laws.proofs.Words.{changed_if, commit, commit_writes, done, entries_for, fails_within, give_refusal, is_notice, is_up, keeps, noted_of}
-use Rattle.node_laws.proofs.Words.{notice_in, notified, noting, own_side, port_at, sent_unless, turn_at, unless_cut, with_desk, with_port}
-use Rattle.node_laws.proofs.Each.{all_map as each_map}
+use Rattle.node_laws.proofs.Words.{About, AllByRecursion, AreTables, AreTables-apply, Asks, Bool, Command, Commits, Controller, Core, Deed, Desk, Drops, Entry}
+use Rattle.node_laws.proofs.Words.{Give, IsAbout, IsCommand, IsHost, IsKeptNotice, IsRightAbout, IsRightNotice, JoinTwo, List, Message, None, Notice, Option}
+use Rattle.node_laws.proofs.Words.{Port, Release, Releases, Removed, SaysOk, Sends, SetAside, SetsErrors, Some, Tells, Turn, Waits, Work, Write, [], after_turn}
+use Rattle.node_laws.proofs.Words.{all_done, all_map, ap, append_assoc, body_of, by_cut, by_test, cases_Bool, changed_if, commit, commit_writes, done}
+use Rattle.node_laws.proofs.Words.{entries_for, eq-eqb, eqb, eqb-false, eqb-true, fails_within, false, give_refusal, inl, inr, is_notice, is_some, is_up, keeps}
+use Rattle.node_laws.proofs.Words.{length, map, ne_eqb, noted_of, notice_in, notified, noting, option_and_then, option_map, option_map_or, own_side, port_at}
+use Rattle.node_laws.proofs.Words.{refl, sent_unless, subst, sym, true, true≢false, turn_at, unless_cut, with_desk, with_port, ℕ, ◌&&◌, ◌++◌, ◌∙◌, ◌∷◌, ◌≡◌}
+use Rattle.node_laws.proofs.Words.{◌⊎◌}
 use Rattle.trace_model.specs.declared.entry.Entry.TheVariants as entry
 use Rattle.tables_laws.proofs.tables.TwoHosts.{JoinTwo-after}
 use Rattle.link_laws.proofs.messages.Project.{give_tells}
-use Rattle.node_laws.proofs.links.Noticing.{turn-phase, UpAt, at_all, at_host}
-use Rattle.node_laws.proofs.notices.Reading.{reads, read_more, sent_reads, sent_elsewhere, notice_reads}
-use Rattle.node_laws.proofs.notices.Telling.{AreRight, noticed, MayTell}
+use Rattle.node_laws.proofs.links.Noticing.{UpAt, at_all, at_host, turn-phase}
+use Rattle.node_laws.proofs.notices.Reading.{notice_reads, read_more, reads, sent_elsewhere, sent_reads}
+use Rattle.node_laws.proofs.notices.Telling.{AreRight, MayTell, noticed}
 
 abbrev pub AreHostEnds : List Port → Type 0
 AreHostEnds ports = AllByRecursion (λ (p : Port). IsHost p.desk.host) ports
-
-pub all_map : (P Q : Port → Type 0) (f : Port → Port) → ((p : Port) → P p → Q (f p)) → (ports : List Port) → AllByRecursion P ports
-    → AllByRecursion Q (map f ports)
-all_map P Q f one ports a = each_map P Q f one ports a
 
 -- an end takes this notice, where there is one
 abbrev pub Takes : Option Port → List ℕ → Type 0

@@ -1,27 +1,19 @@
 -- What is read of the controller's notices over whatever happens.
-use Rattle.std.proofs.Common.{◌≡◌, ℕ, true, false, eqb, List, [], ◌∷◌, ◌++◌, map, sym, refl, subst, append-nil}
-use Rattle.std.specs.Prelude.{Option, Some, None, replicate}
-use Rattle.std.specs.List.{AllByRecursion, fold}
-use Rattle.std.specs.Option.{option_map_or}
-use Rattle.std.proofs.lemmas.Bool.{eqb-true}
-use Rattle.node_laws.proofs.Words.{Activates, AreHosts, AreTables, AreTables-apply, Arms, AsksReset, AtController, AtHost, Boots, Broken, Command, Controller}
-use Rattle.node_laws.proofs.Words.{ControllerReads, CutOff, Desk, End, Entry, Gives, Happening, HciTables, Host, IfHostNode, IfReads, Inits, IsCommand, IsCut}
-use Rattle.node_laws.proofs.Words.{IsHost, IsKeptNotice, IsRightNotice, JoinTwo, KeepsNotices, Link, Lose, Loses, Loss, MayBoot, Memory, NextFrame, NoInput}
-use Rattle.node_laws.proofs.Words.{NodeWorld, OnWire, Resets, Running, Site, Step, Takes, Ticks, after_planned, applied, apply, beginning, boot_found}
-use Rattle.node_laws.proofs.Words.{boot_writes, boot_written, boots, by_boot, by_memory, by_power, by_running, by_test, close, controller_cut, count_of, counts}
-use Rattle.node_laws.proofs.Words.{entries_for, first_lost, found, frame_lost, happens, host_cut, link_to, links_of, loses_power_at, memory_at, new_desk}
-use Rattle.node_laws.proofs.Words.{new_site, new_world, no_tables, node_at, notice_at, notice_in, sending, with_error, with_memory, with_node, with_site}
-use Rattle.node_laws.proofs.Words.{world_step}
-use Rattle.journal_laws.specs.Journal.{records}
+use Rattle.node_laws.proofs.Words.{Activates, AllByRecursion, AreHosts, AreTables, AreTables-apply, AreTables-close, AreTables-none, Arms, AsksReset}
+use Rattle.node_laws.proofs.Words.{AtController, AtHost, Boots, Broken, Command, Controller, ControllerReads, CutOff, Desk, End, Entry, Gives, Happening}
+use Rattle.node_laws.proofs.Words.{HciTables, Host, IfHostNode, IfReads, Inits, IsCommand, IsCut, IsHost, IsKeptNotice, IsRightNotice, JoinTwo, KeepsNotices}
+use Rattle.node_laws.proofs.Words.{Link, List, Lose, Loses, Loss, MayBoot, Memory, NextFrame, NoInput, NodeWorld, None, OnWire, Option, Resets, Running, Site}
+use Rattle.node_laws.proofs.Words.{Some, Step, Takes, Ticks, [], after_planned, append-nil, applied, apply, beginning, boot_found, boot_writes, boot_written}
+use Rattle.node_laws.proofs.Words.{boots, by_boot, by_memory, by_power, by_running, by_test, close, command_of, controller_cut, count_of, counts, entries_for}
+use Rattle.node_laws.proofs.Words.{eqb, eqb-true, false, first_lost, fold, found, frame_lost, happens, host_cut, link_to, links_of, loses_power_at, map}
+use Rattle.node_laws.proofs.Words.{memory_at, new_desk, new_site, new_world, no_tables, node_at, notice_at, notice_in, option_map_or, records, refl, replicate}
+use Rattle.node_laws.proofs.Words.{sending, spelled_by, subst, sym, tables_of, true, with_error, with_memory, with_node, with_site, world_step, written_off, ℕ}
+use Rattle.node_laws.proofs.Words.{◌++◌, ◌∷◌, ◌≡◌}
 use Rattle.trace_model.specs.declared.entry.Entry.TheVariants as entry
-use Rattle.hci_tables.specs.Bodies.{spelled_by, command_of}
-use Rattle.tables_laws.proofs.tables.SortedTables.{AreTables-close, AreTables-none}
 use Rattle.tables_laws.proofs.tables.TwoHosts.{JoinTwo-after, JoinTwo-closed}
-use Rattle.hci_store.specs.Image.{tables_of}
 use Rattle.node_laws.proofs.telling.Orderly.{new_orderly, step_orderly}
 use Rattle.node_laws.proofs.readings.NoticedWorlds.{event_up, numbers}
 use Rattle.node_laws.proofs.readings.Sites.{lost_quiet}
-use Rattle.node_machine.proofs.world.Cases.{written_off}
 use Rattle.node_laws.proofs.notices.Reading.{notice_more}
 use Rattle.node_laws.proofs.notices.Shut.{here_shut}
 use Rattle.node_laws.proofs.notices.Far.{quiet_far, asking_more}

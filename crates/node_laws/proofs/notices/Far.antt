@@ -1,21 +1,15 @@
 -- What a host notes tells nothing of the notices of a controller.
-use Rattle.std.proofs.Common.{◌≡◌, ℕ, ◌&&◌, Bool, true, false, cond, eqb, List, [], ◌∷◌, ◌++◌, length, map, sym, refl, ap, ◌∙◌, subst}
-use Rattle.std.specs.Prelude.{Option, Some, None}
-use Rattle.std.specs.List.{AllByRecursion, flat_map, fold}
-use Rattle.std.proofs.lemmas.List.Sums.{fold-append}
-use Rattle.std.specs.Option.{option_map_or}
-use mathlib.Core.Bool.{and-false}
-use Rattle.node_laws.proofs.Words.{About, Asks, AtEnd, Command, Commits, Core, Cut, Deed, Desk, Down, Drops, End, Ends, Entry, FetchMessage, Give, GoesOn}
-use Rattle.node_laws.proofs.Words.{Hears, Hold, Host, IsAnswered, LinkInput, Message, NodeInput, Orders, Port, Refused, Release, Releases, Removed, Report}
-use Rattle.node_laws.proofs.Words.{Reset, Restarted, SaysOk, Sends, Sent, SetsErrors, Tells, TimePasses, Turn, Work, after_input, after_sessions, all_come}
-use Rattle.node_laws.proofs.Words.{all_done, all_owed, anyone, asking_in, body_of, by_option, by_test, commit, commit_writes, done, end_c, end_of, end_of_node}
-use Rattle.node_laws.proofs.Words.{entries_for, fails_within, forgets, forgotten, give_refusal, input_at, is_late, is_notice, is_response, noted_of, notified}
-use Rattle.node_laws.proofs.Words.{noting, own_side, port_at, report, same_end, same_side, sent_unless, steps, synced, times_out, told, told_at, told_late}
-use Rattle.node_laws.proofs.Words.{turn_at, whole_acked, with_desk, with_older}
+use Rattle.node_laws.proofs.Words.{About, AllByRecursion, Asks, AtEnd, Bool, Command, Commits, Core, Cut, Deed, Desk, Down, Drops, End, Ends, Entry}
+use Rattle.node_laws.proofs.Words.{FetchMessage, Give, GoesOn, Hears, Hold, Host, IsAnswered, LinkInput, List, Message, NodeInput, None, Noted, Option, Orders}
+use Rattle.node_laws.proofs.Words.{Port, Refused, Release, Releases, Removed, Report, Reset, Restarted, SaysOk, Sends, Sent, SetsErrors, Some, Tells}
+use Rattle.node_laws.proofs.Words.{TimePasses, Turn, Work, [], after_input, after_sessions, all_come, all_done, all_owed, and-false, anyone, ap, asking_after}
+use Rattle.node_laws.proofs.Words.{asking_in, body_of, by_option, by_test, commit, commit_writes, cond, done, end_c, end_of, end_of_node, entries_for, eqb}
+use Rattle.node_laws.proofs.Words.{fails_within, false, flat_map, fold, fold-append, forgets, forgotten, give_refusal, input_at, is_late, is_notice}
+use Rattle.node_laws.proofs.Words.{is_response, length, map, noted_of, notified, noting, option_map_or, own_side, port_at, refl, report, same_end, same_side}
+use Rattle.node_laws.proofs.Words.{sent_unless, steps, subst, sym, synced, times_out, told, told_at, told_late, true, turn_at, whole_acked, with_desk}
+use Rattle.node_laws.proofs.Words.{with_older, ℕ, ◌&&◌, ◌++◌, ◌∙◌, ◌∷◌, ◌≡◌}
 use Rattle.trace_model.specs.declared.entry.Entry.TheVariants as entry
-use Rattle.link_laws.specs.entries.Entries.{Entry as Noted}
 use Rattle.link_laws.specs.entries.Entries.Entry.{Tick}
-use Rattle.node_machine.specs.world.NodeFilters.{asking_after}
 use Rattle.node_laws.proofs.readings.Silent.{IsQuiet, told_rest, rest_quiet}
 use Rattle.node_laws.proofs.notices.Reading.{reads}
 use Rattle.node_laws.proofs.notices.Own.{IsFar, IsOwn, AreOwn, deeds_own, forgotten_own, all_owed_own, all_synced_own}

@@ -1,19 +1,14 @@
 -- A controller asks and tells only hosts that have no notice to answer.
-use Rattle.std.proofs.Common.{◌≡◌, ℕ, zero, suc, ◌≤◌, Bool, true, false, cond, not, eqb, ◌&&◌, ◌||◌, List, [], ◌∷◌, refl, sym, ◌∙◌, arith}
-use Rattle.std.specs.Prelude.{Option, Some, None, nat_le}
-use Rattle.std.specs.List.{AllByRecursion, list_any, filter}
-use Rattle.std.specs.Option.{option_map_or, option_and_then}
-use Rattle.std.proofs.lemmas.Bool.{true≢false, leb-true}
-use Rattle.node_laws.proofs.Words.{Answer, Ask, Clear, Command, Commit, Core, Decision, Delete, GoesToFree, HciTables, LinkView, Message, OfDecision, Plain}
-use Rattle.node_laws.proofs.Words.{Port, all_false, all_of_controller, body_in, by_test, commits_and_tells, controller_deeds, decided, decided_holds}
-use Rattle.node_laws.proofs.Words.{far_end_of, has, has_notice, is_connected, mask_of, param_in, pipe_at, shares, told_of_clearing, told_of_deletion, view_for}
-use Rattle.node_laws.proofs.Words.{view_of}
+use Rattle.node_laws.proofs.Words.{AllByRecursion, Answer, Ask, Bool, Clear, Command, Commit, Core, Decision, Delete, GoesToFree, HciTables, LinkView, List}
+use Rattle.node_laws.proofs.Words.{Message, None, OfDecision, Option, Plain, Port, Some, [], all_false, all_of_controller, all_so, arith, body_in, by_test}
+use Rattle.node_laws.proofs.Words.{commits_and_tells, cond, controller_deeds, decided, decided_holds, dest_in, eqb, false, far_end_of, filter, has, has_notice}
+use Rattle.node_laws.proofs.Words.{is_connected, leb-true, list_any, mask_of, nat_le, not, option_and_then, option_map_or, param_in, pipe_at, refl, shares, suc}
+use Rattle.node_laws.proofs.Words.{sym, tests_to_clear, tests_to_create, tests_to_delete, told_of_clearing, told_of_deletion, true, true≢false, view_for}
+use Rattle.node_laws.proofs.Words.{view_of, zero, ℕ, ◌&&◌, ◌||◌, ◌∙◌, ◌∷◌, ◌≡◌, ◌≤◌}
 use Rattle.gate_admin.specs.View.{hosts_where, is_noticed}
-use Rattle.gate_admin.specs.Decide.{dest_in}
-use Rattle.gate_admin.specs.Decide.{tests_to_create, tests_to_delete, tests_to_clear}
 use Rattle.gate_admin.proofs.CreationLemmas.{AllFalse}
 use Rattle.node_laws.proofs.steps.Masks.{is_in_mask}
-use Rattle.node_laws.proofs.links.Masking.{nobody, alone, from_mask, all_in, has_small}
+use Rattle.node_laws.proofs.links.Masking.{all_in, alone, from_mask, has_small, nobody}
 
 -- ## Decisions
 
@@ -137,8 +132,7 @@ decision_free : (t : HciTables) (ports : List Port) (h : ℕ) (d : Decision) →
 decision_free t ports h (Answer answer) a = tt
 decision_free t ports h (Commit c answer tell notice) a = (tt, each (hosts_where (has tell)) a) where
   each : (hosts : List ℕ) → AllByRecursion (IsFree (view_for t ports h)) hosts → AllByRecursion (λ y. has_notice ports y ≡ false) hosts
-  each [] a = tt
-  each (y ∷ hosts) a = (no_notice t ports h y a.0, each hosts a.1)
+  each hosts a = all_so (IsFree (view_for t ports h)) (λ y. has_notice ports y ≡ false) (no_notice t ports h) hosts a
 decision_free t ports h (Ask asked notice c answer) a = no_notice t ports h asked a
 
 pub controller_free : (core : Core) (ports : List Port) (h : ℕ) (m : Message) → AllByRecursion (GoesToFree ports) (controller_deeds (view_of core ports) h m)

@@ -1,7 +1,6 @@
 -- What a controller knows of hosts by its notices is what is read.
-use Rattle.std.proofs.Common.{◌≡◌, inl, inr, ℕ, Bool, true, false, eqb, List, refl, ap, sym, ◌∙◌}
-use Rattle.std.specs.Prelude.{Option, Some, None, is_some}
-use Rattle.node_laws.proofs.Words.{About, Forgotten, IsAbout, IsKeptNotice, Notice, Port, Removed, Waits, instruction_in, is_asked_at, is_of_creation}
+use Rattle.node_laws.proofs.Words.{About, Bool, Forgotten, IsAbout, IsKeptNotice, List, None, Notice, Option, Port, Removed, Some, Waits, ap, eqb, false, inl}
+use Rattle.node_laws.proofs.Words.{inr, instruction_in, is_asked_at, is_of_creation, is_some, refl, sym, true, ℕ, ◌∙◌, ◌≡◌}
 
 pub noticed_is : (message : Option (List ℕ)) (p : Port) → IsKeptNotice message p.desk.notice → is_some p.desk.notice ≡ is_some message
 noticed_is message p kept = go message p.desk.notice kept where

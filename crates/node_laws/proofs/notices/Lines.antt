@@ -1,11 +1,8 @@
 -- What is read of the controller's notices over the lines of a schedule.
-use Rattle.std.proofs.Common.{◌≡◌, ℕ, List, [], sym, ap, subst}
-use Rattle.std.specs.Prelude.{Option, Some, None}
-use Rattle.std.specs.List.{flat_map}
-use Rattle.node_laws.proofs.Words.{AreHosts, Entry, FollowsNodes, Header, IfReads, IsKeptNotice, KeepsNotices, Line, LineStep, MayBoot, NodeHistory, NodeWorld}
-use Rattle.node_laws.proofs.Words.{Running, asking_in, entries_in, new_world, node_entries, notice_in, occurrences_of, world_after}
+use Rattle.node_laws.proofs.Words.{AreHosts, Entry, FollowsNodes, Header, IfReads, IsKeptNotice, KeepsNotices, Line, LineStep, List, MayBoot, NodeHistory}
+use Rattle.node_laws.proofs.Words.{NodeWorld, None, NoticesAreRead, Option, Running, Some, [], ap, asking_in, entries_in, flat_map, new_world, node_entries}
+use Rattle.node_laws.proofs.Words.{notice_in, notice_of_running, occurrences_of, subst, sym, world_after, ℕ, ◌≡◌}
 use Rattle.node_laws.proofs.telling.Lasting.{AnyLine, boots_may, all_lines, lines_last}
-use Rattle.node_laws.specs.notices.Notices.{notice_of_running, NoticesAreRead}
 use Rattle.node_laws.proofs.notices.Events.{event_read, begins_read}
 
 -- ## Schedules

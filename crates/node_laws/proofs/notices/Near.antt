@@ -1,16 +1,14 @@
 -- What is read of the controller's notices as the controller has a step.
-use Rattle.std.proofs.Common.{◌≡◌, inl, inr, ℕ, ◌&&◌, Bool, true, false, not, eqb, List, [], ◌∷◌, ◌++◌, map, sym, refl, ap, ◌∙◌, subst, append_assoc}
-use Rattle.std.specs.Prelude.{Option, Some, None}
-use Rattle.std.specs.List.{AllByRecursion, flat_map}
-use Rattle.std.proofs.lemmas.Bool.{cond_both, true≢false}
-use Rattle.node_laws.proofs.Words.{AreDifferent, AsksReset, AtEnd, Comes, Controller, ControllerReads, Desk, End, Ending, Entry, GoesOut, HasEnds, Host}
-use Rattle.node_laws.proofs.Words.{IfItRuns, IfNoticedUp, IfReads, IsFresh, IsHost, IsKeptNotice, IsNoticedUp, IsOrderly, IsOutside, IsRightNotice, IsShut}
-use Rattle.node_laws.proofs.Words.{Link, LinkEnd, LinkInput, NodeInput, NodeWorld, NoticesAreUp, NumberedEnd, OnFirst, Plan, Port, Reset, Running, Site, Starts}
-use Rattle.node_laws.proofs.Words.{Step, TimePasses, Turn, Work, activates, aged, aged_entries, all_aged, arrival, asking_in, by_coming, by_controller}
-use Rattle.node_laws.proofs.Words.{by_controller_tick, by_test, comes_at, comes_to, controller_does, controller_ticks, controller_work, end_c, end_h, ending_of}
-use Rattle.node_laws.proofs.Words.{entries_for, frames_noted, has_input, hosts_in, hosts_tick, input_of, is_late_at, is_up, is_waiting, link_after_controller}
-use Rattle.node_laws.proofs.Words.{link_to, near_end_in, near_tick, notice_at, notice_in, port_at, port_for, runs_on, site_ticked, site_unticked, steps}
-use Rattle.node_laws.proofs.Words.{ticked_so, ticks_at_controller, turns_at, wires_for, work_of, world_ticks}
+use Rattle.node_laws.proofs.Words.{AllByRecursion, AreDifferent, AsksReset, AtEnd, Bool, Comes, Controller, ControllerReads, Desk, End, Ending, Entry, GoesOut}
+use Rattle.node_laws.proofs.Words.{HasEnds, Host, IfItRuns, IfNoticedUp, IfReads, IsFresh, IsHost, IsKeptNotice, IsNoticedUp, IsOrderly, IsOutside}
+use Rattle.node_laws.proofs.Words.{IsRightNotice, IsShut, Link, LinkEnd, LinkInput, List, NodeInput, NodeWorld, None, NoticesAreUp, NumberedEnd, OnFirst}
+use Rattle.node_laws.proofs.Words.{Option, Plan, Port, Reset, Running, Site, Some, Starts, Step, TimePasses, Turn, Work, [], activates, aged, aged_entries}
+use Rattle.node_laws.proofs.Words.{all_aged, ap, append_assoc, arrival, asking_in, by_coming, by_controller, by_controller_tick, by_test, comes_at, comes_to}
+use Rattle.node_laws.proofs.Words.{cond_both, controller_does, controller_ticks, controller_work, end_c, end_h, ending_of, entries_for, eqb, false, flat_map}
+use Rattle.node_laws.proofs.Words.{frames_noted, has_input, hosts_in, hosts_tick, inl, input_of, inr, is_late_at, is_up, is_waiting, link_after_controller}
+use Rattle.node_laws.proofs.Words.{link_to, map, near_end_in, near_tick, not, notice_at, notice_in, port_at, port_for, refl, runs_on, site_ticked}
+use Rattle.node_laws.proofs.Words.{site_unticked, steps, subst, sym, ticked_so, ticks_at_controller, true, true≢false, turns_at, wires_for, work_of}
+use Rattle.node_laws.proofs.Words.{world_ticks, ℕ, ◌&&◌, ◌++◌, ◌∙◌, ◌∷◌, ◌≡◌}
 use Rattle.trace_model.specs.declared.entry.Entry.TheVariants as entry
 use Rattle.node_laws.proofs.links.Noticing.{UpAt}
 use Rattle.node_laws.proofs.telling.Frames.{wires_all}

@@ -1,8 +1,7 @@
 -- What a host does: it neither asks nor tells anybody by a notice, and what it notes is of its own end.
-use Rattle.std.proofs.Common.{◌≡◌, ℕ, true, false, eqb, List}
-use Rattle.std.specs.List.{AllByRecursion, flat_map}
-use Rattle.node_laws.proofs.Words.{Asks, Core, Deed, Ends, Entry, Message, NodeInput, OfHost, Plain, Port, all_of_host, all_owed, all_owed_hold}
-use Rattle.node_laws.proofs.Words.{all_synced_hold, by_option, deeds_of, end_view, forgotten, forgotten_hold, host_deeds, own_view, port_at, synced}
+use Rattle.node_laws.proofs.Words.{AllByRecursion, Asks, Core, Deed, Ends, Entry, List, Message, NodeInput, OfHost, Plain, Port, all_of_host, all_owed}
+use Rattle.node_laws.proofs.Words.{all_owed_hold, all_synced_hold, by_option, deeds_of, end_view, eqb, false, flat_map, forgotten, forgotten_hold, host_deeds}
+use Rattle.node_laws.proofs.Words.{own_view, port_at, synced, true, ℕ, ◌≡◌}
 use Rattle.trace_model.specs.declared.entry.Entry.TheVariants as entry
 
 -- a host may note it: it tells of no end of a controller, of no creation that is asked for, and neither of the power nor of the

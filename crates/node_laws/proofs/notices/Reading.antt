@@ -1,13 +1,10 @@
 -- What is read of the unanswered notice to a host.
-use Rattle.std.proofs.Common.{◌≡◌, ℕ, ◌&&◌, Bool, true, false, cond, eqb, List, [], ◌∷◌, ◌++◌, map, refl, ap, ◌∙◌, append_assoc, sym}
-use Rattle.std.specs.Prelude.{Option, Some, None, is_some, option_to_list}
-use Rattle.std.specs.List.{AllByRecursion, fold}
+use Rattle.node_laws.proofs.Words.{AllByRecursion, Bool, Cause, Controller, Core, Down, Entry, LinkInput, List, Message, None, Noted, Option, Port, Refused}
+use Rattle.node_laws.proofs.Words.{Sent, Some, [], after_input, and-false, ap, append_assoc, awaited_after, cond, end_c, end_of, ended_by, entries_for, eqb}
+use Rattle.node_laws.proofs.Words.{false, fold, fold-append, is_notice, is_some, map, notice_in, option_to_list, own_side, refl, report, same_end, sent_unless}
+use Rattle.node_laws.proofs.Words.{sym, told_at, true, whole_acked, ℕ, ◌&&◌, ◌++◌, ◌∙◌, ◌∷◌, ◌≡◌}
 use Rattle.std.proofs.Math.Bool.{and-true}
-use Rattle.std.proofs.lemmas.List.Sums.{fold-append}
-use mathlib.Core.Bool.{and-false}
-use Rattle.node_laws.proofs.Words.{Cause, Controller, Core, Down, Entry, LinkInput, Message, Port, Refused, Sent, after_input, awaited_after, end_c, end_of}
-use Rattle.node_laws.proofs.Words.{ended_by, entries_for, is_notice, notice_in, own_side, report, same_end, sent_unless, told_at, whole_acked}
-use Rattle.link_laws.specs.entries.Entries.{End as Side, Entry as Noted}
+use Rattle.link_laws.specs.entries.Entries.{End as Side}
 use Rattle.node_laws.proofs.readings.Silent.{IsQuiet, told_rest, rest_quiet}
 
 -- the end of this link is the one with that host

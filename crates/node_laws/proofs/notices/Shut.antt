@@ -1,15 +1,11 @@
 -- An end that isn't active is Down.
-use Rattle.std.proofs.Common.{◌≡◌, ◌⊎◌, inl, inr, Bool, true, false, cond, List, [], ◌∷◌, Option, Some, None, refl, ap, sym, subst, ◌∙◌}
-use Rattle.std.specs.Prelude.{◌==◌}
-use Rattle.std.proofs.lemmas.Bool.{true≢false}
-use Rattle.node_laws.proofs.Words.{ActEvent, Bare, Clf, Clt, Control, EndEvent, Ending, Fetch, FromNode, I, IsShut, Link, LinkEnd, LinkInput, LinkState}
-use Rattle.node_laws.proofs.Words.{Refused, Reset, Role, Rset, S, Start, Stop, Take, TakeBroken, TakeUnknown, Tick, Turn, Ua, Uicc, Up, act_answer, activated}
-use Rattle.node_laws.proofs.Words.{activated_role, after_input, by_list, by_test, frame_fetched, had_tick, happens_at_controller, heard, is_open, moved}
-use Rattle.node_laws.proofs.Words.{moved_role, new_link_end, put_down, renewed, reset_refusal, role_after, sent_all, stopped, tick_answer, ticked}
-use Rattle.node_laws.proofs.Words.{ticks_at_controller, took, turn, turned, turned_role, with_act}
-use Rattle.swp_base.specs.declared.control_frames.Control.TheVariants.{Act as ActFrame}
+use Rattle.node_laws.proofs.Words.{ActEvent, ActFrame, ActStart, ActStop, ActTake, ActTick, Bare, Bool, Clf, Clt, Control, EndEvent, Ending, Fetch, FromNode, I}
+use Rattle.node_laws.proofs.Words.{IsShut, Link, LinkEnd, LinkInput, LinkState, List, None, Option, Refused, Reset, Role, Rset, S, Some, Start, Stop, Take}
+use Rattle.node_laws.proofs.Words.{TakeBroken, TakeUnknown, Tick, Turn, Ua, Uicc, Up, [], act_answer, activated, activated_role, after_input, ap, by_list}
+use Rattle.node_laws.proofs.Words.{by_test, cond, false, frame_fetched, had_tick, happens_at_controller, heard, inl, inr, is_open, moved, moved_role}
+use Rattle.node_laws.proofs.Words.{new_link_end, put_down, refl, renewed, reset_refusal, role_after, sent_all, stopped, subst, sym, tick_answer, ticked}
+use Rattle.node_laws.proofs.Words.{ticks_at_controller, took, true, true≢false, turn, turned, turned_role, with_act, ◌==◌, ◌∙◌, ◌∷◌, ◌≡◌, ◌⊎◌}
 use Rattle.swp_base.specs.declared.control_frames.Act.{Act}
-use Rattle.swp_act.specs.declared.ActEvent.TheVariants.{Start as ActStart, Take as ActTake, Tick as ActTick, Stop as ActStop}
 use Rattle.shdlc_core.specs.declared.answers.LinkState.TheVariants.{Down}
 use Rattle.link_laws.proofs.sessions.Ties.{fetched-phase}
 use Rattle.link_laws.proofs.messages.Steps.{role_closes}

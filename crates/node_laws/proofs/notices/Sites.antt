@@ -1,17 +1,13 @@
 -- What stays of the hosts of a world and of the links to them, and what is read of the controller's notices as a host acts.
-use Rattle.std.proofs.Common.{◌≡◌, ℕ, ◌&&◌, true, eqb, List, [], ◌∷◌, ◌++◌, map, sym, ◌∙◌, subst, append-nil}
-use Rattle.std.specs.Prelude.{Option, Some, None}
-use Rattle.std.specs.List.{AllByRecursion}
-use Rattle.std.proofs.lemmas.Bool.{cond_both, true≢false}
-use Rattle.node_laws.proofs.Words.{AtEnd, AtHost, Comes, Deed, End, EndEvent, Ending, Entry, GoesOut, Host, IfHostNode, IfReads, IsGoodSite, IsKeptNotice}
-use Rattle.node_laws.proofs.Words.{IsShut, Link, Message, NextFrame, NoInput, NodeWorld, NumberedEnd, Orders, Running, Sends, Site, Step, TimePasses, Work}
-use Rattle.node_laws.proofs.Words.{after_host, all_changed, all_map, arrival, asking_in, beginning, begins_with, by_coming, by_host, by_host_tick, by_list}
-use Rattle.node_laws.proofs.Words.{by_option, by_test, comes_at, ending_entries, ending_of, entries_for, exchanged, frames_noted, happens, host_does, host_tick}
-use Rattle.node_laws.proofs.Words.{host_ticks, host_work, hosts_tick, is_command_message, link_to, near_end_in, notice_at, notice_in, port_at, runs_on, sending}
-use Rattle.node_laws.proofs.Words.{site_at, steps, ticks_at_controller, turns_at, wires_for, with_site, work_of}
+use Rattle.node_laws.proofs.Words.{AllByRecursion, AtEnd, AtHost, Comes, Deed, End, EndEvent, Ending, Entry, GoesOut, Host, IfHostNode, IfReads, IsGoodSite}
+use Rattle.node_laws.proofs.Words.{IsKeptNotice, IsShut, Link, List, Message, NextFrame, NoInput, NodeWorld, None, NumberedEnd, Option, Orders, Running, Sends}
+use Rattle.node_laws.proofs.Words.{Site, Some, Step, TimePasses, Work, [], after_host, all_changed, all_map, append-nil, arrival, asking_in, beginning}
+use Rattle.node_laws.proofs.Words.{begins_with, by_coming, by_host, by_host_tick, by_list, by_option, by_test, comes_at, cond_both, ending_entries, ending_of}
+use Rattle.node_laws.proofs.Words.{entries_for, eqb, exchanged, frames_noted, happens, host_does, host_tick, host_ticks, host_work, hosts_tick}
+use Rattle.node_laws.proofs.Words.{is_command_message, link_to, map, near_end_in, notice_at, notice_in, port_at, runs_on, sending, site_at, steps, subst, sym}
+use Rattle.node_laws.proofs.Words.{tick_host, ticks_at_controller, true, true≢false, turns_at, wires_for, with_site, work_of, ℕ, ◌&&◌, ◌++◌, ◌∙◌, ◌∷◌, ◌≡◌}
 use Rattle.link_laws.specs.entries.Entries.{End as Side}
 use Rattle.node_laws.proofs.links.Ends.{here_host}
-use Rattle.link_laws.proofs.entries.Together.{ticks_host as tick_host}
 use Rattle.node_laws.proofs.readings.Sites.{ending_quiet}
 use Rattle.node_laws.proofs.notices.Reading.{reads, notice_more}
 use Rattle.node_laws.proofs.notices.Own.{AreOwn}

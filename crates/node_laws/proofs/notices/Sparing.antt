@@ -1,10 +1,7 @@
 -- The blocks that an end has to spare are those that are read.
-use Rattle.std.proofs.Common.{◌≡◌, ◌+◌, ◌-◌, List, refl, ap, ap₂, sym, ◌∙◌}
-use Rattle.std.specs.Prelude.{Some, None, drop}
-use Rattle.node_laws.proofs.Words.{End, Entry, LinkState, Message, NumberedEnd, Up, Waiting, in_use, need_of_all, node_of, number_of, session_now, spare}
-use Rattle.node_laws.proofs.Words.{spare_at, unacknowledged_in, whole_among}
+use Rattle.node_laws.proofs.Words.{End, Entry, LinkState, List, Message, None, NumberedEnd, Some, Up, Waiting, ap, ap₂, drop, in_use, need_of_all, node_of}
+use Rattle.node_laws.proofs.Words.{number_of, own_session, refl, session_now, spare, spare_at, sym, unacknowledged_in, whole_among, ◌+◌, ◌-◌, ◌∙◌, ◌≡◌}
 use Rattle.shdlc_core.specs.declared.answers.LinkState.TheVariants.{Down}
-use Rattle.link_laws.specs.entries.Sessions.{number_now as own_session}
 use Rattle.node_laws.specs.notices.Spares.{IsEndRead}
 
 in_use_is : (t : List Entry) (e : End) (near_end : NumberedEnd) → IsEndRead t e near_end

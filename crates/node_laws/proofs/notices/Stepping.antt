@@ -1,16 +1,12 @@
 -- A controller has a step: its unanswered notice to a host stays the one that is read.
-use Rattle.std.proofs.Common.{◌≡◌, ℕ, ◌&&◌, ◌||◌, Bool, true, false, not, cond, eqb, List, [], ◌∷◌, map, sym, refl, ap, ◌∙◌, subst}
-use Rattle.std.specs.Prelude.{Option, Some, None, is_some, nat_le}
-use Rattle.std.specs.List.{AllByRecursion, flat_map}
-use Rattle.std.specs.Option.{option_map_or}
-use Rattle.std.proofs.lemmas.Bool.{eqb-true, eqb-false, ne_eqb, eq-eqb, true≢false, and_from, le-leb}
-use Rattle.std.proofs.lemmas.Bool.{and_parts}
-use mathlib.Core.Bool.{or-false, or-true}
-use Rattle.node_laws.proofs.Words.{About, AreDifferent, Commits, Controller, Core, Creation, Deed, Entry, Forgotten, IsAbout, IsComing, IsCommand, IsFresh}
-use Rattle.node_laws.proofs.Words.{IsHost, IsKeptNotice, IsNoticeOf, IsShut, LinkEnd, LinkInput, NodeInput, Notice, Port, Releases, Removed, Reset, Response}
-use Rattle.node_laws.proofs.Words.{Sends, Sync, Up, Waits, after_input, asked_at, by_option, by_test, creation_in, ended_by, finds_room, forgets, has_come}
-use Rattle.node_laws.proofs.Words.{input_at, instruction_in, is_forgotten, is_kept_sync, is_late, is_notice, is_open, is_over, is_up, older_notice, owed}
-use Rattle.node_laws.proofs.Words.{own_side, port_at, report, reset_late, synced, told_at, told_late, with_older, without_notice}
+use Rattle.node_laws.proofs.Words.{About, AllByRecursion, AreDifferent, Bool, Commits, Controller, Core, Creation, Deed, Entry, Forgotten, IsAbout, IsComing}
+use Rattle.node_laws.proofs.Words.{IsCommand, IsFresh, IsHost, IsKeptNotice, IsNoticeOf, IsShut, LinkEnd, LinkInput, List, NodeInput, None, Notice, Option}
+use Rattle.node_laws.proofs.Words.{Port, Releases, Removed, Reset, Response, Sends, Some, Sync, Up, Waits, [], after_input, all_append, and_from, and_parts, ap}
+use Rattle.node_laws.proofs.Words.{asked_at, by_option, by_test, cond, creation_in, ended_by, eq-eqb, eqb, eqb-false, eqb-true, false, finds_room, flat_map}
+use Rattle.node_laws.proofs.Words.{forgets, has_come, input_at, instruction_in, is_forgotten, is_kept_sync, is_late, is_notice, is_open, is_over, is_some}
+use Rattle.node_laws.proofs.Words.{is_up, le-leb, map, nat_le, ne_eqb, not, older_notice, option_map_or, or-false, or-true, owed, own_side, port_at, refl}
+use Rattle.node_laws.proofs.Words.{report, reset_late, subst, sym, synced, told_at, told_late, true, true≢false, with_older, without_notice, ℕ, ◌&&◌, ◌||◌, ◌∙◌}
+use Rattle.node_laws.proofs.Words.{◌∷◌, ◌≡◌}
 use Rattle.shdlc_core.specs.declared.answers.LinkState.TheVariants.{Down}
 use Rattle.node_laws.proofs.links.Staying.{stays_up}
 use Rattle.node_laws.proofs.links.Noticing.{UpAt}
@@ -19,7 +15,6 @@ use Rattle.node_laws.proofs.notices.Reading.{reads, reads_append, told_reads}
 use Rattle.node_laws.proofs.notices.Deciding.{answer_other}
 use Rattle.node_laws.proofs.notices.Telling.{MayTell}
 use Rattle.node_laws.proofs.notices.Shut.{input_shut}
-use Rattle.registry.proofs.ValueLemmas.{AllByRecursion-append as all_append}
 
 -- ## Quiet deeds
 

@@ -1,24 +1,21 @@
 -- A whole step of a controller: its unanswered notice to a host stays the one that is read.
-use Rattle.std.proofs.Common.{◌≡◌, ℕ, false, cond, List, [], ◌∷◌, ◌++◌, map, sym, refl, ap, ◌∙◌, subst}
-use Rattle.std.specs.Prelude.{Option, Some, None, is_some}
-use Rattle.std.specs.List.{AllByRecursion, flat_map, filter, filter_map, list_any}
-use Rattle.std.specs.Option.{option_map, option_map_or, option_and_then}
-use Rattle.node_laws.proofs.Words.{AreDifferent, AtEnd, Controller, Core, Creation, Deed, Entry, HciTables, IsComing, IsFresh, IsHost, IsKeptNotice, IsOutside}
-use Rattle.node_laws.proofs.Words.{IsRightNotice, IsShut, LinkInput, NodeInput, Notice, Port, Release, Releases, Reset, Tick, TimePasses, Work, after_sessions}
-use Rattle.node_laws.proofs.Words.{all_come, all_done, all_flat, all_owed, answers_and_passes, asked_at, by_option, by_test, ended_by, forgets, has_come}
-use Rattle.node_laws.proofs.Words.{input_at, is_forgotten, is_late, is_over, older_notice, owed, own_side, passes, port_at, reset_late, steps, synced}
-use Rattle.node_laws.proofs.Words.{times_out, told_at, told_late, turn_at, unless_cut, with_older, without_notice}
+use Rattle.node_laws.proofs.Words.{AllByRecursion, AreDifferent, AtEnd, Controller, Core, Creation, Deed, Entry, HciTables, IsComing, IsFresh, IsHost}
+use Rattle.node_laws.proofs.Words.{IsKeptNotice, IsOutside, IsRightNotice, IsShut, LinkInput, List, NodeInput, None, Notice, Option, Port, Release, Releases}
+use Rattle.node_laws.proofs.Words.{Reset, Some, Tick, TimePasses, Work, [], after_sessions, all_append, all_come, all_done, all_flat, all_map, all_owed}
+use Rattle.node_laws.proofs.Words.{answers_and_passes, ap, asked_at, by_option, by_test, cond, ended_by, false, filter, filter_map, flat_map, forgets, has_come}
+use Rattle.node_laws.proofs.Words.{input_at, is_forgotten, is_late, is_over, is_some, list_any, map, older_notice, option_and_then, option_map, option_map_or}
+use Rattle.node_laws.proofs.Words.{owed, own_side, passes, port_at, refl, reset_late, steps, subst, sym, synced, times_out, told_at, told_late, turn_at}
+use Rattle.node_laws.proofs.Words.{unless_cut, with_older, without_notice, ℕ, ◌++◌, ◌∙◌, ◌∷◌, ◌≡◌}
 use Rattle.gate_answers.specs.declared.response.Response.TheVariants as response
 use Rattle.node_laws.proofs.links.Noticing.{UpAt, at_all, at_host, outside as from_outside}
-use Rattle.node_laws.proofs.notices.Reading.{reads, read_more}
+use Rattle.node_laws.proofs.notices.Reading.{read_more, reads}
 use Rattle.node_laws.proofs.notices.Telling.{AreRight}
-use Rattle.node_laws.proofs.notices.Doing.{AreHostEnds, all_map, controller_side, IsOn, Stands, then, turns, all_stand, read_in}
-use Rattle.node_laws.proofs.notices.Turning.{passes_stand, kept_none}
-use Rattle.node_laws.proofs.notices.Stepping.{TellNoNotices, no_notices_flat, no_notices_may, owed_no_notices, TellsNoNotice}
-use Rattle.node_laws.proofs.notices.Stepping.{synced_no_notices, flat_reads, told_elsewhere, told_here, late_elsewhere, IsCome, IsComeAt, come_is, older_is}
-use Rattle.node_laws.proofs.notices.Stepping.{late_is, forgets_is, without_is}
-use Rattle.registry.proofs.ValueLemmas.{AllByRecursion-append as all_append}
-use Rattle.node_laws.proofs.steps.Ports.{at_port, come_host, forgets_host, sessions_node, without_host, late_host}
+use Rattle.node_laws.proofs.notices.Doing.{AreHostEnds, IsOn, Stands, all_stand, controller_side, read_in, then, turns}
+use Rattle.node_laws.proofs.notices.Turning.{kept_none, passes_stand}
+use Rattle.node_laws.proofs.notices.Stepping.{TellNoNotices, TellsNoNotice, no_notices_flat, no_notices_may, owed_no_notices}
+use Rattle.node_laws.proofs.notices.Stepping.{IsCome, IsComeAt, come_is, flat_reads, late_elsewhere, older_is, synced_no_notices, told_elsewhere, told_here}
+use Rattle.node_laws.proofs.notices.Stepping.{forgets_is, late_is, without_is}
+use Rattle.node_laws.proofs.steps.Ports.{at_port, come_host, forgets_host, late_host, sessions_node, without_host}
 use Rattle.node_laws.proofs.kept.Doing.{uncut}
 
 -- the hosts of ends that keep theirs

@@ -1,15 +1,12 @@
 -- Which notices a controller sends as it handles a message, and which message answers one.
-use Rattle.std.proofs.Common.{◌≡◌, ℕ, ◌≤◌, ◌&&◌, Bool, true, false, cond, eqb, not, List, [], ◌∷◌, length, map, sym, refl, ap, ◌∙◌, subst, arith}
-use Rattle.std.specs.Prelude.{Option, Some, None, is_some}
-use Rattle.std.specs.List.{AllByRecursion, filter}
-use Rattle.std.specs.Option.{option_map_or, option_and_then}
-use Rattle.std.proofs.lemmas.Bool.{true≢false, eqb-true, eqb-false, ne_eqb, and_parts}
-use Rattle.node_laws.proofs.Words.{About, Answer, AreDifferent, AreTables, Ask, Asks, AsksAsAllowed, Command, Commit, Commits, Core, Create, Creation, Decision}
-use Rattle.node_laws.proofs.Words.{Deed, Drops, Forgotten, HciTables, IsAnswered, IsAskedFor, IsCommand, IsNoticeOf, IsRecordableDecision, IsRightAbout}
-use Rattle.node_laws.proofs.Words.{IsRightNotice, JoinTwo, LinkView, Message, Notice, PipeRow, Port, Releases, Removed, SaysOk, Sends, SetsErrors, Tells, Waits}
-use Rattle.node_laws.proofs.Words.{agreed, answer_of, answers_on, asked_at, body_in, by_test, commit_deeds, controller_deeds, controller_holds, creation_in}
-use Rattle.node_laws.proofs.Words.{decided, decided_as_allowed, decision_deeds, finds_room, gates, has, has_link, identity_served, is_dynamic, is_host}
-use Rattle.node_laws.proofs.Words.{is_notice, is_response, link_deeds, link_served, own_gate, own_view, port_at, view_for, view_of}
+use Rattle.node_laws.proofs.Words.{About, AllByRecursion, Answer, AreDifferent, AreTables, Ask, Asks, AsksAsAllowed, Bool, Command, Commit, Commits, Core}
+use Rattle.node_laws.proofs.Words.{Create, Creation, Decision, Deed, Drops, Forgotten, HciTables, IsAnswered, IsAskedFor, IsCommand, IsNoticeOf}
+use Rattle.node_laws.proofs.Words.{IsRecordableDecision, IsRightAbout, IsRightNotice, JoinTwo, LinkView, List, Message, None, Notice, Option, PipeRow, Port}
+use Rattle.node_laws.proofs.Words.{Releases, Removed, SaysOk, Sends, SetsErrors, Some, Tells, Waits, [], agreed, and_parts, answer_of, answers_on, ap, arith}
+use Rattle.node_laws.proofs.Words.{asked_at, body_in, by_test, commit_deeds, cond, controller_deeds, controller_holds, creation_in, decided, decided_as_allowed}
+use Rattle.node_laws.proofs.Words.{decision_deeds, eqb, eqb-false, eqb-true, false, filter, finds_room, gates, has, has_link, identity_served, is_dynamic}
+use Rattle.node_laws.proofs.Words.{is_host, is_notice, is_response, is_some, length, link_deeds, link_served, map, ne_eqb, not, option_and_then, option_map_or}
+use Rattle.node_laws.proofs.Words.{own_gate, own_view, port_at, refl, subst, sym, true, true≢false, view_for, view_of, ℕ, ◌&&◌, ◌∙◌, ◌∷◌, ◌≡◌, ◌≤◌}
 use Rattle.gate_answers.specs.declared.response.Response.TheVariants as response
 use Rattle.gate_admin.specs.View.{hosts_where}
 use Rattle.node_laws.proofs.links.Noticing.{UpAt}

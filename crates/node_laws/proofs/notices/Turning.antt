@@ -1,22 +1,19 @@
 -- A controller has its turns: its unanswered notice to a host stays the one that is read.
-use Rattle.std.proofs.Common.{◌≡◌, ◌⊎◌, inl, inr, ℕ, ◌&&◌, Bool, true, false, cond, eqb, List, [], ◌∷◌, length, map, sym, refl, ap, ◌∙◌, subst}
-use Rattle.std.specs.Prelude.{Option, Some, None, nat_lt}
-use Rattle.std.specs.List.{AllByRecursion}
-use Rattle.std.specs.Option.{option_map, option_map_or, option_and_then}
-use Rattle.std.proofs.lemmas.Bool.{cases_Bool, eqb-true, eqb-false, ne_eqb, eq-eqb, true≢false, le-ltb}
-use Rattle.node_laws.proofs.Words.{AllReach, Asks, Commits, Deed, Drops, Entry, FetchMessage, Hold, IsAnswered, IsHost, IsKeptNotice, IsRightNotice, Message}
-use Rattle.node_laws.proofs.Words.{Notice, Port, Releases, SaysOk, Sends, SetsErrors, Tells, Up, Work, after_turn, all_done, by_option, by_test, changed_if}
-use Rattle.node_laws.proofs.Words.{controller_deeds, done, end_c, end_of_node, give_refusal, goes_through_ends, handles, has_link, have_turns, holds_back}
-use Rattle.node_laws.proofs.Words.{is_held, is_response, is_up, lack, lets_go, need, needs, noting, passes, port_at, same_end, spare, turn_at, view_of}
-use Rattle.node_laws.proofs.Words.{with_desk, with_port}
+use Rattle.node_laws.proofs.Words.{AllByRecursion, AllReach, Asks, Bool, Commits, Deed, Drops, Entry, FetchMessage, Hold, IsAnswered, IsHost, IsKeptNotice}
+use Rattle.node_laws.proofs.Words.{IsRightNotice, List, Message, None, Notice, Option, Port, Releases, SaysOk, Sends, SetsErrors, Some, Tells, Up, Work, []}
+use Rattle.node_laws.proofs.Words.{after_turn, all_done, all_map, ap, by_option, by_test, cases_Bool, changed_if, cond, controller_deeds, done, end_c}
+use Rattle.node_laws.proofs.Words.{end_of_node, eq-eqb, eqb, eqb-false, eqb-true, false, give_refusal, goes_through_ends, handles, has_link, have_turns}
+use Rattle.node_laws.proofs.Words.{holds_back, inl, inr, is_held, is_response, is_up, lack, le-ltb, length, lets_go, map, nat_lt, ne_eqb, need, needs, noting}
+use Rattle.node_laws.proofs.Words.{option_and_then, option_map, option_map_or, passes, port_at, refl, same_end, spare, subst, sym, true, true≢false, turn_at}
+use Rattle.node_laws.proofs.Words.{view_of, with_desk, with_port, ℕ, ◌&&◌, ◌∙◌, ◌∷◌, ◌≡◌, ◌⊎◌}
 use Rattle.trace_model.specs.declared.entry.Entry.TheVariants as entry
 use Rattle.node_laws.proofs.links.Noticing.{UpAt, at_all, at_host}
 use Rattle.node_laws.proofs.links.Reaching.{controller_reach}
 use Rattle.node_laws.proofs.readings.Noticed.{up_is}
 use Rattle.node_laws.proofs.notices.Reading.{reads, same_near}
-use Rattle.node_laws.proofs.notices.Telling.{noticed, IsShort, MayTell, answers, Outcome, controller_outcome}
-use Rattle.node_laws.proofs.notices.Telling.Outcome.{Leaves, IsHeard}
-use Rattle.node_laws.proofs.notices.Doing.{AreHostEnds, Takes, all_map, controller_side, Holds, IsOn, Stands, then, notes, hushed, turns, desks, all_stand}
+use Rattle.node_laws.proofs.notices.Telling.{IsShort, MayTell, Outcome, answers, controller_outcome, noticed}
+use Rattle.node_laws.proofs.notices.Telling.Outcome.{IsHeard, Leaves}
+use Rattle.node_laws.proofs.notices.Doing.{AreHostEnds, Holds, IsOn, Stands, Takes, all_stand, controller_side, desks, hushed, notes, then, turns}
 use Rattle.node_laws.proofs.notices.Doing.{read_in}
 use Rattle.node_laws.proofs.readings.Turning.{lack_parts}
 use Rattle.node_laws.proofs.steps.Ports.{changed_host}

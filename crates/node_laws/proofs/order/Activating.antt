@@ -1,13 +1,10 @@
 -- An activation of a link, first at the controller's end and then at the host's, leaves each link told.
-use Rattle.std.proofs.Common.{◌≡◌, ℕ, ◌==◌, Bool, true, false, cond, List, [], ◌++◌, Option, Some, None, refl, ap, sym, subst, ◌∙◌}
-use Rattle.std.proofs.Common.{append_assoc}
-use Rattle.std.specs.Prelude.{is_some}
-use Rattle.std.proofs.lemmas.Bool.{eqb-true, true≢false}
-use Rattle.node_laws.proofs.Words.{Activates, AtController, AtEnd, AtHost, Bare, Clf, Comes, Ending, Entry, Happening, IfOff, IsLine, IsUicc, Link, NoInput}
-use Rattle.node_laws.proofs.Words.{NodeWorld, NumberedEnd, Role, Running, Site, Start, Starts, Step, Turn, Uicc, Work, activates, after_controller, after_host}
-use Rattle.node_laws.proofs.Words.{by_option, by_test, changed_if, comes_at, comes_to, controller_work, end_c, end_h, ending_of, exchanged, found, from_start}
-use Rattle.node_laws.proofs.Words.{happens, host_does, host_work, inactive, link_after_controller, new_line, new_link_end, new_uicc, readiness_of, same_number}
-use Rattle.node_laws.proofs.Words.{site_at, steps, turns_at, with_site}
+use Rattle.node_laws.proofs.Words.{Activates, AtController, AtEnd, AtHost, Bare, Bool, Clf, Comes, Ending, Entry, Happening, IfOff, IsLine, IsUicc, Link, List}
+use Rattle.node_laws.proofs.Words.{NoInput, NodeWorld, None, NumberedEnd, Option, Role, Running, Site, Some, Start, Starts, Step, Turn, Uicc, Work, []}
+use Rattle.node_laws.proofs.Words.{activates, after_controller, after_host, ap, append_assoc, by_option, by_test, changed_if, comes_at, comes_to, cond}
+use Rattle.node_laws.proofs.Words.{controller_work, end_c, end_h, ending_of, eqb-true, exchanged, false, found, from_start, happens, host_does, host_work}
+use Rattle.node_laws.proofs.Words.{inactive, is_some, link_after_controller, new_line, new_link_end, new_uicc, readiness_of, refl, same_number, site_at, steps}
+use Rattle.node_laws.proofs.Words.{subst, sym, true, true≢false, turns_at, with_site, ℕ, ◌++◌, ◌==◌, ◌∙◌, ◌≡◌}
 use Rattle.node_laws.proofs.links.Ends.{here_host}
 use Rattle.node_laws.proofs.links.Works.{steps_fine}
 use Rattle.node_laws.proofs.links.Worlds.{IsFineSite}

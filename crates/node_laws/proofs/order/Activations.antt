@@ -1,16 +1,14 @@
 -- Frames of activation are read off the bytes of frames.
-use Rattle.std.proofs.Common.{◌≡◌, ◌⊎◌, inl, inr, ℕ, ◌+◌, ◌*◌, ◌<◌, ◌≤◌, Bool, true, false, cond, List, [], ◌∷◌, length, Some, refl, sym, ap, ◌∙◌, arith}
-use Rattle.std.specs.Prelude.{drop, ◌&&◌, not, find, nat_lt, nat_le, slice_index, Ok, Err}
-use Rattle.std.specs.List.{AllByRecursion, list_any}
-use Rattle.std.proofs.lemmas.Bool.{true≢false, leb-true}
-use Rattle.node_laws.proofs.Words.{Act, Control, I, Loss, S, by_test, end_of, frames_on, lost_as, lpdu_of, or_none, sans}
+use Rattle.node_laws.proofs.Words.{Act, AllByRecursion, Bool, Control, Err, I, IsFreeOfLinkFrames, List, Loss, LpduRow, Ok, S, Some, [], ap, arith, by_test}
+use Rattle.node_laws.proofs.Words.{cond, drop, end_of, false, find, frames_on, inl, inr, is_act, is_act_lpdu, is_within, kind_number, leb-true, length}
+use Rattle.node_laws.proofs.Words.{list_any, lost_as, lpdu_of, nat_le, nat_lt, not, or_none, read_by, refl, sans, slice_index, sym, table, true, true≢false, ℕ}
+use Rattle.node_laws.proofs.Words.{◌&&◌, ◌*◌, ◌+◌, ◌<◌, ◌∙◌, ◌∷◌, ◌≡◌, ◌≤◌, ◌⊎◌}
 use Rattle.swp_lpdu.specs.declared.LpduFault.TheVariants.{Short, TooLong}
-use Rattle.swp_lpdu.specs.Controls.{LpduRow, table, is_within, read_by, kind_number}
-use Rattle.link_laws.specs.places.Wire.{OnWire, is_act}
+use Rattle.link_laws.specs.places.Wire.{OnWire}
 use Rattle.link_laws.specs.entries.Entries.{End as Side}
 use Rattle.trace_model.specs.declared.entry.Entry.TheVariants as entry
 use Rattle.history.proofs.legal.Reading.{link_same}
-use Rattle.node_laws.specs.order.Resets.{IsFreeOfLinkFrames, is_act_lpdu, is_act_read}
+use Rattle.node_laws.specs.order.Resets.{is_act_read}
 use Rattle.node_laws.proofs.order.Withheld.{loses_one_on}
 
 -- ## Bytes

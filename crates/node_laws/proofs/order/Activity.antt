@@ -1,35 +1,28 @@
 -- What is noted of a link says at which of its ends activation is done.
-use Rattle.std.proofs.Common.{◌≡◌, ℕ, Bool, true, false, List, [], ◌∷◌, ◌++◌, map, Option, Some, None, refl, ap, sym, subst, ◌∙◌}
-use Rattle.std.specs.Prelude.{◌+◌, is_some, nat_lt, nat_le, option_to_list, if◌then◌else◌}
-use Rattle.std.specs.List.{AllByRecursion, fold}
-use Rattle.std.proofs.lemmas.Bool.{true≢false}
-use Rattle.std.proofs.lemmas.List.Sums.{fold-append}
+use Rattle.node_laws.proofs.Words.{Acked, Act, ActEvent, ActOut, ActStart, ActStop, ActTake, ActTick, Activate, Active, AllAllowed, AllByRecursion, AreOwn}
+use Rattle.node_laws.proofs.Words.{AsksReset, AtController, AtHost, Awaiting, Bare, Bool, Clf, Clt, Control, Controller, Cut, CutOff, Down, EndEvent, Ending}
+use Rattle.node_laws.proofs.Words.{GaveUp, GoesOut, Got, HasTick, Host, I, Inactive, IsActive, IsEvent, IsLine, IsOwn, Link, LinkEnd, LinkEvent, LinkInput}
+use Rattle.node_laws.proofs.Words.{List, Lose, NextFrame, NoInput, Node, None, Noted, NumberedEnd, OnWire, Option, Phase, PowerMode, Ready, Report, Reset}
+use Rattle.node_laws.proofs.Words.{Restarted, Role, Rset, S, Some, Sounds, Start, Starts, Step, Stop, Stops, SyncId, Take, TicksWithout, Turn, Ua, Uicc}
+use Rattle.node_laws.proofs.Words.{UiccAct, [], act_answer, act_event, act_out, activated, activated_role, after_input, after_link_events, aged, aged_entries}
+use Rattle.node_laws.proofs.Words.{all_at_controller, ap, before_here, before_there, by_test, ended_by, entries, entries_of_events, event_entries, exchanged}
+use Rattle.node_laws.proofs.Words.{false, far, finished, first_lost, fold, fold-append, frames_out, happens, happens_at_controller, has_taken, heard}
+use Rattle.node_laws.proofs.Words.{here_entries, if_so, if◌then◌else◌, input_entries, is_open, is_some, left_after, map, moved, nat_le, nat_lt, new_line}
+use Rattle.node_laws.proofs.Words.{no_act_out, number_of, option_to_list, puts_entries, refl, renewed, report, reset_role, rest_entries, restart_entries}
+use Rattle.node_laws.proofs.Words.{role_after, silent, step_entries, stopped, subst, sym, taken_entries, tick_answer, tick_entries, ticked, ticks_at_controller}
+use Rattle.node_laws.proofs.Words.{ticks_host, told, told_of, took_with, true, true≢false, turn_entries, turned, turned_role, uicc_step, whole_acked}
+use Rattle.node_laws.proofs.Words.{with_ended, ℕ, ◌++◌, ◌+◌, ◌∙◌, ◌∷◌, ◌≡◌}
 use Rattle.swp_base.specs.declared.control_frames.Act.{Act as Activation}
-use Rattle.node_laws.proofs.Words.{Acked, Act, ActEvent, ActOut, Activate, Active, AllAllowed, AsksReset, AtController, AtHost, Awaiting, Bare, Clf, Clt}
-use Rattle.node_laws.proofs.Words.{Control, Controller, Cut, CutOff, Down, EndEvent, Ending, GaveUp, GoesOut, Got, Host, I, Inactive, IsEvent, IsLine, Link}
-use Rattle.node_laws.proofs.Words.{LinkEnd, LinkEvent, LinkInput, Lose, NextFrame, NoInput, Node, NumberedEnd, OnWire, Phase, PowerMode, Ready, Report, Reset}
-use Rattle.node_laws.proofs.Words.{Restarted, Role, Rset, S, Sounds, Start, Starts, Step, Stop, Stops, SyncId, Take, TicksWithout, Turn, Ua, Uicc, UiccAct}
-use Rattle.node_laws.proofs.Words.{act_answer, act_event, act_out, activated, activated_role, after_input, after_link_events, aged, aged_entries}
-use Rattle.node_laws.proofs.Words.{all_at_controller, by_test, ended_by, entries, entries_of_events, event_entries, exchanged, far, finished, first_lost}
-use Rattle.node_laws.proofs.Words.{frames_out, happens, happens_at_controller, has_taken, heard, here_entries, if_so, input_entries, is_open, left_after, moved}
-use Rattle.node_laws.proofs.Words.{new_line, no_act_out, number_of, puts_entries, renewed, report, reset_role, rest_entries, role_after, silent, step_entries}
-use Rattle.node_laws.proofs.Words.{stopped, taken_entries, tick_answer, tick_entries, ticked, ticks_at_controller, ticks_host, told, told_of, took_with}
-use Rattle.node_laws.proofs.Words.{turn_entries, turned, turned_role, uicc_step, whole_acked, with_ended}
-use Rattle.swp_act.specs.declared.ActEvent.TheVariants.{Start as ActStart, Take as ActTake, Tick as ActTick, Stop as ActStop}
 use Rattle.swp_act.specs.Activation.{is_active, sends}
-use Rattle.swp_act.specs.declared.Phase.TheVariants.{Active as IsActive}
-use Rattle.link_laws.specs.machine.Machine.LinkInput.{Tick as HasTick}
-use Rattle.link_laws.specs.messages.Links.{IsOwn, AreOwn}
 use Rattle.link_laws.specs.messages.Links.LinkEvent.{Ticks}
 use Rattle.link_laws.proofs.messages.ActsInOrder.{ActsInOrder, LinkInOrder, ended_means}
 use Rattle.link_laws.proofs.messages.Finishing.{tick_open}
-use Rattle.link_laws.specs.entries.Entries.{End, Entry as Noted}
-use Rattle.link_laws.specs.entries.Entries.{restart_entries}
+use Rattle.link_laws.specs.entries.Entries.{End}
 use Rattle.link_laws.specs.entries.Entries.Entry.{Up, Tick}
 use Rattle.link_laws.specs.entries.Filters.{same_link_end}
 use Rattle.link_laws.proofs.entries.Books.{same_self, same_far}
 use Rattle.link_laws.proofs.entries.Settling.{heard_role}
-use Rattle.link_laws.proofs.entries.Running.{before_here, before_there, IsUnderWay, goes_on, start_under_way}
+use Rattle.link_laws.proofs.entries.Running.{IsUnderWay, goes_on, start_under_way}
 use Rattle.node_laws.proofs.order.Listing.{Holds, are-append, are_so, are_mapped, are_last, are_turns, are_lost, are_puts, are_aged}
 use Rattle.node_laws.proofs.links.Ends.{here_is, tick_is, here_host, role_input}
 

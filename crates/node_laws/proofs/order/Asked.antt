@@ -1,11 +1,10 @@
 -- Each event of a history is what its world does, and an end is reset only where that isn't refused.
-use Rattle.std.proofs.Common.{◌≡◌, List, [], ◌∷◌, ◌++◌, None, refl, ap, sym, subst, ◌∙◌, append-nil}
-use Rattle.std.specs.Prelude.{unwrap_or}
-use Rattle.node_laws.proofs.Words.{ArePlayable, FollowsNodes, Happening, Header, IsPlayable, Line, NodeHistory, NodeWorld, Occurrence, Resets, Takes, Ticks}
-use Rattle.node_laws.proofs.Words.{first_verdict, frames_at, happenings, new_world, occurrences_in, refusal_in, steps_from, taken_of, world_behind, world_step}
+use Rattle.node_laws.proofs.Words.{ArePlayable, FollowsNodes, Happening, Header, IsPlayable, Line, List, NodeHistory, NodeWorld, None, Occurrence, Resets}
+use Rattle.node_laws.proofs.Words.{Takes, Ticks, [], ap, append-nil, first_verdict, frames_at, happenings, new_world, occurrences_in, refl, refusal_in}
+use Rattle.node_laws.proofs.Words.{steps_from, subst, sym, taken_of, unwrap_or, world_behind, world_step, ◌++◌, ◌∙◌, ◌∷◌, ◌≡◌}
 use Rattle.trace_model.specs.declared.line.Line.TheVariants as line
 use Rattle.node_laws.proofs.links.Playing.{MayHappen}
-use Rattle.node_laws.proofs.telling.Lasting.{AllMay, repeated_may, damaged_may, events_of_steps, occurs, EachHolds, front_each, lines_each}
+use Rattle.node_laws.proofs.telling.Lasting.{AllMay, EachHolds, behind_push, damaged_may, events_of_steps, front_each, lines_each, occurs, repeated_may}
 use Rattle.node_laws.proofs.order.Lines.{line_may}
 
 -- an end that is reset is one that may be
@@ -39,10 +38,6 @@ both_line w l p none = both_may (happenings w l) w (line_may w l p none) (asked_
 abbrev pub AreDone : NodeWorld → List Occurrence → Type 0
 AreDone w [] = Unit {0}
 AreDone w (o ∷ events) = ((o.entries ≡ (world_step w o.cause).1) × MayBeAsked w o.cause) × AreDone (world_step w o.cause).0 events
-
-pub behind_push : (os : List Occurrence) (o : Occurrence) (w : NodeWorld) → world_behind w (os ++ o ∷ []) ≡ (world_step (world_behind w os) o.cause).0
-behind_push [] o w = refl
-behind_push (x ∷ os) o w = behind_push os o (world_step w x.cause).0
 
 done_push : (os : List Occurrence) (w v : NodeWorld) (c : Happening) → v ≡ world_behind w os → MayBeAsked v c → AreDone w os → AreDone w (os ++ occurs v c ∷ [])
 done_push [] w v c is may a =

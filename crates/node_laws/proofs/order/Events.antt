@@ -1,15 +1,14 @@
 -- Each event of a world but a tick leaves each link told.
-use Rattle.std.proofs.Common.{◌≡◌, ℕ, ◌==◌, Bool, true, false, cond, List, [], ◌∷◌, ◌++◌, Option, Some, None, map, refl, ap, sym, subst, ◌∙◌}
-use Rattle.std.specs.List.{AllByRecursion}
-use Rattle.std.proofs.lemmas.Bool.{eqb-true}
-use Rattle.node_laws.proofs.Words.{AtController, AtEnd, AtHost, Broken, Clf, Comes, Controller, CutOff, Deed, Desk, End, EndEvent, Entry, HasEnds, Host}
-use Rattle.node_laws.proofs.Words.{IfItRuns, IfOff, IsClf, IsOrderly, Link, LinkEnd, LinkEvent, LinkInput, Lose, Loss, Memory, NoInput, NodeWorld, NumberedEnd}
-use Rattle.node_laws.proofs.Words.{OnWire, Running, Site, StandsOf, Step, TellOf, Uicc, Work, after_controller, after_host, after_planned, arrival, begins_with}
-use Rattle.node_laws.proofs.Words.{boot_found, boot_writes, boot_written, boots, by_boot, by_coming, by_controller, by_memory, by_option, by_power, by_running}
-use Rattle.node_laws.proofs.Words.{by_test, comes_at, comes_to, controller_does, controller_work, count_of, counts, ending_of, entries_for, exchanged}
-use Rattle.node_laws.proofs.Words.{first_lost, frame_lost, happens, happens_at_controller, host_cut, host_does, host_work, hosts_in, input_of}
-use Rattle.node_laws.proofs.Words.{link_after_controller, link_to, links_of, loses_power_at, memory_at, near_end_in, new_clf, new_desk, new_link_end, new_uicc}
-use Rattle.node_laws.proofs.Words.{of_link, runs_on, same_number, site_at, steps, turns_at, with_error, with_memory, with_node, with_site, work_of}
+use Rattle.node_laws.proofs.Words.{AllByRecursion, AtController, AtEnd, AtHost, Bool, Broken, Clf, Comes, Controller, CutOff, Deed, Desk, End, EndEvent, Entry}
+use Rattle.node_laws.proofs.Words.{HasEnds, Host, IfItRuns, IfOff, IsClf, IsOrderly, Link, LinkEnd, LinkEvent, LinkInput, List, Lose, Loss, Memory, NoInput}
+use Rattle.node_laws.proofs.Words.{NodeWorld, None, NumberedEnd, OnWire, Option, Running, Site, Some, StandsOf, Step, TellOf, Uicc, Work, [], after_controller}
+use Rattle.node_laws.proofs.Words.{after_host, after_planned, ap, arrival, begins_with, boot_found, boot_writes, boot_written, boots, by_boot, by_coming}
+use Rattle.node_laws.proofs.Words.{by_controller, by_memory, by_option, by_power, by_running, by_test, comes_at, comes_to, cond, controller_does}
+use Rattle.node_laws.proofs.Words.{controller_work, count_of, counts, ending_of, entries_for, eqb-true, exchanged, false, first_lost, frame_lost, happens}
+use Rattle.node_laws.proofs.Words.{happens_at_controller, host_cut, host_does, host_work, hosts_in, input_of, link_after_controller, link_to, links_of}
+use Rattle.node_laws.proofs.Words.{loses_power_at, map, memory_at, near_end_in, new_clf, new_desk, new_link_end, new_uicc, of_link, refl, runs_on, same_number}
+use Rattle.node_laws.proofs.Words.{site_at, steps, subst, sym, true, turns_at, with_error, with_memory, with_node, with_site, work_of, ℕ, ◌++◌, ◌==◌, ◌∙◌, ◌∷◌}
+use Rattle.node_laws.proofs.Words.{◌≡◌}
 use Rattle.trace_model.specs.declared.entry.Entry.TheVariants as entry
 use Rattle.link_laws.specs.entries.Entries.{End as Side}
 use Rattle.node_laws.proofs.links.Ends.{here_host}

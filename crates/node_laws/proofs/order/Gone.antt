@@ -1,27 +1,22 @@
 -- Once an end was started, stopped or cut off, no session with a number in use until then begins there any more.
-use Rattle.std.proofs.Common.{◌≡◌, ℕ, ◌≤◌, ◌==◌, Bool, true, false, List, [], ◌∷◌, ◌++◌, ◌⊎◌, inl, inr, refl, ap, sym, subst, ◌∙◌, arith}
-use Rattle.std.specs.Prelude.{is_some}
-use Rattle.std.proofs.lemmas.Bool.{true≢false, eqb-true}
-use Rattle.swp_act.specs.declared.ActEvent.TheVariants.{Start as ActStart}
-use Rattle.shdlc_core.specs.declared.answers.LinkState.TheVariants.{Down as IsDown}
-use Rattle.node_laws.proofs.Words.{Activate, AsksReset, AtController, AtHost, Controller, EndEvent, Ending, Good, Host, IsEvent, IsNode, IsUicc, Link}
-use Rattle.node_laws.proofs.Words.{LinkEvent, LinkInput, Lose, NextFrame, NoInput, Node, NumberedEnd, OnWire, Reached, Reset, SafeLink, Seen, Start, Starts}
-use Rattle.node_laws.proofs.Words.{Step, Stop, Stops, Take, TicksWithout, Took, Turn, after_input, aged, aged_entries, all_at_controller, begins, core_end}
-use Rattle.node_laws.proofs.Words.{core_event, core_of, ended_by, entries_of_events, event_entries, exchanged, frames_out, happens, happens_at_controller}
-use Rattle.node_laws.proofs.Words.{here_entries, host_finished, kept, left_after, number_of, rest_entries, see, see_all, silences, silent, step_entries}
-use Rattle.node_laws.proofs.Words.{steps_at_controller, taken_entries, tick_entries, ticks_at_controller, told_of, took_with, turned, with_ended}
-use Rattle.link_laws.specs.sessions.Sessions.{ShdlcLink as CoreLink, ShdlcEndEvent as CoreEndEvent, shdlc_aged as core_aged}
+use Rattle.node_laws.proofs.Words.{ActStart, Activate, AreOwn, AsksReset, AtController, AtHost, Bool, Controller, CoreEndEvent, CoreLink, EndEvent, Ending}
+use Rattle.node_laws.proofs.Words.{Good, HasTick, Host, IsDown, IsEvent, IsNode, IsOwn, IsUicc, Link, LinkEvent, LinkInput, List, Lose, NextFrame, NoInput}
+use Rattle.node_laws.proofs.Words.{Node, NumberedEnd, OnWire, Reached, Reset, SafeLink, Seen, Start, Starts, Step, Stop, Stops, Take, TicksWithout, Took, Turn}
+use Rattle.node_laws.proofs.Words.{[], after_input, aged, aged_entries, all_at_controller, ap, arith, begins, clf_starts, core_end, core_event, core_here}
+use Rattle.node_laws.proofs.Words.{core_of, core_tick_rest, ended_by, entries_of_events, eqb-true, event_entries, event_step, exchanged, false, frames_out}
+use Rattle.node_laws.proofs.Words.{happens, happens_at_controller, here_entries, host_finished, inl, inr, is_some, kept, left_after, number_of, reached_more}
+use Rattle.node_laws.proofs.Words.{refl, rest_entries, rests_of, safe_reached, see, see_all, silences, silent, step_entries, steps_at_controller, subst, sym}
+use Rattle.node_laws.proofs.Words.{taken_entries, tick_entries, ticks_at_controller, told_of, took_with, true, true≢false, turned, with_ended, ℕ, ◌++◌, ◌==◌}
+use Rattle.node_laws.proofs.Words.{◌∙◌, ◌∷◌, ◌≡◌, ◌≤◌, ◌⊎◌}
+use Rattle.link_laws.specs.sessions.Sessions.{shdlc_aged as core_aged}
 use Rattle.link_laws.specs.sessions.Sessions.{ticks_or_cut as core_ticks_or_cut, ticks_if_waiting as core_ticks_if_waiting}
 use Rattle.link_laws.proofs.sessions.Steps.{safe_aged, safe_turns, tick_or_cut, tick_if_waiting}
-use Rattle.link_laws.specs.machine.Machine.LinkInput.{Tick as HasTick}
 use Rattle.link_laws.specs.messages.Links.{CanStart}
-use Rattle.link_laws.specs.messages.Links.{IsOwn, AreOwn}
 use Rattle.link_laws.specs.messages.Links.LinkEvent.{Ticks}
-use Rattle.link_laws.specs.messages.Projection.{core_here, core_all, core_tick, core_tick_rest}
+use Rattle.link_laws.specs.messages.Projection.{core_all, core_tick}
 use Rattle.link_laws.proofs.messages.Project.{Tells}
 use Rattle.link_laws.proofs.messages.Finishing.{step_tick}
-use Rattle.link_laws.proofs.messages.Runs.{safe_reached, rests_of, reached_more, event_step, own_here, own_turns, all_step}
-use Rattle.link_laws.proofs.messages.Runs.{rest_both, clf_starts}
+use Rattle.link_laws.proofs.messages.Runs.{all_step, own_here, own_turns, rest_both}
 use Rattle.link_laws.specs.entries.Entries.{End, Entry}
 use Rattle.link_laws.proofs.entries.Seeing.{seen_as, here_seen, all_seen, tick_seen, step_seen}
 use Rattle.link_laws.proofs.entries.Running.{host_here}

@@ -1,7 +1,6 @@
 -- A world of nodes keeps its hosts, whatever lines are played.
-use Rattle.std.proofs.Common.{◌≡◌, ℕ, List, [], ◌∷◌, map, refl, ap, sym, ◌∙◌}
-use Rattle.std.specs.Prelude.{replicate}
-use Rattle.node_laws.proofs.Words.{Header, Line, NodeWorld, Occurrence, hosts_in, new_site, new_world, steps_from, world_after, world_behind, world_step}
+use Rattle.node_laws.proofs.Words.{Header, Line, List, NodeWorld, Occurrence, [], ap, hosts_in, map, new_site, new_world, refl, replicate, steps_from, sym}
+use Rattle.node_laws.proofs.Words.{world_after, world_behind, world_step, ℕ, ◌∙◌, ◌∷◌, ◌≡◌}
 use Rattle.node_laws.proofs.telling.Lasting.{behind_lines, events_of_steps}
 use Rattle.node_laws.proofs.order.Strangers.{step_kept}
 

@@ -1,10 +1,7 @@
 -- Once both wires are empty, the number of an end that was below another goes past that one, if it grows at all.
-use Rattle.std.proofs.Common.{◌≡◌, ℕ, ◌+◌, ◌<◌, ◌≤◌, Bool, true, false, List, [], ◌∷◌, ◌++◌, ◌⊎◌, inl, inr, refl, sym, arith, max, drop}
-use Rattle.std.specs.Prelude.{nat_lt, if◌then◌else◌}
-use Rattle.std.specs.List.{list_any}
-use Rattle.std.proofs.lemmas.Bool.{true≢false, ltb-true, ltb-false}
-use Rattle.node_laws.proofs.Words.{Control, Controller, Cut, Emit, Host, Lost, OnWire, Restarted, Seen, Took, by_test, is_rset, see, see_all, silences}
-use Rattle.link_laws.specs.sessions.Sessions.{older}
+use Rattle.node_laws.proofs.Words.{Bool, Control, Controller, Cut, Emit, Host, List, Lost, OnWire, Restarted, Seen, Took, [], arith, by_test, drop, false}
+use Rattle.node_laws.proofs.Words.{if◌then◌else◌, inl, inr, is_rset, list_any, ltb-false, ltb-true, max, nat_lt, older, refl, see, see_all, silences, sym, true}
+use Rattle.node_laws.proofs.Words.{true≢false, ℕ, ◌++◌, ◌+◌, ◌<◌, ◌∷◌, ◌≡◌, ◌≤◌, ◌⊎◌}
 use Rattle.link_laws.specs.entries.Entries.{End, Entry}
 use Rattle.link_laws.specs.entries.Entries.Entry.{Tick}
 use Rattle.link_laws.specs.entries.Reading.{numbered, taken_first}

@@ -1,12 +1,10 @@
 -- What is known of each link of a world of nodes by what was noted so far, and how it lasts as links go on.
-use Rattle.std.proofs.Common.{◌≡◌, ℕ, ◌==◌, Bool, true, false, List, [], ◌∷◌, ◌++◌, Option, Some, None, map, refl, ap, sym, subst, ◌∙◌, append-nil}
-use Rattle.std.proofs.lemmas.Bool.{eqb-true}
-use Rattle.std.proofs.lemmas.List.Sums.{fold-append}
-use Rattle.node_laws.proofs.Words.{AsksReset, Bare, Clf, Comes, CutOff, Entry, IfOff, IsClf, IsLinkTold, IsUicc, Link, LinkEnd, LinkEvent, LinkInput, Memory}
-use Rattle.node_laws.proofs.Words.{NextFrame, NoInput, NodeWorld, Reset, Role, Running, Site, Standing, Start, Starts, Step, Stop, Stops, Take, Turn, Uicc}
-use Rattle.node_laws.proofs.Words.{after_input, after_link_events, by_list, by_option, changed_if, changed_same, entries, entries_for, event_entries, happens}
-use Rattle.node_laws.proofs.Words.{happens_at_controller, has_taken, input_of, kept, law_noted, new_clf, new_line, new_link_end, new_standing, new_uicc}
-use Rattle.node_laws.proofs.Words.{of_link, renewed, site_at, standing, standing_by_law, stands_noted, steps_at_controller, turned}
+use Rattle.node_laws.proofs.Words.{AsksReset, Bare, Bool, Clf, Comes, CutOff, Entry, IfOff, IsClf, IsLinkTold, IsUicc, Link, LinkEnd, LinkEvent, LinkInput}
+use Rattle.node_laws.proofs.Words.{List, Memory, NextFrame, NoInput, NodeWorld, None, Option, Reset, Role, Running, Site, Some, Standing, Start, Starts, Step}
+use Rattle.node_laws.proofs.Words.{Stop, Stops, Take, Turn, Uicc, [], after_input, after_link_events, ap, append-nil, by_list, by_option, changed_if}
+use Rattle.node_laws.proofs.Words.{changed_same, entries, entries_for, eqb-true, event_entries, false, fold-append, happens, happens_at_controller, has_taken}
+use Rattle.node_laws.proofs.Words.{input_of, kept, law_noted, map, new_clf, new_line, new_link_end, new_standing, new_uicc, of_link, refl, renewed, site_at}
+use Rattle.node_laws.proofs.Words.{standing, standing_by_law, stands_noted, steps_at_controller, subst, sym, true, turned, ℕ, ◌++◌, ◌==◌, ◌∙◌, ◌∷◌, ◌≡◌}
 use Rattle.node_laws.proofs.links.Ends.{here_clf, here_uicc}
 use Rattle.node_laws.proofs.links.Sites.{run_of_more}
 use Rattle.node_laws.proofs.telling.Accounts.{of-append}

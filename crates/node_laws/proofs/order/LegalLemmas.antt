@@ -1,7 +1,5 @@
 -- Every history of a world of nodes is legal.
-use Rattle.std.proofs.Common.{List}
-use Rattle.std.specs.List.{AllByRecursion}
-use Rattle.node_laws.proofs.Words.{AreHosts, ArePlayable, FollowsNodes, Header, IsFew, IsSentByHost, Line, NodeHistory, node_entries}
+use Rattle.node_laws.proofs.Words.{AllByRecursion, AreHosts, ArePlayable, FollowsNodes, Header, IsFew, IsSentByHost, Line, List, NodeHistory, node_entries}
 use Rattle.node_laws.proofs.kept.Kept.{are_allowed}
 use Rattle.node_laws.proofs.cuts.Histories.{kept_exactly}
 use Rattle.node_laws.proofs.readings.NoticedWorlds.{numbers}

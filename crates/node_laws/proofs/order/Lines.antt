@@ -1,18 +1,14 @@
 -- Whatever lines are played, each link of the world is told.
-use Rattle.std.proofs.Common.{◌≡◌, ℕ, ◌==◌, Bool, true, false, List, [], ◌∷◌, ◌++◌, Some, None, map, refl, ap, sym, subst, ◌∙◌, append-nil, arith}
-use Rattle.std.specs.Prelude.{cond, is_some, replicate, unwrap_or}
-use Rattle.std.proofs.lemmas.Bool.{true≢false}
-use Rattle.std.proofs.lemmas.List.Concat.{flat_map-append}
-use Rattle.std.proofs.lemmas.List.Sums.{fold-append}
-use Rattle.node_laws.proofs.Words.{Activates, AreHosts, ArePlayable, Arms, AsksReset, Boots, Entry, FollowsNodes, Gives, Happening, Header, Inits, IsCut}
-use Rattle.node_laws.proofs.Words.{IsOrderly, IsPlayable, Line, LineStep, Loses, Message, NextFrame, NodeHistory, NodeWorld, NoticesAreUp, Occurrence, Orders}
-use Rattle.node_laws.proofs.Words.{Resets, Sends, Site, Standing, Takes, Ticks, as_event_begins, as_event_ends, beginning, by_test, entries_in, first_verdict}
-use Rattle.node_laws.proofs.Words.{frames_at, happenings, hosts_in, if_off, memory_at, new_site, new_standing, new_world, occurrences_in, of_link, refusal_in}
-use Rattle.node_laws.proofs.Words.{sending, site_at, standing, steps_from, taken_of, world_after, world_behind, world_step}
+use Rattle.node_laws.proofs.Words.{Activates, AreHosts, ArePlayable, Arms, AsksReset, Bool, Boots, Entry, FollowsNodes, Gives, Happening, Header, Inits, IsCut}
+use Rattle.node_laws.proofs.Words.{IsOrderly, IsPlayable, Line, LineStep, List, Loses, Message, NextFrame, NodeHistory, NodeWorld, None, NoticesAreUp}
+use Rattle.node_laws.proofs.Words.{Occurrence, Orders, Resets, Sends, Site, Some, Standing, Takes, Ticks, [], ap, append-nil, arith, as_event_begins}
+use Rattle.node_laws.proofs.Words.{as_event_ends, beginning, by_test, cond, entries_in, false, first_verdict, flat_map-append, fold-append, frames_at}
+use Rattle.node_laws.proofs.Words.{happenings, hosts_in, if_off, is_some, map, memory_at, new_site, new_standing, new_world, occurrences_in, of_link, refl}
+use Rattle.node_laws.proofs.Words.{refusal_in, replicate, sending, site_at, standing, standing_behind, steps_from, subst, sym, taken_of, true, true≢false}
+use Rattle.node_laws.proofs.Words.{unwrap_or, world_after, world_behind, world_step, ℕ, ◌++◌, ◌==◌, ◌∙◌, ◌∷◌, ◌≡◌}
 use Rattle.trace_model.specs.declared.line.Line.TheVariants as line
 use Rattle.node_laws.proofs.links.Playing.{MayHappen, AreLasting, plain_reach, sending_fine, step_fine, repeated, damaged, runs_then, world_fine}
 use Rattle.node_laws.proofs.telling.Lasting.{AllMay, events_of_steps, occurs, EachHolds, front_each, lines_each, behind_lines}
-use Rattle.node_laws.specs.telling.Standing.{standing_behind}
 use Rattle.node_laws.proofs.telling.Accounts.{of-append}
 use Rattle.node_laws.proofs.telling.Orderly.{step_orderly, new_orderly}
 use Rattle.node_laws.proofs.telling.Nodes.{site_host}

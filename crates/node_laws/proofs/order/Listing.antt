@@ -1,11 +1,9 @@
 -- What holds of all notes that an end makes but for a few kinds of them holds of what is noted of its steps.
-use Rattle.std.proofs.Common.{ℕ, Bool, true, false, List, [], ◌∷◌, ◌++◌, map, Option, Some, None}
-use Rattle.std.specs.Prelude.{nat_lt, option_to_list, length}
-use Rattle.std.specs.List.{AllByRecursion}
-use Rattle.node_laws.proofs.Words.{Acked, Control, Emit, GaveUp, Give, Got, Link, LinkEnd, Loss, Lost, Message, OnWire, Refused, Report, Sent, TooMany, TooOld}
-use Rattle.node_laws.proofs.Words.{Turn, aged_entries, by_test, far, first_lost, give_refusal, if_so, pushed_out, put, puts_entries, sent_unless, turn}
-use Rattle.node_laws.proofs.Words.{turn_entries, turn_entry, wire_with}
-use Rattle.link_laws.specs.entries.Entries.{End, Entry as Noted}
+use Rattle.node_laws.proofs.Words.{Acked, AllByRecursion, Bool, Control, Emit, GaveUp, Give, Got, Link, LinkEnd, List, Loss, Lost, Message, None, Noted, OnWire}
+use Rattle.node_laws.proofs.Words.{Option, Refused, Report, Sent, Some, TooMany, TooOld, Turn, [], aged_entries, by_test, false, far, first_lost, give_refusal}
+use Rattle.node_laws.proofs.Words.{if_so, length, map, nat_lt, option_to_list, pushed_out, put, puts_entries, sent_unless, true, turn, turn_entries, turn_entry}
+use Rattle.node_laws.proofs.Words.{wire_with, ℕ, ◌++◌, ◌∷◌}
+use Rattle.link_laws.specs.entries.Entries.{End}
 use Rattle.link_laws.specs.entries.Entries.Entry.{Up}
 
 -- It holds of the notes of messages, and of frames that go out of this end, or are lost.

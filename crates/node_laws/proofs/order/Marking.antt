@@ -1,16 +1,13 @@
 -- Below the ended sessions of an end another may stand, of which nothing is known: so it doesn't come up with its number again.
-use Rattle.std.proofs.Common.{◌≡◌, ℕ, ◌<◌, ◌==◌, Bool, true, false, List, [], ◌∷◌, ◌++◌, map, Option, Some, None, refl, ap, sym, subst, ◌∙◌}
-use Rattle.std.specs.Prelude.{is_some, if◌then◌else◌}
-use Rattle.node_laws.proofs.Words.{Acts, AllShdlcAllowed, Control, Deliver, EndState, Ignore, LinkState, OnWire, SafeLink, Session, ShdlcEndEvent, ShdlcLink}
-use Rattle.node_laws.proofs.Words.{ShdlcLinkEvent, Turns, Up, Waiting, act_frame, by_test, is_rset, is_up, is_waiting, most_frames, new_end, no_session}
-use Rattle.node_laws.proofs.Words.{reset_with, shdlc_after, shdlc_becomes, shdlc_exchanged, shdlc_happens_at_controller, shdlc_put_all, shdlc_silent}
-use Rattle.node_laws.proofs.Words.{shdlc_turned, stopped, take_answer, taken, tick_answer, ticked, took_with, with_shdlc_ended}
+use Rattle.node_laws.proofs.Words.{Acts, AllShdlcAllowed, AreTurns, Bool, Control, Deliver, EndState, Ignore, LinkState, List, None, NumberedShdlc, OnWire}
+use Rattle.node_laws.proofs.Words.{Option, SafeLink, Session, ShdlcEndEvent, ShdlcLink, ShdlcLinkEvent, ShdlcTurn, Some, Turns, Up, Waiting, [], act_frame, ap}
+use Rattle.node_laws.proofs.Words.{by_test, ended_session, false, frames_of, if◌then◌else◌, is_rset, is_some, is_up, is_waiting, map, most_frames, new_end}
+use Rattle.node_laws.proofs.Words.{no_session, refl, reset_with, shdlc_after, shdlc_aged, shdlc_all_at_controller, shdlc_becomes, shdlc_exchanged}
+use Rattle.node_laws.proofs.Words.{shdlc_happens, shdlc_happens_at_controller, shdlc_number_of, shdlc_put, shdlc_put_all, shdlc_session_of, shdlc_silent}
+use Rattle.node_laws.proofs.Words.{shdlc_ticks_at_controller, shdlc_turned, stopped, subst, sym, take_answer, taken, tick_answer, ticked, ticks_if_waiting}
+use Rattle.node_laws.proofs.Words.{ticks_or_cut, took_with, true, with_shdlc_ended, ℕ, ◌++◌, ◌<◌, ◌==◌, ◌∙◌, ◌∷◌, ◌≡◌}
 use Rattle.shdlc_core.specs.declared.answers.LinkState.TheVariants.{Down}
-use Rattle.shdlc_core.specs.Machine.{frames_of, after_frames}
-use Rattle.link_laws.specs.sessions.Sessions.{NumberedShdlc, ShdlcTurn, shdlc_number_of, ended_session}
-use Rattle.link_laws.specs.sessions.Sessions.{shdlc_session_of, shdlc_put}
-use Rattle.link_laws.specs.sessions.Sessions.{shdlc_ticks_at_controller, shdlc_aged}
-use Rattle.link_laws.specs.sessions.Sessions.{ticks_or_cut, ticks_if_waiting, AreTurns, shdlc_all_at_controller, shdlc_happens}
+use Rattle.shdlc_core.specs.Machine.{after_frames}
 use Rattle.link_laws.specs.sessions.Sessions.ShdlcEndEvent.{Lose, Reset, Cut, Stop}
 use Rattle.link_laws.specs.sessions.Sessions.ShdlcLinkEvent.{AtController, AtHost, Tick, TickWithout}
 use Rattle.link_laws.specs.sessions.Losses.{sans}

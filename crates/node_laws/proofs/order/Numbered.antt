@@ -1,12 +1,10 @@
 -- Frames that are put on a link have their numbers, so RSET is read off their bytes.
-use Rattle.std.proofs.Common.{◌≡◌, ℕ, zero, suc, ◌+◌, ◌*◌, ◌<◌, Bool, true, false, List, [], ◌∷◌, length, Some, refl, arith}
-use Rattle.std.specs.Prelude.{◌&&◌, not, nat_lt, nat_le, slice_index}
-use Rattle.std.specs.List.{AllByRecursion}
-use Rattle.std.proofs.lemmas.Bool.{true≢false, ltb-true, lt-ltb, le-leb}
-use Rattle.node_laws.proofs.Words.{Act, Control, Emit, I, PowerMode, Ready, S, SyncId, by_test, frames_out, is_rset, lpdu_of}
+use Rattle.node_laws.proofs.Words.{Act, AllByRecursion, Bool, Control, Emit, I, List, Noted, PowerMode, Ready, S, Some, SyncId, [], arith, by_test, false}
+use Rattle.node_laws.proofs.Words.{frames_out, is_rset, le-leb, length, lpdu_of, lpdu_row_of, lt-ltb, ltb-true, nat_le, nat_lt, not, refl, slice_index, suc}
+use Rattle.node_laws.proofs.Words.{true, true≢false, zero, ℕ, ◌&&◌, ◌*◌, ◌+◌, ◌<◌, ◌∷◌, ◌≡◌}
 use Rattle.swp_base.specs.declared.control_frames.Kind.TheVariants.{Rr, Rej, Rnr, Srej}
-use Rattle.swp_lpdu.specs.Controls.{HasNumbers, lpdu_row, lpdu_row_of, i_frame}
-use Rattle.link_laws.specs.entries.Entries.{End as Side, Entry as Noted}
+use Rattle.swp_lpdu.specs.Controls.{HasNumbers, i_frame, lpdu_row}
+use Rattle.link_laws.specs.entries.Entries.{End as Side}
 use Rattle.history.specs.Legal.{is_rset_lpdu}
 use Rattle.history.proofs.legal.Plain.{out_numbers}
 use Rattle.node_laws.proofs.order.Silencing.{HearsNone}

@@ -1,8 +1,7 @@
 -- Messages are in order in each history of a world of nodes.
-use Rattle.std.proofs.Common.{◌≡◌, ℕ, ◌==◌, false, List, [], ◌∷◌, ◌++◌, Some, None, refl, ap, subst}
-use Rattle.std.specs.List.{list_any}
-use Rattle.node_laws.proofs.Words.{AreHosts, ArePlayable, End, Entry, FollowsNodes, Header, Line, NodeHistory, NodeWorld, Occurrence, Site, by_option, by_test}
-use Rattle.node_laws.proofs.Words.{entries_in, hosts_in, new_world, node_entries, occurrences_in, of_link, site_at, world_behind}
+use Rattle.node_laws.proofs.Words.{AreHosts, ArePlayable, End, Entry, FollowsNodes, Header, Line, List, NodeHistory, NodeWorld, None, Occurrence, Site, Some}
+use Rattle.node_laws.proofs.Words.{[], ap, by_option, by_test, entries_in, false, hosts_in, list_any, new_world, node_entries, occurrences_in, of_link, refl}
+use Rattle.node_laws.proofs.Words.{site_at, subst, world_behind, ℕ, ◌++◌, ◌==◌, ◌∷◌, ◌≡◌}
 use Rattle.history.specs.Legal.{IsInOrder, is_chain_fault}
 use Rattle.history.proofs.legal.Ordered.{AtEnd}
 use Rattle.node_laws.proofs.order.Strangers.{IsStrange}

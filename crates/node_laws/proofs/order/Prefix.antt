@@ -1,11 +1,10 @@
 -- At each moment of a history messages are in order on each link.
-use Rattle.std.proofs.Common.{◌≡◌, ℕ, Bool, true, false, List, [], ◌∷◌, ◌++◌, Option, Some, None, refl, ap, sym, subst, ◌∙◌}
-use Rattle.std.specs.Prelude.{◌==◌, ◌||◌}
-use Rattle.std.specs.List.{cons_option, filter, filter_map, flat_map, fold, list_any}
-use Rattle.node_laws.proofs.Words.{End, Entry, IsLine, IsLinkTold, Link, Saying, acked_after, acked_in, at_end, by_test, entries, entries_for, entry_of, got_in}
-use Rattle.node_laws.proofs.Words.{got_in_session, is_of, new_line, of_link, other_end, said, said_of, same_number, sent_by, sent_in, tells_of}
+use Rattle.node_laws.proofs.Words.{Bool, End, Entry, IsLine, IsLinkTold, Link, List, None, Noted, Option, Saying, Some, [], acked_after, acked_in, ap, at_end}
+use Rattle.node_laws.proofs.Words.{by_test, cons_option, entries, entries_for, entry_of, false, filter, filter_map, flat_map, fold, got_in, got_in_session}
+use Rattle.node_laws.proofs.Words.{is_of, list_any, new_line, of_link, other_end, refl, said, said_of, same_number, sent_by, sent_in, subst, sym, tells_of}
+use Rattle.node_laws.proofs.Words.{true, ℕ, ◌++◌, ◌==◌, ◌||◌, ◌∙◌, ◌∷◌, ◌≡◌}
 use Rattle.trace_model.specs.declared.entry.Entry.TheVariants as entry
-use Rattle.link_laws.specs.entries.Entries.{End as Side, Entry as Noted}
+use Rattle.link_laws.specs.entries.Entries.{End as Side}
 use Rattle.link_laws.specs.entries.Order.{InOrderIn}
 use Rattle.link_laws.proofs.entries.Running.{at_each_moment}
 use Rattle.link_laws.proofs.entries.Chains.{no_chain_noted}

@@ -1,19 +1,16 @@
 -- What the ends of a link have of their sessions is read off a history, and so is that a quiet link has delivered all.
-use Rattle.std.proofs.Common.{◌≡◌, ℕ, ◌==◌, false, cond, List, length, Some, ap, sym, subst, ◌∙◌}
-use Rattle.node_laws.proofs.Words.{AreSessionsRead, AreUpTogether, Controller, Entry, Host, IsLine, IsLinkTold, IsReadOff, Link, Message, NumberedEnd, Up}
-use Rattle.node_laws.proofs.Words.{acked-all, end_c, end_h, entries, entries_for, good_of, got-all, new_line, number_of, same_number, sent-all, talk_of}
+use Rattle.node_laws.proofs.Words.{AreReadOff, AreSessionsRead, AreUpTogether, Controller, Entry, HasSettled, Host, IsLine, IsLinkTold, IsRead, IsReadOff, Link}
+use Rattle.node_laws.proofs.Words.{List, Message, Noted, NumberedEnd, Some, Up, acked-all, ap, cond, end_c, end_h, ended_talk, entries, entries_for, false}
+use Rattle.node_laws.proofs.Words.{good_of, got-all, length, new_line, number_of, one_number, read_here, read_there, same_number, sent-all, subst, sym}
+use Rattle.node_laws.proofs.Words.{talk_now, talk_of, ℕ, ◌==◌, ◌∙◌, ◌≡◌}
 use Rattle.link_laws.specs.sessions.Losses.{Losses}
 use Rattle.history.specs.Legal.{IsDelivered}
-use Rattle.link_laws.specs.messages.Links.{Talk, talk_now, ended_talk}
+use Rattle.link_laws.specs.messages.Links.{Talk}
 use Rattle.link_laws.specs.messages.Quiet.{AllDelivered, IsQuiet, losses_of}
-use Rattle.link_laws.proofs.messages.Whole.{one_number}
-use Rattle.link_laws.specs.entries.Entries.{Entry as Noted}
-use Rattle.link_laws.specs.entries.Sessions.{IsRead}
 use Rattle.link_laws.proofs.entries.Books.{up_talk}
 use Rattle.link_laws.proofs.entries.Hearing.{up_session, session_up}
-use Rattle.link_laws.proofs.entries.Running.{read_here, read_there}
 use Rattle.node_laws.proofs.links.Obeying.{delivers_to_host, delivers_to_controller, settles}
-use Rattle.node_laws.specs.order.Told.{AreReadOff, IsUntroubled, AreUpWith, HasDelivered, HasSettled}
+use Rattle.node_laws.specs.order.Told.{AreUpWith, HasDelivered, IsUntroubled}
 use Rattle.node_laws.proofs.order.Prefix.{sent_alike, got_alike, acked_alike}
 use Rattle.node_laws.proofs.order.Sessions.{are_read}
 

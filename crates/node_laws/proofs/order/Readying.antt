@@ -1,16 +1,13 @@
 -- How ready the ends of a link are, as it is read off what its law notes.
-use Rattle.std.proofs.Common.{◌≡◌, ℕ, Bool, true, false, List, [], ◌∷◌, ◌++◌, refl, ap, sym, subst, ◌∙◌, append-nil}
-use Rattle.std.specs.List.{list_any}
-use Rattle.std.proofs.lemmas.Bool.{true≢false}
-use Rattle.node_laws.proofs.Words.{Acked, Active, AllAllowed, Bare, Clf, Controller, Cut, CutOff, Down, Emit, EndState, Ending, Entry, GaveUp, GoesOut, Got}
-use Rattle.node_laws.proofs.Words.{Host, IsEvent, IsLine, IsLinkTold, IsRunOf, Link, LinkEnd, LinkEvent, Lost, Readiness, Restarted, Role, Sent, Standing}
-use Rattle.node_laws.proofs.Words.{Starts, Step, Took, Turn, Uicc, activated_role, after_link_events, entries, event_entries, happens, happens_at_controller}
-use Rattle.node_laws.proofs.Words.{inactive, is_open, is_waiting, law_noted, most_frames, moved, new_line, new_link_end, or_none, readiness_of, renewed}
-use Rattle.node_laws.proofs.Words.{role_after, same_number, sent_all, standing, standing_by_law, started, stopped, turned, turned_role, turned_same}
-use Rattle.shdlc_core.specs.declared.answers.LinkState.TheVariants.{Down as IsDown}
-use Rattle.swp_act.specs.declared.ActEvent.TheVariants.{Start as ActStart}
+use Rattle.node_laws.proofs.Words.{Acked, ActStart, Active, AllAllowed, Bare, Bool, Clf, Controller, Cut, CutOff, Down, Emit, EndState, Ending, Entry, GaveUp}
+use Rattle.node_laws.proofs.Words.{GoesOut, Got, Host, IsDown, IsEvent, IsLine, IsLinkTold, IsRunOf, Link, LinkEnd, LinkEvent, List, Lost, Noted, Readiness}
+use Rattle.node_laws.proofs.Words.{Restarted, Role, Sent, Standing, Starts, Step, Took, Turn, Uicc, [], activated_role, after_link_events, ap, append-nil}
+use Rattle.node_laws.proofs.Words.{entries, event_entries, false, happens, happens_at_controller, inactive, is_open, is_waiting, law_noted, list_any}
+use Rattle.node_laws.proofs.Words.{most_frames, moved, new_line, new_link_end, or_none, readiness_of, refl, renewed, role_after, same_number, sent_all}
+use Rattle.node_laws.proofs.Words.{standing, standing_by_law, started, stopped, subst, sym, true, true≢false, turned, turned_role, turned_same, ℕ, ◌++◌, ◌∙◌}
+use Rattle.node_laws.proofs.Words.{◌∷◌, ◌≡◌}
 use Rattle.link_laws.proofs.messages.Ends.{frames_alike}
-use Rattle.link_laws.specs.entries.Entries.{End as Side, Entry as Noted}
+use Rattle.link_laws.specs.entries.Entries.{End as Side}
 use Rattle.link_laws.specs.entries.Entries.Entry.{Up, Tick}
 use Rattle.history.proofs.waits.Harking.{hark, harks, harks-append, waits}
 use Rattle.history.proofs.waits.Harked.{controller_harked, host_harked}

@@ -1,27 +1,21 @@
 -- A reset whose answer nothing withheld has brought both ends of its link up, in each history.
-use Rattle.std.proofs.Common.{◌≡◌, ℕ, ◌==◌, Bool, true, false, cond, List, [], Option, Some, None, refl, ap, sym, subst, ◌∙◌}
-use Rattle.std.specs.Prelude.{is_some}
-use Rattle.std.specs.List.{list_any}
-use Rattle.std.proofs.lemmas.Bool.{true≢false}
-use Rattle.node_laws.proofs.Words.{AreSessionsRead, AreUpTogether, AsksReset, AtController, AtEnd, AtHost, Comes, Controller, CutOff, End, Ending, Entry}
-use Rattle.node_laws.proofs.Words.{FindsReady, GoesOut, Host, IsLine, IsRunOf, IsWindow, Link, LinkEvent, NoInput, NodeWorld, Refused, Reset, Resets, Running}
-use Rattle.node_laws.proofs.Words.{Site, Standing, Step, Turn, Work, after_controller, after_host, by_some, by_test, changed_if, controller_work, cuts_on}
-use Rattle.node_laws.proofs.Words.{ending_of, event_entries, exchanged, frames_on, happens, host_does, host_work, if_off, is_open, is_waiting}
-use Rattle.node_laws.proofs.Words.{link_after_controller, machine_in, new_line, node_at, node_of, number_of, other_end, refusal_in, reset_refusal, same_number}
-use Rattle.node_laws.proofs.Words.{sans, site_at, steps, turns_at, with_site, world_step}
+use Rattle.node_laws.proofs.Words.{AreBothUp, AreSessionsRead, AreUpTogether, AsksReset, AtController, AtEnd, AtHost, Bool, Comes, Controller, CutOff, End}
+use Rattle.node_laws.proofs.Words.{Ending, Entry, FindsReady, GoesOut, Host, IsFreeOfLinkFrames, IsLine, IsRunOf, IsWindow, Link, LinkEvent, List, NoInput}
+use Rattle.node_laws.proofs.Words.{NodeWorld, None, Option, Refused, Reset, Resets, Running, Site, Some, Standing, Step, Turn, Work, [], after_controller}
+use Rattle.node_laws.proofs.Words.{after_host, ap, as_noted, by_some, by_test, changed_if, cond, controller_work, cuts_on, ending_of, event_entries, exchanged}
+use Rattle.node_laws.proofs.Words.{false, frames_on, happens, host_does, host_work, if_off, is_open, is_some, is_waiting, link_after_controller, list_any}
+use Rattle.node_laws.proofs.Words.{machine_in, machine_of, new_line, node_at, node_of, number_of, other_end, refl, refusal_in, reset_refusal, same_number, sans}
+use Rattle.node_laws.proofs.Words.{site_at, steps, subst, sym, true, true≢false, turns_at, with_site, world_step, ℕ, ◌==◌, ◌∙◌, ◌≡◌}
 use Rattle.trace_model.specs.declared.entry.NoCause.TheVariants as no
 use Rattle.trace_model.specs.declared.line.Line.TheVariants as line
 use Rattle.link_laws.proofs.entries.Hearing.{up_session}
 use Rattle.link_laws.proofs.entries.Together.{together}
-use Rattle.history.specs.Follows.{machine_of, as_noted}
 use Rattle.node_laws.proofs.links.Works.{steps_fine}
 use Rattle.node_laws.proofs.links.Playing.{plain_reach}
 use Rattle.node_laws.proofs.kept.Lines.{first_none}
 use Rattle.node_laws.proofs.telling.Nodes.{site_host, link_is}
 use Rattle.node_laws.proofs.telling.Worlds.{host_does_step}
 use Rattle.node_laws.proofs.telling.Events.{site_map}
-use Rattle.node_laws.specs.order.Told.{AreBothUp}
-use Rattle.node_laws.specs.order.Resets.{IsFreeOfLinkFrames}
 use Rattle.node_laws.proofs.order.Activations.{sans_none}
 use Rattle.node_laws.proofs.order.Watches.{IsStepOf, WatchedLink, IsSince, no_cut, since_reset, input_cut}
 use Rattle.node_laws.proofs.order.Knowing.{Each, was_there}

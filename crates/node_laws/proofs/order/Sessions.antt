@@ -1,17 +1,14 @@
 -- The session of each end of a link that is told is read off a history.
-use Rattle.std.proofs.Common.{◌≡◌, ℕ, Bool, true, false, cond, List, [], ◌∷◌, Option, Some, None, refl, ap, sym, ◌∙◌}
-use Rattle.std.specs.Prelude.{◌==◌, ◌&&◌, if◌then◌else◌}
-use Rattle.std.specs.List.{fold}
-use Rattle.std.proofs.lemmas.Bool.{eqb-true, true≢false}
-use Rattle.node_laws.proofs.Words.{Acked, Active, AreSessionsRead, Begins, Controller, Counts, Cut, Down, Emit, End, Entry, GaveUp, Gets, Got, Host, IsLine}
-use Rattle.node_laws.proofs.Words.{IsLinkTold, Link, Lost, Puts, Readiness, Restarted, Saying, Sent, Standing, Took, after_power, at_end, becomes_at, end_of}
-use Rattle.node_laws.proofs.Words.{entries, law_noted, lpdu_of, made_active, new_line, new_standing, no_longer_waits, said_far, said_near, same_end, same_side}
-use Rattle.node_laws.proofs.Words.{standing, standing_by_law, stands_noted, stands_said, without_power}
+use Rattle.node_laws.proofs.Words.{Acked, Active, AreSessionsRead, Begins, Bool, Controller, Counts, Cut, Down, Emit, End, Entry, GaveUp, Gets, Got, Host}
+use Rattle.node_laws.proofs.Words.{IsLine, IsLinkTold, Link, List, Lost, None, Noted, Option, Puts, Readiness, Restarted, Saying, Sent, Some, Standing, Took}
+use Rattle.node_laws.proofs.Words.{[], after_power, ap, at_end, becomes_at, cond, end_of, entries, eqb-true, false, fold, if◌then◌else◌, law_noted, lpdu_of}
+use Rattle.node_laws.proofs.Words.{made_active, new_line, new_standing, no_longer_waits, refl, said_far, said_near, same_end, same_side, session_at, standing}
+use Rattle.node_laws.proofs.Words.{standing_by_law, stands_noted, stands_said, sym, true, true≢false, without_power, ℕ, ◌&&◌, ◌==◌, ◌∙◌, ◌∷◌, ◌≡◌}
 use Rattle.trace_model.specs.declared.entry.Entry.TheVariants as entry
-use Rattle.link_laws.specs.entries.Entries.{End as Side, Entry as Noted}
+use Rattle.link_laws.specs.entries.Entries.{End as Side}
 use Rattle.link_laws.specs.entries.Entries.Entry.{Up, Tick}
 use Rattle.link_laws.specs.entries.Filters.{same_link_end as same_in}
-use Rattle.link_laws.specs.entries.Sessions.{hear, number_now as session_at}
+use Rattle.link_laws.specs.entries.Sessions.{hear}
 use Rattle.link_laws.proofs.entries.Heard.{controller_heard, host_heard}
 use Rattle.history.specs.Filters.{session_after}
 use Rattle.history.specs.Filters.Saying.{Ends, Sends, Takes, Loses}

@@ -1,25 +1,18 @@
 -- An end that is started, stopped or cut off in a step is Down behind it, and what it comes up with is noted.
-use Rattle.std.proofs.Common.{◌≡◌, ℕ, ◌<◌, ◌≤◌, Bool, true, false, List, [], ◌∷◌, ◌++◌, length, map, Option, Some, None, ◌⊎◌, inl, inr, refl, ap, sym, ◌∙◌}
-use Rattle.std.proofs.Common.{arith}
-use Rattle.std.specs.Prelude.{nat_lt, ◌||◌, is_some, option_to_list}
-use Rattle.std.specs.List.{list_any, AllByRecursion}
-use Rattle.std.proofs.lemmas.Bool.{true≢false}
-use Rattle.node_laws.proofs.Words.{Acked, ActEvent, Activate, Active, AsksReset, AtController, AtHost, Bare, Cause, Clf, Comes, Control, Controller, Cut}
-use Rattle.node_laws.proofs.Words.{CutOff, Down, Emit, EndEvent, EndState, Ending, GaveUp, Give, GoesOut, Got, Host, IsNode, Link, LinkEnd, LinkEvent}
-use Rattle.node_laws.proofs.Words.{LinkInput, Lose, Loss, Lost, Message, NextFrame, NoInput, Node, NumberedEnd, OnWire, Refused, Report, Reset, Restarted, Role}
-use Rattle.node_laws.proofs.Words.{Sent, Start, Starts, Step, Stop, Stops, Take, TicksWithout, TooMany, TooOld, Took, Turn, Uicc, activated, after_input, aged}
-use Rattle.node_laws.proofs.Words.{aged_entries, all_at_controller, by_list, by_test, core_end, ended_by, ending_entries, entries, entries_of_events}
-use Rattle.node_laws.proofs.Words.{event_entries, exchanged, far, finished, first_lost, frames_out, give_refusal, happens, happens_at_controller, here_entries}
-use Rattle.node_laws.proofs.Words.{if_so, left_after, most_frames, moved, new_link_end, number_of, pushed_out, put, put_entries, puts_entries, renewed, report}
-use Rattle.node_laws.proofs.Words.{reset_role, rest_entries, sent_unless, silences, silent, step_entries, steps_at_controller, stopped, taken_entries}
-use Rattle.node_laws.proofs.Words.{tick_entries, ticks_at_controller, told, told_of, took_with, turn, turn_entries, turn_entry, turned, turned_same}
-use Rattle.node_laws.proofs.Words.{whole_acked, wire_with, with_ended}
-use Rattle.swp_act.specs.declared.ActEvent.TheVariants.{Start as ActStart, Stop as ActStop}
-use Rattle.shdlc_core.specs.declared.answers.LinkState.TheVariants.{Down as IsDown}
+use Rattle.node_laws.proofs.Words.{Acked, ActEvent, ActStart, ActStop, Activate, Active, AllByRecursion, AsksReset, AtController, AtHost, Bare, Bool, CanEnd}
+use Rattle.node_laws.proofs.Words.{Cause, Clf, Comes, Control, Controller, Cut, CutOff, Down, Emit, EndEvent, EndState, Ending, GaveUp, Give, GoesOut, Got}
+use Rattle.node_laws.proofs.Words.{HasTick, Host, IsDown, IsNode, Link, LinkEnd, LinkEvent, LinkInput, List, Lose, Loss, Lost, Message, NextFrame, NoInput}
+use Rattle.node_laws.proofs.Words.{Node, None, NumberedEnd, OnWire, Option, Refused, Report, Reset, Restarted, Role, Sent, Some, Start, Starts, Step, Stop}
+use Rattle.node_laws.proofs.Words.{Stops, Take, TicksWithout, TooMany, TooOld, Took, Turn, Uicc, [], activated, after_input, aged, aged_entries}
+use Rattle.node_laws.proofs.Words.{all_at_controller, ap, arith, by_list, by_test, core_end, ended_by, ending_entries, entries, entries_of_events}
+use Rattle.node_laws.proofs.Words.{event_entries, exchanged, false, far, finished, first_lost, frames_out, give_refusal, happens, happens_at_controller}
+use Rattle.node_laws.proofs.Words.{here_entries, if_so, inl, inr, is_some, left_after, length, list_any, map, most_frames, moved, nat_lt, new_link_end}
+use Rattle.node_laws.proofs.Words.{number_of, option_to_list, pushed_out, put, put_entries, puts_entries, refl, renewed, report, reset_role, rest_entries}
+use Rattle.node_laws.proofs.Words.{sent_unless, silences, silent, step_entries, steps_at_controller, stopped, sym, taken_entries, tick_entries}
+use Rattle.node_laws.proofs.Words.{ticks_at_controller, told, told_of, took_with, true, true≢false, turn, turn_entries, turn_entry, turned, turned_same}
+use Rattle.node_laws.proofs.Words.{whole_acked, wire_with, with_ended, ℕ, ◌++◌, ◌<◌, ◌||◌, ◌∙◌, ◌∷◌, ◌≡◌, ◌≤◌, ◌⊎◌}
 use Rattle.link_laws.proofs.sessions.Data.{bound}
 use Rattle.link_laws.specs.machine.Machine.{took as took_frame}
-use Rattle.link_laws.specs.machine.Machine.LinkInput.{Tick as HasTick}
-use Rattle.link_laws.specs.messages.Links.{CanEnd}
 use Rattle.link_laws.specs.messages.Links.{IsAllowed}
 use Rattle.link_laws.specs.messages.Links.LinkEvent.{Ticks}
 use Rattle.link_laws.proofs.messages.Ends.{frames_alike}

@@ -1,23 +1,17 @@
 -- Where both ends are up in a session, none was started, stopped or cut off since the first came up in it.
-use Rattle.std.proofs.Common.{◌≡◌, ℕ, ◌<◌, ◌≤◌, Bool, true, false, List, [], ◌∷◌, ◌++◌, ◌⊎◌, inl, inr, refl, ap, sym, subst, ◌∙◌, arith, max, append_assoc}
-use Rattle.std.proofs.Common.{append-nil}
-use Rattle.std.specs.Prelude.{nat_lt}
-use Rattle.std.specs.List.{list_any}
-use Rattle.std.proofs.lemmas.Bool.{true≢false, ltb-true, ltb-false}
-use Rattle.shdlc_core.specs.declared.answers.LinkState.TheVariants.{Up as IsUpNow}
-use Rattle.node_laws.proofs.Words.{AllAllowed, Good, IsEvent, IsLine, Link, LinkEvent, NumberedEnd, Reached, Seen, after_link_events, begins, by_test, core_end}
-use Rattle.node_laws.proofs.Words.{core_event, core_of, entries, event_entries, event_step, happens, kept, new_line, number_of, reached_more, see_all, silences}
-use Rattle.node_laws.proofs.Words.{start_good, start_reached}
+use Rattle.node_laws.proofs.Words.{AllAllowed, Bool, Good, IsEvent, IsLine, IsUpNow, Link, LinkEvent, List, NumberedEnd, Reached, Seen, [], after_link_events}
+use Rattle.node_laws.proofs.Words.{ap, append-nil, append_assoc, arith, begins, by_test, core_end, core_event, core_of, entries, event_entries, event_step}
+use Rattle.node_laws.proofs.Words.{false, happens, inl, inr, kept, list_any, ltb-false, ltb-true, max, nat_lt, new_line, nothing_seen, number_of, reached_more}
+use Rattle.node_laws.proofs.Words.{refl, see_all, silences, since, start_good, start_reached, subst, sym, true, true≢false, ℕ, ◌++◌, ◌<◌, ◌∙◌, ◌∷◌, ◌≡◌, ◌≤◌}
+use Rattle.node_laws.proofs.Words.{◌⊎◌}
 use Rattle.link_laws.specs.entries.Entries.{Entry}
-use Rattle.link_laws.specs.entries.Quiet.{since}
-use Rattle.link_laws.specs.entries.Reading.{nothing_seen}
 use Rattle.link_laws.proofs.entries.Ages.{read_off}
 use Rattle.link_laws.proofs.entries.Seeing.{see_all-append}
 use Rattle.node_laws.proofs.telling.Events.{after-append, entries-append}
 use Rattle.node_laws.proofs.order.Marking.{IsPast}
 use Rattle.node_laws.proofs.order.Jumping.{all_resets}
 use Rattle.node_laws.proofs.order.Silencing.{Hears, hears_parts}
-use Rattle.node_laws.proofs.order.Gone.{Gone, event_silenced, event_keeps, event_begins}
+use Rattle.node_laws.proofs.order.Gone.{Gone, event_begins, event_keeps, event_silenced}
 
 -- ## Since an end came up
 
@@ -77,7 +71,7 @@ watched_more n t l e a g r seen w = go (list_any (begins n) t) refl
         came (inr x) = x
 
 -- what is seen of an event of a run
-event_seen : (es : List LinkEvent) (e : LinkEvent)
+pub event_seen : (es : List LinkEvent) (e : LinkEvent)
     → (let l : Link = after_link_events new_line es in see_all (kept l) (event_entries l e) ≡ kept (happens l e))
 event_seen es e =
     let m : Link = after_link_events new_line es in

@@ -1,17 +1,13 @@
 -- A link that is still, as it is read off the events of a history, has delivered all.
-use Rattle.std.proofs.Common.{◌≡◌, ℕ, Bool, true, false, List, [], ◌∷◌, ◌++◌, length, Option, Some, None, refl, ap, sym, subst, ◌∙◌}
-use Rattle.std.specs.Prelude.{◌==◌, ◌||◌, if◌then◌else◌}
-use Rattle.std.specs.List.{fold, list_any}
-use Rattle.std.proofs.lemmas.Bool.{true≢false}
-use Rattle.node_laws.proofs.Words.{AreHosts, ArePlayable, Begins, Controller, Cut, Emit, End, Entry, FollowsNodes, Header, Host, IsLine, IsLinkTold, Line, Link}
-use Rattle.node_laws.proofs.Words.{Message, NodeHistory, NodeWorld, Occurrence, Puts, Restarted, Saying, acked-all, begins, by_option, by_test, end_c, end_h}
-use Rattle.node_laws.proofs.Words.{entries, entries_for, entries_in, good_of, got-all, is_of, new_line, new_world, number_of, occurrences_in, of_link, or_none}
-use Rattle.node_laws.proofs.Words.{said, sent-all, session_now, silences, site_at, tells_of, world_behind}
+use Rattle.node_laws.proofs.Words.{AreHosts, ArePlayable, Begins, Bool, Controller, Cut, Emit, End, Entry, FollowsNodes, Header, Host, IsLine, IsLinkTold}
+use Rattle.node_laws.proofs.Words.{IsStillInSession, IsUpNow, Line, Link, List, Message, NodeHistory, NodeWorld, None, Noted, Occurrence, Option, Puts}
+use Rattle.node_laws.proofs.Words.{Restarted, Saying, Some, [], acked-all, ap, begins, by_option, by_test, end_c, end_h, entries, entries_for, entries_in}
+use Rattle.node_laws.proofs.Words.{false, fold, good_of, got-all, if◌then◌else◌, is_of, length, list_any, new_line, new_world, number_of, occurrences_in}
+use Rattle.node_laws.proofs.Words.{of_link, or_none, refl, said, sent-all, session_now, silences, since, site_at, subst, sym, tells_of, true, true≢false}
+use Rattle.node_laws.proofs.Words.{world_behind, ℕ, ◌++◌, ◌==◌, ◌||◌, ◌∙◌, ◌∷◌, ◌≡◌}
 use Rattle.trace_model.specs.declared.entry.Entry.TheVariants as entry
-use Rattle.shdlc_core.specs.declared.answers.LinkState.TheVariants.{Up as IsUpNow}
 use Rattle.link_laws.specs.messages.Links.{after_link_events as link_after}
-use Rattle.link_laws.specs.entries.Entries.{Entry as Noted}
-use Rattle.link_laws.specs.entries.Quiet.{disturbs, since, IsQuietSince, IsDeliveredOnLink as LinkDelivered}
+use Rattle.link_laws.specs.entries.Quiet.{IsDeliveredOnLink as LinkDelivered, IsQuietSince, disturbs}
 use Rattle.link_laws.proofs.entries.Delivering.{quiet_here, quiet_there}
 use Rattle.link_laws.proofs.entries.Hearing.{session_up}
 use Rattle.history.specs.Filters.Saying.{Loses}
@@ -19,7 +15,7 @@ use Rattle.history.specs.Legal.{begins_on, loses_on, rejects_on, since_up, has_l
 use Rattle.history.proofs.legal.Plain.{ArePlain}
 use Rattle.history.proofs.legal.Reading.{no_bytes, since-all, undisturbed}
 use Rattle.node_laws.proofs.telling.Accounts.{untold}
-use Rattle.node_laws.specs.order.Told.{AreWiresRead, IsStillInSession, HasDeliveredAll}
+use Rattle.node_laws.specs.order.Told.{AreWiresRead, HasDeliveredAll}
 use Rattle.node_laws.proofs.order.Prefix.{sent_alike, got_alike, acked_alike}
 use Rattle.node_laws.proofs.order.Lines.{IsSo, host_number, history_so}
 use Rattle.node_laws.proofs.order.Sessions.{after, are_read}

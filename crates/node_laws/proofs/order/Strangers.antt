@@ -1,27 +1,24 @@
 -- Nothing is told of a link with a host that isn't in the world, and no host comes to it.
-use Rattle.std.proofs.Common.{◌≡◌, ℕ, ◌==◌, Bool, true, false, List, [], ◌∷◌, ◌++◌, length, Some, None, map, refl, ap, sym, subst, ◌∙◌}
-use Rattle.std.specs.List.{AllByRecursion, flat_map}
-use Rattle.std.proofs.lemmas.Bool.{eqb-true}
-use Rattle.node_laws.proofs.Words.{Activates, Arms, AsksReset, AtController, AtEnd, Bare, Boots, Comes, Controller, CutOff, Deed, Desk, End, Entry, Gives}
-use Rattle.node_laws.proofs.Words.{Happening, HasEnds, Host, IfItRuns, Inits, IsCut, IsOrderly, Link, LinkInput, Loses, Loss, Memory, NextFrame, NoInput}
-use Rattle.node_laws.proofs.Words.{NodeWorld, NumberedEnd, Resets, Running, Site, Starts, Step, Takes, Ticks, Work, after_host, after_planned, aged}
-use Rattle.node_laws.proofs.Words.{aged_entries, all_aged, arrival, beginning, begins_with, boot_found, boot_writes, boot_written, boots, by_boot, by_coming}
-use Rattle.node_laws.proofs.Words.{by_controller, by_controller_tick, by_host, by_loss, by_memory, by_option, by_power, by_running, by_test, comes_at, comes_to}
-use Rattle.node_laws.proofs.Words.{controller_does, controller_ticks, controller_work, counts, end_c, end_h, entries_for, exchanged, fails_within, first_lost}
-use Rattle.node_laws.proofs.Words.{frame_lost, frames_noted, happens, host_cut, host_does, host_work, hosts_in, hosts_tick, input_of, link_after_controller}
-use Rattle.node_laws.proofs.Words.{link_to, loses_power_at, memory_at, near_end_in, near_tick, new_link, of_link, port_at, sending, site_at, site_lost}
-use Rattle.node_laws.proofs.Words.{site_ticked, site_unticked, steps, wires_for, with_memory, with_node, work_of, world_step, world_ticks}
-use Rattle.link_laws.specs.entries.Entries.{Entry as Noted}
+use Rattle.node_laws.proofs.Words.{Activates, AllByRecursion, Arms, AsksReset, AtController, AtEnd, Bare, Bool, Boots, Comes, Controller, CutOff, Deed, Desk}
+use Rattle.node_laws.proofs.Words.{End, Entry, Gives, Happening, HasEnds, Host, IfItRuns, Inits, IsCut, IsOrderly, Link, LinkInput, List, Loses, Loss, Memory}
+use Rattle.node_laws.proofs.Words.{NextFrame, NoInput, NodeWorld, None, Noted, NumberedEnd, Resets, Running, Site, Some, Starts, Step, Takes, Ticks, Work, []}
+use Rattle.node_laws.proofs.Words.{after_host, after_planned, aged, aged_entries, all_aged, ap, arrival, beginning, begins_with, boot_found, boot_writes}
+use Rattle.node_laws.proofs.Words.{boot_written, boots, by_boot, by_coming, by_controller, by_controller_tick, by_host, by_loss, by_memory, by_option, by_power}
+use Rattle.node_laws.proofs.Words.{by_running, by_test, comes_at, comes_to, controller_does, controller_ticks, controller_work, counts, end_c, end_h}
+use Rattle.node_laws.proofs.Words.{entries_for, eqb-true, exchanged, fails_within, false, first_lost, flat_map, frame_lost, frames_noted, happens, host_cut}
+use Rattle.node_laws.proofs.Words.{host_does, host_work, hosts_in, hosts_tick, input_of, length, link_after_controller, link_to, loses_power_at, map, memory_at}
+use Rattle.node_laws.proofs.Words.{near_end_in, near_tick, new_link, of_link, port_at, refl, sending, site_at, site_lost, site_ticked, site_unticked, steps}
+use Rattle.node_laws.proofs.Words.{subst, sym, true, wires_for, with_memory, with_node, work_of, world_step, world_ticks, ℕ, ◌++◌, ◌==◌, ◌∙◌, ◌∷◌, ◌≡◌}
 use Rattle.node_laws.proofs.kept.Sites.{hosts_same, hosts_with}
 use Rattle.node_laws.proofs.telling.Mute.{AreMute}
 use Rattle.node_laws.proofs.telling.Accounts.{of-append, of_other}
 use Rattle.node_laws.proofs.telling.Away.{Away}
-use Rattle.node_laws.proofs.telling.Steps.{frames_of, away_steps}
+use Rattle.node_laws.proofs.telling.Steps.{away_steps, frames_of}
 use Rattle.node_laws.proofs.telling.Ticks.{away_tick}
-use Rattle.node_laws.proofs.telling.Nodes.{ports_for, link_is}
-use Rattle.node_laws.proofs.telling.Worlds.{HostDoes, host_does_step, host_does_begin}
-use Rattle.node_laws.proofs.telling.Events.{sending_mute, comes_goes, orderly_map}
-use Rattle.node_laws.proofs.telling.WorldTicks.{near_orderly, other_hosts}
+use Rattle.node_laws.proofs.telling.Nodes.{link_is, ports_for}
+use Rattle.node_laws.proofs.telling.Worlds.{HostDoes, host_does_begin, host_does_step}
+use Rattle.node_laws.proofs.telling.Events.{comes_goes, sending_mute}
+use Rattle.node_laws.proofs.telling.WorldTicks.{aged_orderly, other_hosts, ticked_orderly}
 use Rattle.node_laws.proofs.telling.Orderly.{hosts_ticked}
 
 -- ## Hosts stay
@@ -191,8 +188,8 @@ ticks_none h w orderly strange =
     of-append h (all_aged w).1 ((controller_ticks old).1 ++ far)
     ∙ (ap (λ t. t ++ of_link h ((controller_ticks old).1 ++ far)) aged_none
     ∙ (of-append h (controller_ticks old).1 far
-    ∙ (ap (λ t. t ++ of_link h far) (near_none h old old_orderly (old_strange))
-    ∙ other_hosts h (controller_ticks old).0.sites next.hosts next.nodes (subst (IsStrange h) (sym (near_kept old)) old_strange))))
+    ∙ (ap (λ t. t ++ of_link h far) (near_none h old (aged_orderly w orderly) (old_strange))
+    ∙ other_hosts h (controller_ticks old).0.sites (ticked_orderly w orderly).hosts (ticked_orderly w orderly).nodes (subst (IsStrange h) (sym (near_kept old)) old_strange))))
   where
     older : Site → Site
     older x = record x { link = aged x.link }
@@ -203,14 +200,8 @@ ticks_none h w orderly strange =
     far : List Entry
     far = (hosts_tick (controller_ticks old).0.sites).1
 
-    old_orderly : IsOrderly old
-    old_orderly = orderly_map w w.memory w.controller older (λ x. refl) orderly orderly.controller (λ x a. a)
-
     old_strange : IsStrange h (hosts_in old.sites)
     old_strange = subst (IsStrange h) (sym (hosts_same older (λ x. refl) w.sites)) strange
-
-    next : IsOrderly (record { memory = old.memory; controller = None; sites = (controller_ticks old).0.sites })
-    next = near_orderly old old_orderly
 
     aged_none : of_link h (all_aged w).1 ≡ []
     aged_none =

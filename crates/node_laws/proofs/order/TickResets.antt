@@ -1,27 +1,17 @@
 -- A tick in which the controller's end of a link is reset, as its notice is late, is read off what is noted of it.
-use Rattle.std.proofs.Common.{◌≡◌, ℕ, Bool, true, false, List, [], ◌∷◌, ◌++◌, Option, Some, None, map, refl, ap, sym, ◌∙◌}
-use Rattle.std.proofs.Common.{cond, append_assoc}
-use Rattle.std.specs.Prelude.{◌+◌, ◌||◌, not, is_some, nat_lt, option_to_list, if◌then◌else◌}
-use Rattle.std.specs.List.{AllByRecursion, list_any}
-use Rattle.std.proofs.lemmas.Bool.{true≢false}
-use Rattle.std.proofs.lemmas.List.Folds.{list_any-append}
-use Rattle.node_laws.proofs.Words.{Acked, Act, Active, Asked, AsksReset, Cause, Clt, Control, Controller, Cut, CutOff, Down, Emit, EndState, Ending, Entry}
-use Rattle.node_laws.proofs.Words.{FindsReady, GaveUp, GoesOut, Got, Host, I, IsRunOf, Link, LinkEnd, LinkEvent, LinkInput, LinkState, Lost, Node, Refused}
-use Rattle.node_laws.proofs.Words.{Report, Reset, Restarted, Rset, S, Step, TicksWithout, Turn, Ua, act_answer, after_input, aged, aged_entries}
-use Rattle.node_laws.proofs.Words.{behind_reset_of, by_test, cuts_on, end_c, end_h, end_of, ended_by, entries_for, event_entries, exchanged, frames_out}
-use Rattle.node_laws.proofs.Words.{happens, happens_at_controller, if_so, if_up, is_open, is_own_reset, is_reset_down, is_rset, lost_as, lpdu_of, number_of}
-use Rattle.node_laws.proofs.Words.{of_link, or_none, puts_entries, report, reset_refusal, rest_entries, runs_timer, said, same_number, step_entries, tells_of}
-use Rattle.node_laws.proofs.Words.{tick_answer, tick_entries, ticks_at_controller, told, told_of, turn_entries, turned, whole_acked, with_ended}
+use Rattle.node_laws.proofs.Words.{Acked, Act, ActTick, Active, AllByRecursion, Asked, AsksReset, Bool, ByAct, Cause, Clt, Control, Controller, Cut, CutOff}
+use Rattle.node_laws.proofs.Words.{Down, Emit, EndState, Ending, Entry, FindsReady, GaveUp, GoesOut, Got, HasTick, Host, I, IsDown, IsRunOf, IsUpNow}
+use Rattle.node_laws.proofs.Words.{IsWaitingNow, Link, LinkEnd, LinkEvent, LinkInput, LinkState, List, Lost, Node, None, Noted, Option, Refused, Report, Reset}
+use Rattle.node_laws.proofs.Words.{Restarted, Rset, S, Some, Step, TicksWithout, Turn, Ua, [], act_answer, after_input, aged, aged_entries, ap, append_assoc}
+use Rattle.node_laws.proofs.Words.{behind_reset_of, by_test, cond, cuts_on, end_c, end_h, end_of, ended_by, ended_by_reset, entries_for, event_entries}
+use Rattle.node_laws.proofs.Words.{exchanged, false, frames_out, happens, happens_at_controller, if_so, if_up, if◌then◌else◌, is_act, is_open, is_own_reset}
+use Rattle.node_laws.proofs.Words.{is_reset_down, is_rset, is_some, list_any, list_any-append, lost_as, lpdu_of, map, nat_lt, not, number_of, of_link}
+use Rattle.node_laws.proofs.Words.{option_to_list, or_none, puts_entries, refl, report, reset_refusal, rest_entries, runs_timer, said, same_number}
+use Rattle.node_laws.proofs.Words.{step_entries, sym, tells_of, tick_answer, tick_entries, ticks_at_controller, told, told_of, true, true≢false, turn_entries}
+use Rattle.node_laws.proofs.Words.{turned, whole_acked, with_ended, withholds, ℕ, ◌++◌, ◌+◌, ◌||◌, ◌∙◌, ◌∷◌, ◌≡◌}
 use Rattle.trace_model.specs.declared.entry.Entry.TheVariants as entry
-use Rattle.swp_base.specs.declared.link_terms.Cause.TheVariants.{Act as ByAct}
-use Rattle.swp_act.specs.declared.ActEvent.TheVariants.{Tick as ActTick}
-use Rattle.shdlc_core.specs.declared.answers.LinkState.TheVariants.{Down as IsDown, Waiting as IsWaitingNow, Up as IsUpNow}
-use Rattle.link_laws.specs.machine.Machine.{ended_by_reset}
-use Rattle.link_laws.specs.machine.Machine.LinkInput.{Tick as HasTick}
-use Rattle.link_laws.specs.places.Wire.{is_act}
-use Rattle.link_laws.specs.entries.Entries.{End as Side, Entry as Noted}
+use Rattle.link_laws.specs.entries.Entries.{End as Side}
 use Rattle.link_laws.specs.entries.Entries.Entry.{Up, Tick}
-use Rattle.link_laws.specs.entries.Settled.{withholds}
 use Rattle.node_laws.specs.order.Resets.{asks_at}
 use Rattle.node_laws.proofs.order.Withheld.{loses_one_on}
 use Rattle.node_laws.proofs.telling.Reported.{rest_all}

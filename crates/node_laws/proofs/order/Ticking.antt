@@ -1,34 +1,30 @@
 -- A tick of a world leaves each link told.
-use Rattle.std.proofs.Common.{◌≡◌, ℕ, ◌==◌, Bool, true, false, List, [], ◌∷◌, ◌++◌, Option, Some, None, map, refl, ap, sym, subst, ◌∙◌}
-use Rattle.std.specs.Prelude.{is_some, not, ◌&&◌}
-use Rattle.std.specs.List.{AllByRecursion, find}
-use Rattle.std.proofs.lemmas.Bool.{eqb-true, true≢false}
-use Rattle.node_laws.proofs.Words.{AreSendableTurns, AsksReset, Clf, CutOff, Desk, Entry, FindsReady, GoesOut, IfDue, IfItRuns, IfNoticedUp, IfOff, IsClf}
-use Rattle.node_laws.proofs.Words.{IsEvent, IsLine, IsLinkTold, IsNoticedUp, IsTimely, IsUicc, Link, LinkEnd, LinkEvent, NodeWorld, NoneDue, NoticesAreUp}
-use Rattle.node_laws.proofs.Words.{NumberedEnd, OnFirst, Reset, Running, Site, Step, Tick, TimePasses, Turn, Uicc, Up, after_input, after_near_tick, aged}
-use Rattle.node_laws.proofs.Words.{all_aged, by_controller_tick, by_host_tick, by_option, by_test, controller_ticks, ending_of, exchanged, from_start}
-use Rattle.node_laws.proofs.Words.{host_tick, host_ticks, hosts_tick, is_due, is_late_at, is_open, is_waiting, link_to, near_tick, new_clf, new_line}
-use Rattle.node_laws.proofs.Words.{new_link_end, new_uicc, port_at, port_for, reset_refusal, runs_on, sent_all, site_at, site_ticked, site_unticked, ticked_so}
-use Rattle.node_laws.proofs.Words.{ticks_at_controller, turned, turns_at, work_of, world_ticks}
+use Rattle.node_laws.proofs.Words.{AllByRecursion, AreSendableTurns, AsksReset, Bool, Clf, CutOff, Desk, Entry, FindsReady, GoesOut, IfDue, IfItRuns}
+use Rattle.node_laws.proofs.Words.{IfNoticedUp, IfOff, IsClf, IsEvent, IsLine, IsLinkTold, IsNoticedUp, IsTimely, IsUicc, Link, LinkEnd, LinkEvent, List}
+use Rattle.node_laws.proofs.Words.{NodeWorld, None, NoneDue, NoticesAreUp, NumberedEnd, OnFirst, Option, Reset, Running, Site, Some, Step, Tick, TimePasses}
+use Rattle.node_laws.proofs.Words.{Turn, Uicc, Up, [], after_input, after_near_tick, aged, all_aged, all_so, ap, by_controller_tick, by_host_tick, by_option}
+use Rattle.node_laws.proofs.Words.{by_test, controller_ticks, ending_of, eqb-true, exchanged, false, find, from_start, host_tick, host_ticks, hosts_tick}
+use Rattle.node_laws.proofs.Words.{is_due, is_late_at, is_open, is_some, is_waiting, link_to, map, near_tick, new_clf, new_line, new_link_end, new_uicc, not}
+use Rattle.node_laws.proofs.Words.{option_map, port_at, port_for, refl, reset_refusal, runs_on, sent_all, site_at, site_ticked, site_unticked, subst, sym}
+use Rattle.node_laws.proofs.Words.{ticked_so, ticks_at_controller, true, true≢false, turned, turns_at, work_of, world_ticks, ℕ, ◌&&◌, ◌++◌, ◌==◌, ◌∙◌, ◌∷◌, ◌≡◌}
 use Rattle.shdlc_core.specs.declared.answers.LinkState.TheVariants.{Down}
 use Rattle.node_laws.proofs.links.Got.{Clean}
 use Rattle.node_laws.proofs.links.Ends.{here_clf, tick_clf, tick_uicc}
 use Rattle.node_laws.proofs.links.Works.{steps_fine}
-use Rattle.node_laws.proofs.links.Sites.{AreNodes, tick_allowed, reset_allowed}
-use Rattle.node_laws.proofs.links.Worlds.{AreTrueDesks, IsFineNode, IsFineSite, AreFineSites, AreClean, near_clean, ports_fine, turns_fine}
+use Rattle.node_laws.proofs.links.Sites.{AreNodes, reset_allowed, tick_allowed}
+use Rattle.node_laws.proofs.links.Worlds.{AreClean, AreFineSites, AreTrueDesks, IsFineNode, IsFineSite, near_clean, ports_fine, turns_fine}
 use Rattle.node_laws.proofs.telling.Nodes.{link_is, ports_for}
 use Rattle.node_laws.proofs.telling.Worlds.{site_is}
-use Rattle.node_laws.proofs.telling.WorldTicks.{host_turns, between, between_far, near_turns, tick_event, Ticking, ticking}
+use Rattle.node_laws.proofs.telling.WorldTicks.{Ticking, between, between_far, host_turns, near_turns, tick_event, ticking}
 use Rattle.node_laws.proofs.telling.WorldTicks.{ticked_at}
 use Rattle.node_laws.proofs.readings.NoticedWorlds.{host_tick_side}
-use Rattle.node_laws.proofs.order.Unnoticed.{IfNone, steps_none, runs_none}
-use Rattle.node_laws.proofs.order.Knowing.{told_more, renewed_clf, renewed_uicc, Knows, Each, later, WasThere, was_there}
+use Rattle.node_laws.proofs.order.Unnoticed.{IfNone, runs_none, steps_none}
+use Rattle.node_laws.proofs.order.Knowing.{Each, Knows, WasThere, later, renewed_clf, renewed_uicc, told_more, was_there}
 use Rattle.node_laws.proofs.order.TickResets.{IsAnsweredTick, reset_in_tick}
-use Rattle.node_laws.proofs.order.Watches.{IsStepOf, WatchedLink, IsSince}
-use Rattle.node_laws.proofs.order.Wires.{Shown, tick_unstarted, shown_more}
+use Rattle.node_laws.proofs.order.Watches.{IsSince, IsStepOf, WatchedLink}
+use Rattle.node_laws.proofs.order.Wires.{Shown, shown_more, tick_unstarted}
 use Rattle.node_laws.proofs.order.Events.{IsWell}
 use Rattle.node_laws.proofs.turns.Works.{site_none}
-use Rattle.std.specs.Option.{option_map}
 
 -- ## Every world is timely
 
@@ -38,8 +34,7 @@ none_due None a = tt
 none_due (Some r) a = all r.desks a
   where
     all : (desks : List Desk) → AllByRecursion (λ (d : Desk). d.notice ≡ None) desks → AllByRecursion (λ (d : Desk). is_due d ≡ false) desks
-    all [] n = tt
-    all (d ∷ desks) n = (let q = n.0 in rw q refl, all desks n.1)
+    all desks n = all_so (λ (d : Desk). d.notice ≡ None) (λ (d : Desk). is_due d ≡ false) (λ d b. let q = b in rw q refl) desks n
 
 end_found : (near_ends : ℕ → NumberedEnd) (desks : List Desk) (h : ℕ) (d : Desk) → find (λ d. d.host == h) desks ≡ Some d
     → port_at (ports_for near_ends desks) h ≡ Some (port_for (near_ends h) d)

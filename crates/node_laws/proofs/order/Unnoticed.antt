@@ -1,13 +1,11 @@
 -- A host keeps no notice of a controller: nothing that it does in a step gives it one.
-use Rattle.std.proofs.Common.{◌≡◌, ◌∙◌, ℕ, ◌==◌, false, List, [], ◌∷◌, refl, ap, length}
-use Rattle.std.specs.Prelude.{Option, Some, None, map}
-use Rattle.std.specs.List.{AllByRecursion, flat_map}
-use Rattle.node_laws.proofs.Words.{Asks, AtEnd, Command, Commits, Core, Deed, Desk, FetchMessage, Give, Hold, IsAnswered, LinkInput, Message, NodeInput, OfHost}
-use Rattle.node_laws.proofs.Words.{Orders, Plain, Port, Release, Releases, Running, Sends, SetsErrors, Tells, TimePasses, Turn, Work, after_sessions}
-use Rattle.node_laws.proofs.Words.{after_turn, all_changed, all_come, all_done, all_map, all_of_host, all_owed, all_owed_hold, all_synced_hold, anyone}
-use Rattle.node_laws.proofs.Words.{asked_at, body_of, by_option, by_test, commit, commit_writes, deeds_of, done, fails_within, forgets, forgotten}
-use Rattle.node_laws.proofs.Words.{forgotten_hold, has_come, input_at, is_forgotten, is_late, is_over, port_at, reset_late, runs_on, steps, synced, times_out}
-use Rattle.node_laws.proofs.Words.{turn_at, with_desk, with_older, with_port, without_notice}
+use Rattle.node_laws.proofs.Words.{AllByRecursion, Asks, AtEnd, Command, Commits, Core, Deed, Desk, FetchMessage, Give, Hold, IsAnswered, LinkInput, List}
+use Rattle.node_laws.proofs.Words.{Message, NodeInput, None, OfHost, Option, Orders, Plain, Port, Release, Releases, Running, Sends, SetsErrors, Some, Tells}
+use Rattle.node_laws.proofs.Words.{TimePasses, Turn, Work, [], after_sessions, after_turn, all_changed, all_come, all_done, all_map, all_of_host, all_owed}
+use Rattle.node_laws.proofs.Words.{all_owed_hold, all_synced_hold, anyone, ap, asked_at, body_of, by_option, by_test, commit, commit_writes, deeds_of, done}
+use Rattle.node_laws.proofs.Words.{fails_within, false, flat_map, forgets, forgotten, forgotten_hold, has_come, input_at, is_forgotten, is_late, is_over}
+use Rattle.node_laws.proofs.Words.{length, map, port_at, refl, reset_late, runs_on, steps, synced, times_out, turn_at, with_desk, with_older, with_port}
+use Rattle.node_laws.proofs.Words.{without_notice, ℕ, ◌==◌, ◌∙◌, ◌∷◌, ◌≡◌}
 use Rattle.node_laws.proofs.links.Noticing.{came_node}
 use Rattle.node_laws.proofs.steps.StepWalks.{got_at, all_do, Lasts, rest_lasts}
 use Rattle.node_laws.proofs.steps.Ports.{sessions_node}

@@ -1,22 +1,15 @@
 -- In each history a reset whose answer nothing withheld has brought both ends of its link up.
-use Rattle.std.proofs.Common.{◌≡◌, ℕ, ◌==◌, Bool, true, false, cond, List, [], ◌∷◌}
-use Rattle.std.proofs.Common.{◌++◌, Option, Some, refl, ap, sym, subst, ◌∙◌, append-nil, append_assoc}
-use Rattle.std.specs.List.{fold, list_any}
-use Rattle.std.proofs.lemmas.Bool.{eqb-true, true≢false}
-use Rattle.node_laws.proofs.Words.{Activates, AreHosts, ArePlayable, Controller, End, Entry, FollowsNodes, Happening, Header, Host, IsUpheld, Line, Link}
-use Rattle.node_laws.proofs.Words.{NodeHistory, NodeWorld, Occurrence, Readiness, Resets, Site, Standing, as_event_begins, as_event_ends, behind_reset_of}
-use Rattle.node_laws.proofs.Words.{by_option, by_test, cuts_on, end_c, entries_in, hosts_in, new_standing, new_world, occurrences_in, of_link, or_none}
-use Rattle.node_laws.proofs.Words.{other_end, readiness_of, said, same_number, site_at, standing, stands_noted, tells_of, without_power, world_behind}
-use Rattle.node_laws.proofs.Words.{world_step, world_ticks}
+use Rattle.node_laws.proofs.Words.{Activates, AreBothUp, AreHosts, ArePlayable, Bool, Controller, End, Entry, FollowsNodes, Happening, Header, Host, IsUpheld}
+use Rattle.node_laws.proofs.Words.{IsUpheldInTick, Line, Link, List, NodeHistory, NodeWorld, Occurrence, Option, Readiness, Resets, Site, Some, Standing, []}
+use Rattle.node_laws.proofs.Words.{ap, append-nil, append_assoc, as_event_begins, as_event_ends, behind_reset_of, by_option, by_test, cond, cuts_on, end_c}
+use Rattle.node_laws.proofs.Words.{entries_in, eqb-true, false, fold, hosts_in, list_any, machine_of, new_standing, new_world, occurrences_in, of_link, or_none}
+use Rattle.node_laws.proofs.Words.{other_end, readiness_of, refl, said, same_number, site_at, standing, standing_behind, stands_noted, subst, sym, tells_of}
+use Rattle.node_laws.proofs.Words.{true, true≢false, withholds_in, without_power, world_behind, world_step, world_ticks, ℕ, ◌++◌, ◌==◌, ◌∙◌, ◌∷◌, ◌≡◌}
 use Rattle.trace_model.specs.declared.entry.Entry.TheVariants as entry
-use Rattle.history.specs.Follows.{machine_of}
-use Rattle.node_laws.specs.telling.Standing.{standing_behind}
 use Rattle.node_laws.proofs.telling.Accounts.{of-append}
 use Rattle.node_laws.proofs.telling.Powers.{other_said}
-use Rattle.node_laws.proofs.telling.Lasting.{occurs}
-use Rattle.node_laws.specs.order.Told.{AreBothUp}
-use Rattle.node_laws.specs.order.Resets.{withheld_in, withholds_in, opens_on, ready_at, IsLeftAlone, ResetNodes}
-use Rattle.node_laws.specs.order.Resets.{IsUpheldInTick, TickResetNodes}
+use Rattle.node_laws.proofs.telling.Lasting.{behind_push, occurs}
+use Rattle.node_laws.specs.order.Resets.{IsLeftAlone, ResetNodes, TickResetNodes, opens_on, ready_at, withheld_in}
 use Rattle.node_laws.proofs.order.Withheld.{AreBelieved, event_believed, loses_one_on, none_lost_behind, none_withheld_on, withholds_on}
 use Rattle.node_laws.proofs.order.Ticking.{ticked_since}
 use Rattle.node_laws.proofs.order.TickResets.{IsAnsweredTick}
@@ -25,9 +18,9 @@ use Rattle.node_laws.proofs.kept.Sites.{none_found}
 use Rattle.node_laws.proofs.order.Strangers.{IsStrange}
 use Rattle.node_laws.proofs.order.Watches.{IsSince, untouched, watch_begins, watched}
 use Rattle.node_laws.proofs.order.Knowing.{Knows}
-use Rattle.node_laws.proofs.order.Lines.{watches, of_none, IsSo, IsSoSince, LeavesKnown, next_so, host_number, history_so}
+use Rattle.node_laws.proofs.order.Lines.{IsSo, IsSoSince, LeavesKnown, history_so, host_number, next_so, of_none, watches}
 use Rattle.node_laws.proofs.order.Sessions.{are_read}
-use Rattle.node_laws.proofs.order.Asked.{MayBeAsked, AreDone, behind_push, done_back, done_front, history_done}
+use Rattle.node_laws.proofs.order.Asked.{AreDone, MayBeAsked, done_back, done_front, history_done}
 use Rattle.node_laws.proofs.order.Resets.{brought_up, reset_since}
 
 -- ## What is known of one link

@@ -1,34 +1,26 @@
 -- How a link stands, and whether nothing has withheld the answer to a reset of it.
-use Rattle.std.proofs.Common.{◌≡◌, ℕ, suc, ◌+◌, ◌≤◌, Bool, true, false, cond, List, [], ◌∷◌, ◌++◌, length, replicate, Option, Some, None, refl, ap, sym, subst}
-use Rattle.std.proofs.Common.{◌∙◌, append-nil, append_assoc, length-append, arith}
-use Rattle.std.specs.Prelude.{◌==◌, ◌&&◌, ◌||◌, not, drop, is_some, if◌then◌else◌}
-use Rattle.std.specs.List.{AllByRecursion, list_any}
-use Rattle.std.proofs.lemmas.Bool.{true≢false}
-use Rattle.std.proofs.lemmas.Bool.{and_parts}
-use Rattle.std.proofs.lemmas.List.{length-replicate}
-use Rattle.std.proofs.lemmas.List.Folds.{list_any-append}
-use Rattle.std.proofs.lemmas.List.Sums.{fold-append}
-use mathlib.Core.Bool.{or-true}
-use Rattle.node_laws.proofs.Words.{Acked, Act, Activates, Active, Begins, Clt, Comes, Controller, Counts, Cut, CutOff, Down, Emit, End, Entry, GaveUp, Gets}
-use Rattle.node_laws.proofs.Words.{Got, Happening, Host, I, IsEvent, IsRunOf, Link, LinkEnd, LinkEvent, LinkInput, Lost, Puts, Restarted, Rset, S, Saying, Sent}
-use Rattle.node_laws.proofs.Words.{Standing, StandsOf, Starts, Stops, TellOf, Took, Turn, Ua, after_input, after_link_events, as_event_begins, as_event_ends}
-use Rattle.node_laws.proofs.Words.{becomes_at, by_test, cuts_on, end_of, ended_by, entries, entries_for, event_entries, happens, input_entries, is_of}
-use Rattle.node_laws.proofs.Words.{law_noted, lost_as, lpdu_of, made_active, new_line, new_standing, no_longer_waits, number_of, of_link, or_none, rest_entries}
-use Rattle.node_laws.proofs.Words.{said, said_far, said_near, standing, standing_by_law, stands_noted, stands_said, stands_told, tells_of, told_of}
-use Rattle.node_laws.proofs.Words.{turn_entries, with_ended}
+use Rattle.node_laws.proofs.Words.{Acked, Act, Activates, Active, AllByRecursion, Begins, Bool, Clt, Comes, Controller, Counts, Cut, CutOff, Down, Emit, End}
+use Rattle.node_laws.proofs.Words.{Entry, GaveUp, Gets, Got, Happening, Host, I, IsEvent, IsRunOf, Link, LinkEnd, LinkEvent, LinkInput, List, Lost, None, Noted}
+use Rattle.node_laws.proofs.Words.{Option, Puts, Restarted, Rset, S, Saying, Sent, Some, Standing, StandsOf, Starts, Stops, TellOf, Took, Turn, Ua, []}
+use Rattle.node_laws.proofs.Words.{after_input, after_link_events, and_parts, ap, append-nil, append_assoc, arith, as_event_begins, as_event_ends, becomes_at}
+use Rattle.node_laws.proofs.Words.{by_test, cond, cuts_on, drop, drops_on, end_of, ended_by, entries, entries_for, event_entries, false, fold-append, happens}
+use Rattle.node_laws.proofs.Words.{if◌then◌else◌, input_entries, is_of, is_some, law_noted, length, length-append, length-replicate, list_any, list_any-append}
+use Rattle.node_laws.proofs.Words.{lost_as, lpdu_of, made_active, new_line, new_standing, no_longer_waits, not, number_of, of_link, or-true, or_none, refl}
+use Rattle.node_laws.proofs.Words.{replicate, rest_entries, said, said_far, said_near, standing, standing_by_law, stands_noted, stands_said, stands_told, subst}
+use Rattle.node_laws.proofs.Words.{suc, sym, tells_of, told_of, true, true≢false, turn_entries, with_empty_wires, with_ended, withholds, ℕ, ◌&&◌, ◌++◌, ◌+◌}
+use Rattle.node_laws.proofs.Words.{◌==◌, ◌||◌, ◌∙◌, ◌∷◌, ◌≡◌, ◌≤◌}
 use Rattle.trace_model.specs.declared.entry.Entry.TheVariants as entry
-use Rattle.link_laws.specs.entries.Entries.{End as Side, Entry as Noted}
+use Rattle.link_laws.specs.entries.Entries.{End as Side}
 use Rattle.link_laws.specs.entries.Entries.Entry.{Up, Tick}
-use Rattle.link_laws.specs.entries.Settled.{withholds, IsReset, rest_of}
+use Rattle.link_laws.specs.entries.Settled.{IsReset, rest_of}
 use Rattle.link_laws.proofs.entries.Sparing.{spoils, Spared, Stands, none_withheld}
 use Rattle.history.specs.Filters.Saying.{Ends, Sends, Takes, Loses}
 use Rattle.history.specs.Legal.{resets_on}
 use Rattle.history.proofs.legal.Reading.{link_same}
 use Rattle.node_laws.proofs.links.Sites.{run_of_more}
-use Rattle.node_laws.specs.telling.Standing.{with_empty_wires, with_inactive_ends}
+use Rattle.node_laws.specs.telling.Standing.{with_inactive_ends}
 use Rattle.node_laws.proofs.telling.Accounts.{untold}
 use Rattle.node_laws.proofs.telling.Events.{after-append, entries-append}
-use Rattle.node_laws.specs.order.Resets.{drops_on}
 use Rattle.node_laws.proofs.order.Withheld.{loses_one_on, spoils_on, withholds_on}
 use Rattle.node_laws.proofs.order.Activations.{kept_act}
 

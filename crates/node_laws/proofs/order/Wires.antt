@@ -1,34 +1,25 @@
 -- The frames on the wires of a link are read off what is noted of it.
-use Rattle.std.proofs.Common.{◌≡◌, ℕ, Bool, true, false, List, [], ◌∷◌, ◌++◌, refl, ap, sym, subst, ◌∙◌}
-use Rattle.std.specs.Prelude.{drop, not, Some, None}
-use Rattle.std.specs.List.{list_any}
-use Rattle.std.proofs.lemmas.Bool.{true≢false}
-use Rattle.node_laws.proofs.Words.{Acked, Active, AsksReset, AtController, Bare, Begins, Clf, Comes, Controller, Counts, Cut, CutOff, Down, Emit, EndState}
-use Rattle.node_laws.proofs.Words.{Ending, Entry, FetchMessage, GaveUp, Gets, Give, GoesOut, Got, Hold, Host, IsClf, IsLine, IsLinkTold, Link, LinkEnd}
-use Rattle.node_laws.proofs.Words.{LinkEvent, Lost, Node, OnWire, Puts, Release, Reset, Restarted, Role, Saying, Seen, Sent, Session, SetAside, Standing}
-use Rattle.node_laws.proofs.Words.{Starts, Step, Stops, Took, Turn, Uicc, after_link_events, aged, aged_entries, aside_refusal, becomes_at, by_option, end_of}
-use Rattle.node_laws.proofs.Words.{entries, event_entries, exchanged, frames_on, frames_out, happens, inactive, kept, law_noted, lpdu_of, made_active, new_line}
-use Rattle.node_laws.proofs.Words.{no_longer_waits, no_session, put_all, readiness_of, said_far, said_near, same_number, see, see_all, silent, standing}
-use Rattle.node_laws.proofs.Words.{standing_by_law, stands_said, started, step_entries, tick_entries, turn, turned}
-use Rattle.shdlc_core.specs.declared.answers.LinkState.TheVariants.{Down as IsDown}
-use Rattle.shdlc_core.specs.Machine.{frame_due, with_ready}
-use Rattle.link_laws.specs.sessions.Sessions.{older}
-use Rattle.link_laws.specs.entries.Entries.{End as Side, Entry as Noted}
-use Rattle.link_laws.specs.entries.Entries.Entry.{Up, Tick}
-use Rattle.link_laws.specs.entries.Reading.{nothing_seen}
-use Rattle.link_laws.proofs.entries.Ages.{read_off}
+use Rattle.node_laws.proofs.Words.{Acked, Active, AsksReset, AtController, Bare, Begins, Bool, Clf, Comes, Controller, Counts, Cut, CutOff, Down, Emit}
+use Rattle.node_laws.proofs.Words.{EndState, Ending, Entry, FetchMessage, GaveUp, Gets, Give, GoesOut, Got, Hold, Host, IsClf, IsDown, IsLinkTold, Link}
+use Rattle.node_laws.proofs.Words.{LinkEnd, LinkEvent, List, Lost, Node, None, Noted, OnWire, Puts, Release, Reset, Restarted, Role, Saying, Seen, Sent}
+use Rattle.node_laws.proofs.Words.{Session, SetAside, Some, Standing, Starts, Step, Stops, Took, Turn, Uicc, [], aged, aged_entries, all_append, ap}
+use Rattle.node_laws.proofs.Words.{aside_refusal, becomes_at, by_option, drop, end_of, event_entries, exchanged, false, frames_on, frames_out, happens}
+use Rattle.node_laws.proofs.Words.{inactive, kept, law_noted, list_any, lpdu_of, made_active, no_longer_waits, no_session, not, older, put_all, readiness_of}
+use Rattle.node_laws.proofs.Words.{refl, said_far, said_near, same_number, see, see_all, silent, standing, standing_by_law, stands_said, started, step_entries}
+use Rattle.node_laws.proofs.Words.{subst, sym, tick_entries, true, true≢false, turn, turned, with_empty_wires, with_ready, ℕ, ◌++◌, ◌∙◌, ◌∷◌, ◌≡◌}
+use Rattle.shdlc_core.specs.Machine.{frame_due}
+use Rattle.link_laws.specs.entries.Entries.{End as Side}
+use Rattle.link_laws.specs.entries.Entries.Entry.{Tick, Up}
 use Rattle.link_laws.proofs.entries.Seeing.{see_all-append}
-use Rattle.history.specs.Filters.Saying.{Ends, Sends, Takes, Loses}
-use Rattle.node_laws.specs.telling.Standing.{with_empty_wires}
+use Rattle.history.specs.Filters.Saying.{Ends, Loses, Sends, Takes}
 use Rattle.node_laws.proofs.telling.Powers.{AreClear}
-use Rattle.node_laws.proofs.telling.Shapes.{last_of, IsShaped, shaped_tick, shaped_step, opened_by, IsStepShaped, opened_stands, clear_aged}
-use Rattle.node_laws.proofs.telling.Events.{after-append, entries-append}
+use Rattle.node_laws.proofs.telling.Shapes.{IsShaped, IsStepShaped, clear_aged, last_of, opened_by, opened_stands, shaped_step, shaped_tick}
 use Rattle.node_laws.proofs.telling.WorldTicks.{between, near_notes, tick_event}
-use Rattle.registry.proofs.ValueLemmas.{AllByRecursion-append as all_append}
 use Rattle.node_laws.proofs.order.Withheld.{withholds_on}
 use Rattle.node_laws.proofs.order.Activity.{IsLined}
+use Rattle.node_laws.proofs.order.Since.{event_seen as seen_of}
 use Rattle.node_laws.proofs.order.Readying.{AreReady, ready_more, started_unready}
-use Rattle.node_laws.proofs.order.Watches.{IsStepOf, WatchedLink, watched, IsSince, IsUnstarted, AreUnstarted, since_step, unwatched, opened, kept_left}
+use Rattle.node_laws.proofs.order.Watches.{AreUnstarted, IsSince, IsStepOf, IsUnstarted, WatchedLink, kept_left, opened, since_step, unwatched, watched}
 
 -- ## Wires that are seen
 
@@ -164,22 +155,7 @@ tick_unstarted true l c n =
 
 -- what is seen of an event of a link that is told
 event_seen : (h : ℕ) (l : Link) (t : List Entry) (e : LinkEvent) → IsLinkTold h l t → see_all (kept l) (event_entries l e) ≡ kept (happens l e)
-event_seen h l t e a =
-    let es : List LinkEvent = a.events in
-    let m : Link = after_link_events new_line es in
-    let before : see_all nothing_seen (entries new_line es) ≡ kept m = read_off new_line IsLine es in
-    let behind : see_all nothing_seen (entries new_line (es ++ e ∷ [])) ≡ kept (after_link_events new_line (es ++ e ∷ [])) =
-    read_off new_line IsLine (es ++ e ∷ []) in
-    let last : see_all (kept m) (entries m (e ∷ [])) ≡ kept (happens m e) =
-    sym (ap (see_all nothing_seen) (entries-append es (e ∷ []) new_line)
-    ∙ (see_all-append nothing_seen (entries new_line es) (entries m (e ∷ [])) ∙ ap (λ s. see_all s (entries m (e ∷ []))) before))
-    ∙ (behind ∙ ap kept (after-append es (e ∷ []) new_line)) in
-    let P : Link → Type 0 = λ k. see_all (kept k) (event_entries k e) ≡ kept (happens k e) in
-    subst P a.run.is (ap (see_all (kept m)) (sym (append_nil_of (event_entries m e))) ∙ last)
-  where
-    append_nil_of : (xs : List Noted) → xs ++ [] ≡ xs
-    append_nil_of [] = refl
-    append_nil_of (x ∷ xs) = ap (λ z. x ∷ z) (append_nil_of xs)
+event_seen h l t e a = let P : Link → Type 0 = λ k. see_all (kept k) (event_entries k e) ≡ kept (happens k e) in subst P a.run.is (seen_of a.events e)
 
 module _ (h : ℕ) (l : Link) (e : LinkEvent) (t u : List Entry) (x : WatchedLink) (a : IsLinkTold h l t) (n : IsStepOf h l e u) (shown : Shown l x) where
   pub shown_more : AreUnstarted (event_entries l e) → Shown (happens l e) (watched h x u)

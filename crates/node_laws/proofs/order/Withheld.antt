@@ -1,15 +1,12 @@
 -- What withholds the answer to a reset in an event of a world, as it is read off the entries alone.
-use Rattle.std.proofs.Common.{◌≡◌, ℕ, Bool, true, false, List, [], ◌∷◌, refl, sym, ap, ◌∙◌}
-use Rattle.std.specs.Prelude.{◌==◌, ◌&&◌, ◌||◌, not}
-use Rattle.std.specs.List.{AllByRecursion, list_any}
-use mathlib.Core.Bool.{and-false, or-true}
-use Rattle.node_laws.proofs.Words.{Activates, Arms, Boots, Controller, End, Entry, Gives, Happening, Host, Inits, IsCut, Loses, Loss, NodeWorld, OnWire, Resets}
-use Rattle.node_laws.proofs.Words.{Takes, Ticks, behind_reset_of, by_loss, by_test, cuts_on, end_of, entries_for, first_lost, is_reset_down, link_to, lost_as}
-use Rattle.node_laws.proofs.Words.{lpdu_of, or_none, said, world_step}
+use Rattle.node_laws.proofs.Words.{Activates, AllByRecursion, Arms, Bool, Boots, Controller, End, Entry, Gives, Happening, Host, Inits, IsCut, List, Loses}
+use Rattle.node_laws.proofs.Words.{Loss, NodeWorld, OnWire, Resets, Takes, Ticks, [], and-false, ap, behind_reset_of, by_loss, by_test, cuts_on, drops_on}
+use Rattle.node_laws.proofs.Words.{end_of, entries_for, false, first_lost, is_act_lpdu, is_lost_by_line, is_reset_down, link_to, list_any, lost_as, lpdu_of}
+use Rattle.node_laws.proofs.Words.{not, or-true, or_none, refl, said, sym, true, withholds_in, world_step, ℕ, ◌&&◌, ◌==◌, ◌||◌, ◌∙◌, ◌∷◌, ◌≡◌}
 use Rattle.trace_model.specs.declared.entry.Entry.TheVariants as entry
 use Rattle.link_laws.specs.entries.Entries.{End as Side}
 use Rattle.history.specs.Legal.{resets_on}
-use Rattle.node_laws.specs.order.Resets.{drops_on, is_act_lpdu, is_lost_by_line, loses_at, loses_one_in, spoils_in, withholds_in}
+use Rattle.node_laws.specs.order.Resets.{loses_at, loses_one_in, spoils_in}
 use Rattle.node_laws.proofs.worlds.Lineless.{AreLineless, event_lineless}
 
 -- a frame of a link is lost, but of activation

@@ -1,12 +1,10 @@
 -- What a node notes in a step before its pass.
-use Rattle.std.proofs.Common.{◌≡◌, ℕ, Bool, true, false, cond, List, [], ◌∷◌, ◌++◌, map, refl, ap, sym, ◌∙◌, append_assoc, append-nil}
-use Rattle.std.specs.List.{flat_map}
-use Rattle.registry.proofs.ValueLemmas.{AllByRecursion-append as all_append}
-use Rattle.node_laws.proofs.Words.{AreNoTurns, AtEnd, Creation, Cut, Deed, Entry, IsNoTurn, NodeInput, Release, Releases, Restarted, TimePasses, Work}
-use Rattle.node_laws.proofs.Words.{after_sessions, after_turn, all_come, all_done, all_flat, by_test, comes_to_pass, entries_for, entry_of, forgets}
-use Rattle.node_laws.proofs.Words.{forgotten, has_come, has_come_so, has_freed, has_synced, hosts_of_ends, input_at, noted_before_pass, noted_by_deeds}
-use Rattle.node_laws.proofs.Words.{owed_in_step, passes, reset_late, steps, syncs_in, told, told_at, told_of_coming, told_of_late, turn_at, unless_cut}
-use Rattle.node_laws.proofs.Words.{with_older, without_notice}
+use Rattle.node_laws.proofs.Words.{AreNoTurns, AtEnd, Bool, Creation, Cut, Deed, Entry, IsNoTurn, List, NodeInput, Release, Releases, Restarted, TimePasses}
+use Rattle.node_laws.proofs.Words.{Work, [], after_sessions, after_turn, all_append, all_come, all_done, all_flat, ap, append-nil, append_assoc, by_test}
+use Rattle.node_laws.proofs.Words.{comes_to_pass, cond, entries_for, entry_of, false, flat_map, forgets, forgotten, has_come, has_come_so, has_freed}
+use Rattle.node_laws.proofs.Words.{has_synced, hosts_of_ends, input_at, map, noted_before_pass, noted_by_deeds, owed_in_step, passes, refl, reset_late, steps}
+use Rattle.node_laws.proofs.Words.{sym, syncs_in, told, told_at, told_of_coming, told_of_late, true, turn_at, unless_cut, with_older, without_notice, ℕ, ◌++◌}
+use Rattle.node_laws.proofs.Words.{◌∙◌, ◌∷◌, ◌≡◌}
 use Rattle.link_laws.specs.entries.Entries.{Entry as Told}
 use Rattle.link_laws.specs.entries.Entries.Entry.{Tick}
 use Rattle.node_laws.proofs.kept.Plainly.{hosts_map}

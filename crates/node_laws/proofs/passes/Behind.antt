@@ -1,15 +1,11 @@
 -- What a pass leaves at each end of its node.
-use Rattle.std.proofs.Common.{◌≡◌, inl, inr, ℕ, ◌==◌, Bool, true, false, List, [], ◌∷◌, ◌++◌, Option, Some, None, refl, ap, sym, subst, ◌∙◌, append_assoc}
-use Rattle.std.proofs.Common.{append-nil}
-use Rattle.std.specs.List.{AllByRecursion}
-use Rattle.std.proofs.lemmas.Bool.{true≢false}
-use Rattle.std.proofs.lemmas.List.Elements.{filter_map-append}
-use Rattle.node_laws.proofs.Words.{AreAlong, ArePassed, Deed, Desk, Entry, FetchMessage, Hold, IsBehind, LastsOverTurns, Message, Port, Work, after_turn}
-use Rattle.node_laws.proofs.Words.{by_option, by_test, deeds_of, end_of_node, goes_through_ends, handles, have_turns, holds_back, is_held_at, lacking, lets_go}
-use Rattle.node_laws.proofs.Words.{link_of_turn, links_of_turns, noted_by_deeds, noting, takes_up, turn_at, unless_cut, waiting_at, with_desk}
+use Rattle.node_laws.proofs.Words.{AllByRecursion, AreAlong, ArePassed, Bool, Deed, Desk, Entry, FetchMessage, Hold, IsBehind, LastsOverTurns, List, Message}
+use Rattle.node_laws.proofs.Words.{None, Option, Port, Some, Stays, Work, [], after_turn, ap, append-nil, append_assoc, by_option, by_test, deeds_of}
+use Rattle.node_laws.proofs.Words.{end_of_node, false, filter_map-append, goes_through_ends, handles, have_turns, holds_back, inl, inr, is_held_at, lacking}
+use Rattle.node_laws.proofs.Words.{lets_go, link_of_turn, links_of_turns, noted_by_deeds, noting, refl, subst, sym, takes_up, true, true≢false, turn_at}
+use Rattle.node_laws.proofs.Words.{unless_cut, waiting_at, with_desk, ℕ, ◌++◌, ◌==◌, ◌∙◌, ◌∷◌, ◌≡◌}
 use Rattle.trace_model.specs.declared.entry.Entry.TheVariants as entry
 use Rattle.node_laws.proofs.steps.StepWalks.{unless as unless_lost}
-use Rattle.node_laws.specs.passes.Passing.{Stays}
 use Rattle.node_laws.proofs.passes.Ends.{Sees, SeesAt, HasFirst, has_first, own_changed, other_stays, turn_sees, deeds_see, lets_see}
 use Rattle.node_laws.proofs.passes.Turnless.{reply_none}
 use Rattle.node_laws.proofs.passes.Walking.{no_links}

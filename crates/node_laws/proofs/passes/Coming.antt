@@ -1,10 +1,7 @@
 -- What holds of all that is told of an input to an end holds of all that is noted as something comes to a node.
-use Rattle.std.proofs.Common.{ℕ, map, Option, Some, None}
-use Rattle.std.specs.List.{AllByRecursion, flat_map}
-use Rattle.registry.proofs.ValueLemmas.{AllByRecursion-append as all_append}
-use Rattle.node_laws.proofs.Words.{AtEnd, Core, Entry, LinkInput, NodeInput, Port, Report, Reset, TimePasses, Work, after_input, all_come, all_flat, by_test}
-use Rattle.node_laws.proofs.Words.{entries_for, input_at, is_late, own_side, report, told, told_at, told_late, told_of_coming, told_of_late, whole_acked}
-use Rattle.node_laws.proofs.Words.{with_older}
+use Rattle.node_laws.proofs.Words.{AllByRecursion, AtEnd, Core, Entry, LinkInput, NodeInput, None, Option, Port, Report, Reset, Some, TimePasses, Work}
+use Rattle.node_laws.proofs.Words.{after_input, all_append, all_come, all_flat, by_test, entries_for, flat_map, input_at, is_late, map, own_side, report, told}
+use Rattle.node_laws.proofs.Words.{told_at, told_late, told_of_coming, told_of_late, whole_acked, with_older, ℕ}
 use Rattle.link_laws.specs.entries.Entries.{End as Side}
 
 module _ (P : Entry → Type 0) (told_one : (h : ℕ) (who : Side) (n acked : ℕ) (r : Report) → AllByRecursion P (entries_for h (told who n r acked))) where

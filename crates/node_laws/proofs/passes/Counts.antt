@@ -1,9 +1,9 @@
 -- The commands of a reply are counted one by one, and its entries are made of sessions and a count.
-use Rattle.std.proofs.Common.{◌≡◌, ℕ, ◌≤◌, false, List, [], ◌∷◌, Option, Some, None, refl, ◌∙◌, arith}
-use Rattle.trace_model.specs.declared.entry.Entry.TheVariants as entry
 use Rattle.node_laws.proofs.Words.{AreTables, AreTaken, Asks, Commits, CountsCommands, Deed, Ends, FetchMessage, GiveOnce, GoesOn, HciTables, Hears, Init}
-use Rattle.node_laws.proofs.Words.{IsNoneOf, IsRecordable, IsReplyNoted, Knows, MayBeDone, Message, Orders, State, Work, apply, body_of, committed, count_of}
-use Rattle.node_laws.proofs.Words.{end_of_node, entries_of_reply, handles, lack, needs, noted_by_deeds, noting, session_of_port, takes_up, turn_at}
+use Rattle.node_laws.proofs.Words.{IsNoneOf, IsRecordable, IsReplyNoted, Knows, List, MayBeDone, Message, None, Option, Orders, Some, State, Work, [], apply}
+use Rattle.node_laws.proofs.Words.{arith, body_of, committed, count_of, end_of_node, entries_of_reply, false, handles, lack, needs, noted_by_deeds, noting}
+use Rattle.node_laws.proofs.Words.{refl, session_of_port, takes_up, turn_at, ℕ, ◌∙◌, ◌∷◌, ◌≡◌, ◌≤◌}
+use Rattle.trace_model.specs.declared.entry.Entry.TheVariants as entry
 use Rattle.node_laws.proofs.kept.Commits.{commit_count}
 use Rattle.node_laws.proofs.passes.Replying.{noted_so, turn_sessions, desk_sessions}
 use Rattle.node_laws.proofs.passes.Roomy.{spare_of, all_taken, desk_spare, fetch_spare}

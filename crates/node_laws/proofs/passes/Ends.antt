@@ -1,14 +1,11 @@
 -- What waits at an end of a node, and whether it was noted as held, as the node does something to it or to another one.
-use Rattle.std.proofs.Common.{◌≡◌, ℕ, ◌==◌, Bool, true, false, List, [], ◌∷◌, Option, Some, None, map, refl, ap, sym, subst, ◌∙◌}
-use Rattle.std.specs.Prelude.{◌+◌}
-use Rattle.std.specs.Option.{option_map_or}
-use Rattle.std.proofs.lemmas.Bool.{eqb-true, eq-eqb, true≢false}
+use Rattle.node_laws.proofs.Words.{About, Asks, Bool, Command, Commits, Deed, Desk, FetchMessage, Give, Hold, IsAnswered, LinkEnd, List, Message, None, Option}
+use Rattle.node_laws.proofs.Words.{Orders, Port, Refused, Release, Releases, Removed, Sends, SetAside, SetsErrors, Some, Tells, Turn, Waits, Work, []}
+use Rattle.node_laws.proofs.Words.{after_turn, all_done, ap, aside_refusal, by_option, by_test, changed_if, commit, done, eq-eqb, eqb-true, false, give_refusal}
+use Rattle.node_laws.proofs.Words.{given, goes_in, is_held, lets_go, map, notified, noting, option_map_or, port_at, refl, subst, sym, true, true≢false, turn}
+use Rattle.node_laws.proofs.Words.{turn_at, waiting_at, with_desk, with_port, ℕ, ◌+◌, ◌==◌, ◌∙◌, ◌∷◌, ◌≡◌}
 use Rattle.trace_model.specs.declared.entry.Entry.TheVariants as entry
-use Rattle.node_laws.proofs.Words.{About, Asks, Command, Commits, Deed, Desk, FetchMessage, Give, Hold, IsAnswered, LinkEnd, Message, Orders, Port, Refused}
-use Rattle.node_laws.proofs.Words.{Release, Releases, Removed, Sends, SetAside, SetsErrors, Tells, Turn, Waits, Work, after_turn, all_done, aside_refusal}
-use Rattle.node_laws.proofs.Words.{by_option, by_test, changed_if, commit, done, give_refusal, goes_in, is_held, lets_go, notified, noting, port_at, turn}
-use Rattle.node_laws.proofs.Words.{turn_at, waiting_at, with_desk, with_port}
-use Rattle.link_laws.specs.machine.Machine.{unless, given}
+use Rattle.link_laws.specs.machine.Machine.{unless}
 use Rattle.node_laws.proofs.steps.Ports.{changed_host}
 use Rattle.node_laws.proofs.telling.Accounts.{at_host}
 use Rattle.node_laws.proofs.telling.Away.{at_map, none_map}

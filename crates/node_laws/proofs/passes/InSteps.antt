@@ -1,12 +1,10 @@
 -- What lasts as entries of the kinds that deeds and turns note are added lasts over a step of a node, once something has come.
-use Rattle.std.proofs.Common.{◌≡◌, ℕ, List, [], ◌∷◌, ◌++◌, map, sym, subst, ap, ◌∙◌, append_assoc, append-nil}
-use Rattle.std.specs.List.{AllByRecursion, flat_map}
-use Rattle.std.specs.Option.{option_map_or}
-use Rattle.node_laws.proofs.Words.{Deed, Entry, FetchMessage, Hold, NodeInput, Port, Work, after_sessions, all_come, all_done, all_owed, anyone, end_of_node}
-use Rattle.node_laws.proofs.Words.{forgets, forgotten, noted_by_deed, noted_of, port_at, steps, synced, times_out, told_of_coming, without_notice}
+use Rattle.node_laws.proofs.Words.{AllByRecursion, Deed, Entry, FetchMessage, Hold, List, NodeInput, Port, Work, [], after_sessions, all_append, all_come}
+use Rattle.node_laws.proofs.Words.{all_done, all_owed, anyone, ap, append-nil, append_assoc, end_of_node, flat_map, forgets, forgotten, map, noted_by_deed}
+use Rattle.node_laws.proofs.Words.{noted_of, option_map_or, port_at, steps, subst, sym, synced, times_out, told_of_coming, without_notice, ℕ, ◌++◌, ◌∙◌, ◌∷◌}
+use Rattle.node_laws.proofs.Words.{◌≡◌}
 use Rattle.trace_model.specs.declared.entry.Entry.TheVariants as entry
 use Rattle.node_laws.proofs.steps.StepWalks.{Lasts, rest_lasts, all_last}
-use Rattle.registry.proofs.ValueLemmas.{AllByRecursion-append as all_append}
 use Rattle.node_laws.proofs.passes.Kinds.{IsOfDeed, NotesOnly, turn_notes, causes_note, forgotten_note, owed_note, synced_note}
 use Rattle.node_laws.proofs.passes.Notes.{deed_notes}
 use Rattle.node_laws.proofs.passes.Before.{come_entries}

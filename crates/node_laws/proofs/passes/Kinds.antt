@@ -1,11 +1,9 @@
 -- What deeds note is of a few kinds: where a fact holds of each entry of these kinds, it holds of all that a deed notes.
-use Rattle.std.proofs.Common.{ℕ, Bool, true, false, cond, eqb, ◌&&◌, List, [], ◌∷◌, Option, Some, None}
-use Rattle.std.specs.List.{AllByRecursion, flat_map}
-use Rattle.std.specs.Option.{option_map_or}
-use Rattle.node_laws.proofs.Words.{Asks, Command, Commits, Core, Creation, Deed, Entry, Give, Message, NodeInput, OfHost, Plain, Port, Refused, SetAside, Sync}
-use Rattle.node_laws.proofs.Words.{Tells, Turn, Work, all_of_host, all_owed, all_owed_hold, all_synced_hold, answer_of, any_of_controller, beginning, by_test}
-use Rattle.node_laws.proofs.Words.{count_of, deeds_hold, deeds_of, end_of, end_of_node, entries_for, forgotten, forgotten_hold, give_refusal, goes_in}
-use Rattle.node_laws.proofs.Words.{is_command_message, noted_by_deed, noted_of, own_side, port_at, sending, sent_unless, synced, turn_at}
+use Rattle.node_laws.proofs.Words.{AllByRecursion, Asks, Bool, Command, Commits, Core, Creation, Deed, Entry, Give, List, Message, NodeInput, None, OfHost}
+use Rattle.node_laws.proofs.Words.{Option, Plain, Port, Refused, SetAside, Some, Sync, Tells, Turn, Work, [], all_of_host, all_owed, all_owed_hold}
+use Rattle.node_laws.proofs.Words.{all_synced_hold, answer_of, any_of_controller, beginning, by_test, cond, count_of, deeds_hold, deeds_of, end_of, end_of_node}
+use Rattle.node_laws.proofs.Words.{entries_for, eqb, false, flat_map, forgotten, forgotten_hold, give_refusal, goes_in, is_command_message, noted_by_deed}
+use Rattle.node_laws.proofs.Words.{noted_of, option_map_or, own_side, port_at, sending, sent_unless, synced, true, turn_at, ℕ, ◌&&◌, ◌∷◌}
 use Rattle.trace_model.specs.declared.entry.Entry.TheVariants as entry
 use Rattle.link_laws.specs.entries.Entries.{End as Side}
 

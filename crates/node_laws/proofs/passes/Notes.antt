@@ -1,8 +1,7 @@
 -- What deeds note, and what they leave as it is.
-use Rattle.std.proofs.Common.{◌≡◌, ℕ, List, [], ◌∷◌, ◌++◌, Option, Some, None, refl, ap, sym, ◌∙◌, append_assoc, append-nil}
-use Rattle.std.specs.Option.{option_map_or}
-use Rattle.node_laws.proofs.Words.{Asks, Command, Commits, Core, Deed, Entry, Give, GoesOn, Hears, IsAnswered, Port, Release, Releases, SetAside, SetsErrors}
-use Rattle.node_laws.proofs.Words.{Work, all_done, by_test, commit, done, goes_in, noted_by_deed, noted_by_deeds, noted_of, port_at, turn_at}
+use Rattle.node_laws.proofs.Words.{Asks, Command, Commits, Core, Deed, Entry, Give, GoesOn, Hears, IsAnswered, List, None, Option, Port, Release, Releases}
+use Rattle.node_laws.proofs.Words.{SetAside, SetsErrors, Some, Work, [], all_done, ap, append-nil, append_assoc, by_test, commit, done, goes_in, noted_by_deed}
+use Rattle.node_laws.proofs.Words.{noted_by_deeds, noted_of, option_map_or, port_at, refl, sym, turn_at, ℕ, ◌++◌, ◌∙◌, ◌∷◌, ◌≡◌}
 use Rattle.trace_model.specs.declared.entry.Entry.TheVariants as entry
 use Rattle.node_laws.specs.passes.Noting.{noted_at}
 

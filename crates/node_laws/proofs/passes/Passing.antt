@@ -1,15 +1,11 @@
 -- A fact of a node is carried through its whole pass.
-use Rattle.std.proofs.Common.{◌≡◌, inl, inr, ℕ, ◌==◌, Bool, true, false, cond, List, [], ◌∷◌, ◌++◌, Option, Some, None, refl, ap, sym, subst, ◌∙◌, append_assoc}
-use Rattle.std.proofs.Common.{append-nil}
-use Rattle.std.specs.Prelude.{drop}
-use Rattle.std.specs.Option.{option_map_or}
-use Rattle.std.proofs.lemmas.Bool.{true≢false}
-use Rattle.node_laws.proofs.Words.{AreAlong, ArePassed, BeginWithTurn, ComesTo, Core, Deed, Entry, FetchMessage, Handles, Hold, IsTurnSo, LastsOverTurns}
-use Rattle.node_laws.proofs.Words.{LetsGo, Message, Port, Work, after_turn, by_list, by_option, by_test, deeds_of, end_of_node, goes_through_ends, handles}
-use Rattle.node_laws.proofs.Words.{have_turns, holds_back, is_held, is_held_at, lacking, lets_go, links_of_turns, noted_by_deeds, noted_of, noting, port_at}
-use Rattle.node_laws.proofs.Words.{takes_up, turn_at, unless_cut, waiting_at, with_desk}
+use Rattle.node_laws.proofs.Words.{AreAlong, ArePassed, BeginWithTurn, Bool, ComesTo, Core, Deed, Entry, FetchMessage, Handles, Hold, Holds, IsTurnSo}
+use Rattle.node_laws.proofs.Words.{LastsOverTurns, LetsGo, List, Message, None, Option, Port, Some, Work, [], after_turn, ap, append-nil, append_assoc, by_list}
+use Rattle.node_laws.proofs.Words.{by_option, by_test, cond, deeds_of, drop, end_of_node, false, goes_through_ends, handles, have_turns, holds_back, inl, inr}
+use Rattle.node_laws.proofs.Words.{is_held, is_held_at, lacking, lets_go, links_of_turns, noted_by_deeds, noted_of, noting, option_map_or, port_at, refl, subst}
+use Rattle.node_laws.proofs.Words.{sym, takes_up, true, true≢false, turn_at, unless_cut, waiting_at, with_desk, ℕ, ◌++◌, ◌==◌, ◌∙◌, ◌∷◌, ◌≡◌}
 use Rattle.trace_model.specs.declared.entry.Entry.TheVariants as entry
-use Rattle.node_laws.specs.passes.Passing.ComesTo.{Begins, Holds}
+use Rattle.node_laws.specs.passes.Passing.ComesTo.{Begins}
 use Rattle.node_laws.proofs.passes.Notes.{deeds_note}
 use Rattle.node_laws.proofs.passes.Ends.{HasFirst, has_first, own_changed, deeds_see, SeesAt, Sees}
 use Rattle.node_laws.proofs.passes.Turnless.{reply_none}

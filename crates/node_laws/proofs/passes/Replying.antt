@@ -1,13 +1,11 @@
 -- What deeds note where each message that they send is taken.
-use Rattle.std.proofs.Common.{◌≡◌, ℕ, ◌==◌, Bool, true, false, cond, List, [], ◌∷◌, ◌++◌, Option, Some, None, map, refl, ap, sym, subst, ◌∙◌, append_assoc}
-use Rattle.std.specs.Option.{option_map_or, option_and_then}
-use Rattle.std.proofs.lemmas.Bool.{eqb-true}
-use Rattle.node_laws.proofs.Words.{About, AreTaken, Asks, Command, Commits, Core, CountsCommands, Deed, Desk, Drops, Ends, Entry, Give, GoesOn, Hears}
-use Rattle.node_laws.proofs.Words.{IsAnswered, IsReplyNoted, LinkState, Message, Orders, Port, Release, Releases, Removed, SaysOk, Sends, SetAside, SetsErrors}
-use Rattle.node_laws.proofs.Words.{TakesMessage, Tells, Turn, Up, Waiting, Waits, Work, Write, after_turn, all_done, body_of, by_option, by_test, changed_if}
-use Rattle.node_laws.proofs.Words.{commit, commit_writes, count_of, done, end_of_node, entries_of_reply, give_refusal, goes_in, is_up, keeps, loses_power}
-use Rattle.node_laws.proofs.Words.{next_count, noted_by_deed, noted_by_deeds, noted_of, notified, noting, port_at, sent_in_session, session_of_port, turn_at}
-use Rattle.node_laws.proofs.Words.{with_desk}
+use Rattle.node_laws.proofs.Words.{About, AreTaken, Asks, Bool, Command, Commits, Core, CountsCommands, Deed, Desk, Drops, Ends, Entry, Give, GoesOn, Hears}
+use Rattle.node_laws.proofs.Words.{IsAnswered, IsReplyNoted, LinkState, List, Message, None, Option, Orders, Port, Release, Releases, Removed, SaysOk, Sends}
+use Rattle.node_laws.proofs.Words.{SetAside, SetsErrors, Some, TakesMessage, Tells, Turn, Up, Waiting, Waits, Work, Write, [], after_turn, all_done, ap}
+use Rattle.node_laws.proofs.Words.{append_assoc, body_of, by_option, by_test, changed_if, commit, commit_writes, cond, count_of, done, end_of_node}
+use Rattle.node_laws.proofs.Words.{entries_of_reply, eqb-true, false, give_refusal, goes_in, is_up, keeps, loses_power, map, next_count, noted_by_deed}
+use Rattle.node_laws.proofs.Words.{noted_by_deeds, noted_of, notified, noting, option_and_then, option_map_or, port_at, refl, sent_in_session, session_of_port}
+use Rattle.node_laws.proofs.Words.{subst, sym, true, turn_at, with_desk, ℕ, ◌++◌, ◌==◌, ◌∙◌, ◌∷◌, ◌≡◌}
 use Rattle.trace_model.specs.declared.entry.Entry.TheVariants as entry
 use Rattle.shdlc_core.specs.declared.answers.LinkState.TheVariants.{Down}
 use Rattle.node_laws.proofs.steps.Ports.{changed_host}

@@ -1,13 +1,11 @@
 -- Where no deed lacks room, and deeds give each end one message or block at most, each message is taken.
-use Rattle.std.proofs.Common.{◌≡◌, ℕ, ◌==◌, ◌+◌, ◌-◌, ◌/◌, ◌≤◌, Bool, true, false, cond, List, [], ◌∷◌, length, Option, Some, None, map, refl, ap, subst, arith}
-use Rattle.std.specs.Prelude.{nat_lt}
-use Rattle.std.specs.Option.{option_map_or}
-use Rattle.std.proofs.lemmas.Bool.{ltb-false, le-ltb}
+use Rattle.node_laws.proofs.Words.{About, AreTaken, Asks, Bool, Command, Commits, Deed, Desk, Drops, Ends, FetchMessage, Give, GiveOnce, GoesOn, Hears}
+use Rattle.node_laws.proofs.Words.{IsAnswered, IsNoneOf, LinkEnd, List, Message, None, Option, Orders, Port, Release, Releases, Removed, SaysOk, Sends}
+use Rattle.node_laws.proofs.Words.{SetAside, SetsErrors, Some, TakesMessage, Tells, Turn, Up, Waits, Work, [], after_turn, ap, arith, by_option, by_test}
+use Rattle.node_laws.proofs.Words.{changed_if, commit, cond, done, false, give_refusal, goes_in, in_use, lack, le-ltb, length, ltb-false, map, nat_lt, need}
+use Rattle.node_laws.proofs.Words.{needs, notified, noting, option_map_or, port_at, refl, spare, subst, true, turn_at, with_desk, ℕ, ◌+◌, ◌-◌, ◌/◌, ◌==◌, ◌∷◌}
+use Rattle.node_laws.proofs.Words.{◌≡◌, ◌≤◌}
 use Rattle.trace_model.specs.declared.entry.Entry.TheVariants as entry
-use Rattle.node_laws.proofs.Words.{About, AreTaken, Asks, Command, Commits, Deed, Desk, Drops, Ends, FetchMessage, Give, GiveOnce, GoesOn, Hears, IsAnswered}
-use Rattle.node_laws.proofs.Words.{IsNoneOf, LinkEnd, Message, Orders, Port, Release, Releases, Removed, SaysOk, Sends, SetAside, SetsErrors, TakesMessage}
-use Rattle.node_laws.proofs.Words.{Tells, Turn, Up, Waits, Work, after_turn, by_option, by_test, changed_if, commit, done, give_refusal, goes_in, in_use, lack}
-use Rattle.node_laws.proofs.Words.{need, needs, notified, noting, port_at, spare, turn_at, with_desk}
 use Rattle.node_laws.proofs.steps.Ports.{changed_host}
 use Rattle.node_laws.proofs.telling.Away.{at_map}
 use Rattle.node_laws.proofs.passes.Ends.{other_stays}

@@ -1,9 +1,6 @@
 -- What deeds note tells of no turn.
-use Rattle.std.proofs.Common.{ℕ, List, [], ◌∷◌, refl}
-use Rattle.std.specs.List.{AllByRecursion, flat_map}
-use Rattle.registry.proofs.ValueLemmas.{AllByRecursion-append as all_append}
-use Rattle.node_laws.proofs.Words.{AreNoTurns, Core, Deed, Entry, IsNoTurn, Message, NodeInput, Port, Work, all_owed, beginning, by_test, deeds_of, done}
-use Rattle.node_laws.proofs.Words.{noted_by_deed, noted_by_deeds, sending, synced}
+use Rattle.node_laws.proofs.Words.{AllByRecursion, AreNoTurns, Core, Deed, Entry, IsNoTurn, List, Message, NodeInput, Port, Work, [], all_append, all_owed}
+use Rattle.node_laws.proofs.Words.{beginning, by_test, deeds_of, done, flat_map, noted_by_deed, noted_by_deeds, refl, sending, synced, ℕ, ◌∷◌}
 use Rattle.trace_model.specs.declared.entry.Entry.TheVariants as entry
 use Rattle.node_laws.proofs.passes.Kinds.{IsOfDeed, NotesOnly, causes_note, owed_note, synced_note, sending_notes, beginning_notes}
 

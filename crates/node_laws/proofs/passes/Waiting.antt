@@ -1,11 +1,8 @@
 -- What waits at an end, and whether it was noted as held, is read off what is noted of turns.
-use Rattle.std.proofs.Common.{◌≡◌, ℕ, ◌==◌, Bool, true, false, cond, List, [], ◌∷◌, ◌++◌, refl, ap, sym, subst, ◌∙◌, append_assoc, append-nil}
-use Rattle.std.specs.Prelude.{drop}
-use Rattle.std.proofs.lemmas.Bool.{eqb-true}
-use Rattle.node_laws.proofs.Words.{AreNoTurns, ComesTo, Deed, Entry, IsNoTurn, IsWaitingRead, LastsOverTurns, Message, Work, by_test, deeds_of, end_of_node}
-use Rattle.node_laws.proofs.Words.{handles, holds_back, is_held_at, lets_go, noted_by_deeds, takes_up, waiting_at, waits_behind}
+use Rattle.node_laws.proofs.Words.{AreNoTurns, Bool, ComesTo, Deed, Entry, IsNoTurn, IsWaitingRead, LastsOverTurns, List, Message, Work, [], ap, append-nil}
+use Rattle.node_laws.proofs.Words.{append_assoc, by_test, cond, deeds_of, drop, end_of_node, eqb-true, false, handles, holds_back, is_held_at, lets_go}
+use Rattle.node_laws.proofs.Words.{noted_by_deeds, refl, subst, sym, takes_up, true, waiting_after, waiting_at, waits_behind, ℕ, ◌++◌, ◌==◌, ◌∙◌, ◌∷◌, ◌≡◌}
 use Rattle.trace_model.specs.declared.entry.Entry.TheVariants as entry
-use Rattle.node_laws.specs.passes.Passing.{waiting_after}
 use Rattle.node_laws.proofs.passes.Ends.{SeesAt, lets_see}
 use Rattle.node_laws.proofs.passes.Turnless.{reply_none}
 use Rattle.node_laws.proofs.passes.Passing.{lets_notes, own_held, holds_notes, handles_entries, handles_sees, link_is, comes_so}

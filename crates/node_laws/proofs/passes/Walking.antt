@@ -1,8 +1,8 @@
 -- A fact of a node is carried through its pass, to each turn of it.
-use Rattle.std.proofs.Common.{◌≡◌, ◌⊎◌, inl, inr, ℕ, Bool, true, false, cond, List, [], ◌∷◌, ◌++◌, Some, None, refl, ap, sym, subst, ◌∙◌, append_assoc}
-use Rattle.std.proofs.Common.{append-nil}
-use Rattle.node_laws.proofs.Words.{AreAlong, AreNoTurns, ArePassed, BeginWithTurn, Deed, Entry, HadTurn, IsNoTurn, IsTurnSo, LastsOverTurns, Message, WasHeld}
-use Rattle.node_laws.proofs.Words.{Work, deeds_of, end_of_node, handles, is_held_at, lacking, links_of_turns, noted_by_deeds, takes_up, waiting_at}
+use Rattle.node_laws.proofs.Words.{AreAlong, AreNoTurns, ArePassed, BeginWithTurn, Bool, Deed, Entry, HadTurn, IsNoTurn, IsTurnSo, LastsOverTurns, List}
+use Rattle.node_laws.proofs.Words.{Message, None, Some, WasHeld, Work, [], ap, append-nil, append_assoc, cond, deeds_of, end_of_node, false, handles, inl, inr}
+use Rattle.node_laws.proofs.Words.{is_held_at, lacking, links_of_turns, noted_by_deeds, refl, subst, sym, takes_up, true, waiting_at, ℕ, ◌++◌, ◌∙◌, ◌∷◌, ◌≡◌}
+use Rattle.node_laws.proofs.Words.{◌⊎◌}
 use Rattle.trace_model.specs.declared.entry.Entry.TheVariants as entry
 use Rattle.node_laws.proofs.passes.Turnless.{reply_none}
 

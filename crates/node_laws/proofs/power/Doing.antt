@@ -1,15 +1,12 @@
 -- What a node notes in a step tells of it, and ends with its cut where it loses its power.
-use Rattle.std.proofs.Common.{◌≡◌, ◌⊎◌, inl, inr, ℕ, ◌==◌, Bool, true, false, List, [], ◌∷◌, ◌++◌, Option, Some, None, map, refl, ap, sym, subst, ◌∙◌}
-use Rattle.std.proofs.lemmas.Bool.{eqb-true}
-use Rattle.std.specs.List.{AllByRecursion}
-use Rattle.std.specs.Option.{option_map_or}
-use Rattle.registry.proofs.ValueLemmas.{AllByRecursion-append as all_append}
-use Rattle.node_laws.proofs.Words.{About, Asks, Command, Commits, Core, Deed, Desk, Drops, Ends, Entry, FetchMessage, Give, GoesOn, Hears, Hold, IsAnswered}
-use Rattle.node_laws.proofs.Words.{Message, OfHost, Orders, Plain, Port, Release, Releases, Removed, SaysOk, Sends, SetAside, SetsErrors, Tells, Turn, Waits}
-use Rattle.node_laws.proofs.Words.{Work, Write, after_turn, all_done, all_of_host, any_of_controller, body_of, by_option, by_test, changed_if, commit}
-use Rattle.node_laws.proofs.Words.{commit_writes, count_of, deeds_of, done, end_of, end_of_node, end_of_number, goes_in, goes_through_ends, handles, have_turns}
-use Rattle.node_laws.proofs.Words.{holds_back, is_held, is_held_at, keeps, lacking, lets_go, loses_power, node_of, noted_of, notified, noting, own_side, passes}
-use Rattle.node_laws.proofs.Words.{port_at, takes_up, turn_at, turn_entry, unless_cut, waiting_at, with_desk, with_port}
+use Rattle.node_laws.proofs.Words.{About, AllByRecursion, Asks, Bool, Command, Commits, Core, Deed, Desk, Drops, Ends, Entry, FetchMessage, Give, GoesOn, Hears}
+use Rattle.node_laws.proofs.Words.{Hold, IsAnswered, List, Message, None, OfHost, Option, Orders, Plain, Port, Release, Releases, Removed, SaysOk, Sends}
+use Rattle.node_laws.proofs.Words.{SetAside, SetsErrors, Some, Tells, Turn, Waits, Work, Write, [], after_turn, all_append, all_done, all_of_host}
+use Rattle.node_laws.proofs.Words.{any_of_controller, ap, body_of, by_option, by_test, changed_if, commit, commit_writes, count_of, deeds_of, done, end_of}
+use Rattle.node_laws.proofs.Words.{end_of_node, end_of_number, eqb-true, false, goes_in, goes_through_ends, handles, have_turns, holds_back, inl, inr, is_held}
+use Rattle.node_laws.proofs.Words.{is_held_at, keeps, lacking, lets_go, loses_power, map, node_of, noted_of, notified, noting, option_map_or, own_side, passes}
+use Rattle.node_laws.proofs.Words.{port_at, refl, subst, sym, takes_up, true, turn_at, turn_entry, unless_cut, waiting_at, with_desk, with_port, ℕ, ◌++◌, ◌==◌}
+use Rattle.node_laws.proofs.Words.{◌∙◌, ◌∷◌, ◌≡◌, ◌⊎◌}
 use Rattle.trace_model.specs.declared.entry.Entry.TheVariants as entry
 use Rattle.node_laws.proofs.steps.Ports.{changed_host}
 use Rattle.node_laws.proofs.telling.Walks.{IsUncut, AreUncut}

@@ -1,28 +1,24 @@
 -- In each event nothing of a node stands behind its cut.
-use Rattle.std.proofs.Common.{◌≡◌, ℕ, ◌==◌, Bool, true, false, List, [], ◌∷◌, ◌++◌, Option, None, refl, ap, sym, subst, ◌∙◌, append-nil}
-use Rattle.std.specs.Prelude.{◌&&◌}
-use Rattle.std.specs.List.{AllByRecursion, flat_map}
-use Rattle.std.proofs.lemmas.Bool.{eqb-true, true≢false}
-use Rattle.registry.proofs.ValueLemmas.{AllByRecursion-append as all_append}
-use Rattle.node_laws.proofs.Words.{Activates, AreDifferent, AreNotOf, Arms, AsksReset, AtEnd, Boots, Comes, Controller, Deed, End, Entry, Gives, Happening}
-use Rattle.node_laws.proofs.Words.{HasEnds, Host, IfItRuns, Inits, IsCut, IsOrderly, Link, Loses, Loss, Message, NextFrame, NoInput, NodeWorld, NumberedEnd}
-use Rattle.node_laws.proofs.Words.{Plan, Port, Resets, Running, Site, Start, Starts, Takes, Ticks, TimePasses, Work, aged, aged_entries, all_aged, arrival}
-use Rattle.node_laws.proofs.Words.{beginning, begins_with, boots, by_boot, by_coming, by_controller, by_controller_tick, by_host, by_host_tick, by_loss}
-use Rattle.node_laws.proofs.Words.{by_test, comes_at, comes_to, controller_does, controller_ticks, end_c, end_h, entries_for, exchanged, first_lost, frame_lost}
-use Rattle.node_laws.proofs.Words.{frames_noted, host_does, host_tick, host_ticks, host_work, hosts_in, hosts_of_ends, hosts_tick, is_command_message, link_to}
-use Rattle.node_laws.proofs.Words.{near_end_in, near_tick, node_of, sending, site_at, steps, wires_for, work_of, world_step, world_ticks}
-use Rattle.link_laws.specs.entries.Entries.{Entry as Noted}
-use Rattle.node_laws.proofs.telling.Walks.{IsUncut, AreUncut}
-use Rattle.node_laws.proofs.telling.Nodes.{site_host, ports_for, hosts_same}
+use Rattle.node_laws.proofs.Words.{Activates, AllByRecursion, AreDifferent, AreNotOf, Arms, AsksReset, AtEnd, Bool, Boots, Comes, Controller, Deed, End, Entry}
+use Rattle.node_laws.proofs.Words.{Gives, Happening, HasEnds, Host, IfItRuns, Inits, IsCut, IsOrderly, Link, List, Loses, Loss, Message, NextFrame, NoInput}
+use Rattle.node_laws.proofs.Words.{NodeWorld, None, Noted, NumberedEnd, Option, Plan, Port, Resets, Running, Site, Start, Starts, Takes, Ticks, TimePasses}
+use Rattle.node_laws.proofs.Words.{Work, [], aged_entries, all_aged, all_append, ap, append-nil, arrival, beginning, begins_with, boots, by_boot, by_coming}
+use Rattle.node_laws.proofs.Words.{by_controller, by_controller_tick, by_host, by_host_tick, by_loss, by_test, comes_at, comes_to, controller_does}
+use Rattle.node_laws.proofs.Words.{controller_ticks, end_c, end_h, entries_for, eqb-true, exchanged, false, first_lost, flat_map, frame_lost, frames_noted}
+use Rattle.node_laws.proofs.Words.{host_does, host_tick, host_ticks, host_work, hosts_in, hosts_of_ends, hosts_tick, is_command_message, link_to, near_end_in}
+use Rattle.node_laws.proofs.Words.{near_tick, node_of, refl, sending, site_at, steps, subst, sym, true, true≢false, wires_for, work_of, world_step, world_ticks}
+use Rattle.node_laws.proofs.Words.{ℕ, ◌&&◌, ◌++◌, ◌==◌, ◌∙◌, ◌∷◌, ◌≡◌}
+use Rattle.node_laws.proofs.telling.Walks.{AreUncut, IsUncut}
+use Rattle.node_laws.proofs.telling.Nodes.{hosts_same, ports_for, site_host}
 use Rattle.node_laws.proofs.telling.Worlds.{site_is}
-use Rattle.node_laws.proofs.telling.Events.{orderly_map, comes_goes}
+use Rattle.node_laws.proofs.telling.Events.{comes_goes}
 use Rattle.node_laws.proofs.telling.Powers.{entries_uncut}
-use Rattle.node_laws.proofs.telling.WorldTicks.{near_orderly}
-use Rattle.node_laws.proofs.telling.Shapes.{frames_uncut, frames_none}
-use Rattle.node_laws.proofs.power.Parts.{IsOwn, AreOwn, AreOver, IsPart, own_not, over_front, over_part, part_own, nothing_part, part_over}
-use Rattle.node_laws.proofs.power.Links.{links_own, arrival_of_side}
-use Rattle.node_laws.proofs.power.Doing.{IsEndOf, AreEnds, Runs, Fine, IsMine, deeds_fine}
-use Rattle.node_laws.proofs.power.Steps.{steps_fine, work_part, frames_own}
+use Rattle.node_laws.proofs.telling.WorldTicks.{aged_orderly, ticked_orderly}
+use Rattle.node_laws.proofs.telling.Shapes.{frames_none, frames_uncut}
+use Rattle.node_laws.proofs.power.Parts.{AreOver, AreOwn, IsOwn, IsPart, nothing_part, over_front, over_part, own_not, part_over, part_own}
+use Rattle.node_laws.proofs.power.Links.{arrival_of_side, links_own}
+use Rattle.node_laws.proofs.power.Doing.{AreEnds, Fine, IsEndOf, IsMine, Runs, deeds_fine}
+use Rattle.node_laws.proofs.power.Steps.{frames_own, steps_fine, work_part}
 
 -- ## Nodes as a step begins
 
@@ -172,6 +168,14 @@ pub none_zero : (sites : List Site) → AllByRecursion (λ (s : Site). (s.host =
 none_zero [] a = tt
 none_zero (s ∷ sites) a = (a.0, none_zero sites a.1)
 
+-- behind the tick of the controller hosts note nothing of it
+pub ticked_nodes : (w : NodeWorld) → IsOrderly w → AreNodes (controller_ticks (all_aged w).0).0.sites
+ticked_nodes w a = both_nodes (controller_ticks (all_aged w).0).0.sites (ticked_orderly w a).hosts (ticked_orderly w a).nodes
+
+pub ticked_others : (w : NodeWorld) → IsOrderly w → AreNotOf 0 (hosts_tick (controller_ticks (all_aged w).0).0.sites).1
+ticked_others w a =
+    others_tick 0 (controller_ticks (all_aged w).0).0.sites (none_zero (controller_ticks (all_aged w).0).0.sites (ticked_orderly w a).hosts) (ticked_nodes w a)
+
 aged_uncut : (sites : List Site)
     → AreUncut (flat_map (λ (s : Site). entries_for s.host (aged_entries Controller s.link.to_controller ++ aged_entries Host s.link.to_host)) sites)
 aged_uncut sites =
@@ -181,24 +185,14 @@ aged_uncut sites =
 ticks_over : (w : NodeWorld) → IsOrderly w → AreOver (world_ticks w).1
 ticks_over w a =
     over_front (all_aged w).1 ((controller_ticks old).1 ++ (hosts_tick near).1) (aged_uncut w.sites)
-    (over_part 0 (controller_ticks old).1 (hosts_tick near).1 (near_ticks_part old b) (others_tick 0 near (none_zero near kept.hosts) nodes)
-    (hosts_over near kept.different nodes))
+    (over_part 0 (controller_ticks old).1 (hosts_tick near).1 (near_ticks_part old (aged_orderly w a)) (ticked_others w a)
+    (hosts_over near (ticked_orderly w a).different (ticked_nodes w a)))
   where
     old : NodeWorld
     old = (all_aged w).0
 
-    b : IsOrderly old
-    b = orderly_map w w.memory w.controller (λ (x : Site). record x { link = aged x.link }) (λ x. refl) a a.controller (λ x n. n)
-
     near : List Site
     near = (controller_ticks old).0.sites
-
-    -- the sites behind the tick of the controller
-    kept : IsOrderly (record { memory = old.memory; controller = None; sites = near })
-    kept = near_orderly old b
-
-    nodes : AreNodes near
-    nodes = both_nodes near kept.hosts kept.nodes
 
 -- ## Events
 

@@ -1,13 +1,9 @@
 -- What is noted of an end tells of its node, and of no loss of power.
-use Rattle.std.proofs.Common.{◌≡◌, ℕ, List, [], ◌∷◌, length, Option, Some, None, refl}
-use Rattle.std.specs.Prelude.{nat_lt}
-use Rattle.std.specs.List.{AllByRecursion}
-use Rattle.registry.proofs.ValueLemmas.{AllByRecursion-append as all_append}
-use Rattle.node_laws.proofs.Words.{Acked, Active, Comes, Control, Down, Emit, GaveUp, Give, GoesOut, Got, Link, LinkEnd, Loss, Lost, Message, NextFrame, OnWire}
-use Rattle.node_laws.proofs.Words.{Refused, Report, Sent, TooMany, Took, Turn, arrival, by_list, by_test, end_of, ending_entries, entries_for, entry_of, far}
-use Rattle.node_laws.proofs.Words.{first_lost, frames_out, give_refusal, node_of, pushed_out, put, put_entries, puts_entries, sent_unless, told, turn_entry}
-use Rattle.node_laws.proofs.Words.{wire_with}
-use Rattle.link_laws.specs.entries.Entries.{End as Side, Entry as Noted}
+use Rattle.node_laws.proofs.Words.{Acked, Active, AllByRecursion, Comes, Control, Down, Emit, GaveUp, Give, GoesOut, Got, Link, LinkEnd, List, Loss, Lost}
+use Rattle.node_laws.proofs.Words.{Message, NextFrame, None, Noted, OnWire, Option, Refused, Report, Sent, Some, TooMany, Took, Turn, [], all_append, arrival}
+use Rattle.node_laws.proofs.Words.{by_list, by_test, end_of, ending_entries, entries_for, entry_of, far, first_lost, frames_out, give_refusal, length, nat_lt}
+use Rattle.node_laws.proofs.Words.{node_of, pushed_out, put, put_entries, puts_entries, refl, sent_unless, told, turn_entry, wire_with, ℕ, ◌∷◌, ◌≡◌}
+use Rattle.link_laws.specs.entries.Entries.{End as Side}
 use Rattle.link_laws.specs.entries.Entries.Entry.{Up}
 use Rattle.node_laws.proofs.power.Parts.{IsOwn, AreOwn}
 use Rattle.node_laws.proofs.telling.Reported.{told_all}

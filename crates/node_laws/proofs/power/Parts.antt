@@ -1,9 +1,6 @@
 -- Entries of one node, and lists in which nothing of a node stands behind its cut.
-use Rattle.std.proofs.Common.{◌≡◌, ℕ, ◌==◌, Bool, false, cond, List, [], ◌∷◌, ◌++◌, Option, Some, None, refl, ap, sym, subst, ◌∙◌, append_assoc, append-nil}
-use Rattle.std.specs.List.{AllByRecursion}
-use Rattle.std.specs.Option.{option_map_or}
-use Rattle.registry.proofs.ValueLemmas.{AllByRecursion-append as all_append}
-use Rattle.node_laws.proofs.Words.{AreNotOf, Entry, by_test}
+use Rattle.node_laws.proofs.Words.{AllByRecursion, AreNotOf, Bool, Entry, List, None, Option, Some, [], all_append, ap, append-nil, append_assoc, by_test, cond}
+use Rattle.node_laws.proofs.Words.{false, option_map_or, refl, subst, sym, ℕ, ◌++◌, ◌==◌, ◌∙◌, ◌∷◌, ◌≡◌}
 use Rattle.trace_model.specs.declared.entry.Entry.TheVariants as entry
 use Rattle.node_laws.proofs.telling.Walks.{IsUncut, AreUncut}
 use Rattle.node_laws.specs.power.Powers.{node_told}

@@ -1,14 +1,11 @@
 -- A step of a node, and what begins at a host.
-use Rattle.std.proofs.Common.{◌≡◌, inl, inr, ℕ, ◌&&◌, Bool, true, false, cond, List, [], ◌∷◌, ◌++◌, Option, Some, None, map, refl, ap, sym, subst, ◌∙◌}
-use Rattle.std.proofs.Common.{append-nil}
-use Rattle.std.specs.Prelude.{not}
-use Rattle.std.specs.List.{AllByRecursion, flat_map, filter}
-use Rattle.registry.proofs.ValueLemmas.{AllByRecursion-append as all_append}
-use Rattle.node_laws.proofs.Words.{AtEnd, Commits, Core, Creation, Deed, Entry, GoesOut, Link, LinkInput, NodeInput, Port, Release, Releases, Reset, Response}
-use Rattle.node_laws.proofs.Words.{Sync, TimePasses, Work, after_input, after_sessions, all_come, all_done, all_owed, asked_at, by_option, by_test}
-use Rattle.node_laws.proofs.Words.{comes_to_pass, end_of, ending_entries, finds_room, forgets, frames_noted, has_come_so, has_freed, has_synced, hosts_of_ends}
-use Rattle.node_laws.proofs.Words.{input_at, is_kept_sync, is_late, node_of, owed, owed_in_step, own_side, passes, port_at, report, steps, synced, syncs_in}
-use Rattle.node_laws.proofs.Words.{told, told_at, told_late, told_of_coming, told_of_late, turn_at, whole_acked, with_older, without_notice}
+use Rattle.node_laws.proofs.Words.{AllByRecursion, AtEnd, Bool, Commits, Core, Creation, Deed, Entry, GoesOut, Link, LinkInput, List, NodeInput, None, Option}
+use Rattle.node_laws.proofs.Words.{Port, Release, Releases, Reset, Response, Some, Sync, TimePasses, Work, [], after_input, after_sessions, all_append}
+use Rattle.node_laws.proofs.Words.{all_come, all_done, all_owed, ap, append-nil, asked_at, by_option, by_test, comes_to_pass, cond, end_of, ending_entries}
+use Rattle.node_laws.proofs.Words.{false, filter, finds_room, flat_map, forgets, frames_noted, has_come_so, has_freed, has_synced, hosts_of_ends, inl, input_at}
+use Rattle.node_laws.proofs.Words.{inr, is_kept_sync, is_late, map, node_of, not, owed, owed_in_step, own_side, passes, port_at, refl, report, steps, subst}
+use Rattle.node_laws.proofs.Words.{sym, synced, syncs_in, told, told_at, told_late, told_of_coming, told_of_late, true, turn_at, whole_acked, with_older}
+use Rattle.node_laws.proofs.Words.{without_notice, ℕ, ◌&&◌, ◌++◌, ◌∙◌, ◌∷◌, ◌≡◌}
 use Rattle.gate_answers.specs.declared.response.Response.TheVariants as response
 use Rattle.link_laws.specs.entries.Entries.{End as Side}
 use Rattle.node_laws.proofs.kept.Plainly.{hosts_map}

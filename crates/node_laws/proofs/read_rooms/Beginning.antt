@@ -1,14 +1,11 @@
 -- What is known of the ends of the controller as it begins to go through them in a step.
-use Rattle.std.proofs.Common.{◌≡◌, ℕ, ◌==◌, Bool, true, false, cond, List, [], ◌∷◌, ◌++◌, Option, Some, None, map, refl, ap, sym, subst, ◌∙◌, arith}
-use Rattle.std.specs.List.{flat_map}
-use Rattle.std.proofs.lemmas.Bool.{eqb-true}
-use Rattle.node_laws.proofs.Words.{AtEnd, Before, Comes, Controller, Deed, Entry, HasEnds, IsLinkTold, IsOrderly, Link, LinkEnd, LinkInput, NextFrame}
-use Rattle.node_laws.proofs.Words.{NodeInput, NodeWorld, NumberedEnd, Port, Running, Site, Work, after_input, after_sessions, all_come, all_done, all_owed}
-use Rattle.node_laws.proofs.Words.{all_owed_hold, all_synced_hold, arrival, by_list, by_test, comes_to, comes_to_pass, controller_begins, entries_for, forgets}
-use Rattle.node_laws.proofs.Words.{forgotten, forgotten_hold, has_come, hosts_in, hosts_of_ends, input_at, input_of, link_to, near_end_in, number_of, of_link}
-use Rattle.node_laws.proofs.Words.{port_at, report, site_at, synced, times_out, whole_acked, without_notice, without_power}
-use Rattle.link_laws.specs.entries.Entries.{End as Side, Entry as Noted}
-use Rattle.link_laws.proofs.entries.Noting.{FramesFor}
+use Rattle.node_laws.proofs.Words.{AtEnd, Before, Bool, Comes, Controller, Deed, Entry, FramesFor, HasEnds, IsLinkTold, IsOrderly, Link, LinkEnd, LinkInput}
+use Rattle.node_laws.proofs.Words.{List, NextFrame, NodeInput, NodeWorld, None, Noted, NumberedEnd, Option, Port, Running, Site, Some, Work, [], after_input}
+use Rattle.node_laws.proofs.Words.{after_sessions, all_come, all_done, all_owed, all_owed_hold, all_synced_hold, ap, arith, arrival, by_list, by_test, comes_to}
+use Rattle.node_laws.proofs.Words.{comes_to_pass, cond, controller_begins, entries_for, eqb-true, false, flat_map, forgets, forgotten, forgotten_hold, has_come}
+use Rattle.node_laws.proofs.Words.{hosts_in, hosts_of_ends, input_at, input_of, link_to, map, near_end_in, number_of, of_link, port_at, refl, report, site_at}
+use Rattle.node_laws.proofs.Words.{subst, sym, synced, times_out, true, whole_acked, without_notice, without_power, ℕ, ◌++◌, ◌==◌, ◌∙◌, ◌∷◌, ◌≡◌}
+use Rattle.link_laws.specs.entries.Entries.{End as Side}
 use Rattle.link_laws.proofs.entries.Running.{frame_facts}
 use Rattle.node_laws.proofs.kept.Plainly.{hosts_map}
 use Rattle.node_laws.proofs.links.Works.{IsFineWork, map_fine, came_fine, without_fine, forgets_fine}

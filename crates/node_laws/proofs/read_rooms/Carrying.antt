@@ -1,13 +1,11 @@
 -- What is known of each end of a node in a step lasts over all that the node does in it.
-use Rattle.std.proofs.Common.{◌≡◌, ℕ, ◌==◌, Bool, true, false, List, [], ◌∷◌, ◌++◌, Option, Some, None, map, refl, ap, sym, subst, ◌∙◌, append_assoc}
-use Rattle.std.specs.Option.{option_map_or}
-use Rattle.std.proofs.lemmas.Bool.{true≢false}
-use Rattle.node_laws.proofs.Words.{AreSendableTurns, Core, Desk, Entry, NumberedEnd, Port, Turn, Work, Write, after_turn, by_option, changed_if, entries_for}
-use Rattle.node_laws.proofs.Words.{loses_power, noted_of, noting, number_of, of_link, own_side, port_at, turn_at, turn_entries, turn_entry, turned, with_desk}
+use Rattle.node_laws.proofs.Words.{AreSendableTurns, Bool, Core, Desk, Entry, List, None, Noted, NumberedEnd, Option, Port, Some, Turn, Work, Write, []}
+use Rattle.node_laws.proofs.Words.{after_turn, all_append, ap, append_assoc, by_option, changed_if, entries_for, false, loses_power, map, noted_of, noting}
+use Rattle.node_laws.proofs.Words.{number_of, of_link, option_map_or, own_side, port_at, refl, subst, sym, true, true≢false, turn_at, turn_entries, turn_entry}
+use Rattle.node_laws.proofs.Words.{turned, with_desk, ℕ, ◌++◌, ◌==◌, ◌∙◌, ◌∷◌, ◌≡◌}
 use Rattle.trace_model.specs.declared.entry.Entry.TheVariants as entry
-use Rattle.link_laws.specs.entries.Entries.{End as Side, Entry as Noted}
+use Rattle.link_laws.specs.entries.Entries.{End as Side}
 use Rattle.link_laws.proofs.entries.Books.{with_side}
-use Rattle.registry.proofs.ValueLemmas.{AllByRecursion-append as all_append}
 use Rattle.node_laws.proofs.telling.Walks.{AreSilent, AreUncut, IsUncut}
 use Rattle.node_laws.proofs.telling.Powers.{AreClear, entries_uncut}
 use Rattle.node_laws.proofs.telling.Shapes.{clear-append, clear_turns}

@@ -1,11 +1,11 @@
 -- What comes to an end in a step of its node is noted so that the notes say what the end is then.
-use Rattle.std.proofs.Common.{◌≡◌, List, [], ◌∷◌, ◌++◌, Option, Some, None, refl, subst, append_assoc}
-use Rattle.node_laws.proofs.Words.{AsksReset, Comes, Link, LinkInput, NextFrame, NoInput, NumberedEnd, OnWire, Reset, Start, Starts, Stop, Stops, Take, Tick}
-use Rattle.node_laws.proofs.Words.{Took, arrival, input_of, near_end_in, number_of, told_of, took_with}
+use Rattle.node_laws.proofs.Words.{AsksReset, Comes, FramesFor, Link, LinkInput, List, NextFrame, NoInput, None, Noted, NumberedEnd, OnWire, Option, Reset}
+use Rattle.node_laws.proofs.Words.{Some, Start, Starts, Stop, Stops, Take, Tick, Took, [], append_assoc, arrival, input_of, near_end_in, number_of, refl, subst}
+use Rattle.node_laws.proofs.Words.{told_of, took_with, ◌++◌, ◌∷◌, ◌≡◌}
 use Rattle.link_laws.proofs.machine.Runs.{sound_input}
 use Rattle.link_laws.proofs.machine.Reports.{tick_so, reset_so, start_so, stop_so}
-use Rattle.link_laws.specs.entries.Entries.{End as Side, Entry as Noted}
-use Rattle.link_laws.proofs.entries.Noting.{Frames, FramesFor}
+use Rattle.link_laws.specs.entries.Entries.{End as Side}
+use Rattle.link_laws.proofs.entries.Noting.{Frames}
 use Rattle.node_laws.proofs.telling.Parts.{after_coming, told_coming, IsStep}
 use Rattle.node_laws.proofs.read_rooms.Inputs.{Says, says_silent, has_had, says_plain, says_frame}
 

@@ -1,10 +1,8 @@
 -- What is known of the end of a host as it begins to go through its messages in a step.
-use Rattle.std.proofs.Common.{◌≡◌, ℕ, ◌==◌, false, cond, List, [], ◌∷◌, Some, None, map, refl, ap, sym, subst, ◌∙◌}
-use Rattle.std.proofs.lemmas.Bool.{eqb-true}
-use Rattle.node_laws.proofs.Words.{AtEnd, Comes, Controller, Entry, HasEnds, Host, IsLinkTold, LinkInput, Port, Running, Site, Work, after_sessions, all_come}
-use Rattle.node_laws.proofs.Words.{arrival, by_test, comes_to_pass, exchanged, forgets, has_come, host_begins_step, hosts_of_ends, input_at, input_of}
-use Rattle.node_laws.proofs.Words.{near_end_in, port_at, same_number, without_notice, without_power}
-use Rattle.link_laws.specs.entries.Entries.{Entry as Noted}
+use Rattle.node_laws.proofs.Words.{AtEnd, Comes, Controller, Entry, HasEnds, Host, IsLinkTold, LinkInput, List, None, Noted, Port, Running, Site, Some, Work}
+use Rattle.node_laws.proofs.Words.{[], after_sessions, all_come, ap, arrival, by_test, comes_to_pass, cond, eqb-true, exchanged, false, forgets, has_come}
+use Rattle.node_laws.proofs.Words.{host_begins_step, hosts_of_ends, input_at, input_of, map, near_end_in, port_at, refl, same_number, subst, sym}
+use Rattle.node_laws.proofs.Words.{without_notice, without_power, ℕ, ◌==◌, ◌∙◌, ◌∷◌, ◌≡◌}
 use Rattle.node_laws.proofs.kept.Plainly.{hosts_map}
 use Rattle.node_laws.proofs.links.Worlds.{IsFineSite, near_end_clean, ports_fine}
 use Rattle.node_laws.proofs.telling.Powers.{entries_uncut, came_uncut}

@@ -1,9 +1,9 @@
 -- Of hosts in worlds behind the events of a history.
-use Rattle.std.proofs.Common.{◌≡◌, ℕ, ◌==◌, false, List, [], ◌∷◌, ◌++◌, Some, refl, sym, subst, append-nil}
 use Rattle.node_laws.proofs.Words.{ArePortsRead, AtController, AtEnd, Comes, Entry, HasEnds, HoldsInStep, Host, IfItRuns, IsLinkTold, IsOrderly, LinkEvent}
-use Rattle.node_laws.proofs.Words.{LinkInput, NodeWorld, Occurrence, Running, Site, Start, Starts, Step, TimePasses, Work, after_controller, all_aged}
-use Rattle.node_laws.proofs.Words.{by_option, comes_at, comes_to, controller_ticks, controller_work, end_c, ending_of, entries_in, exchanged, host_begins_step}
-use Rattle.node_laws.proofs.Words.{hosts_tick, input_of, link_after_controller, site_at, steps, turns_at}
+use Rattle.node_laws.proofs.Words.{LinkInput, List, NodeWorld, Occurrence, Running, Site, Some, Start, Starts, Step, TimePasses, Work, [], after_controller}
+use Rattle.node_laws.proofs.Words.{all_aged, append-nil, by_option, comes_at, comes_to, controller_ticks, controller_work, end_c, ending_of, entries_in}
+use Rattle.node_laws.proofs.Words.{exchanged, false, host_begins_step, host_tick_begins, hosts_tick, input_of, link_after_controller, refl, site_at, steps}
+use Rattle.node_laws.proofs.Words.{subst, sym, turns_at, ℕ, ◌++◌, ◌==◌, ◌∷◌, ◌≡◌}
 use Rattle.node_laws.proofs.links.Works.{steps_fine}
 use Rattle.node_laws.proofs.links.Worlds.{IsFineSite, IsFineWorld, controller_fine}
 use Rattle.node_laws.proofs.telling.Nodes.{site_host}
@@ -14,7 +14,6 @@ use Rattle.node_laws.proofs.order.Watches.{IsStepOf}
 use Rattle.node_laws.proofs.order.Knowing.{told_more, WasThere, was_there}
 use Rattle.node_laws.proofs.order.Events.{near_step}
 use Rattle.node_laws.proofs.order.Ticking.{timely}
-use Rattle.node_laws.specs.read_rooms.Moments.{host_tick_begins}
 use Rattle.node_laws.proofs.read_rooms.HostBeginning.{host_carried}
 use Rattle.node_laws.proofs.read_rooms.HostTicking.{host_tick_read}
 use Rattle.node_laws.proofs.read_rooms.Turning.{step_read}

@@ -1,44 +1,37 @@
 -- What is known of the end of a host as it begins to go through its messages in its tick, behind the ticks of the controller and of other
 -- hosts.
-use Rattle.std.proofs.Common.{◌≡◌, ℕ, ◌==◌, Bool, true, false, List, [], ◌∷◌, ◌++◌, Some, None, map, refl, ap, sym, subst, ◌∙◌, append-nil}
-use Rattle.std.proofs.Common.{append_assoc}
-use Rattle.std.specs.Prelude.{is_some}
-use Rattle.std.specs.List.{AllByRecursion}
-use Rattle.node_laws.proofs.Words.{AreDifferent, ArePortsRead, AreSendableTurns, AsksReset, Before, Controller, Entry, HasEnds, HoldsInStep, Host, IfItRuns}
-use Rattle.node_laws.proofs.Words.{IsLinkTold, IsNode, IsOrderly, IsTimely, Link, NoInput, Node, NodeWorld, NoneDue, NumberedEnd, Port, Reset, Running, Site}
-use Rattle.node_laws.proofs.Words.{Step, Tick, TimePasses, Work, after_input, after_sessions, aged, all_aged, all_come, by_option, comes_to_pass}
-use Rattle.node_laws.proofs.Words.{controller_ticks, core_of, ended_by, exchanged, forgets, has_come, host_ended, host_finished, hosts_in, hosts_of_ends}
-use Rattle.node_laws.proofs.Words.{hosts_tick, number_now, reset_late, same_number, site_at, step_entries, times_out, turned, with_ended, with_older}
-use Rattle.node_laws.proofs.Words.{without_notice, without_power}
-use Rattle.link_laws.proofs.messages.Runs.{rests_of}
-use Rattle.link_laws.specs.entries.Entries.{Entry as Noted}
-use Rattle.link_laws.proofs.entries.Books.{read, plus, plus-blank, read-append}
-use Rattle.link_laws.proofs.entries.Fronts.{OfOne, one-append, front_read}
-use Rattle.link_laws.proofs.entries.Stepping.{one_step, one_input}
+use Rattle.node_laws.proofs.Words.{AllByRecursion, AreDifferent, ArePortsRead, AreSendableTurns, AsksReset, Before, Bool, Controller, Entry, HasEnds}
+use Rattle.node_laws.proofs.Words.{HoldsInStep, Host, IfItRuns, IsLinkTold, IsNode, IsOrderly, IsTimely, Link, List, NoInput, Node, NodeWorld, None, NoneDue}
+use Rattle.node_laws.proofs.Words.{Noted, NumberedEnd, Port, Reset, Running, Site, Some, Step, Tick, TimePasses, Work, [], after_input, after_sessions, aged}
+use Rattle.node_laws.proofs.Words.{all_aged, all_come, ap, append-nil, append_assoc, by_option, comes_to_pass, controller_ticks, core_of, ended_by, exchanged}
+use Rattle.node_laws.proofs.Words.{false, forgets, has_come, host_ended, host_finished, host_tick_begins, hosts_in, hosts_of_ends, hosts_tick, is_some, map}
+use Rattle.node_laws.proofs.Words.{number_now, refl, reset_late, rests_of, same_number, site_at, step_entries, subst, sym, times_out, true, turned, with_ended}
+use Rattle.node_laws.proofs.Words.{with_older, without_notice, without_power, ℕ, ◌++◌, ◌==◌, ◌∙◌, ◌∷◌, ◌≡◌}
+use Rattle.link_laws.proofs.entries.Books.{plus, plus-blank, read, read-append}
+use Rattle.link_laws.proofs.entries.Fronts.{OfOne, front_read, one-append}
+use Rattle.link_laws.proofs.entries.Stepping.{one_input, one_step}
 use Rattle.link_laws.proofs.entries.Noting.{Near as NearOf}
-use Rattle.link_laws.proofs.entries.Hearing.{heard, heard-append, Passes, passes-append, tick_heard, own_heard}
+use Rattle.link_laws.proofs.entries.Hearing.{Passes, heard, heard-append, own_heard, passes-append, tick_heard}
 use Rattle.node_laws.proofs.kept.Plainly.{hosts_map}
 use Rattle.node_laws.proofs.links.Got.{Clean}
-use Rattle.node_laws.proofs.links.Sites.{clf_line, can_end}
+use Rattle.node_laws.proofs.links.Sites.{can_end, clf_line}
 use Rattle.node_laws.proofs.links.Worlds.{IsFineSite, IsFineWorld, ports_fine}
 use Rattle.node_laws.proofs.telling.Powers.{came_uncut}
 use Rattle.node_laws.proofs.telling.Shapes.{twice}
 use Rattle.node_laws.proofs.telling.Steps.{Opening}
-use Rattle.node_laws.proofs.telling.Ticks.{not_late, in_time}
-use Rattle.node_laws.proofs.telling.Nodes.{swapped, site_host, hosts_same, host_opened}
-use Rattle.node_laws.proofs.telling.Worlds.{site_is, node_is}
-use Rattle.node_laws.proofs.telling.Events.{orderly_map}
-use Rattle.node_laws.proofs.telling.WorldTicks.{young_ports, other_hosts, others_leave, between, near_notes, near_orderly, first, old_told, aged_uncut}
-use Rattle.node_laws.proofs.steps.Ports.{forgets_host, without_host, late_host}
-use Rattle.node_laws.proofs.order.Ticking.{some_desks, aged_clean, near_sends, near_none}
+use Rattle.node_laws.proofs.telling.Ticks.{in_time, not_late}
+use Rattle.node_laws.proofs.telling.Nodes.{host_opened, hosts_same, site_host, swapped}
+use Rattle.node_laws.proofs.telling.Worlds.{node_is, site_is}
+use Rattle.node_laws.proofs.telling.WorldTicks.{aged_uncut, between, first, near_notes, old_told, other_hosts, others_leave, ticked_orderly, young_ports}
+use Rattle.node_laws.proofs.steps.Ports.{forgets_host, late_host, without_host}
+use Rattle.node_laws.proofs.order.Ticking.{aged_clean, near_none, near_sends, some_desks}
 use Rattle.node_laws.proofs.turns.Works.{site_none}
-use Rattle.node_laws.specs.read_rooms.Moments.{host_tick_begins}
 use Rattle.node_laws.proofs.read_rooms.Inputs.{Says, says_silent}
 use Rattle.node_laws.proofs.read_rooms.Coming.{has_ticked_so}
-use Rattle.node_laws.proofs.read_rooms.Reading.{AreNoted, noted_then, noted_more, its_notes, are_noted, before_near, far_says}
+use Rattle.node_laws.proofs.read_rooms.Reading.{AreNoted, are_noted, before_near, far_says, its_notes, noted_more, noted_then}
 use Rattle.node_laws.proofs.read_rooms.Carrying.{Carries}
 use Rattle.node_laws.proofs.read_rooms.Lasting.{IsCarried}
-use Rattle.node_laws.proofs.read_rooms.Beginning.{carries_from, pass_carried, begun_fine}
+use Rattle.node_laws.proofs.read_rooms.Beginning.{begun_fine, carries_from, pass_carried}
 use Rattle.node_laws.proofs.read_rooms.HostBeginning.{only_end}
 use Rattle.node_laws.proofs.read_rooms.Ticking.{aged_notes, aged_notes_clear, says_aged}
 use Rattle.node_laws.proofs.read_rooms.Turning.{step_read}
@@ -109,11 +102,8 @@ module _ (w : NodeWorld) (t : List Entry) (orderly : IsOrderly w) (fine : IsFine
   abbrev near : NodeWorld × List Entry
   near = controller_ticks old
 
-  old_well : IsOrderly old
-  old_well = orderly_map w w.memory w.controller (λ (s : Site). record s { link = aged s.link }) (λ s. refl) orderly orderly.controller (λ s a. a)
-
   near_well : IsOrderly (record { memory = old.memory; controller = None; sites = near.0.sites })
-  near_well = near_orderly old old_well
+  near_well = ticked_orderly w orderly
 
   module _ (h : ℕ) (s : Site) (found : site_at w.sites h ≡ Some s) (before : List Site) (others : AllByRecursion (λ n. (n == h) ≡ false) (hosts_in before))
       (numbers : AllByRecursion (λ (x : Site). (x.host == 0) ≡ false) before)

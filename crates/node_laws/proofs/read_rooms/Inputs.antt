@@ -1,13 +1,11 @@
 -- What is noted of an end says which session it has and what it has of each, also behind what comes to it and what its node does to it.
-use Rattle.std.proofs.Common.{◌≡◌, false, List, [], ◌∷◌, ◌++◌, None, refl, ap, sym, ◌∙◌}
-use Rattle.std.specs.Prelude.{is_some, max}
-use Rattle.std.proofs.lemmas.Bool.{true≢false}
-use Rattle.node_laws.proofs.Words.{AreSendableTurns, Link, LinkInput, NumberedEnd, OnWire, Take, Took, Turn, after_input, ended_by, number_now, number_of}
-use Rattle.node_laws.proofs.Words.{report, told, told_of, took_with, turn_entries, turned, turned_same, whole_acked}
+use Rattle.node_laws.proofs.Words.{AreSendableTurns, Link, LinkInput, List, None, Noted, NumberedEnd, OnWire, Take, Took, Turn, [], after_input, ap, ended_by}
+use Rattle.node_laws.proofs.Words.{false, is_some, max, number_now, number_of, refl, report, sym, told, told_of, took_with, true≢false, turn_entries, turned}
+use Rattle.node_laws.proofs.Words.{turned_same, whole_acked, ◌++◌, ◌∙◌, ◌∷◌, ◌≡◌}
 use Rattle.link_laws.specs.machine.Machine.{began_by}
 use Rattle.link_laws.proofs.machine.Runs.{Sound, sound_input}
 use Rattle.link_laws.proofs.machine.Reports.{Reports, take_so}
-use Rattle.link_laws.specs.entries.Entries.{End as Side, Entry as Noted}
+use Rattle.link_laws.specs.entries.Entries.{End as Side}
 use Rattle.link_laws.proofs.entries.Books.{Silent, Told, Input, told_silent, told_input, past_after, with_side}
 use Rattle.link_laws.proofs.entries.Stepping.{sound_turns, told_turns}
 use Rattle.link_laws.proofs.entries.Noting.{Frame}

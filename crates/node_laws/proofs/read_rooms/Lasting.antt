@@ -1,13 +1,11 @@
 -- What is known of the ends of a node lasts over its turns.
-use Rattle.std.proofs.Common.{◌≡◌, ℕ, false, List, ◌∷◌, ◌++◌, Some, sym, subst, ◌∙◌}
-use Rattle.node_laws.proofs.Words.{ArePortsRead, AreSendable, Deed, Entry, IsSendable, Message, Port, Work, all_done, deeds_of, end_of, handles, holds_back}
-use Rattle.node_laws.proofs.Words.{lets_go, port_at}
+use Rattle.node_laws.proofs.Words.{ArePortsRead, AreSendable, Deed, Entry, IsPortRead, IsSendable, List, Message, Port, Some, Work, all_done, deeds_of, end_of}
+use Rattle.node_laws.proofs.Words.{false, handles, holds_back, lets_go, port_at, subst, sym, ℕ, ◌++◌, ◌∙◌, ◌∷◌, ◌≡◌}
 use Rattle.link_laws.specs.entries.Entries.{End as Side}
 use Rattle.node_laws.proofs.links.Deeds.{AreFine}
 use Rattle.node_laws.proofs.links.Works.{IsFineWork, fine_at, deeds_fine, handles_fine, holds_fine, lets_fine, all_done_fine}
 use Rattle.node_laws.proofs.telling.Mute.{AreMute, deeds_mute}
 use Rattle.node_laws.proofs.telling.Walks.{all_last, handling, holds, lets, plainly, any}
-use Rattle.node_laws.specs.read_rooms.Moments.{IsPortRead}
 use Rattle.node_laws.proofs.read_rooms.Carrying.{Carries, AllCarry, carry_note, carry_desk, carry_turns, carry_beside, carry_loses}
 use Rattle.node_laws.proofs.read_rooms.Ports.{port_read}
 

@@ -1,7 +1,7 @@
 -- Of worlds behind the events of a history.
-use Rattle.std.proofs.Common.{◌≡◌, ℕ, List, ◌++◌, Some, map, refl, sym, ◌∙◌}
-use Rattle.node_laws.proofs.Words.{ArePortsRead, AtEnd, Comes, Controller, Desk, HasEnds, HoldsInStep, LinkInput, NodeWorld, Occurrence, Running, Site}
-use Rattle.node_laws.proofs.Words.{TimePasses, aged, all_aged, controller_begins, controller_tick_begins, entries_in, hosts_in, input_of, link_to}
+use Rattle.node_laws.proofs.Words.{ArePortsRead, AtEnd, Comes, Controller, Desk, HasEnds, HoldsInStep, LinkInput, List, NodeWorld, Occurrence, Running, Site}
+use Rattle.node_laws.proofs.Words.{Some, TimePasses, aged, all_aged, controller_begins, controller_tick_begins, entries_in, hosts_in, input_of, link_to, map}
+use Rattle.node_laws.proofs.Words.{refl, sym, ℕ, ◌++◌, ◌∙◌, ◌≡◌}
 use Rattle.node_laws.proofs.kept.Sites.{hosts_same}
 use Rattle.node_laws.proofs.telling.Worlds.{node_is}
 use Rattle.node_laws.proofs.order.Lines.{IsSo}

@@ -1,15 +1,12 @@
 -- What is read of an end in a step is what it has there.
-use Rattle.std.proofs.Common.{◌≡◌, ℕ, List, ◌++◌, Option, Some, None, refl, ap, sym, ◌∙◌}
-use Rattle.std.specs.Prelude.{if◌then◌else◌, drop}
-use Rattle.node_laws.proofs.Words.{AreSendableTurns, Controller, End, Entry, Host, IsReadOff, LinkEnd, LinkState, NumberedEnd, Port, Up, Work, end_of, is_up}
-use Rattle.node_laws.proofs.Words.{node_of, number_of, session_now, spare, talk_of, unacknowledged_in, whole_acked}
-use Rattle.link_laws.specs.entries.Entries.{End as Side, Entry as Noted}
-use Rattle.link_laws.specs.entries.Sessions.{number_now as own_session}
+use Rattle.node_laws.proofs.Words.{AreSendableTurns, Controller, End, Entry, Host, IsPortRead, IsReadOff, LinkEnd, LinkState, List, None, Noted, NumberedEnd}
+use Rattle.node_laws.proofs.Words.{Option, Port, Some, Up, Work, ap, drop, end_of, if◌then◌else◌, is_up, node_of, number_of, own_session, refl, session_now}
+use Rattle.node_laws.proofs.Words.{spare, sym, talk_of, unacknowledged_in, whole_acked, ℕ, ◌++◌, ◌∙◌, ◌≡◌}
+use Rattle.link_laws.specs.entries.Entries.{End as Side}
 use Rattle.node_laws.proofs.telling.Walks.{AreUncut}
 use Rattle.node_laws.proofs.order.Sessions.{node_on}
 use Rattle.node_laws.proofs.notices.Sparing.{spare_is}
 use Rattle.node_laws.proofs.rooms.Holding.{held_is, end_is}
-use Rattle.node_laws.specs.read_rooms.Moments.{IsPortRead}
 use Rattle.node_laws.proofs.read_rooms.Inputs.{Says}
 use Rattle.node_laws.proofs.read_rooms.Reading.{session_is, reads_are}
 use Rattle.node_laws.proofs.read_rooms.Carrying.{Carries, end_now, all_noted, noted_now, says_now}

@@ -1,14 +1,11 @@
 -- What is read of an end off entries that tell of its link what these notes do.
-use Rattle.std.proofs.Common.{◌≡◌, ℕ, ◌==◌, false, List, ◌++◌, refl, ap, sym, subst, ◌∙◌}
-use Rattle.std.proofs.lemmas.List.Sums.{fold-append}
-use Rattle.node_laws.proofs.Words.{Before, Controller, Entry, Good, Host, IsLine, IsLinkTold, IsReadOff, Link, NumberedEnd, Reached, Sounds, Standing}
-use Rattle.node_laws.proofs.Words.{acked-all, core_of, end_of, entries, entries_for, exchanged, from_start, got-all, law_noted, new_line, new_standing, of_link}
-use Rattle.node_laws.proofs.Words.{reached, sent-all, session_now, standing, standing_by_law, stands_noted, talk_of}
-use Rattle.link_laws.specs.entries.Entries.{End as Side, Entry as Noted}
-use Rattle.link_laws.specs.entries.Sessions.{IsRead, number_now as own_session}
+use Rattle.node_laws.proofs.Words.{Before, Controller, Entry, Good, Host, IsLine, IsLinkTold, IsRead, IsReadOff, Link, List, Noted, NumberedEnd, Reached}
+use Rattle.node_laws.proofs.Words.{Sounds, Standing, acked-all, ap, before_here, before_there, core_of, end_of, entries, entries_for, exchanged, false}
+use Rattle.node_laws.proofs.Words.{fold-append, from_start, got-all, law_noted, new_line, new_standing, of_link, own_session, reached, read_here, read_there}
+use Rattle.node_laws.proofs.Words.{refl, sent-all, session_now, standing, standing_by_law, stands_noted, subst, sym, talk_of, ℕ, ◌++◌, ◌==◌, ◌∙◌, ◌≡◌}
+use Rattle.link_laws.specs.entries.Entries.{End as Side}
 use Rattle.link_laws.proofs.entries.Books.{Book, read, book_of}
 use Rattle.link_laws.proofs.entries.Heard.{controller_heard, host_heard}
-use Rattle.link_laws.proofs.entries.Running.{before_here, before_there, read_here, read_there}
 use Rattle.node_laws.proofs.telling.Walks.{AreUncut}
 use Rattle.node_laws.proofs.telling.Powers.{AreClear, clear_stands}
 use Rattle.node_laws.proofs.telling.Accounts.{of-append}

@@ -1,11 +1,10 @@
 -- What is known of the ends of the controller as it begins to go through them in its tick.
-use Rattle.std.proofs.Common.{◌≡◌, ℕ, ◌==◌, true, false, List, [], ◌∷◌, ◌++◌, Option, Some, None, map, refl, subst, ◌∙◌}
-use Rattle.std.specs.Prelude.{nat_lt}
-use Rattle.node_laws.proofs.Words.{AsksReset, Controller, Desk, Entry, HasEnds, Host, IfDue, IsLinkTold, IsOrderly, IsTimely, Link, Lost, NoInput, NodeWorld}
-use Rattle.node_laws.proofs.Words.{NumberedEnd, OnWire, Port, Reset, Running, Site, Tick, TimePasses, TooOld, Work, after_sessions, aged, aged_entries}
-use Rattle.node_laws.proofs.Words.{all_aged, all_come, by_test, comes_to_pass, controller_tick_begins, forgets, has_come, hosts_in, hosts_of_ends, is_late}
-use Rattle.node_laws.proofs.Words.{link_to, reset_late, site_at, times_out, with_older, without_notice, without_power}
-use Rattle.link_laws.specs.entries.Entries.{End as Side, Entry as Noted}
+use Rattle.node_laws.proofs.Words.{AsksReset, Controller, Desk, Entry, HasEnds, Host, IfDue, IsLinkTold, IsOrderly, IsTimely, Link, List, Lost, NoInput}
+use Rattle.node_laws.proofs.Words.{NodeWorld, None, Noted, NumberedEnd, OnWire, Option, Port, Reset, Running, Site, Some, Tick, TimePasses, TooOld, Work, []}
+use Rattle.node_laws.proofs.Words.{after_sessions, aged, aged_entries, all_aged, all_come, by_test, comes_to_pass, controller_tick_begins, false, forgets}
+use Rattle.node_laws.proofs.Words.{has_come, hosts_in, hosts_of_ends, is_late, link_to, map, nat_lt, refl, reset_late, site_at, subst, times_out, true}
+use Rattle.node_laws.proofs.Words.{with_older, without_notice, without_power, ℕ, ◌++◌, ◌==◌, ◌∙◌, ◌∷◌, ◌≡◌}
+use Rattle.link_laws.specs.entries.Entries.{End as Side}
 use Rattle.link_laws.proofs.entries.Books.{Silent, silent-append, silent_cons}
 use Rattle.link_laws.proofs.entries.Hearing.{passes-append, passes_aged}
 use Rattle.node_laws.proofs.kept.Plainly.{hosts_map}

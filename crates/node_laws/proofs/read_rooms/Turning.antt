@@ -1,6 +1,5 @@
 -- What is read of the ends of a node is what they have at each turn of a step.
-use Rattle.std.proofs.Common.{◌≡◌, false, List, ◌∙◌}
-use Rattle.node_laws.proofs.Words.{ArePortsRead, Entry, HoldsInStep, LastsOverTurns, NodeInput, Work, comes_to_pass}
+use Rattle.node_laws.proofs.Words.{ArePortsRead, Entry, HoldsInStep, LastsOverTurns, List, NodeInput, Work, comes_to_pass, false, ◌∙◌, ◌≡◌}
 use Rattle.link_laws.specs.entries.Entries.{End as Side}
 use Rattle.node_laws.proofs.read_rooms.Lasting.{IsCarried, handles_last, holds_last, lets_last, ports_read}
 use Rattle.node_laws.proofs.passes.Ends.{HasFirst, has_first}

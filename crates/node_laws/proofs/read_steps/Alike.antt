@@ -1,14 +1,10 @@
 -- Two controllers that know the same do the same with a message.
-use Rattle.std.proofs.Common.{◌≡◌, ℕ, ◌&&◌, Bool, true, false, cond, eqb, List, map, sym, refl, ap, ◌∙◌}
-use Rattle.std.specs.Prelude.{Option, Some, None, Result, Ok, Err}
-use Rattle.std.specs.Option.{option_map}
-use Rattle.node_laws.proofs.Words.{About, Answer, Ask, Commit, Creation, Decision, Deed, IsSameView, KnowsTheSame, Message, MessageFault, MessageKind, NodeView}
-use Rattle.node_laws.proofs.Words.{OwnView, Tells, agreed, body_in, commit_deeds, controller_deeds, creation_of, decided, decision_deeds, deeds_by_relay}
-use Rattle.node_laws.proofs.Words.{gate_deeds, goes_through, has, header_of, hosts_where, kind_deeds, own_deeds, own_gate, relay_deeds, relayed_to, served_at}
-use Rattle.node_laws.proofs.Words.{unless_asking, unrelayed}
-use Rattle.hcp_packet.specs.declared.MessageKind.TheVariants.{Command as IsCommand, Event as IsEvent, Response as IsResponse}
-use Rattle.node_machine.specs.Controller.{command_deeds}
-use Rattle.node_machine.specs.Controller.{creation_deeds, notice_deeds, event_deeds, if_notice}
+use Rattle.node_laws.proofs.Words.{About, Answer, Ask, Bool, Commit, Creation, Decision, Deed, Err, IsResponse, IsSameView, KnowsTheSame, List, Message}
+use Rattle.node_laws.proofs.Words.{MessageFault, MessageKind, NodeView, None, Ok, Option, OwnView, Result, Some, Tells, agreed, ap, body_in, command_deeds}
+use Rattle.node_laws.proofs.Words.{commit_deeds, cond, controller_deeds, creation_deeds, creation_of, decided, decision_deeds, deeds_by_relay, eqb, event_deeds}
+use Rattle.node_laws.proofs.Words.{false, gate_deeds, goes_through, has, header_of, hosts_where, if_notice, kind_deeds, map, notice_deeds, option_map}
+use Rattle.node_laws.proofs.Words.{own_deeds, own_gate, refl, relay_deeds, relayed_to, served_at, sym, true, unless_asking, unrelayed, ℕ, ◌&&◌, ◌∙◌, ◌≡◌}
+use Rattle.hcp_packet.specs.declared.MessageKind.TheVariants.{Command as IsCommand, Event as IsEvent}
 use Rattle.node_laws.proofs.views.Viewing.{decided_same}
 
 -- what a response does, by the creation that the notice is about which it answers

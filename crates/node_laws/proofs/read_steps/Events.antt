@@ -1,16 +1,12 @@
 -- Whatever happens to a world, each notice of a creation that the controller sends names the host that it goes to.
-use Rattle.std.proofs.Common.{◌≡◌, ℕ, List, [], ◌∷◌, ◌++◌, length, sym, refl, ap, ◌∙◌, subst, append_assoc, append-nil}
-use Rattle.std.specs.Prelude.{Some}
-use Rattle.std.specs.List.{AllByRecursion, flat_map}
-use Rattle.std.proofs.lemmas.List.Concat.{flat_map-append}
-use Rattle.node_laws.proofs.Words.{Activates, AllByRecursion-append, AreHosts, AreNamed, Arms, AsksReset, AtEnd, Boots, Comes, Controller, End, Entry}
-use Rattle.node_laws.proofs.Words.{FollowsNodes, Gives, Happening, Header, Inits, IsCut, IsFew, IsNamed, IsSentByHost, KeepsBetween, Line, LinkInput, Loses}
-use Rattle.node_laws.proofs.Words.{Memory, NextFrame, NodeHistory, NodeWorld, Occurrence, Resets, Site, Starts, Takes, Ticks, Work, activates, all_aged}
-use Rattle.node_laws.proofs.Words.{beginning, boot_writes, boots, by_coming, by_controller, by_controller_tick, by_test, comes_at, comes_to, controller_does}
-use Rattle.node_laws.proofs.Words.{controller_ticks, controller_work, end_c, end_h, entries_in, fails_within, frames_noted, hosts_tick, input_of, link_to}
-use Rattle.node_laws.proofs.Words.{memory_at, near_tick, new_world, node_entries, occurrences_in, sending, steps, steps_from, wires_for, world_behind}
-use Rattle.node_laws.proofs.Words.{world_step}
-use Rattle.node_laws.proofs.telling.Lasting.{Any, AnyLine, AreCaused, all_any, all_lines, events_of_steps, lines_caused}
+use Rattle.node_laws.proofs.Words.{Activates, AllByRecursion, AllByRecursion-append, AreHosts, AreNamed, Arms, AsksReset, AtEnd, Boots, Comes, Controller, End}
+use Rattle.node_laws.proofs.Words.{Entry, FollowsNodes, Gives, Happening, Header, Inits, IsCut, IsFew, IsNamed, IsSentByHost, KeepsBetween, Line, LinkInput}
+use Rattle.node_laws.proofs.Words.{List, Loses, Memory, NextFrame, NodeHistory, NodeWorld, Occurrence, Resets, Site, Some, Starts, Takes, Ticks, Work, []}
+use Rattle.node_laws.proofs.Words.{activates, all_aged, beginning, boot_writes, boots, by_coming, by_controller, by_controller_tick, by_test, comes_at}
+use Rattle.node_laws.proofs.Words.{comes_to, controller_does, controller_ticks, controller_work, end_c, end_h, entries_in, fails_within, flat_map, frames_noted}
+use Rattle.node_laws.proofs.Words.{hosts_tick, input_of, length, link_to, memory_at, near_tick, new_world, node_entries, occurrences_in, refl, sending, steps}
+use Rattle.node_laws.proofs.Words.{subst, sym, true≢false, wires_for, world_step, ℕ, ◌++◌, ◌∙◌, ◌≡◌}
+use Rattle.node_laws.proofs.telling.Lasting.{Any, AreCaused, fronts_last, history_caused}
 use Rattle.node_laws.proofs.notices.Far.{far_flat}
 use Rattle.node_laws.proofs.notices.Near.{aged_far, comes_reads}
 use Rattle.node_laws.proofs.notices.Sites.{AreGood, Reads, all_tick, beginning_own, frames_quiet, sending_own}
@@ -19,8 +15,6 @@ use Rattle.node_laws.proofs.creations.Worlds.{aged_good, near_good}
 use Rattle.node_laws.proofs.read_steps.Lines.{history_keeps_between}
 use Rattle.node_laws.proofs.read_steps.Naming.{far_named}
 use Rattle.node_laws.proofs.read_steps.Starting.{comes_named, tick_named}
-use Rattle.node_laws.proofs.order.Asked.{behind_push}
-use Rattle.std.proofs.lemmas.Bool.{true≢false}
 
 boots_named : (w : NodeWorld) (n : ℕ) → AreNamed (boots w n).1
 boots_named w n = by_test (fails_within (length (boot_writes m.content)) m.plan) (λ e. rw e (tt, tt)) (λ e. rw e (tt, tt)) where
@@ -99,30 +93,12 @@ module _ (hosts : List ℕ) (are : AreHosts hosts) (t : List Entry) (w : NodeWor
 
 -- ## Histories
 
-pub entries_one : (xs : List Occurrence) (o : Occurrence) → entries_in (xs ++ o ∷ []) ≡ entries_in xs ++ o.entries
-entries_one xs o = flat_map-append (λ (o : Occurrence). o.entries) xs (o ∷ []) ∙ ap (λ l. entries_in xs ++ l) (append-nil o.entries)
-
-module _ (hosts : List ℕ) (are : AreHosts hosts) (events : List Occurrence)
-    (keeps : (front back : List Occurrence) → events ≡ front ++ back → KeepsBetween hosts (entries_in front) (world_behind (new_world hosts) front)) where
-  fronts_named : (done front back : List Occurrence) → events ≡ done ++ (front ++ back) → AreCaused Any (world_behind (new_world hosts) done) (front ++ back)
-      → AreNamed (entries_in done) → AreNamed (entries_in (done ++ front))
-  fronts_named done [] back is caused named = subst (λ l. AreNamed (entries_in l)) (sym (append-nil done)) named
-  fronts_named done (o ∷ front) back is caused named =
-      let w : NodeWorld = world_behind (new_world hosts) done in
-      let now : AreNamed o.entries = subst AreNamed (sym caused.0) (event_named hosts are (entries_in done) w (keeps done (o ∷ (front ++ back)) is) o.cause) in
-      subst (λ l. AreNamed (entries_in l)) (append_assoc done (o ∷ []) front)
-      (fronts_named (done ++ o ∷ []) front back (is ∙ sym (append_assoc done (o ∷ []) (front ++ back)))
-      (subst (λ v. AreCaused Any v (front ++ back)) (sym (behind_push done o (new_world hosts))) caused.2)
-      (subst AreNamed (sym (entries_one done o)) (AllByRecursion-append IsNamed (entries_in done) o.entries named now)))
-
 pub history_named : (header : Header) (lines : List Line) (t : NodeHistory) → FollowsNodes header lines t → AreHosts header.hosts.items
     → AllByRecursion IsSentByHost lines → IsFew (node_entries t) → (front back : List Occurrence) → occurrences_in t ≡ front ++ back
     → AreNamed (entries_in front)
 history_named header lines t follows are sent few front back parts =
     let hosts : List ℕ = header.hosts.items in
-    let events : List Occurrence = events_of_steps (steps_from (new_world hosts) lines) in
-    let is : occurrences_in t ≡ events = ap events_of_steps follows.steps_are in
-    let caused : AreCaused Any (new_world hosts) (front ++ back) =
-    subst (AreCaused Any (new_world hosts)) (sym is ∙ parts)
-    (lines_caused Any AnyLine (λ w l any none. all_any w _) lines (new_world hosts) (all_lines lines)) in
-    fronts_named hosts are (occurrences_in t) (history_keeps_between header lines t follows are sent few) [] front back parts caused tt
+    fronts_last (λ u w. AreNamed u) (KeepsBetween hosts)
+    (λ u w c named keeps. AllByRecursion-append IsNamed u (world_step w c).1 named (event_named hosts are u w keeps c)) (new_world hosts) (occurrences_in t)
+    (history_keeps_between header lines t follows are sent few) [] front back parts
+    (subst (AreCaused Any (new_world hosts)) parts (history_caused header lines t follows)) tt

@@ -1,25 +1,19 @@
 -- What a controller knows as a message has its turn is what is read off all entries until there.
-use Rattle.std.proofs.Common.{◌≡◌, ℕ, ◌&&◌, ◌||◌, Bool, true, false, cond, eqb, List, [], ◌∷◌, ◌++◌, length, sym, refl, ap, ap₂, ◌∙◌, subst}
-use Rattle.std.specs.Prelude.{Option, Some, None, is_some}
-use Rattle.std.specs.List.{AllByRecursion, list_any}
-use Rattle.std.specs.Option.{option_map_or, option_and_then}
-use Rattle.std.proofs.lemmas.Bool.{eqb-true, true≢false}
-use Rattle.node_laws.proofs.Words.{AreHosts, Creation, Entry, HasAsideAt, IsHost, IsKeptNotice, IsReadSo, IsSameView, KeepsInStep, Port, Work, aside_in}
-use Rattle.node_laws.proofs.Words.{asked_pipes, asking_in, by_option, by_test, creations_at, desks_of, end_c, errors_in, hosts_of_ends, is_asked_at}
-use Rattle.node_laws.proofs.Words.{is_asked_pipe, is_connected_at, is_of_creation, is_one_of, is_opened, is_up, notice_in, port_at, session_now, tables_in}
-use Rattle.node_laws.proofs.Words.{view_at, view_for, waiting_pipes}
-use Rattle.node_machine.specs.world.NodeFilters.{is_connected_in}
+use Rattle.node_laws.proofs.Words.{AllByRecursion, AreHosts, Bool, Creation, Entry, HasAsideAt, IsHost, IsKeptNotice, IsReadSo, IsSameView, KeepsInStep}
+use Rattle.node_laws.proofs.Words.{KnowsAsRead, LinksAreRead, List, None, Option, Port, Some, Work, [], ap, ap₂, aside_in, asked_pipes, asking_in, by_option}
+use Rattle.node_laws.proofs.Words.{by_test, cond, creations_at, desks_of, end_c, eqb, eqb-true, errors_in, false, hosts_of_ends, is_asked_at, is_asked_pipe}
+use Rattle.node_laws.proofs.Words.{is_connected_at, is_connected_in, is_of_creation, is_one_of, is_opened, is_some, is_up, length, list_any, notice_in}
+use Rattle.node_laws.proofs.Words.{option_and_then, option_map_or, port_at, refl, session_now, subst, sym, tables_in, true, true≢false, view_at, view_for}
+use Rattle.node_laws.proofs.Words.{waiting_pipes, ℕ, ◌&&◌, ◌++◌, ◌||◌, ◌∙◌, ◌∷◌, ◌≡◌}
 use Rattle.node_laws.proofs.links.Noticing.{at_host}
 use Rattle.node_laws.proofs.notices.Knowing.{noticed_is, asked_is}
 use Rattle.node_laws.proofs.notices.Near.{noticed_desks}
 use Rattle.node_laws.proofs.notices.Turning.{kept_none}
-use Rattle.node_laws.specs.creations.Creations.{KnowsAsRead}
 use Rattle.node_laws.proofs.creations.Asks.{asked_of, waits, desks_wait}
 use Rattle.node_laws.proofs.creations.Knowing.{is_of_pipe, HasAsker, asker_of, asker_waits, Any, any_of, any_asked, asks_some, given_same}
 use Rattle.node_laws.proofs.creations.Knowing.{read_pipe, read_some}
 use Rattle.node_laws.proofs.creations.Knowing.{two_ways}
 use Rattle.node_laws.proofs.views.Viewing.{where_same, pipes_same}
-use Rattle.node_laws.specs.read_steps.Works.{LinksAreRead}
 use Rattle.node_laws.proofs.read_steps.Lasting.{found_end}
 
 -- ## Ends

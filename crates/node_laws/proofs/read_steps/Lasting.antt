@@ -1,11 +1,8 @@
 -- What a controller keeps in a step lasts over the handling of a message, where one is held, and where none is.
-use Rattle.std.proofs.Common.{◌≡◌, inl, inr, ℕ, true, false, cond, eqb, List, [], ◌∷◌, sym, refl, ap, ◌∙◌, subst}
-use Rattle.std.specs.Prelude.{Option, Some, None}
-use Rattle.std.specs.List.{AllByRecursion}
-use Rattle.std.specs.Option.{option_map_or}
-use Rattle.std.proofs.lemmas.Bool.{eqb-true, eq-eqb, true≢false}
-use Rattle.node_laws.proofs.Words.{AreHosts, Entry, Hold, IsHost, IsKeptNotice, KeepsInStep, Message, Port, Work, by_test, controller_deeds, deeds_of, end_c}
-use Rattle.node_laws.proofs.Words.{end_of_node, handles, holds_back, hosts_of_ends, is_held, lack, lets_go, needs, noting, port_at, view_of, with_desk}
+use Rattle.node_laws.proofs.Words.{AllByRecursion, AreHosts, Entry, Hold, IsHost, IsKeptNotice, KeepsInStep, List, Message, None, Option, Port, Some, Work, []}
+use Rattle.node_laws.proofs.Words.{ap, by_test, cond, controller_deeds, deeds_of, end_c, end_of_node, eq-eqb, eqb, eqb-true, false, handles, holds_back}
+use Rattle.node_laws.proofs.Words.{hosts_of_ends, inl, inr, is_held, lack, lets_go, needs, noting, option_map_or, port_at, refl, subst, sym, true, true≢false}
+use Rattle.node_laws.proofs.Words.{view_of, with_desk, ℕ, ◌∙◌, ◌∷◌, ◌≡◌}
 use Rattle.trace_model.specs.declared.entry.Entry.TheVariants as entry
 use Rattle.node_laws.proofs.notices.Doing.{Holds, Stands}
 use Rattle.node_laws.proofs.notices.Turning.{handled_stand, holds_stand, lets_stand}

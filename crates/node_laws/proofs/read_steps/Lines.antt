@@ -1,9 +1,7 @@
 -- A world keeps what is read of its controller at the end of each event of a history.
-use Rattle.std.proofs.Common.{◌≡◌, ℕ, List, ◌++◌, refl, subst, ◌∙◌}
-use Rattle.std.specs.Prelude.{Some}
-use Rattle.std.specs.List.{AllByRecursion}
-use Rattle.node_laws.proofs.Words.{AreHosts, Entry, FollowsNodes, Header, IsFew, IsHost, IsSentByHost, KeepsBetween, Line, NodeHistory, NodeWorld, Occurrence}
-use Rattle.node_laws.proofs.Words.{Running, end_c, entries_in, new_world, no_errors, node_entries, occurrences_in, world_behind}
+use Rattle.node_laws.proofs.Words.{AllByRecursion, AreHosts, Entry, FollowsNodes, Header, IsFew, IsHost, IsSentByHost, KeepsBetween, Line, List, NodeHistory}
+use Rattle.node_laws.proofs.Words.{NodeWorld, Occurrence, Running, Some, end_c, entries_in, new_world, no_errors, node_entries, occurrences_in, refl, subst}
+use Rattle.node_laws.proofs.Words.{world_behind, ℕ, ◌++◌, ◌∙◌, ◌≡◌}
 use Rattle.node_laws.proofs.creations.Lines.{history_keeps}
 use Rattle.node_laws.proofs.views.Leaving.{reads}
 use Rattle.node_laws.proofs.views.Nodes.{IfKeeps, KeepsErrors}

@@ -1,18 +1,14 @@
 -- What a controller notes in a turn: a notice of a creation names the host that it goes to.
-use Rattle.std.proofs.Common.{◌≡◌, ◌⊎◌, inl, inr, ℕ, ◌&&◌, Bool, true, false, eqb, List, [], ◌∷◌, length, sym, refl, ap, ◌∙◌, subst}
-use Rattle.std.specs.Prelude.{Option, Some, None, slice_index}
-use Rattle.std.specs.List.{AllByRecursion, fold}
-use Rattle.std.specs.Option.{option_map_or}
-use Rattle.std.proofs.lemmas.Bool.{eqb-true, true≢false}
-use Rattle.node_laws.proofs.Words.{AllByRecursion-append, AreNamed, Asks, Command, Commits, Controller, Core, Create, Creation, Deed, Drops, Ends, Entry}
-use Rattle.node_laws.proofs.Words.{FetchMessage, Give, HciTables, Hold, Host, IsAllowedFor, IsAllowedStill, IsNamed, IsNoticeOf, LinkInput, Message, Orders}
-use Rattle.node_laws.proofs.Words.{Port, Refused, Release, Releases, Reset, SaysOk, Sends, SetAside, SetsErrors, Tells, Turn, Work, after_input, all_done}
-use Rattle.node_laws.proofs.Words.{awaited_after, body_of, by_cut, by_option, by_test, commit, commit_writes, done, end_c, end_of_node, ended_by, entries_for}
-use Rattle.node_laws.proofs.Words.{fails_within, give_refusal, handles, holds_back, instruction_in, is_held, is_late, is_notice, is_response, lets_go, noted_of}
-use Rattle.node_laws.proofs.Words.{notice_in, noting, own_side, port_at, report, same_end, same_side, sent_unless, told_at, told_late, turn_at, unless_cut}
-use Rattle.node_laws.proofs.Words.{whole_acked, with_desk}
+use Rattle.node_laws.proofs.Words.{AllByRecursion, AllByRecursion-append, AreNamed, Asks, Bool, Command, Commits, Controller, Core, Create, Creation, Deed}
+use Rattle.node_laws.proofs.Words.{Drops, Ends, Entry, FetchMessage, Give, HciTables, Hold, Host, IsAllowedFor, IsAllowedStill, IsNamed, IsNoticeOf, LinkInput}
+use Rattle.node_laws.proofs.Words.{List, Message, None, Noted, Option, Orders, Port, Refused, Release, Releases, Reset, SaysOk, Sends, SetAside, SetsErrors}
+use Rattle.node_laws.proofs.Words.{Some, Tells, Turn, Work, [], after_input, all_done, ap, awaited_after, body_of, by_cut, by_option, by_test, commit}
+use Rattle.node_laws.proofs.Words.{commit_writes, done, end_c, end_of_node, ended_by, entries_for, eqb, eqb-true, fails_within, false, fold, give_refusal}
+use Rattle.node_laws.proofs.Words.{handles, holds_back, inl, inr, instruction_in, is_held, is_late, is_notice, is_response, length, lets_go, noted_of}
+use Rattle.node_laws.proofs.Words.{notice_in, noting, option_map_or, own_side, port_at, refl, report, same_end, same_side, sent_unless, slice_index, subst, sym}
+use Rattle.node_laws.proofs.Words.{told_at, told_late, true, true≢false, turn_at, unless_cut, whole_acked, with_desk, ℕ, ◌&&◌, ◌∙◌, ◌∷◌, ◌≡◌, ◌⊎◌}
 use Rattle.trace_model.specs.declared.entry.Entry.TheVariants as entry
-use Rattle.link_laws.specs.entries.Entries.{End as Side, Entry as Noted}
+use Rattle.link_laws.specs.entries.Entries.{End as Side}
 use Rattle.node_laws.proofs.links.Noticing.{at_host}
 use Rattle.node_laws.proofs.readings.Silent.{told_rest, rest_quiet}
 use Rattle.node_laws.proofs.notices.Deciding.{IsRemoval}

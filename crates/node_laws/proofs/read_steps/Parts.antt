@@ -1,9 +1,8 @@
 -- What a controller keeps in a step, as the crates below keep it: notices, creations, and REC_ERROR with the tables.
-use Rattle.std.proofs.Common.{◌≡◌, ℕ, false, List, [], ◌∷◌, ◌++◌, length, map, sym, refl, ap, ◌∙◌, subst, append-nil, arith}
-use Rattle.std.specs.Prelude.{Option, Some, None}
-use Rattle.std.specs.List.{AllByRecursion}
-use Rattle.node_laws.proofs.Words.{Book, Creation, Entry, ErrorCount, HasAsideAt, IfAwaited, IsHost, IsKeptNotice, IsNoticedUp, IsReadSo, KeepsInStep, OnFirst}
-use Rattle.node_laws.proofs.Words.{Port, Work, asking_in, book_in, creations_at, desks_of, end_c, errors_in, is_up, no_errors, notice_in, port_at}
+use Rattle.node_laws.proofs.Words.{AllByRecursion, Book, Creation, Entry, ErrorCount, HasAsideAt, HasErrorsRead, IfAwaited, IsHost, IsKeptNotice, IsNoticedUp}
+use Rattle.node_laws.proofs.Words.{IsReadSo, KeepsInStep, List, None, OnFirst, Option, Port, Some, Work, [], ap, append-nil, arith, asking_in, book_in}
+use Rattle.node_laws.proofs.Words.{creations_at, desks_of, end_c, errors_in, false, is_up, length, map, no_errors, notice_in, port_at, refl, subst, sym, ℕ}
+use Rattle.node_laws.proofs.Words.{◌++◌, ◌∙◌, ◌∷◌, ◌≡◌}
 use Rattle.node_laws.proofs.links.Noticing.{UpAt, up_of}
 use Rattle.node_laws.proofs.notices.Doing.{AreHostEnds, Holds, controller_side}
 use Rattle.node_laws.proofs.notices.Near.{noticed_desks}
@@ -14,7 +13,6 @@ use Rattle.node_laws.proofs.creations.Steps.{due_ports, ports_due}
 use Rattle.node_laws.proofs.creations.Near.{has_is}
 use Rattle.node_laws.proofs.views.Leaving.{reads, reads_append, book_reads}
 use Rattle.node_laws.proofs.views.Doing.{HasErrors, Right}
-use Rattle.node_laws.specs.read_steps.Works.{HasErrorsRead}
 
 -- what was read of REC_ERROR of the end of the link with a host before the step
 abbrev pub errors_before : List Entry → ℕ → ErrorCount

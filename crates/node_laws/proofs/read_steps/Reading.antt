@@ -1,12 +1,9 @@
 -- What a controller keeps is what is read, and its notices name hosts: as a pass begins, and over each turn.
-use Rattle.std.proofs.Common.{◌≡◌, ℕ, false, List, [], ◌∷◌, ◌++◌, sym, subst}
-use Rattle.std.specs.Prelude.{Some, None}
-use Rattle.std.specs.List.{AllByRecursion}
-use Rattle.std.specs.Option.{option_map_or}
-use Rattle.node_laws.proofs.Words.{AllByRecursion-append, AreHosts, AreNamed, AtEnd, Comes, Entry, FollowsNodes, Header, IsFew, IsHost, IsNamed, IsSentByHost}
-use Rattle.node_laws.proofs.Words.{Line, LinkInput, Message, NodeHistory, NodeWorld, Occurrence, Port, ReadsBetween, ReadsInStep, Running, TimePasses, Work}
-use Rattle.node_laws.proofs.Words.{all_aged, as_it_ticks, comes_to_pass, controller_begins, deeds_of, entries_in, handles, holds_back, input_of, lack, lets_go}
-use Rattle.node_laws.proofs.Words.{link_to, needs, new_world, node_entries, occurrences_in, port_at, world_behind}
+use Rattle.node_laws.proofs.Words.{AllByRecursion, AllByRecursion-append, AreHosts, AreNamed, AtEnd, Comes, Entry, FollowsNodes, Header, IsFew, IsHost, IsNamed}
+use Rattle.node_laws.proofs.Words.{IsSentByHost, Line, LinkInput, List, Message, NodeHistory, NodeWorld, None, Occurrence, Port, ReadsBetween, ReadsInStep}
+use Rattle.node_laws.proofs.Words.{Running, Some, TimePasses, Work, [], all_aged, as_it_ticks, comes_to_pass, controller_begins, deeds_of, entries_in, false}
+use Rattle.node_laws.proofs.Words.{handles, holds_back, input_of, lack, lets_go, link_to, needs, new_world, node_entries, occurrences_in, option_map_or}
+use Rattle.node_laws.proofs.Words.{port_at, subst, sym, world_behind, ℕ, ◌++◌, ◌∷◌, ◌≡◌}
 use Rattle.node_laws.proofs.notices.Near.{aged_far}
 use Rattle.node_laws.proofs.read_steps.Lasting.{found_end, got_end}
 use Rattle.node_laws.proofs.read_steps.Running.{runs_handled, runs_holds, runs_lets}

@@ -1,9 +1,8 @@
 -- A controller has a step: as its pass over the ends begins, notices, creations and REC_ERROR are what is read.
-use Rattle.std.proofs.Common.{◌≡◌, inl, inr, ℕ, true, List, [], ◌∷◌, ◌++◌, map, sym, subst, append-nil}
-use Rattle.std.specs.List.{AllByRecursion, flat_map, filter, filter_map}
-use Rattle.node_laws.proofs.Words.{AreDifferent, AtEnd, Creation, Deed, End, Entry, ErrorCount, IsFresh, IsHost, IsOutside, IsShut, NodeInput, Port, TimePasses}
-use Rattle.node_laws.proofs.Words.{Work, after_sessions, all_come, all_done, all_owed, all_owed_hold, all_synced_hold, asked_at, comes_to_pass, forgets}
-use Rattle.node_laws.proofs.Words.{forgotten, forgotten_hold, is_over_at, owed, port_at, synced, times_out, without_notice}
+use Rattle.node_laws.proofs.Words.{AllByRecursion, AreDifferent, AtEnd, Creation, Deed, End, Entry, ErrorCount, IsFresh, IsHost, IsOutside, IsShut, List}
+use Rattle.node_laws.proofs.Words.{NodeInput, Port, TimePasses, Work, [], after_sessions, all_come, all_done, all_owed, all_owed_hold, all_synced_hold}
+use Rattle.node_laws.proofs.Words.{append-nil, asked_at, comes_to_pass, filter, filter_map, flat_map, forgets, forgotten, forgotten_hold, inl, inr, is_over_at}
+use Rattle.node_laws.proofs.Words.{map, owed, port_at, subst, sym, synced, times_out, true, without_notice, ℕ, ◌++◌, ◌∷◌, ◌≡◌}
 use Rattle.gate_answers.specs.declared.response.Response.TheVariants as response
 use Rattle.node_laws.proofs.links.Noticing.{UpAt}
 use Rattle.node_laws.proofs.steps.Ports.{forgets_host, sessions_node, without_host}

@@ -1,10 +1,6 @@
 -- What a controller's memory holds in a step lasts with what it keeps.
-use Rattle.std.proofs.Common.{◌≡◌, inl, inr, ℕ, false, List, sym, refl, ◌∙◌, subst}
-use Rattle.std.specs.Prelude.{Some, None}
-use Rattle.std.specs.List.{AllByRecursion}
-use Rattle.std.proofs.lemmas.Bool.{true≢false}
-use Rattle.node_laws.proofs.Words.{AreHosts, Entry, IsHost, KeepsInStep, Memory, Message, Port, RunsInStep, Work, deeds_of, handles, holds_back, lack, lets_go}
-use Rattle.node_laws.proofs.Words.{needs, port_at}
+use Rattle.node_laws.proofs.Words.{AllByRecursion, AreHosts, Entry, IsHost, KeepsInStep, List, Memory, Message, None, Port, RunsInStep, Some, Work, deeds_of}
+use Rattle.node_laws.proofs.Words.{false, handles, holds_back, inl, inr, lack, lets_go, needs, port_at, refl, subst, sym, true≢false, ℕ, ◌∙◌, ◌≡◌}
 use Rattle.node_laws.proofs.kept.Doing.{GoesOn_or_lost}
 use Rattle.node_laws.proofs.kept.Turning.{deeds_may, deeds_fit, handles_fine, holds_fine, lets_fine}
 use Rattle.node_laws.proofs.read_steps.Lasting.{found_end, handled_keeps, holds_keeps, lets_keeps}

@@ -1,13 +1,10 @@
 -- A controller of a world has a step: as its pass over the ends begins, it keeps what is read.
-use Rattle.std.proofs.Common.{◌≡◌, inl, inr, ℕ, eqb, true, false, List, [], ◌∷◌, ◌++◌, sym, refl, ap, ◌∙◌, subst, append-nil}
-use Rattle.std.specs.Prelude.{Some}
-use Rattle.std.specs.List.{AllByRecursion}
-use Rattle.std.proofs.lemmas.Bool.{true≢false}
-use Rattle.node_laws.proofs.Words.{AreDifferent, AreHosts, AreNamed, AreProper, AtEnd, Book, Comes, Controller, ControllerReads, Desk, Entry, ErrorCount}
-use Rattle.node_laws.proofs.Words.{HasEnds, HciTables, Host, IfItRuns, IfNoticedUp, IfReads, IfRuns, IsFresh, IsHost, IsKeptNotice, IsOutside, IsPlain}
-use Rattle.node_laws.proofs.Words.{IsReadSo, IsShut, KeepsBetween, KeepsInStep, LinkInput, NodeInput, NodeWorld, NumberedEnd, Port, Running, RunsInStep, RunsSo}
-use Rattle.node_laws.proofs.Words.{Site, TimePasses, Work, aged_entries, all_aged, arrival, as_it_ticks, book_in, comes_to, comes_to_pass, controller_begins}
-use Rattle.node_laws.proofs.Words.{creations_of, end_c, entries_for, hosts_in, input_of, link_to, near_end_in, no_errors, passes, steps, synced, work_of}
+use Rattle.node_laws.proofs.Words.{AllByRecursion, AreDifferent, AreHosts, AreNamed, AreProper, AtEnd, Book, Comes, Controller, ControllerReads, Desk, Entry}
+use Rattle.node_laws.proofs.Words.{ErrorCount, HasEnds, HciTables, Host, IfItRuns, IfNoticedUp, IfReads, IfRuns, IsFresh, IsHost, IsKeptNotice, IsOutside}
+use Rattle.node_laws.proofs.Words.{IsPlain, IsReadSo, IsShut, KeepsBetween, KeepsInStep, LinkInput, List, NodeInput, NodeWorld, NumberedEnd, Port, Running}
+use Rattle.node_laws.proofs.Words.{RunsInStep, RunsSo, Site, Some, TimePasses, Work, [], aged_entries, all_aged, ap, append-nil, arrival, as_it_ticks, book_in}
+use Rattle.node_laws.proofs.Words.{comes_to, comes_to_pass, controller_begins, creations_of, end_c, entries_for, eqb, false, hosts_in, inl, input_of, inr}
+use Rattle.node_laws.proofs.Words.{link_to, near_end_in, no_errors, passes, refl, steps, subst, sym, synced, true, true≢false, work_of, ℕ, ◌++◌, ◌∙◌, ◌∷◌, ◌≡◌}
 use Rattle.node_laws.proofs.kept.Plainly.{plain_entries, plain_flat}
 use Rattle.node_laws.proofs.kept.Standing.{keeps_same, plain_same, runs_begun}
 use Rattle.node_laws.proofs.telling.Nodes.{hosts_same}

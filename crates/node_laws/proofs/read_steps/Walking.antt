@@ -1,24 +1,21 @@
 -- A controller has its turns: each notice of a creation that it sends names the host that it goes to.
-use Rattle.std.proofs.Common.{◌≡◌, inl, ℕ, ◌||◌, Bool, true, false, eqb, List, [], ◌∷◌, map, sym, refl, ap, ◌∙◌, subst}
-use Rattle.std.specs.Prelude.{Option, Some, None, is_some}
-use Rattle.std.specs.List.{AllByRecursion, flat_map}
-use Rattle.std.specs.Option.{option_map_or}
-use Rattle.std.proofs.lemmas.Bool.{eq-eqb, true≢false}
-use Rattle.node_laws.proofs.Words.{AllByRecursion-append, AreHosts, AreNamed, AtEnd, Creation, Deed, Entry, IsAllowedStill, IsAnswered, IsHost, IsKeptNotice}
-use Rattle.node_laws.proofs.Words.{IsNamed, Message, NodeInput, Port, Releases, RunsInStep, TimePasses, Work, all_come, all_done, all_flat, all_owed, by_cut}
-use Rattle.node_laws.proofs.Words.{by_option, comes_to_pass, controller_deeds, deeds_of, forgotten, goes_through_ends, handles, have_turns, hosts_of_ends}
-use Rattle.node_laws.proofs.Words.{input_at, is_one_of, lack, needs, passes, port_at, synced, times_out, told_at, told_late, unless_cut, view_of, with_older}
+use Rattle.node_laws.proofs.Words.{AllByRecursion, AllByRecursion-append, AreHosts, AreNamed, AtEnd, Bool, Creation, Deed, Entry, IsAllowedStill, IsAnswered}
+use Rattle.node_laws.proofs.Words.{IsHost, IsKeptNotice, IsNamed, List, Message, NodeInput, None, Option, Port, Releases, RunsInStep, Some, TimePasses, Work}
+use Rattle.node_laws.proofs.Words.{[], all_come, all_done, all_flat, all_owed, all_so, ap, by_cut, by_option, comes_to_pass, controller_deeds, deeds_of, eq-eqb}
+use Rattle.node_laws.proofs.Words.{eqb, false, flat_map, forgotten, goes_through_ends, handles, have_turns, hosts_of_ends, inl, input_at, is_one_of, is_some}
+use Rattle.node_laws.proofs.Words.{lack, map, needs, option_map_or, passes, port_at, refl, subst, sym, synced, times_out, told_at, told_late, true, true≢false}
+use Rattle.node_laws.proofs.Words.{unless_cut, view_of, with_older, ℕ, ◌||◌, ◌∙◌, ◌∷◌, ◌≡◌}
 use Rattle.node_laws.proofs.kept.Turning.{deeds_fit}
 use Rattle.node_laws.proofs.notices.Doing.{Holds}
 use Rattle.node_laws.proofs.notices.Stepping.{TellNoNotices}
 use Rattle.node_laws.proofs.notices.Telling.{IsShort, Outcome, controller_outcome}
-use Rattle.node_laws.proofs.notices.Telling.Outcome.{Leaves, IsHeard}
+use Rattle.node_laws.proofs.notices.Telling.Outcome.{IsHeard, Leaves}
 use Rattle.node_laws.proofs.read_steps.Parts.{to_notices}
 use Rattle.node_laws.proofs.read_steps.Lasting.{near_deeds}
 use Rattle.node_laws.proofs.read_steps.Running.{runs_handled, runs_holds, runs_lets}
 use Rattle.node_laws.proofs.read_steps.Readying.{begun_by, left_by}
 use Rattle.node_laws.proofs.read_steps.Knowing.{there_is}
-use Rattle.node_laws.proofs.read_steps.Naming.{NamesSo, all_done_named, no_notices_name, handles_named, holds_named, late_named, lets_named, may_name}
+use Rattle.node_laws.proofs.read_steps.Naming.{NamesSo, all_done_named, handles_named, holds_named, late_named, lets_named, may_name, no_notices_name}
 use Rattle.node_laws.proofs.read_steps.Naming.{told_named}
 use Rattle.node_laws.proofs.read_steps.Naming.{unless_named}
 
@@ -68,8 +65,7 @@ each_one (k ∷ hosts) = (ap (λ b. b || is_one_of hosts k) (eq-eqb k k refl), m
   either false c e = e
 
   more : (hs : List ℕ) → AllByRecursion (λ h. is_one_of hosts h ≡ true) hs → AllByRecursion (λ h. is_one_of (k ∷ hosts) h ≡ true) hs
-  more [] all = tt
-  more (h ∷ hs) all = (either (eqb k h) (is_one_of hosts h) all.0, more hs all.1)
+  more hs all = all_so (λ h. is_one_of hosts h ≡ true) (λ h. is_one_of (k ∷ hosts) h ≡ true) (λ h b. either (eqb k h) (is_one_of hosts h) b) hs all
 
 module _ (hosts : List ℕ) (are : AreHosts hosts) (t : List Entry) where
   pub deeds_name : (h : ℕ) (m : Message) (w : Work) → RunsInStep hosts t w → IsHost h → AllByRecursion NamesSo (deeds_of w.core w.ports h m)

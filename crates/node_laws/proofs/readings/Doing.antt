@@ -1,16 +1,13 @@
 -- A host does the deeds of a message: its unanswered command stays the one that is read.
-use Rattle.std.proofs.Common.{◌≡◌, ◌⊎◌, inl, inr, ℕ, ◌&&◌, Bool, true, false, eqb, List, [], ◌∷◌, ◌++◌, length, sym, refl, ap, ◌∙◌, subst, append_assoc}
-use Rattle.std.specs.Prelude.{Option, Some, None}
-use Rattle.std.specs.Option.{option_map_or}
-use Rattle.std.proofs.lemmas.Bool.{cases_Bool, eq-eqb, cond-true}
-use Rattle.node_laws.proofs.Words.{AreInitsShort, Command, Commits, Core, Deed, Desk, Drops, Ends, Entry, Fits, Give, GoesOn, Host, IsHost, LinkState, MayDo}
-use Rattle.node_laws.proofs.Words.{Message, NotUp, Orders, Port, Release, Releases, SaysOk, Sends, SetsErrors, Turn, Up, Waiting, Work, after_turn, all_done}
-use Rattle.node_laws.proofs.Words.{body_of, by_test, changed_if, commit, commit_writes, done, entries_for, fails_within, give_refusal, is_command_message}
-use Rattle.node_laws.proofs.Words.{noted_of, noting, order_in, own_side, port_at, sent_unless, turn_at, unless_cut, with_desk, with_port}
+use Rattle.node_laws.proofs.Words.{AreInitsShort, Bool, Command, Commits, Core, Deed, Desk, Drops, Ends, Entry, Fits, Give, GoesOn, Host, IsHost, IsItsEnd}
+use Rattle.node_laws.proofs.Words.{KeepsOrder, LinkState, List, MayDo, Message, None, NotUp, Option, Orders, Port, Release, Releases, SaysOk, Sends, SetsErrors}
+use Rattle.node_laws.proofs.Words.{Some, Turn, Up, Waiting, Work, [], after_turn, all_done, ap, append_assoc, body_of, by_test, cases_Bool, changed_if, commit}
+use Rattle.node_laws.proofs.Words.{commit_writes, cond-true, done, entries_for, eq-eqb, eqb, fails_within, false, give_refusal, inl, inr, is_command_message}
+use Rattle.node_laws.proofs.Words.{length, noted_of, noting, option_map_or, order_in, own_side, port_at, refl, sent_unless, subst, sym, true, turn_at}
+use Rattle.node_laws.proofs.Words.{unless_cut, with_desk, with_port, ℕ, ◌&&◌, ◌++◌, ◌∙◌, ◌∷◌, ◌≡◌, ◌⊎◌}
 use Rattle.trace_model.specs.declared.entry.Entry.TheVariants as entry
 use Rattle.shdlc_core.specs.declared.answers.LinkState.TheVariants.{Down}
 use Rattle.node_laws.proofs.links.Noticing.{turn-phase}
-use Rattle.node_laws.specs.readings.Orders.{IsItsEnd, KeepsOrder}
 use Rattle.node_laws.proofs.readings.Silent.{reads, order_more, host_side, sent_reads, order_reads}
 
 module _ (h : ℕ) (host : IsHost h) (before : List Entry) (now : LinkState) where

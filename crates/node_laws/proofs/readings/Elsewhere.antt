@@ -1,11 +1,9 @@
 -- A step of another node tells nothing of the unanswered command of a host.
-use Rattle.std.proofs.Common.{◌≡◌, ℕ, ◌&&◌, Bool, false, cond, eqb, List, [], ◌∷◌, ◌++◌, sym, refl, ap, ◌∙◌, subst}
-use Rattle.std.specs.Prelude.{Option, Some, None}
-use Rattle.std.specs.List.{AllByRecursion, flat_map}
-use Rattle.node_laws.proofs.Words.{Acked, Active, Cut, Deed, Down, Entry, GaveUp, Got, IsSilent, NodeInput, Restarted, Sent, Work, all_done, end_h, end_of}
-use Rattle.node_laws.proofs.Words.{entries_for, entry_of, is_command_message, is_response, same_end, steps}
+use Rattle.node_laws.proofs.Words.{Acked, Active, AllByRecursion, Bool, Cut, Deed, Down, Entry, GaveUp, Got, IsSilent, List, NodeInput, None, Noted, Option}
+use Rattle.node_laws.proofs.Words.{Restarted, Sent, Some, Work, [], all_done, ap, cond, end_h, end_of, entries_for, entry_of, eqb, false, flat_map}
+use Rattle.node_laws.proofs.Words.{is_command_message, is_response, refl, same_end, steps, subst, sym, ℕ, ◌&&◌, ◌++◌, ◌∙◌, ◌∷◌, ◌≡◌}
 use Rattle.trace_model.specs.declared.entry.Entry.TheVariants as entry
-use Rattle.link_laws.specs.entries.Entries.{End as Side, Entry as Noted}
+use Rattle.link_laws.specs.entries.Entries.{End as Side}
 use Rattle.link_laws.specs.entries.Entries.Entry.{Up, Tick}
 use Rattle.node_laws.proofs.readings.Silent.{IsQuiet}
 use Rattle.node_laws.proofs.readings.Noting.{IsOwnNote, IsBeside, Notes, all_do as notes_do, steps_note}

@@ -1,15 +1,12 @@
 -- What is read of all hosts of a world as one of them acts, and over a tick.
-use Rattle.std.proofs.Common.{◌≡◌, ℕ, ◌&&◌, false, eqb, List, [], ◌∷◌, ◌++◌, map, sym, refl, ap, ap₂, ◌∙◌, subst, arith, append-nil, append_assoc}
-use Rattle.std.specs.Prelude.{Option, Some, None, replicate}
-use Rattle.std.specs.List.{AllByRecursion, flat_map}
-use Rattle.std.proofs.lemmas.Bool.{cond_both, eqb-false, ne_eqb}
-use Rattle.node_laws.proofs.Words.{AllRead, AreDifferent, AreHosts, AreInitsShort, Controller, Deed, Entry, GoesOut, Host, IfHostRuns}
-use Rattle.node_laws.proofs.Words.{IfZero, IsHost, Link, MayDo, Message, NoInput, NodeWorld, NumberedEnd, Orders, Running, Sends, Site, SiteReads}
-use Rattle.node_laws.proofs.Words.{TimePasses, Work, after_host, after_planned, aged, aged_entries, all_aged, beginning, begins_with, by_option}
-use Rattle.node_laws.proofs.Words.{controller_ticks, ending_of, entries_for, exchanged, frames_noted, give_refusal, host_does, host_ticks, host_work}
-use Rattle.node_laws.proofs.Words.{hosts_tick, init_of, is_command_message, is_late_at, link_to, new_site, new_world, runs_on, sending, site_at}
-use Rattle.node_laws.proofs.Words.{steps, ticked_so, ticks_at_controller, turns_at, wires_for, with_site, work_of, world_ticks}
-use Rattle.link_laws.proofs.entries.Together.{ticks_host as tick_host}
+use Rattle.node_laws.proofs.Words.{AllByRecursion, AllRead, AreDifferent, AreHosts, AreInitsShort, Controller, Deed, Entry, GoesOut, Host, IfHostRuns, IfZero}
+use Rattle.node_laws.proofs.Words.{IsHost, Link, List, MayDo, Message, NoInput, NodeWorld, None, NumberedEnd, Option, Orders, Running, Sends, Site, SiteReads}
+use Rattle.node_laws.proofs.Words.{Some, TimePasses, Work, [], after_host, after_planned, aged, aged_entries, all_aged, ap, append-nil, append_assoc, ap₂}
+use Rattle.node_laws.proofs.Words.{arith, beginning, begins_with, by_option, cond_both, controller_ticks, ending_of, entries_for, eqb, exchanged, false}
+use Rattle.node_laws.proofs.Words.{flat_map, frames_noted, give_refusal, host_does, host_ticks, host_work, hosts_tick, init_of, is_command_message, is_late_at}
+use Rattle.node_laws.proofs.Words.{link_to, map, ne_eqb, new_site, new_world, refl, replicate, runs_on, sending, site_at, steps, subst, sym, tick_host}
+use Rattle.node_laws.proofs.Words.{ticked_so, ticks_at_controller, turns_at, wires_for, with_site, work_of, world_ticks, ℕ, ◌&&◌, ◌++◌, ◌∙◌, ◌∷◌, ◌≡◌}
+use Rattle.std.proofs.lemmas.Bool.{eqb-false}
 use Rattle.node_laws.proofs.kept.Sites.{site_found, hosts_same, hosts_with}
 use Rattle.node_laws.proofs.telling.Frames.{wires_all}
 use Rattle.node_laws.proofs.readings.Silent.{IsQuiet}

@@ -1,7 +1,5 @@
 -- What other nodes do tells nothing of the unanswered command of a host.
-use Rattle.std.proofs.Common.{ℕ, List, refl}
-use Rattle.std.specs.List.{AllByRecursion}
-use Rattle.node_laws.proofs.Words.{Core, Deed, IsSilent, Message, Port, deeds_hold, deeds_of}
+use Rattle.node_laws.proofs.Words.{AllByRecursion, Core, Deed, IsSilent, List, Message, Port, deeds_hold, deeds_of, refl, ℕ}
 use Rattle.node_laws.proofs.readings.Noting.{NotesSo, controller_notes, host_notes}
 
 -- what deeds end in tells nothing of it

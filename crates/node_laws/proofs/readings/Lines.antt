@@ -1,19 +1,17 @@
 -- What is read of all hosts over the lines of a schedule.
-use Rattle.std.proofs.Common.{◌≡◌, ℕ, Bool, true, false, eqb, ◌&&◌, List, [], ◌∷◌, ◌++◌, sym, refl, ap, ◌∙◌, subst}
-use Rattle.std.specs.Prelude.{Option, Some, None, unwrap_or, IsTrue}
-use Rattle.std.specs.List.{AllByRecursion}
-use Rattle.node_laws.proofs.Words.{Activates, AllRead, AreHosts, Arms, AsksReset, Boots, End, Entry, FollowsNodes, Gives, Happening, Header, Inits, IsCut}
-use Rattle.node_laws.proofs.Words.{IsInitOfHost, IsSentByHost, Line, Loses, Message, NextFrame, NoCause, NodeHistory, NodeWorld, NotUp, Occurrence, Refused}
-use Rattle.node_laws.proofs.Words.{Resets, Takes, Ticks, entries_in, first_cause, first_verdict, frames_at, give_refusal, happenings, has_order, if_not_sent}
-use Rattle.node_laws.proofs.Words.{if_off, if_waiting, is_command_message, link_to, machine_in, memory_at, new_world, node_at, node_entries, node_of}
-use Rattle.node_laws.proofs.Words.{occurrences_in, refusal_in, steps_from, taken_of, world_after, world_behind, world_step}
+use Rattle.node_laws.proofs.Words.{Activates, AllByRecursion, AllRead, AreHosts, Arms, AsksReset, Bool, Boots, End, Entry, FollowsNodes, Gives, Happening}
+use Rattle.node_laws.proofs.Words.{Header, Inits, IsCut, IsInitOfHost, IsSentByHost, IsTrue, Line, List, Loses, Message, NextFrame, NoCause, NodeHistory}
+use Rattle.node_laws.proofs.Words.{NodeWorld, None, NotUp, Occurrence, Option, Refused, Resets, Some, Takes, Ticks, [], ap, entries_in, eqb, false, first_cause}
+use Rattle.node_laws.proofs.Words.{first_verdict, frames_at, give_refusal, happenings, has_order, if_not_sent, if_off, if_waiting, is_command_message, link_to}
+use Rattle.node_laws.proofs.Words.{machine_in, memory_at, new_world, node_at, node_entries, node_of, occurrences_in, refl, refusal_in, subst, sym, taken_of}
+use Rattle.node_laws.proofs.Words.{true, unwrap_or, world_after, world_behind, world_step, ℕ, ◌&&◌, ◌++◌, ◌∙◌, ◌∷◌, ◌≡◌}
 use Rattle.trace_model.specs.declared.line.Line.TheVariants as line
-use Rattle.node_laws.proofs.telling.Lasting.{AllHold, AllMay, damaged_may, entries_of_steps, events_of_steps, front_holds, lines_hold, lines_last}
+use Rattle.node_laws.proofs.telling.Lasting.{AllMay, damaged_may, entries_of_steps, history_holds, lines_last}
 use Rattle.node_laws.proofs.telling.Lasting.{repeated_may, stands_none}
 use Rattle.node_laws.specs.readings.Worlds.{MayBeRead}
-use Rattle.node_laws.proofs.readings.Worlds.{comes_read, activates_read}
+use Rattle.node_laws.proofs.readings.Worlds.{activates_read, comes_read}
 use Rattle.node_laws.proofs.readings.Events.{all_begin, gives_read, inits_read, ticks_read_all}
-use Rattle.node_laws.proofs.readings.Powers.{cut_read, boots_read, memory_read}
+use Rattle.node_laws.proofs.readings.Powers.{boots_read, cut_read, memory_read}
 use Rattle.node_laws.proofs.readings.Losses.{lost_read}
 
 -- ## What a line that isn't refused says
@@ -94,11 +92,5 @@ pub events_read : (header : Header) (lines : List Line) (t : NodeHistory) → Fo
     → AllByRecursion IsSentByHost lines → AllByRecursion IsInitOfHost lines → (front back : List Occurrence) → occurrences_in t ≡ front ++ back
     → AllRead header.hosts.items (entries_in front) (world_behind (new_world header.hosts.items) front)
 events_read header lines t follows are sides inits front back parts =
-    let hosts : List ℕ = header.hosts.items in
-    let may : (w : NodeWorld) (l : Line) → IsPlain l → refusal_in w l ≡ None → AllMay MayBeRead w (happenings w l) =
-    λ w l is none. line_may w l is.0 is.1 none in
-    let all : AllHold (AllRead hosts) MayBeRead IsPlain (event_read hosts are) may [] (new_world hosts) (events_of_steps (steps_from (new_world hosts) lines)) =
-    lines_hold (AllRead hosts) MayBeRead IsPlain (event_read hosts are) may lines [] (new_world hosts) (all_begin hosts) (both lines sides inits) in
-    let same : events_of_steps (steps_from (new_world hosts) lines) ≡ front ++ back = sym (ap events_of_steps follows.steps_are) ∙ parts in
-    front_holds (AllRead hosts) MayBeRead IsPlain (event_read hosts are) may front back [] (new_world hosts)
-    (subst (AllHold (AllRead hosts) MayBeRead IsPlain (event_read hosts are) may [] (new_world hosts)) same all)
+    history_holds (AllRead header.hosts.items) MayBeRead IsPlain (event_read header.hosts.items are) (λ w l is none. line_may w l is.0 is.1 none) header lines t
+    follows (all_begin header.hosts.items) (both lines sides inits) front back parts

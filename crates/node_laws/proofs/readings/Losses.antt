@@ -1,10 +1,7 @@
 -- What is read of all hosts as a frame is lost on its way.
-use Rattle.std.proofs.Common.{◌≡◌, ◌+◌, ℕ, Bool, true, false, eqb, List, [], ◌∷◌, ◌++◌, map, sym, refl, ap, ◌∙◌}
-use Rattle.std.specs.Prelude.{Option, Some, None}
-use Rattle.std.specs.List.{AllByRecursion}
-use Rattle.node_laws.proofs.Words.{AllRead, AtController, AtHost, Broken, Controller, Desk, End, Entry, Host, IfHostRuns, IfZero, Link, Lose, Loss, NodeWorld}
-use Rattle.node_laws.proofs.Words.{Running, Site, SiteReads, by_option, by_test, changed_if, counts, entries_for, first_lost, frame_lost, happens, link_to}
-use Rattle.node_laws.proofs.Words.{order_of, with_site}
+use Rattle.node_laws.proofs.Words.{AllByRecursion, AllRead, AtController, AtHost, Bool, Broken, Controller, Desk, End, Entry, Host, IfHostRuns, IfZero, Link}
+use Rattle.node_laws.proofs.Words.{List, Lose, Loss, NodeWorld, None, Option, Running, Site, SiteReads, Some, [], ap, by_test, changed_if, counts, entries_for}
+use Rattle.node_laws.proofs.Words.{eqb, false, first_lost, frame_lost, happens, link_to, map, order_of, refl, sym, true, with_site, ℕ, ◌++◌, ◌+◌, ◌∙◌, ◌∷◌, ◌≡◌}
 use Rattle.node_laws.proofs.kept.Sites.{hosts_with}
 use Rattle.node_laws.proofs.readings.Sites.{lost_quiet, others_read}
 use Rattle.node_laws.proofs.readings.Elsewhere.{AreSilent, quiet_silent}
@@ -53,57 +50,34 @@ module _ (hosts : List ℕ) (t : List Entry) (w : NodeWorld) (all : AllRead host
     near : Site → Site
     near s = record s { link = happens s.link (AtController (Lose why)) }
 
-    far : Site → Site
-    far s = record s { link = happens s.link (AtHost (Lose why)); node = counts why e.link s.node }
+    lost : Site → Site
+    lost s = record s { link = happens s.link (AtHost (Lose why)) }
 
-    site : (es : List Entry) (f : Site → Site) → ((k : ℕ) → AreSilent k es) → ((u : List Entry) (s : Site) → SiteReads u s → SiteReads u (f s))
+    far : Site → Site
+    far s = record (lost s) { node = counts why e.link s.node }
+
+    -- what is noted tells nothing of a host, and the site at this link becomes another one
+    site : (es : List Entry) (f : Site → Site) → ((k : ℕ) → AreSilent k es) → ((s : Site) → SiteReads t s → SiteReads (t ++ es) (f s))
         → AllByRecursion (SiteReads (t ++ es)) (with_site e.link f w.sites)
     site es f silent one = each_site t es (λ s. changed_if (eqb s.host e.link) f s)
-        (λ s k. by_test (eqb s.host e.link)
-        (λ q. rw q (one (t ++ es) s (others_read t es s s (silent s.host) refl refl refl k)))
-        (λ q. rw q ((others_read t es s s (silent s.host) refl refl refl k)))) w.sites all.sites
+        (λ s k. by_test (eqb s.host e.link) (λ q. rw q (one s k)) (λ q. rw q (others_read t es s s (silent s.host) refl refl refl k))) w.sites all.sites
 
     by_side : (b : Bool) → e.at_host ≡ b → (AllRead hosts (t ++ (frame_lost w e why).1) (frame_lost w e why).0)
-    by_side false b = rw b (record {
-      controller = zero_counts why e.link w.controller all.controller;
-      hosts_are = hosts_with e.link near (λ s. refl) w.sites ∙ all.hosts_are;
-      sites = site (entries_for e.link (first_lost Controller why l.to_controller)) near
-          (λ k. quiet_silent k e.link (first_lost Controller why l.to_controller) (lost_quiet Controller why l.to_controller))
-          (λ u s k. record {
-            order = k.order;
-            runs = by_option s.node
-                (λ q. rw q tt)
-                (λ r q. rw q (let so = rw q at k.runs in
-                record {
-                  number = so.number;
-                  desk = so.desk;
-                  desks_are = so.desks_are;
-                  host = so.host;
-                  no_notice = so.no_notice;
-                  short = so.short;
-                  up = so.up;
-                }));
-          });
-    })
-    by_side true b = rw b (record {
-      controller = all.controller;
-      hosts_are = hosts_with e.link far (λ s. refl) w.sites ∙ all.hosts_are;
-      sites = site (entries_for e.link (first_lost Host why l.to_host)) far
-          (λ k. quiet_silent k e.link (first_lost Host why l.to_host) (lost_quiet Host why l.to_host))
-          (λ u s k. record {
-            order = k.order ∙ sym (order_counts why e.link s.node);
-            runs = runs_counts why e.link s.host (far s).link s.node
-                (by_option s.node
-                (λ q. rw q tt)
-                (λ r q. rw q (let so = rw q at k.runs in
-                record {
-                  number = so.number;
-                  desk = so.desk;
-                  desks_are = so.desks_are;
-                  host = so.host;
-                  no_notice = so.no_notice;
-                  short = so.short;
-                  up = so.up;
-                })));
-          });
-    })
+    by_side false b =
+        let es : List Entry = entries_for e.link (first_lost Controller why l.to_controller) in
+        let silent : (k : ℕ) → AreSilent k es = λ k. quiet_silent k e.link (first_lost Controller why l.to_controller) (lost_quiet Controller why l.to_controller) in
+        rw b (record {
+          controller = zero_counts why e.link w.controller all.controller;
+          hosts_are = hosts_with e.link near (λ s. refl) w.sites ∙ all.hosts_are;
+          sites = site es near silent (λ s k. others_read t es s (near s) (silent s.host) refl refl refl k);
+        })
+    by_side true b =
+        let es : List Entry = entries_for e.link (first_lost Host why l.to_host) in
+        let silent : (k : ℕ) → AreSilent k es = λ k. quiet_silent k e.link (first_lost Host why l.to_host) (lost_quiet Host why l.to_host) in
+        rw b (record {
+          controller = all.controller;
+          hosts_are = hosts_with e.link far (λ s. refl) w.sites ∙ all.hosts_are;
+          sites = site es far silent (λ s k.
+              let so : SiteReads (t ++ es) (lost s) = others_read t es s (lost s) (silent s.host) refl refl refl k in
+              record { order = so.order ∙ sym (order_counts why e.link s.node); runs = runs_counts why e.link s.host (far s).link s.node so.runs });
+        })

@@ -1,17 +1,12 @@
 -- An end of a controller after a step, where it has a notice that isn't answered.
-use Rattle.std.proofs.Common.{◌≡◌, ℕ, ◌&&◌, Bool, true, false, not, cond, eqb, List, [], ◌∷◌, map, sym, refl, ap, ◌∙◌, subst}
-use Rattle.std.specs.Prelude.{Option, Some, None, is_some, nat_le}
-use Rattle.std.specs.List.{flat_map}
-use Rattle.std.specs.Option.{option_map, option_map_or}
-use Rattle.std.proofs.lemmas.Bool.{true≢false, eqb-true}
-use Rattle.node_laws.proofs.Words.{AtEnd, Desk, EndState, Entry, GoesOut, IsComing, IsNoticedUp, IsOutside, Link, LinkEnd, LinkInput, LinkState, NodeInput}
-use Rattle.node_laws.proofs.Words.{Notice, NumberedEnd, OnFirst, Plan, Port, Reset, Running, Tick, TimePasses, Turn, Up, Waiting, Work, after_input}
-use Rattle.node_laws.proofs.Words.{after_sessions, after_turn, all_come, all_owed, by_option, by_test, changed_if, forgets, forgotten, had_tick, has_come}
-use Rattle.node_laws.proofs.Words.{has_input, input_at, is_late, is_late_at, is_open, is_up, is_waiting, moved_role, noting, port_at, port_for, reset_late}
-use Rattle.node_laws.proofs.Words.{steps, synced, tick_answer, ticked, ticked_so, ticks_at_controller, times_out, turn_at, with_desk, with_older}
-use Rattle.node_laws.proofs.Words.{without_notice, work_of}
+use Rattle.node_laws.proofs.Words.{AtEnd, Bool, Desk, EndState, Entry, GoesOut, IsBegun, IsComing, IsNoticedUp, IsOutside, Link, LinkEnd, LinkInput, LinkState}
+use Rattle.node_laws.proofs.Words.{List, NodeInput, None, Notice, NumberedEnd, OnFirst, Option, Plan, Port, Reset, Running, Some, Tick, TimePasses, Turn, Up}
+use Rattle.node_laws.proofs.Words.{Waiting, Work, [], after_input, after_sessions, after_turn, all_come, all_owed, ap, by_option, by_test, changed_if, cond}
+use Rattle.node_laws.proofs.Words.{eqb, eqb-true, false, flat_map, forgets, forgotten, had_tick, has_come, has_input, input_at, is_late, is_late_at, is_open}
+use Rattle.node_laws.proofs.Words.{is_some, is_up, is_waiting, map, moved_role, nat_le, not, noting, option_map, option_map_or, port_at, port_for, refl}
+use Rattle.node_laws.proofs.Words.{reset_late, steps, subst, sym, synced, tick_answer, ticked, ticked_so, ticks_at_controller, times_out, true, true≢false}
+use Rattle.node_laws.proofs.Words.{turn_at, with_desk, with_older, without_notice, work_of, ℕ, ◌&&◌, ◌∙◌, ◌∷◌, ◌≡◌}
 use Rattle.shdlc_core.specs.declared.answers.LinkState.TheVariants.{Down}
-use Rattle.node_laws.specs.links.Notices.{IsBegun}
 use Rattle.node_laws.proofs.links.Staying.{stays_up}
 use Rattle.node_laws.proofs.links.Noticing.{up_at, UpAt, at_all, at_host, links_after, Sure, steps_sure}
 use Rattle.node_laws.proofs.telling.Mute.{forgotten_mute, all_owed_mute, all_synced_mute}

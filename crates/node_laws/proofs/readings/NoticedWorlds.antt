@@ -1,29 +1,26 @@
 -- Over whatever happens in a world a controller has notices that aren't answered only at ends that are up.
-use Rattle.std.proofs.Common.{◌≡◌, ◌⊎◌, inl, inr, ℕ, ◌+◌, Bool, true, false, not, cond, eqb, List, [], ◌∷◌, map, min, sym, refl, ap, ◌∙◌, subst, arith}
-use Rattle.std.specs.Prelude.{Option, Some, None, is_some}
-use Rattle.std.specs.List.{AllByRecursion}
-use Rattle.std.proofs.lemmas.Bool.{true≢false, eqb-true, cases_Bool, ne_eqb}
-use Rattle.node_laws.proofs.Words.{Activates, AreHosts, Arms, AsksReset, AtEnd, AtHost, Boots, Broken, Comes, Controller, CutOff, Desk, End, EndEvent, Ending}
-use Rattle.node_laws.proofs.Words.{Entry, Gives, GoesOut, Happening, HasEnds, IfItRuns, IfNoticedUp, Inits, IsCut, IsHost, IsNoticedUp, IsOrderly, Line, Link}
-use Rattle.node_laws.proofs.Words.{LinkEnd, LinkInput, LinkState, Lose, Loses, Loss, Memory, NextFrame, NoInput, NodeWorld, NoticesAreUp, NumberedEnd, OnFirst}
-use Rattle.node_laws.proofs.Words.{Port, Reset, Resets, Running, Site, Starts, Step, Takes, Ticks, TimePasses, Turn, Up, Work, after_controller, after_host}
-use Rattle.node_laws.proofs.Words.{after_input, after_planned, aged, all_aged, arrival, at, beginning, begins_with, boot_found, boot_writes, boot_written}
-use Rattle.node_laws.proofs.Words.{boots, by_boot, by_memory, by_option, by_power, by_running, by_test, changed_if, comes_at, comes_to, controller_does}
-use Rattle.node_laws.proofs.Words.{controller_ticks, controller_work, counts, end_c, end_h, ending_of, entries_for, exchanged, frame_lost, happenings, happens}
-use Rattle.node_laws.proofs.Words.{has_input, host_cut, host_does, host_ticks, host_work, hosts_in, hosts_tick, input_of, is_late_at, link_after_controller}
-use Rattle.node_laws.proofs.Words.{link_to, links_of, loses_power_at, memory_at, near_end_in, new_desk, new_world, port_at, port_for, runs_on, seen_from}
-use Rattle.node_laws.proofs.Words.{sending, site_at, steps, steps_at_controller, ticked_so, ticks_at_controller, turns_at, with_error, with_memory, with_site}
-use Rattle.node_laws.proofs.Words.{work_of, world_after, world_step, world_ticks}
+use Rattle.node_laws.proofs.Words.{Activates, AllByRecursion, AreHosts, Arms, AsksReset, AtEnd, AtHost, Bool, Boots, Broken, Comes, Controller, CutOff, Desk}
+use Rattle.node_laws.proofs.Words.{End, EndEvent, Ending, Entry, Gives, GoesOut, Happening, HasEnds, IfItRuns, IfNoticedUp, Inits, IsCut, IsHost, IsNoticedUp}
+use Rattle.node_laws.proofs.Words.{IsOrderly, Line, Link, LinkEnd, LinkInput, LinkState, List, Lose, Loses, Loss, Memory, NextFrame, NoInput, NodeWorld, None}
+use Rattle.node_laws.proofs.Words.{NoticesAreUp, NumberedEnd, OnFirst, Option, Port, Reset, Resets, Running, Site, Some, Starts, Step, Takes, Ticks, TimePasses}
+use Rattle.node_laws.proofs.Words.{Turn, Up, Work, [], after_controller, after_host, after_input, after_planned, aged, all_aged, all_so, ap, arith, arrival, at}
+use Rattle.node_laws.proofs.Words.{beginning, begins_with, boot_found, boot_writes, boot_written, boots, by_boot, by_memory, by_option, by_power, by_running}
+use Rattle.node_laws.proofs.Words.{by_test, cases_Bool, changed_if, comes_at, comes_to, cond, controller_does, controller_ticks, controller_work, counts, end_c}
+use Rattle.node_laws.proofs.Words.{end_h, ending_of, entries_for, eqb, eqb-true, exchanged, false, frame_lost, happenings, happens, has_input, host_cut}
+use Rattle.node_laws.proofs.Words.{host_does, host_ticks, host_work, hosts_in, hosts_tick, inl, input_of, inr, is_late_at, is_some, link_after_controller}
+use Rattle.node_laws.proofs.Words.{link_to, links_of, loses_power_at, map, memory_at, min, ne_eqb, near_end_in, new_desk, new_world, not, port_at, port_for}
+use Rattle.node_laws.proofs.Words.{refl, runs_on, seen_from, sending, site_at, steps, steps_at_controller, subst, sym, tick_host, ticked_so}
+use Rattle.node_laws.proofs.Words.{ticks_at_controller, true, true≢false, turns_at, with_error, with_memory, with_site, work_of, world_after, world_step}
+use Rattle.node_laws.proofs.Words.{world_ticks, ℕ, ◌+◌, ◌∙◌, ◌∷◌, ◌≡◌, ◌⊎◌}
 use Rattle.node_laws.proofs.links.Ends.{here_host}
-use Rattle.link_laws.proofs.entries.Together.{ticks_host as tick_host}
 use Rattle.node_laws.proofs.links.Noticing.{at_all, at_host}
-use Rattle.node_laws.proofs.telling.Events.{site_map, orderly_map, comes_goes}
+use Rattle.node_laws.proofs.telling.Events.{comes_goes, site_map}
 use Rattle.node_laws.proofs.telling.Lasting.{Any, AnyLine, all_any, all_lines, lines_last}
-use Rattle.node_laws.proofs.telling.Nodes.{site_host, link_is, ports_for}
+use Rattle.node_laws.proofs.telling.Nodes.{link_is, ports_for, site_host}
 use Rattle.node_laws.proofs.telling.Orderly.{new_orderly, step_orderly}
-use Rattle.node_laws.proofs.telling.WorldTicks.{tick_host as ticked_number}
-use Rattle.node_laws.proofs.readings.Sites.{near_end_side, comes_outside, sent_phase, stepped_phase}
-use Rattle.node_laws.proofs.readings.Noticed.{up_is, not_waiting, CameUp, input_up, tick_up, was_up}
+use Rattle.node_laws.proofs.telling.WorldTicks.{aged_orderly, tick_host as ticked_number}
+use Rattle.node_laws.proofs.readings.Sites.{comes_outside, near_end_side, sent_phase, stepped_phase}
+use Rattle.node_laws.proofs.readings.Noticed.{CameUp, input_up, not_waiting, tick_up, up_is, was_up}
 
 -- ## Ends
 
@@ -345,16 +342,13 @@ hosts_tick_side (s ∷ sites) n = by_test (eqb s.host n)
 
 tick_goes_up : (w : NodeWorld) → IsOrderly w → NoticesAreUp w → NoticesAreUp (world_ticks w).0
 tick_goes_up w orderly a =
-    kept (hosts_tick near.sites).0 near.sites near.controller (hosts_tick_side near.sites) (controller_tick_up old old_orderly old_up)
+    kept (hosts_tick near.sites).0 near.sites near.controller (hosts_tick_side near.sites) (controller_tick_up old (aged_orderly w orderly) old_up)
   where
     old : NodeWorld
     old = (all_aged w).0
 
     near : NodeWorld
     near = (controller_ticks old).0
-
-    old_orderly : IsOrderly old
-    old_orderly = orderly_map w w.memory w.controller (λ (x : Site). record x { link = aged x.link }) (λ x. refl) orderly orderly.controller (λ x n. n)
 
     old_up : NoticesAreUp old
     old_up = kept (map (λ (s : Site). record s { link = aged s.link }) w.sites) w.sites w.controller
@@ -381,8 +375,7 @@ abbrev IsSo : NodeWorld → Type 0
 IsSo w = IsOrderly w × NoticesAreUp w
 
 pub numbers : (hosts : List ℕ) → AllByRecursion IsHost hosts → AllByRecursion (λ h. eqb h 0 ≡ false) hosts
-numbers [] a = tt
-numbers (h ∷ hosts) a = (ne_eqb h 0 (λ z. omega (arith, z, a.0.0)), numbers hosts a.1)
+numbers hosts a = all_so IsHost (λ h. eqb h 0 ≡ false) (λ h b. ne_eqb h 0 (λ z. omega (arith, z, b.0))) hosts a
 
 pub lines_up : (hosts : List ℕ) (lines : List Line) → AreHosts hosts → NoticesAreUp (world_after (new_world hosts) lines)
 lines_up hosts lines are =

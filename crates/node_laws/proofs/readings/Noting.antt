@@ -1,21 +1,17 @@
 -- What a node notes in a step: a fact of entries holds of all of them, where it holds of what is noted of its own ends, of what it
 -- notes beside them, and of what its deeds note.
-use Rattle.std.proofs.Common.{◌≡◌, ℕ, cond, eqb, List, [], ◌∷◌, ◌++◌, length, map, sym, refl, ap, ◌∙◌, subst}
-use Rattle.std.specs.Prelude.{Option, Some, None}
-use Rattle.std.specs.List.{AllByRecursion, flat_map}
-use Rattle.std.specs.Option.{option_map_or}
-use Rattle.std.proofs.lemmas.Bool.{cond_both}
-use Rattle.node_laws.proofs.Words.{About, Acked, Active, AllByRecursion-append, Asks, AtEnd, Command, Commits, Controller, Core, Deed, Desk, Down, Drops, Ends}
-use Rattle.node_laws.proofs.Words.{Entry, FetchMessage, GaveUp, Give, GoesOn, Got, Hears, Hold, Host, IsAnswered, LinkInput, Message, NodeInput, OfHost, Orders}
-use Rattle.node_laws.proofs.Words.{Plain, Port, Release, Releases, Removed, Report, Reset, SaysOk, Sends, Sent, SetAside, SetsErrors, Tells, TimePasses, Turn}
-use Rattle.node_laws.proofs.Words.{Waits, Work, after_input, after_sessions, after_turn, all_come, all_done, all_of_host, all_owed, all_owed_hold}
-use Rattle.node_laws.proofs.Words.{all_synced_hold, any_of_controller, anyone, body_of, by_option, by_test, changed_if, commit, commit_writes, controller_deeds}
-use Rattle.node_laws.proofs.Words.{count_of, deeds_of, done, end_of, end_of_node, end_view, entries_for, entry_of, fails_within, forgets, forgotten}
-use Rattle.node_laws.proofs.Words.{forgotten_hold, give_refusal, has_come, host_deeds, input_at, is_late, noted_of, notified, noting, own_side, own_view}
-use Rattle.node_laws.proofs.Words.{port_at, report, reset_late, steps, synced, times_out, told, told_at, told_late, turn_at, view_of, whole_acked, with_desk}
-use Rattle.node_laws.proofs.Words.{with_older, with_port, without_notice}
+use Rattle.node_laws.proofs.Words.{About, Acked, Active, AllByRecursion, AllByRecursion-append, Asks, AtEnd, Command, Commits, Controller, Core, Deed, Desk}
+use Rattle.node_laws.proofs.Words.{Down, Drops, Ends, Entry, FetchMessage, GaveUp, Give, GoesOn, Got, Hears, Hold, Host, IsAnswered, LinkInput, List, Message}
+use Rattle.node_laws.proofs.Words.{NodeInput, None, Noted, OfHost, Option, Orders, Plain, Port, Release, Releases, Removed, Report, Reset, SaysOk, Sends, Sent}
+use Rattle.node_laws.proofs.Words.{SetAside, SetsErrors, Some, Tells, TimePasses, Turn, Waits, Work, [], after_input, after_sessions, after_turn, all_come}
+use Rattle.node_laws.proofs.Words.{all_done, all_of_host, all_owed, all_owed_hold, all_synced_hold, any_of_controller, anyone, ap, body_of, by_option, by_test}
+use Rattle.node_laws.proofs.Words.{changed_if, commit, commit_writes, cond, cond_both, controller_deeds, count_of, deeds_of, done, end_of, end_of_node}
+use Rattle.node_laws.proofs.Words.{end_view, entries_for, entry_of, eqb, fails_within, flat_map, forgets, forgotten, forgotten_hold, give_refusal, has_come}
+use Rattle.node_laws.proofs.Words.{host_deeds, input_at, is_late, length, map, noted_of, notified, noting, option_map_or, own_side, own_view, port_at, refl}
+use Rattle.node_laws.proofs.Words.{report, reset_late, steps, subst, sym, synced, times_out, told, told_at, told_late, turn_at, view_of, whole_acked, with_desk}
+use Rattle.node_laws.proofs.Words.{with_older, with_port, without_notice, ℕ, ◌++◌, ◌∙◌, ◌∷◌, ◌≡◌}
 use Rattle.trace_model.specs.declared.entry.Entry.TheVariants as entry
-use Rattle.link_laws.specs.entries.Entries.{End as Side, Entry as Noted}
+use Rattle.link_laws.specs.entries.Entries.{End as Side}
 use Rattle.link_laws.specs.entries.Entries.Entry.{Up}
 use Rattle.node_laws.proofs.steps.StepWalks.{got_at, all_do as all_note, Lasts, rest_lasts}
 use Rattle.node_laws.proofs.steps.Ports.{come_host, forgets_host, late_host, without_host, changed_host, sessions_node, at_port}

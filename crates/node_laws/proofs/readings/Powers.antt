@@ -1,17 +1,15 @@
 -- What is read of all hosts as a node loses its power, as it boots, and as a write to a memory is to fail.
-use Rattle.std.proofs.Common.{◌≡◌, ◌⊎◌, inl, inr, ℕ, Bool, true, false, eqb, List, [], ◌∷◌, ◌++◌, length, sym, refl, ap, ◌∙◌, subst, append-nil}
-use Rattle.std.specs.Prelude.{Some, None}
-use Rattle.std.specs.List.{AllByRecursion}
-use Rattle.std.proofs.lemmas.Bool.{cases_Bool, eqb-true}
-use Rattle.node_laws.proofs.Words.{AllRead, AreDifferent, AreHosts, AtController, CutOff, Entry, IsHost, Memory, NoInput, NodeWorld, NumberedEnd, Running, Site}
-use Rattle.node_laws.proofs.Words.{SiteReads, Step, after_planned, boot_writes, boots, by_option, by_test, changed_if, controller_cut, count_of, fails_within}
-use Rattle.node_laws.proofs.Words.{found, happens, host_cut, links_of, loses_power_at, memory_at, node_at, site_at, with_memory, with_node, with_site}
+use Rattle.node_laws.proofs.Words.{AllByRecursion, AllRead, AreDifferent, AreHosts, AtController, Bool, CutOff, Entry, IsHost, List, Memory, NoInput, NodeWorld}
+use Rattle.node_laws.proofs.Words.{None, NumberedEnd, Running, Site, SiteReads, Some, Step, [], after_planned, all_so, ap, append-nil, boot_writes, boots}
+use Rattle.node_laws.proofs.Words.{by_option, by_test, cases_Bool, changed_if, controller_cut, count_of, eqb, eqb-true, fails_within, false, found, happens}
+use Rattle.node_laws.proofs.Words.{host_cut, inl, inr, length, links_of, loses_power_at, memory_at, node_at, refl, site_at, subst, sym, true, with_memory}
+use Rattle.node_laws.proofs.Words.{with_node, with_site, ℕ, ◌++◌, ◌∙◌, ◌∷◌, ◌≡◌, ◌⊎◌}
 use Rattle.trace_model.specs.declared.entry.Entry.TheVariants as entry
 use Rattle.node_laws.proofs.links.Ends.{here_host}
-use Rattle.node_laws.proofs.kept.Sites.{site_found, hosts_same, hosts_with, with_site_twice, none_found}
-use Rattle.node_laws.proofs.readings.Sites.{cut_reads, boot_reads, others_read}
+use Rattle.node_laws.proofs.kept.Sites.{hosts_same, hosts_with, none_found, site_found, with_site_twice}
+use Rattle.node_laws.proofs.readings.Sites.{boot_reads, cut_reads, others_read}
 use Rattle.node_laws.proofs.readings.Elsewhere.{AreSilent}
-use Rattle.node_laws.proofs.readings.Worlds.{hosts_in, none_zero, map_reads, others_stay, with_reads}
+use Rattle.node_laws.proofs.readings.Worlds.{hosts_in, map_reads, none_zero, others_stay, with_reads}
 use Rattle.node_laws.proofs.kept.Events.{loses_is}
 
 cut_silent : (n k : ℕ) → eqb n k ≡ false → AreSilent k (entry.Cut n ∷ [])
@@ -129,8 +127,7 @@ module _ (hosts : List ℕ) (are : AreHosts hosts) where
     booted_silent k = ((λ c. refl), tt)
 
     all_stay : (sites : List Site) → AllByRecursion (SiteReads t) sites → AllByRecursion (SiteReads (t ++ noted)) sites
-    all_stay [] a = tt
-    all_stay (s ∷ sites) a = (others_read t noted s s (booted_silent s.host) refl refl refl a.0, all_stay sites a.1)
+    all_stay sites a = all_so (SiteReads t) (SiteReads (t ++ noted)) (λ s b. others_read t noted s s (booted_silent s.host) refl refl refl b) sites a
 
     lost_reads : Fine (loses_power_at n (with_memory n after_it w), entry.Cut n ∷ [])
     lost_reads = subst (λ l. AllRead hosts (l ++ entry.Cut n ∷ []) (loses_power_at n (with_memory n after_it w))) (append-nil t)

@@ -1,15 +1,10 @@
 -- What a host does with a message that answers none of its commands may be done, and so may what follows the answer to one.
-use Rattle.std.proofs.Common.{◌≡◌, ℕ, ◌≤◌, ◌&&◌, Bool, true, false, cond, eqb, List, [], ◌∷◌, ◌++◌, length, refl, ap}
-use Rattle.std.specs.Prelude.{Option, Some, None, ◌+◌}
-use Rattle.std.specs.List.{AllByRecursion}
-use Rattle.std.proofs.lemmas.Bool.{cond_both}
-use Rattle.node_laws.proofs.Words.{AreInitsShort, Clear, Command, Core, Create, Deed, Delete, Ends, Init, InitMade, MayDo, Message, Sends, Set}
-use Rattle.node_laws.proofs.Words.{accepts, answers_on, by_test, end_of_node, finds_room, gates, identity_served, init_deeds, init_holds}
-use Rattle.node_laws.proofs.Words.{is_command_message, learned, learned_holds, learns, learns_holds, link_deeds, link_served, ordered_deeds, ordered_holds}
-use Rattle.node_laws.proofs.Words.{orders_of, own_view}
+use Rattle.node_laws.proofs.Words.{AllByRecursion, AllByRecursion-get, AreInitsShort, Bool, Clear, Command, Core, Create, Deed, Delete, Ends, Init, InitMade}
+use Rattle.node_laws.proofs.Words.{List, MayDo, Message, None, Option, Sends, Set, Some, [], accepts, answers_on, ap, by_test, cond, cond_both, end_of_node}
+use Rattle.node_laws.proofs.Words.{eqb, false, finds_room, gates, identity_served, init_deeds, init_holds, is_command_message, learned, learned_holds, learns}
+use Rattle.node_laws.proofs.Words.{learns_holds, length, link_deeds, link_served, ordered_deeds, ordered_holds, orders_hold, orders_of, own_view, refl, true, ℕ}
+use Rattle.node_laws.proofs.Words.{◌&&◌, ◌++◌, ◌+◌, ◌∷◌, ◌≡◌, ◌≤◌}
 use Rattle.node_laws.proofs.bounds.Turns.{answer_plain}
-use Rattle.registry.proofs.ValueLemmas.{AllByRecursion-get}
-use Rattle.node_machine.proofs.Walks.{orders_hold}
 
 module _ (h : ℕ) (F : List ℕ → Type 0) where
   abbrev May : List Deed → Type 0

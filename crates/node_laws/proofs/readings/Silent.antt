@@ -1,13 +1,10 @@
 -- What tells nothing of the unanswered command of a host.
-use Rattle.std.proofs.Common.{◌≡◌, ℕ, ◌&&◌, Bool, true, false, cond, eqb, List, [], ◌∷◌, ◌++◌, map, refl, ap, ◌∙◌, arith}
-use Rattle.std.specs.Prelude.{Option, Some, None, is_some, nat_lt, option_to_list}
-use Rattle.std.specs.List.{AllByRecursion, fold}
-use Rattle.std.proofs.lemmas.Bool.{eq-eqb, ne_eqb}
-use Rattle.std.proofs.lemmas.List.Sums.{fold-append}
-use Rattle.node_laws.proofs.Words.{Acked, Active, Core, Down, Entry, GaveUp, Got, Host, IsHost, LinkInput, Message, Port, Refused, Report, Sent, after_input}
-use Rattle.node_laws.proofs.Words.{awaited_after, by_option, end_h, end_of, ended_by, entries_for, if_so, is_command_message, order_in, own_side, report}
-use Rattle.node_laws.proofs.Words.{same_end, sent_unless, told_at, whole_acked}
-use Rattle.link_laws.specs.entries.Entries.{End as Side, Entry as Noted}
+use Rattle.node_laws.proofs.Words.{Acked, Active, AllByRecursion, Bool, Core, Down, Entry, GaveUp, Got, Host, IsHost, LinkInput, List, Message, None, Noted}
+use Rattle.node_laws.proofs.Words.{Option, Port, Refused, Report, Sent, Some, [], after_input, ap, arith, awaited_after, by_option, cond, end_h, end_of}
+use Rattle.node_laws.proofs.Words.{ended_by, entries_for, eq-eqb, eqb, false, fold, fold-append, if_so, is_command_message, is_some, map, nat_lt, ne_eqb}
+use Rattle.node_laws.proofs.Words.{option_to_list, order_in, own_side, refl, report, same_end, sent_unless, told_at, true, whole_acked, ℕ, ◌&&◌, ◌++◌, ◌∙◌, ◌∷◌}
+use Rattle.node_laws.proofs.Words.{◌≡◌}
+use Rattle.link_laws.specs.entries.Entries.{End as Side}
 use Rattle.link_laws.specs.entries.Entries.Entry.{Up}
 use Rattle.node_laws.proofs.telling.Reported.{rest_all}
 

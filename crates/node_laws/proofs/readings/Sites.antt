@@ -1,21 +1,18 @@
 -- A host with its link over what happens to it: its unanswered command stays the one that is read.
-use Rattle.std.proofs.Common.{◌≡◌, inl, inr, ℕ, ◌&&◌, true, false, cond, eqb, List, [], ◌∷◌, ◌++◌, map, sym, refl, ap, ◌∙◌, subst, append-nil, append_assoc}
-use Rattle.std.specs.Prelude.{Option, Some, None, is_some}
-use Rattle.std.specs.List.{AllByRecursion}
-use Rattle.std.proofs.lemmas.Bool.{eq-eqb, eqb-true, true≢false, cond-true, and_parts}
-use Rattle.node_laws.proofs.Words.{AreInitsShort, AsksReset, AtEnd, Comes, CutOff, Deed, Desk, Ending, Entry, Fits, GoesOut, Host, IfHostRuns, IsComing, IsHost}
-use Rattle.node_laws.proofs.Words.{IsSilent, Link, LinkEnd, LinkInput, LinkState, Loss, MayDo, Memory, Message, NextFrame, NoInput, NumberedEnd, OnWire, Port}
-use Rattle.node_laws.proofs.Words.{Reset, Running, Site, SiteReads, Start, Starts, Stop, Stops, Take, Tick, TimePasses, Turn, Work, after_host, after_input}
-use Rattle.node_laws.proofs.Words.{after_planned, arrival, beginning, begins_with, by_list, by_option, by_test, ended_by, ending_entries, ending_of}
-use Rattle.node_laws.proofs.Words.{entries_for, exchanged, finished, first_lost, found, frames_noted, give_refusal, has_come, host_cut, host_ticks, host_work}
-use Rattle.node_laws.proofs.Words.{input_at, input_of, is_command_message, most_frames, near_end_in, new_desk, order_in, order_of, port_at, port_for, runs_on}
-use Rattle.node_laws.proofs.Words.{sending, sent_all, steps, steps_at_controller, ticks_at_controller, turn, turned, turns_at, wires_for, with_ended, work_of}
+use Rattle.node_laws.proofs.Words.{AllByRecursion, AreInitsShort, AsksReset, AtEnd, Comes, CutOff, Deed, Desk, Ending, Entry, Fits, GoesOut, Host, HostRuns}
+use Rattle.node_laws.proofs.Words.{IfHostRuns, IsComing, IsHost, IsSilent, Link, LinkEnd, LinkInput, LinkState, List, Loss, MayDo, Memory, Message, NextFrame}
+use Rattle.node_laws.proofs.Words.{NoInput, None, NumberedEnd, OnWire, Option, Port, Reset, Running, Site, SiteReads, Some, Start, Starts, Stop, Stops, Take}
+use Rattle.node_laws.proofs.Words.{Tick, TimePasses, Turn, Work, [], after_host, after_input, after_planned, and_parts, ap, append-nil, append_assoc, arrival}
+use Rattle.node_laws.proofs.Words.{beginning, begins_with, by_list, by_option, by_test, cond, cond-true, ended_by, ending_entries, ending_of, entries_for}
+use Rattle.node_laws.proofs.Words.{eq-eqb, eqb, eqb-true, exchanged, false, finished, first_lost, found, frames_noted, give_refusal, has_come, host_cut}
+use Rattle.node_laws.proofs.Words.{host_ticks, host_work, inl, input_at, input_of, inr, is_command_message, is_some, map, most_frames, near_end_in, new_desk}
+use Rattle.node_laws.proofs.Words.{order_in, order_of, port_at, port_for, refl, runs_on, sending, sent_all, steps, steps_at_controller, subst, sym}
+use Rattle.node_laws.proofs.Words.{ticks_at_controller, true, true≢false, turn, turned, turns_at, wires_for, with_ended, work_of, ℕ, ◌&&◌, ◌++◌, ◌∙◌, ◌∷◌, ◌≡◌}
 use Rattle.link_laws.proofs.sessions.Ties.{after_frames-phase}
 use Rattle.link_laws.specs.entries.Entries.{End as Side}
 use Rattle.trace_model.specs.declared.entry.Entry.TheVariants as entry
 use Rattle.node_laws.proofs.links.Noticing.{turn-phase}
 use Rattle.node_laws.proofs.telling.Frames.{lost_all, ending_all, arrival_all}
-use Rattle.node_laws.specs.readings.Worlds.{HostRuns}
 use Rattle.node_laws.proofs.readings.Silent.{IsQuiet, reads, order_more, quiet_reads}
 use Rattle.node_laws.proofs.readings.Doing.{Runs, Stands, all_stand}
 use Rattle.node_laws.proofs.readings.Stepping.{steps_stand}

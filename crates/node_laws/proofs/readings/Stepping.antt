@@ -1,14 +1,10 @@
 -- A step of a host: its unanswered command stays the one that is read.
-use Rattle.std.proofs.Common.{◌≡◌, inl, ℕ, ◌||◌, Bool, true, false, cond, List, [], ◌∷◌, ◌++◌, map, sym, refl, ap, ◌∙◌, subst, append-nil}
-use Rattle.std.specs.Prelude.{Option, Some, None, is_some}
-use Rattle.std.specs.List.{AllByRecursion, flat_map}
-use Rattle.std.proofs.lemmas.Bool.{true≢false}
-use Rattle.node_laws.proofs.Words.{AtEnd, Commits, Core, Deed, Entry, Fits, IsComing, IsFresh, IsHost, IsOutside, LinkInput, LinkState, MayDo, NodeInput, Port}
-use Rattle.node_laws.proofs.Words.{Sync, TimePasses, Up, Work, after_sessions, all_come, all_done, all_owed, begins_with, by_option, by_test, comes_to_pass}
-use Rattle.node_laws.proofs.Words.{forgets, forgotten, has_come, input_at, noting, passes, report, reset_late, steps, synced, times_out, told_at, told_late}
-use Rattle.node_laws.proofs.Words.{unless_cut, with_older, without_notice}
+use Rattle.node_laws.proofs.Words.{AllByRecursion, AtEnd, Bool, Commits, Core, Deed, Entry, Fits, IsComing, IsFresh, IsHost, IsItsEnd, IsOutside, KeepsOrder}
+use Rattle.node_laws.proofs.Words.{LinkInput, LinkState, List, MayDo, NodeInput, None, Option, Port, Some, Sync, TimePasses, Up, Work, [], after_sessions}
+use Rattle.node_laws.proofs.Words.{all_come, all_done, all_owed, ap, append-nil, begins_with, by_option, by_test, comes_to_pass, cond, false, flat_map, forgets}
+use Rattle.node_laws.proofs.Words.{forgotten, has_come, inl, input_at, is_some, map, noting, passes, refl, report, reset_late, steps, subst, sym, synced}
+use Rattle.node_laws.proofs.Words.{times_out, told_at, told_late, true, true≢false, unless_cut, with_older, without_notice, ℕ, ◌++◌, ◌||◌, ◌∙◌, ◌∷◌, ◌≡◌}
 use Rattle.node_laws.proofs.links.Staying.{stays_up}
-use Rattle.node_laws.specs.readings.Orders.{IsItsEnd, KeepsOrder}
 use Rattle.node_laws.proofs.readings.Silent.{reads, host_side, told_reads}
 use Rattle.node_laws.proofs.readings.Doing.{Runs, Stands, stands_keep, keeps_stand, then, read_more, all_stand}
 use Rattle.node_laws.proofs.readings.Turning.{passes_stand}

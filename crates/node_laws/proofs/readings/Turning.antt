@@ -1,16 +1,14 @@
 -- A host has its turns: its unanswered command stays the one that is read.
-use Rattle.std.proofs.Common.{◌≡◌, inl, ℕ, ◌≤◌, ◌&&◌, Bool, true, false, cond, eqb, List, [], ◌∷◌, ◌++◌, length, map, sym, refl, ap, ◌∙◌, subst, arith}
-use Rattle.std.specs.Prelude.{Option, Some, None, Result, Ok, Err, is_some, nat_lt}
-use Rattle.std.specs.Option.{option_map, option_map_or}
-use Rattle.std.proofs.lemmas.Bool.{eq-eqb, true≢false, cond-true, le-ltb, ne_eqb}
-use Rattle.node_laws.proofs.Words.{Commits, Deed, Drops, Ends, Entry, FetchMessage, Fits, GoesOn, Hears, Hold, IsHost, LinkEnd, LinkState, MayDo, Message}
-use Rattle.node_laws.proofs.Words.{MessageFault, MessageKind, Orders, Port, Releases, SaysOk, Sends, SetsErrors, Up, Waiting, Work, after_turn, all_done}
-use Rattle.node_laws.proofs.Words.{body_in, by_test, changed_if, deeds_of, done, end_of_node, end_view, gate_of_pipe, give_refusal, goes_through_ends, handles}
-use Rattle.node_laws.proofs.Words.{have_turns, header_of, holds_back, host_deeds, init_deeds, is_command_message, is_gate, is_held, is_response, is_up, lack}
-use Rattle.node_laws.proofs.Words.{learned, lets_go, need, needs, noting, ordered_deeds, own_view, passes, port_at, response_deeds, spare, turn_at, unless_cut}
-use Rattle.node_laws.proofs.Words.{with_desk, with_port}
+use Rattle.node_laws.proofs.Words.{Bool, Commits, Deed, Drops, Ends, Entry, Err, FetchMessage, Fits, GoesOn, Hears, Hold, IsHost, IsResponse, LinkEnd}
+use Rattle.node_laws.proofs.Words.{LinkState, List, MayDo, Message, MessageFault, MessageKind, None, Ok, Option, Orders, Port, Releases, Result, SaysOk, Sends}
+use Rattle.node_laws.proofs.Words.{SetsErrors, Some, Up, Waiting, Work, [], after_turn, all_done, ap, arith, body_in, by_test, changed_if, cond, cond-true}
+use Rattle.node_laws.proofs.Words.{deeds_of, done, end_of_node, end_view, eq-eqb, eqb, false, gate_of_pipe, give_refusal, goes_through_ends, handles}
+use Rattle.node_laws.proofs.Words.{have_turns, header_of, holds_back, host_deeds, init_deeds, inl, is_command_message, is_gate, is_held, is_response, is_some}
+use Rattle.node_laws.proofs.Words.{is_up, lack, le-ltb, learned, length, lets_go, map, nat_lt, ne_eqb, need, needs, noting, option_map, option_map_or}
+use Rattle.node_laws.proofs.Words.{ordered_deeds, own_view, passes, port_at, refl, response_deeds, spare, subst, sym, true, true≢false, turn_at, unless_cut}
+use Rattle.node_laws.proofs.Words.{with_desk, with_port, ℕ, ◌&&◌, ◌++◌, ◌∙◌, ◌∷◌, ◌≡◌, ◌≤◌}
 use Rattle.trace_model.specs.declared.entry.Entry.TheVariants as entry
-use Rattle.hcp_packet.specs.declared.MessageKind.TheVariants.{Command as IsCommand, Event as IsEvent, Response as IsResponse}
+use Rattle.hcp_packet.specs.declared.MessageKind.TheVariants.{Command as IsCommand, Event as IsEvent}
 use Rattle.shdlc_core.specs.declared.answers.LinkState.TheVariants.{Down}
 use Rattle.gate_loopback.specs.Loopback.{posts_back}
 use Rattle.node_laws.proofs.readings.Silent.{reads, host_side, same_own}

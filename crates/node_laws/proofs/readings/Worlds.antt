@@ -1,19 +1,14 @@
 -- What is read of all hosts of a world over an event.
-use Rattle.std.proofs.Common.{◌≡◌, ◌⊎◌, inl, inr, ℕ, Bool, true, false, cond, eqb, List, [], ◌∷◌, ◌++◌, map, sym, refl, ap, ◌∙◌, subst, arith, append-nil}
-use Rattle.std.proofs.Common.{append_assoc}
-use Rattle.std.specs.Prelude.{Option, Some, None}
-use Rattle.std.specs.List.{AllByRecursion, flat_map}
-use Rattle.std.proofs.lemmas.Bool.{cases_Bool, eqb-true, eqb-false, ne_eqb, cond-true, cond-false}
-use mathlib.Core.Bool.{and-false}
-use Rattle.node_laws.proofs.Words.{AllRead, AreDifferent, AreHosts, AtEnd, Comes, Controller, Desk, End, Entry, Host, IfHostRuns, IfZero, IsHost, Link}
-use Rattle.node_laws.proofs.Words.{LinkInput, NodeWorld, NumberedEnd, Plan, Port, Running, Site, SiteReads, Starts, Step, Work, activates, after_host, arrival}
-use Rattle.node_laws.proofs.Words.{by_option, by_test, changed_if, comes_at, comes_to, controller_does, controller_work, end_c, end_h, ending_of, entries_for}
-use Rattle.node_laws.proofs.Words.{exchanged, frames_noted, host_does, host_work, input_of, link_after_controller, link_to, near_end_in, port_at, port_for}
-use Rattle.node_laws.proofs.Words.{runs_on, seen_from, site_at, steps, turns_at, wires_for, with_site, work_of}
+use Rattle.node_laws.proofs.Words.{AllByRecursion, AllRead, AreDifferent, AreHosts, AtEnd, Bool, Comes, Controller, Desk, End, Entry, Host, HostRuns}
+use Rattle.node_laws.proofs.Words.{IfHostRuns, IfZero, IsHost, Link, LinkInput, List, NodeWorld, None, NumberedEnd, Option, Plan, Port, Running, Site}
+use Rattle.node_laws.proofs.Words.{SiteReads, Some, Starts, Step, Work, [], activates, after_host, and-false, ap, append-nil, append_assoc, arith, arrival}
+use Rattle.node_laws.proofs.Words.{by_option, by_test, cases_Bool, changed_if, comes_at, comes_to, cond, cond-false, cond-true, controller_does}
+use Rattle.node_laws.proofs.Words.{controller_work, end_c, end_h, ending_of, entries_for, eqb, eqb-false, eqb-true, exchanged, false, flat_map, frames_noted}
+use Rattle.node_laws.proofs.Words.{host_does, host_work, inl, input_of, inr, link_after_controller, link_to, map, ne_eqb, near_end_in, port_at, port_for, refl}
+use Rattle.node_laws.proofs.Words.{runs_on, seen_from, site_at, steps, subst, sym, true, turns_at, wires_for, with_site, work_of, ℕ, ◌++◌, ◌∙◌, ◌∷◌, ◌≡◌, ◌⊎◌}
 use Rattle.link_laws.specs.entries.Entries.{End as Side}
 use Rattle.node_laws.proofs.links.Ends.{here_host}
 use Rattle.node_laws.proofs.kept.Sites.{site_found, hosts_same, hosts_with}
-use Rattle.node_laws.specs.readings.Worlds.{HostRuns}
 use Rattle.node_laws.proofs.readings.Sites.{ending_quiet, arrival_quiet, comes_reads, others_read}
 use Rattle.node_laws.proofs.readings.Elsewhere.{AreSilent, silent-append, silent_flat, quiet_silent, Away, IsAway, steps_away}
 

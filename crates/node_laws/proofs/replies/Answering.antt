@@ -1,14 +1,10 @@
 -- What a node answers until its next turn, as it is read off what was noted behind its turn.
-use Rattle.std.proofs.Common.{◌≡◌, ℕ, suc, ◌≤◌, ◌||◌, Bool, true, false, cond, List, [], ◌∷◌, ◌++◌, sym, refl, ap, ap₂, ◌∙◌, subst, append_assoc}
-use Rattle.std.proofs.Common.{append-nil, arith}
-use Rattle.std.specs.Prelude.{◌+◌, not, take, Option, Some, None}
-use Rattle.std.specs.List.{AllByRecursion, filter, list_any, prefix_len}
-use Rattle.std.proofs.lemmas.Bool.{eq-eqb}
-use Rattle.node_laws.proofs.Words.{AnswersSo, Asks, Command, Commits, Deed, Drops, Ends, Entry, GoesOn, Hears, Init, IsNoAnswer, IsReplyNoted, MayBeDone}
-use Rattle.node_laws.proofs.Words.{Message, Orders, Port, SaysOk, Sends, State, Tells, before_turn, by_option, by_test, entries_of_reply, is_answer_of}
-use Rattle.node_laws.proofs.Words.{is_cut_of, is_turn_of, next_count, node_of, sent_in_session, to_command}
+use Rattle.node_laws.proofs.Words.{AllByRecursion, AnswersSo, Asks, Bool, Command, Commits, Deed, Drops, Ends, Entry, GoesOn, Hears, Init, IsNoAnswer}
+use Rattle.node_laws.proofs.Words.{IsReplyNoted, List, MayBeDone, Message, None, Option, Orders, Port, SaysOk, Sends, Some, State, Tells, [], all_append, ap}
+use Rattle.node_laws.proofs.Words.{append-nil, append_assoc, ap₂, arith, before_turn, by_option, by_test, cond, entries_of_reply, eq-eqb, false, filter}
+use Rattle.node_laws.proofs.Words.{is_answer_of, is_cut_of, is_turn_of, list_any, next_count, node_of, not, prefix_len, refl, sent_in_session, subst, suc, sym}
+use Rattle.node_laws.proofs.Words.{take, to_command, true, ℕ, ◌++◌, ◌+◌, ◌||◌, ◌∙◌, ◌∷◌, ◌≡◌, ◌≤◌}
 use Rattle.trace_model.specs.declared.entry.Entry.TheVariants as entry
-use Rattle.registry.proofs.ValueLemmas.{AllByRecursion-append as all_append}
 use Rattle.node_laws.proofs.replies.Apart.{SendsOver}
 
 -- ## The entries of a reply

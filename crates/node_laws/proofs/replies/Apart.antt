@@ -1,19 +1,14 @@
 -- A controller gives each end one message or one block at most as it handles a message, and sends to ends that are up.
-use Rattle.std.proofs.Common.{◌≡◌, ℕ, ◌≤◌, ◌&&◌, Bool, true, false, cond, eqb, List, [], ◌∷◌, map, refl, sym, ap, ◌∙◌, subst}
-use Rattle.std.specs.Prelude.{Option, Some, None, Result, Ok, Err}
-use Rattle.std.specs.List.{AllByRecursion}
-use Rattle.std.proofs.lemmas.Bool.{cond_both, true≢false, eq-eqb}
-use Rattle.node_laws.proofs.Words.{Answer, AreTables, Ask, Asks, Command, Commit, Commits, Core, Creation, Decision, Deed, Drops, Ends, GiveOnce, GoesOn, Hears}
-use Rattle.node_laws.proofs.Words.{IsAnswered, IsNoneOf, JoinTwo, Message, MessageFault, MessageKind, Orders, Port, Releases, SaysOk, Sends, SetsErrors, Tells}
-use Rattle.node_laws.proofs.Words.{agreed, answer_of, answers_on, asked_at, asks_for, body_in, by_option, by_test, commit_deeds, controller_deeds, creation_in}
-use Rattle.node_laws.proofs.Words.{decided, decision_deeds, deeds_by_relay, finds_room, gate_deeds, gates, goes_through, has, has_link, header_of, hosts_where}
-use Rattle.node_laws.proofs.Words.{identity_served, is_command_message, kind_deeds, link_deeds, link_served, own_deeds, own_gate, own_view, port_at}
-use Rattle.node_laws.proofs.Words.{relay_deeds, relayed_to, served_at, unless_asking, unrelayed, view_for, view_of}
-use Rattle.hcp_packet.specs.declared.MessageKind.TheVariants.{Command as IsCommandKind, Event as IsEvent, Response as IsResponse}
+use Rattle.node_laws.proofs.Words.{AllByRecursion, Answer, AreTables, Ask, Asks, Bool, Command, Commit, Commits, Core, Creation, Decision, Deed, Drops, Ends}
+use Rattle.node_laws.proofs.Words.{Err, GiveOnce, GoesOn, Hears, IsAnswered, IsNoneOf, IsResponse, JoinTwo, List, Message, MessageFault, MessageKind, None, Ok}
+use Rattle.node_laws.proofs.Words.{Option, Orders, Port, Releases, Result, SaysOk, Sends, SetsErrors, Some, Tells, [], about_at, agreed, answer_of, answers_on}
+use Rattle.node_laws.proofs.Words.{ap, asked_at, asks_for, body_in, by_option, by_test, commit_deeds, cond, cond_both, controller_deeds, creation_deeds}
+use Rattle.node_laws.proofs.Words.{creation_in, decided, decision_deeds, deeds_by_relay, eq-eqb, eqb, event_deeds, false, finds_room, gate_deeds, gates}
+use Rattle.node_laws.proofs.Words.{goes_through, has, has_link, header_of, hosts_where, identity_served, if_notice, is_command_message, kind_deeds, link_deeds}
+use Rattle.node_laws.proofs.Words.{link_served, map, notice_deeds, own_deeds, own_gate, own_view, port_at, refl, relay_deeds, relayed_to, served_at, subst, sym}
+use Rattle.node_laws.proofs.Words.{true, true≢false, unless_asking, unrelayed, view_for, view_of, ℕ, ◌&&◌, ◌∙◌, ◌∷◌, ◌≡◌, ◌≤◌}
+use Rattle.hcp_packet.specs.declared.MessageKind.TheVariants.{Command as IsCommandKind, Event as IsEvent}
 use Rattle.gate_answers.specs.declared.response.Response.TheVariants as response
-use Rattle.node_machine.specs.Controller.{creation_deeds, notice_deeds}
-use Rattle.node_machine.specs.Controller.{event_deeds, if_notice}
-use Rattle.node_machine.specs.Controller.{about_at}
 use Rattle.node_laws.proofs.links.Noticing.{UpAt}
 use Rattle.node_laws.proofs.notices.Telling.{AreRight, IsShort, MayTell, Outcome, controller_outcome}
 use Rattle.node_laws.proofs.notices.Telling.Outcome.{Leaves, IsHeard}

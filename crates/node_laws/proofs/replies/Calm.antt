@@ -1,14 +1,10 @@
 -- Entries that change nothing of what decides a reply of the controller: behind them a message there lacks what it lacked before.
-use Rattle.std.proofs.Common.{◌≡◌, ℕ, ◌-◌, ◌+◌, Bool, true, false, cond, List, [], ◌∷◌, ◌++◌, drop, sym, refl, ap, ap₂, ◌∙◌, subst, append_assoc, append-nil}
-use Rattle.std.specs.Prelude.{◌==◌, Option, Some, None, is_some}
-use Rattle.std.specs.List.{AllByRecursion, fold, filter_map}
-use Rattle.std.proofs.lemmas.List.Elements.{filter_map-append}
-use Rattle.std.proofs.lemmas.List.Sums.{fold-append}
-use Rattle.registry.proofs.ValueLemmas.{AllByRecursion-append as all_append}
-use Rattle.node_laws.proofs.Words.{AreHosts, AreNamed, Begins, Book, Counts, End, EndsAreRead, Entry, ErrorCount, Gets, IsKeptNotice, IsNamed, IsProperBook}
-use Rattle.node_laws.proofs.Words.{IsReadSo, KeepsBeside, KeepsInStep, Message, Moment, Port, Puts, Saying, Work, acked_after, acked_in, asking_in, book_in}
-use Rattle.node_laws.proofs.Words.{creations_at, desks_of, end_c, errors_after, lack_of, lacking, need_of_all, no_errors, notice_at, notice_in, noting, said_of}
-use Rattle.node_laws.proofs.Words.{same_end, sent_by, sent_in, session_now, spare_at, unacknowledged_in, until}
+use Rattle.node_laws.proofs.Words.{AllByRecursion, AreHosts, AreNamed, Begins, Book, Bool, Counts, End, EndsAreRead, Entry, ErrorCount, Gets, HasErrorsRead}
+use Rattle.node_laws.proofs.Words.{IsKeptNotice, IsNamed, IsProperBook, IsReadSo, KeepsBeside, KeepsInStep, List, Message, Moment, None, Option, Port, Puts}
+use Rattle.node_laws.proofs.Words.{Saying, Some, Work, [], acked_after, acked_in, all_append, ap, append-nil, append_assoc, ap₂, asking_in, book_in, cond}
+use Rattle.node_laws.proofs.Words.{creations_at, desks_of, drop, end_c, errors_after, false, filter_map, filter_map-append, fold, fold-append, is_some, lack_of}
+use Rattle.node_laws.proofs.Words.{lacking, need_of_all, no_errors, notice_at, notice_in, noting, refl, said_of, same_end, sent_by, sent_in, session_now}
+use Rattle.node_laws.proofs.Words.{spare_at, subst, sym, true, unacknowledged_in, until, ℕ, ◌++◌, ◌+◌, ◌-◌, ◌==◌, ◌∙◌, ◌∷◌, ◌≡◌}
 use Rattle.trace_model.specs.declared.entry.Entry.TheVariants as entry
 use Rattle.history.specs.Filters.Saying.{Ends, Loses, Sends, Takes}
 use Rattle.node_laws.proofs.kept.Books.{book_more}
@@ -16,7 +12,6 @@ use Rattle.node_laws.proofs.creations.Near.{far_fold, far_reading}
 use Rattle.node_laws.proofs.notices.Far.{AreFar, far-append, far_reads, not_near}
 use Rattle.node_laws.proofs.notices.Own.{IsFar}
 use Rattle.node_laws.proofs.views.Leaving.{IsRead, Leaves, leaves_all, reads_append}
-use Rattle.node_laws.specs.read_steps.Works.{HasErrorsRead}
 use Rattle.node_laws.proofs.replies.Turns.{lack_so}
 use Rattle.node_laws.proofs.read_steps.Naming.{far_named}
 

@@ -1,19 +1,15 @@
 -- The notices that are read tell of the creations that a controller keeps.
-use Rattle.std.proofs.Common.{◌≡◌, inl, inr, ℕ, Bool, true, false, cond, eqb, List, [], ◌∷◌, ◌++◌, sym, refl, ap, ap₂, ◌∙◌, subst}
-use Rattle.std.specs.Prelude.{Option, Some, None, IsTrue, ◌&&◌, not}
-use Rattle.std.specs.List.{AllByRecursion}
-use Rattle.std.specs.Option.{option_map, option_map_or, option_and_then}
-use Rattle.std.proofs.lemmas.Bool.{eqb-true, eq-eqb, true≢false}
-use Rattle.node_laws.proofs.Words.{About, AreDifferent, AreHosts, AreNamed, Command, Create, Creation, Entry, Forgotten, IfAwaited, IsAbout, IsAwaited}
-use Rattle.node_laws.proofs.Words.{IsCommand, IsKeptNotice, IsNoticeOf, IsReadSo, IsRightAbout, IsRightNotice, KeepsInStep, Notice, PipeRow, Port, Removed}
-use Rattle.node_laws.proofs.Words.{Waits, Work, answer_of, asked_at, asking_in, body_in, by_option, by_test, creation_in, creation_of, creation_read, ends_of}
-use Rattle.node_laws.proofs.Words.{hosts_of_ends, instruction_in, is_dynamic, is_host, notice_in, pipe_named_in, port_at, same_bytes}
+use Rattle.node_laws.proofs.Words.{About, AllByRecursion, AreDifferent, AreHosts, AreNamed, Bool, Command, Create, Creation, Entry, Forgotten, IfAwaited}
+use Rattle.node_laws.proofs.Words.{IsAbout, IsAwaited, IsCommand, IsKeptNotice, IsNoticeOf, IsReadSo, IsRightAbout, IsRightNotice, IsTrue, KeepsInStep, List}
+use Rattle.node_laws.proofs.Words.{None, Notice, Option, PipeRow, Port, Removed, Some, Waits, Work, [], about_read, answer_of, ap, ap₂, asked_at, asking_in}
+use Rattle.node_laws.proofs.Words.{body_in, by_option, by_test, cond, creation_in, creation_of, creation_read, ends_of, eq-eqb, eqb, eqb-true, false}
+use Rattle.node_laws.proofs.Words.{hosts_of_ends, inl, inr, instruction_in, is_dynamic, is_host, not, notice_in, option_and_then, option_map, option_map_or}
+use Rattle.node_laws.proofs.Words.{pipe_named_in, port_at, refl, same_bytes, subst, sym, true, true≢false, ℕ, ◌&&◌, ◌++◌, ◌∙◌, ◌∷◌, ◌≡◌}
 use Rattle.gate_answers.specs.declared.response.Response.TheVariants as response
 use Rattle.node_machine.specs.Controller.{about_of}
 use Rattle.node_laws.proofs.telling.Accounts.{at_host}
 use Rattle.node_laws.proofs.creations.Asks.{asked_of, one_of, waits, desks_wait}
 use Rattle.node_laws.proofs.read_steps.Knowing.{notice_is}
-use Rattle.node_laws.specs.answers.Moments.{about_read}
 use Rattle.node_laws.proofs.read_steps.Naming.{names_read}
 use Rattle.node_laws.proofs.replies.Ends.{all_found}
 use Rattle.node_laws.proofs.steps.Ports.{at_port}

@@ -1,9 +1,6 @@
 -- The ends of a controller, one for each host of its world.
-use Rattle.std.proofs.Common.{◌≡◌, ◌⊎◌, inl, inr, ℕ, ◌||◌, true, false, cond, eqb, List, [], ◌∷◌, sym, refl, ap, ◌∙◌, subst}
-use Rattle.std.specs.Prelude.{Some}
-use Rattle.std.specs.List.{AllByRecursion}
-use Rattle.std.proofs.lemmas.Bool.{cases_Bool, eqb-true, eq-eqb, true≢false}
-use Rattle.node_laws.proofs.Words.{AreDifferent, Port, by_test, hosts_of_ends, is_one_of, port_at}
+use Rattle.node_laws.proofs.Words.{AllByRecursion, AreDifferent, List, Port, Some, [], ap, by_test, cases_Bool, cond, eq-eqb, eqb, eqb-true, false}
+use Rattle.node_laws.proofs.Words.{hosts_of_ends, inl, inr, is_one_of, port_at, refl, subst, sym, true, true≢false, ℕ, ◌||◌, ◌∙◌, ◌∷◌, ◌≡◌, ◌⊎◌}
 
 -- one that is found has a host among theirs
 pub one_found : (ports : List Port) (k : ℕ) (p : Port) → port_at ports k ≡ Some p → is_one_of (hosts_of_ends ports) k ≡ true

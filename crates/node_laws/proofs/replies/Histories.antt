@@ -1,11 +1,9 @@
 -- In a history each pass of the controller replies to messages as is read.
-use Rattle.std.proofs.Common.{◌≡◌, ℕ, false, List, ◌++◌, map, sym, refl, ◌∙◌, subst}
-use Rattle.std.specs.Prelude.{Some}
-use Rattle.std.specs.List.{AllByRecursion}
-use Rattle.node_laws.proofs.Words.{AreHosts, ArePassed, ArePlayable, AreRepliedIn, AtEnd, BeginsPass, Comes, Controller, Desk, Entry, FollowsNodes, HasEnds}
-use Rattle.node_laws.proofs.Words.{Header, IsFew, IsSentByHost, KeepsBeside, KeepsInStep, LastsOverTurns, Line, LinkInput, NodeHistory, NodeWorld, Occurrence}
-use Rattle.node_laws.proofs.Words.{ReadsBetween, ReadsInStep, Running, Site, TimePasses, Work, aged, all_aged, as_it_ticks, comes_to_pass, controller_begins}
-use Rattle.node_laws.proofs.Words.{entries_in, hosts_in, hosts_of_ends, input_of, link_to, new_world, node_entries, occurrences_in, passes, world_behind}
+use Rattle.node_laws.proofs.Words.{AllByRecursion, AreHosts, ArePassed, ArePlayable, AreRepliedIn, AtEnd, BeginsPass, Comes, Controller, Desk, Entry}
+use Rattle.node_laws.proofs.Words.{FollowsNodes, HasEnds, Header, IsFew, IsSentByHost, KeepsBeside, KeepsInStep, LastsOverTurns, Line, LinkInput, List}
+use Rattle.node_laws.proofs.Words.{NodeHistory, NodeWorld, Occurrence, ReadsBetween, ReadsInStep, Running, Site, Some, TimePasses, Work, aged, all_aged}
+use Rattle.node_laws.proofs.Words.{as_it_ticks, comes_to_pass, controller_begins, entries_in, false, hosts_in, hosts_of_ends, input_of, link_to, map, new_world}
+use Rattle.node_laws.proofs.Words.{node_entries, occurrences_in, passes, refl, subst, sym, world_behind, ℕ, ◌++◌, ◌∙◌, ◌≡◌}
 use Rattle.trace_model.specs.declared.entry.Entry.TheVariants as entry
 use Rattle.node_laws.proofs.telling.Worlds.{node_is}
 use Rattle.node_laws.proofs.kept.Sites.{hosts_same}

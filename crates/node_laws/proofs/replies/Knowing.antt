@@ -1,17 +1,12 @@
 -- A controller knows what is read, so that it does with a message what is read.
-use Rattle.std.proofs.Common.{◌≡◌, ℕ, ◌&&◌, true, false, eqb, List, ◌++◌, sym, refl, ap, ◌∙◌, subst}
-use Rattle.std.specs.Prelude.{Some, None, is_some}
-use Rattle.std.specs.Option.{option_map, option_map_or, option_and_then}
-use Rattle.std.proofs.lemmas.Bool.{and_parts, eq-eqb}
-use Rattle.node_laws.proofs.Words.{AreHosts, AreNamed, Core, Entry, HasRoomForAll, IsKeptNotice, IsSameView, KeepsInStep, KnowsTheSame, Message, Moment, Port}
-use Rattle.node_laws.proofs.Words.{Work, asking_in, by_option, controller_deeds, creation_of, deeds_of, end_c, has_link, hosts_of_ends, is_one_of, is_up}
-use Rattle.node_laws.proofs.Words.{is_up_read, notice_in, port_at, reply, session_now, tables_in, until, view_at, view_for, view_of}
-use Rattle.node_machine.specs.Controller.{about_at}
+use Rattle.node_laws.proofs.Words.{AreHosts, AreNamed, Core, Entry, HasRoomForAll, IsKeptNotice, IsSameView, KeepsInStep, KnowsTheSame, LinksAreRead, List}
+use Rattle.node_laws.proofs.Words.{Message, Moment, None, Port, Some, Work, about_at, about_read, and_parts, ap, asking_in, by_option, controller_deeds}
+use Rattle.node_laws.proofs.Words.{creation_of, deeds_of, end_c, eq-eqb, eqb, false, has_link, hosts_of_ends, is_one_of, is_some, is_up, is_up_read, notice_in}
+use Rattle.node_laws.proofs.Words.{option_and_then, option_map, option_map_or, port_at, refl, reply, session_now, subst, sym, tables_in, true, until, view_at}
+use Rattle.node_laws.proofs.Words.{view_for, view_of, view_read, ℕ, ◌&&◌, ◌++◌, ◌∙◌, ◌≡◌}
 use Rattle.node_laws.proofs.notices.Turning.{kept_none}
-use Rattle.node_laws.specs.read_steps.Works.{LinksAreRead}
 use Rattle.node_laws.proofs.read_steps.Alike.{same_deeds}
 use Rattle.node_laws.proofs.read_steps.Knowing.{there_is, notice_is, creations_known, view_known}
-use Rattle.node_laws.specs.answers.Moments.{about_read, view_read}
 use Rattle.node_laws.proofs.replies.Ends.{one_found}
 use Rattle.node_laws.proofs.replies.Creations.{awaited_same}
 

@@ -1,15 +1,10 @@
 -- As a pass of a controller leaves an end, all messages there have had their turns, or the first one that is left lacks room, as it is read.
-use Rattle.std.proofs.Common.{◌≡◌, ◌⊎◌, inl, inr, ℕ, Bool, true, false, cond, eqb, List, [], ◌∷◌, ◌++◌, sym, refl, ap, ◌∙◌, subst, append_assoc}
-use Rattle.std.proofs.Common.{append-nil, arith}
-use Rattle.std.specs.Prelude.{◌==◌, Some, is_some, nat_lt}
-use Rattle.std.specs.List.{AllByRecursion}
-use Rattle.std.specs.Option.{option_map_or, option_and_then}
-use Rattle.std.proofs.lemmas.Bool.{le-ltb}
-use Rattle.std.proofs.lemmas.List.Sums.{fold-append}
-use Rattle.node_laws.proofs.Words.{AreAlong, AreHosts, ArePassed, BeginWithTurn, BeginsPass, Controller, End, Entry, IsBehind, IsTurnSo, KeepsBeside}
-use Rattle.node_laws.proofs.Words.{KeepsInStep, LastsOverTurns, Message, Moment, Port, ReadsInStep, Work, by_test, end_c, end_of_node, goes_through_ends}
-use Rattle.node_laws.proofs.Words.{hosts_of_ends, is_held_at, is_later, lack_at, lack_of, links_of_turns, oldest, passes, port_at, same_number, unhandled_after}
-use Rattle.node_laws.proofs.Words.{unhandled_in, until, waiting_at}
+use Rattle.node_laws.proofs.Words.{AllByRecursion, AreAlong, AreHosts, ArePassed, BeginWithTurn, BeginsPass, Bool, Controller, End, Entry, IsBehind, IsTurnSo}
+use Rattle.node_laws.proofs.Words.{KeepsBeside, KeepsInStep, LastsOverTurns, List, Message, Moment, Port, ReadsInStep, Some, Work, [], ap, append-nil}
+use Rattle.node_laws.proofs.Words.{append_assoc, arith, by_test, cond, end_c, end_of_node, eqb, false, fold-append, goes_through_ends, hosts_of_ends, inl, inr}
+use Rattle.node_laws.proofs.Words.{is_held_at, is_later, is_some, lack_at, lack_of, le-ltb, links_of_turns, nat_lt, oldest, option_and_then, option_map_or}
+use Rattle.node_laws.proofs.Words.{passes, port_at, refl, same_number, subst, sym, true, unhandled_after, unhandled_in, until, waiting_at, ℕ, ◌++◌, ◌==◌, ◌∙◌}
+use Rattle.node_laws.proofs.Words.{◌∷◌, ◌≡◌, ◌⊎◌}
 use Rattle.trace_model.specs.declared.entry.Entry.TheVariants as entry
 use Rattle.node_laws.specs.passes.Passing.{Stays as StaysThere}
 use Rattle.node_laws.specs.passes.Passing.ComesTo.{Begins}

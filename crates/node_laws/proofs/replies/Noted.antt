@@ -1,11 +1,8 @@
 -- What is noted of a reply, as it is read, is what its deeds note in a controller whose sessions are read.
-use Rattle.std.proofs.Common.{◌≡◌, ℕ, true, false, cond, List, [], ◌∷◌, ◌++◌, sym, refl, ap, ap₂, ◌∙◌}
-use Rattle.std.specs.Prelude.{Option, Some, None}
-use Rattle.std.specs.List.{AllByRecursion}
-use Rattle.std.specs.Option.{option_map_or, option_and_then}
-use Rattle.std.proofs.lemmas.Bool.{true≢false}
-use Rattle.node_laws.proofs.Words.{AllReach, Asks, Commits, Deed, Drops, Ends, EndsAreRead, Entry, Message, Orders, Port, SaysOk, Sends, Tells, by_option}
-use Rattle.node_laws.proofs.Words.{end_c, entries_of_reply, has_link, is_up, next_count, port_at, sent_in_session, session_now, session_of_port}
+use Rattle.node_laws.proofs.Words.{AllByRecursion, AllReach, Asks, Commits, Deed, Drops, Ends, EndsAreRead, Entry, List, Message, None, Option, Orders, Port}
+use Rattle.node_laws.proofs.Words.{SaysOk, Sends, Some, Tells, [], ap, ap₂, by_option, cond, end_c, entries_of_reply, false, has_link, is_up, next_count}
+use Rattle.node_laws.proofs.Words.{option_and_then, option_map_or, port_at, refl, sent_in_session, session_now, session_of_port, sym, true, true≢false, ℕ, ◌++◌}
+use Rattle.node_laws.proofs.Words.{◌∙◌, ◌∷◌, ◌≡◌}
 use Rattle.trace_model.specs.declared.entry.Entry.TheVariants as entry
 use Rattle.node_laws.proofs.replies.Apart.{SendsOver}
 

@@ -1,14 +1,10 @@
 -- Each message that has its turn in a pass of a controller is replied to, and each that is held lacks what is noted.
-use Rattle.std.proofs.Common.{◌≡◌, ℕ, true, false, List, [], ◌∷◌, ◌++◌, sym, ap, ◌∙◌, subst, append_assoc}
-use Rattle.std.specs.Prelude.{Some, None}
-use Rattle.std.specs.List.{AllByRecursion}
-use Rattle.std.specs.Option.{option_map_or, option_and_then}
-use Rattle.std.proofs.lemmas.Bool.{true≢false}
-use Rattle.std.proofs.lemmas.List.{append_cancel_left}
-use Rattle.node_laws.proofs.Words.{AnswersSo, AreHosts, ArePassed, BeginWithTurn, Core, Deed, End, Entry, HadTurn, IsHeldFor, IsHost, IsNoAnswer, IsReplied}
-use Rattle.node_laws.proofs.Words.{KeepsBeside, KeepsInStep, LastsOverTurns, Message, MessagesAreRead, Moment, Port, WasHeld, Work, count_of, deeds_of, end_c}
-use Rattle.node_laws.proofs.Words.{end_of, end_of_node, entries_of_reply, handles, holds_in, hosts_of_ends, lack_at, lack_of, lacking, node_of, noted_by_deeds}
-use Rattle.node_laws.proofs.Words.{oldest, passes, session_of_port, takes_up, unhandled_in, until, waiting_at}
+use Rattle.node_laws.proofs.Words.{AllByRecursion, AnswersSo, AreHosts, ArePassed, BeginWithTurn, Core, Deed, End, Entry, HadTurn, IsHeldFor, IsHost}
+use Rattle.node_laws.proofs.Words.{IsNoAnswer, IsReplied, KeepsBeside, KeepsInStep, LastsOverTurns, List, Message, MessagesAreRead, Moment, None, Port, Some}
+use Rattle.node_laws.proofs.Words.{WasHeld, Work, [], ap, append_assoc, append_cancel_left, count_of, deeds_of, end_c, end_of, end_of_node, entries_of_reply}
+use Rattle.node_laws.proofs.Words.{false, handles, holds_in, hosts_of_ends, lack_at, lack_of, lacking, node_of, noted_by_deeds, oldest, option_and_then}
+use Rattle.node_laws.proofs.Words.{option_map_or, passes, session_of_port, subst, sym, takes_up, true, true≢false, unhandled_in, until, waiting_at, ℕ, ◌++◌}
+use Rattle.node_laws.proofs.Words.{◌∙◌, ◌∷◌, ◌≡◌}
 use Rattle.trace_model.specs.declared.entry.Entry.TheVariants as entry
 use Rattle.node_laws.proofs.notices.Doing.{controller_side}
 use Rattle.node_laws.proofs.read_steps.Lasting.{found_end, handles_keeps, holds_keeps, lets_keeps}

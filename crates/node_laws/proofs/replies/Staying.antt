@@ -1,10 +1,8 @@
 -- What a controller keeps beside what it knows stays what is read, over its turns.
-use Rattle.std.proofs.Common.{◌≡◌, ℕ, false, cond, List, [], ◌∷◌, ◌++◌, sym, ap, ◌∙◌, subst}
-use Rattle.std.specs.Prelude.{Some, None}
-use Rattle.std.specs.List.{AllByRecursion}
-use Rattle.node_laws.proofs.Words.{AreHosts, ComesTo, Controller, Deed, EndsAreRead, Entry, Handles, HasRoomForAll, IsHost, IsReplyNoted, KeepsBeside}
-use Rattle.node_laws.proofs.Words.{LastsOverTurns, LetsGo, Message, MessagesAreRead, ReadsInStep, Work, count_of, deeds_of, end_c, entries_of_reply, handles}
-use Rattle.node_laws.proofs.Words.{holds_back, is_held_at, lacking, lets_go, noted_by_deeds, session_of_port, takes_up, waiting_at}
+use Rattle.node_laws.proofs.Words.{AllByRecursion, AreHosts, ComesTo, Controller, Deed, EndsAreRead, Entry, Handles, HasRoomForAll, IsHost, IsReplyNoted}
+use Rattle.node_laws.proofs.Words.{KeepsBeside, LastsOverTurns, LetsGo, List, Message, MessagesAreRead, None, ReadsInStep, Some, Work, [], ap, cond, count_of}
+use Rattle.node_laws.proofs.Words.{deeds_of, end_c, entries_of_reply, false, handles, holds_back, is_held_at, lacking, lets_go, noted_by_deeds, session_of_port}
+use Rattle.node_laws.proofs.Words.{subst, sym, takes_up, waiting_at, ℕ, ◌++◌, ◌∙◌, ◌∷◌, ◌≡◌}
 use Rattle.trace_model.specs.declared.entry.Entry.TheVariants as entry
 use Rattle.node_laws.proofs.read_steps.Knowing.{aside_known}
 use Rattle.node_laws.proofs.read_steps.Lasting.{found_end}

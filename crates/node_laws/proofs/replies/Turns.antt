@@ -1,14 +1,10 @@
 -- At its turn a message gets from a controller the reply that is read.
-use Rattle.std.proofs.Common.{◌≡◌, ℕ, Bool, true, false, cond, List, [], ◌∷◌, ◌++◌, sym, refl, ap, ap₂, ◌∙◌, subst}
-use Rattle.std.specs.Prelude.{nat_lt, Option, Some, None, is_some}
-use Rattle.std.specs.List.{AllByRecursion}
-use Rattle.std.specs.Option.{option_map_or}
-use Rattle.node_laws.proofs.Words.{AllReach, AreHosts, AreNamed, Core, Creation, Deed, EndsAreRead, Entry, GiveOnce, HasAsideAt, HasRoomForAll, IsHost}
-use Rattle.node_laws.proofs.Words.{IsKeptNotice, IsReplyNoted, KeepsBeside, KeepsInStep, KnowsTheSame, MayBeDone, Message, Moment, Port, StillRuns, Work}
-use Rattle.node_laws.proofs.Words.{asked_at, by_option, controller_deeds, count_of, creations_at, deeds_of, desks_of, end_c, entries_of_reply, first_lack}
-use Rattle.node_laws.proofs.Words.{handles, has_link, is_one_of, is_up, lack, lack_of, lacking, needs, noted_by_deeds, noted_of_deeds, port_at, reply}
-use Rattle.node_laws.proofs.Words.{session_now, session_of_port, spare_at, spare_read, takes_up, until, view_of}
-use Rattle.node_machine.specs.Carrying.{spare_with}
+use Rattle.node_laws.proofs.Words.{AllByRecursion, AllReach, AreHosts, AreNamed, Bool, Core, Creation, Deed, EndsAreRead, Entry, GiveOnce, HasAsideAt}
+use Rattle.node_laws.proofs.Words.{HasRoomForAll, IsHost, IsKeptNotice, IsReplyNoted, KeepsBeside, KeepsInStep, KnowsTheSame, List, MayBeDone, Message, Moment}
+use Rattle.node_laws.proofs.Words.{None, Option, Port, Some, StillRuns, Work, [], ap, ap₂, asked_at, by_option, cond, controller_deeds, count_of, creations_at}
+use Rattle.node_laws.proofs.Words.{deeds_of, desks_of, end_c, entries_of_reply, false, first_lack, handles, has_link, is_one_of, is_some, is_up, lack, lack_of}
+use Rattle.node_laws.proofs.Words.{lacking, nat_lt, needs, noted_by_deeds, noted_of_deeds, option_map_or, port_at, refl, reply, session_now, session_of_port}
+use Rattle.node_laws.proofs.Words.{spare_at, spare_read, spare_with, subst, sym, takes_up, true, until, view_of, ℕ, ◌++◌, ◌∙◌, ◌∷◌, ◌≡◌}
 use Rattle.node_laws.proofs.links.Reaching.{controller_reach}
 use Rattle.node_laws.proofs.kept.Replies.{controller_may}
 use Rattle.node_laws.proofs.notices.Doing.{Holds}

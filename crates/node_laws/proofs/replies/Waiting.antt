@@ -1,12 +1,8 @@
 -- The messages that wait at the ends of a controller stay those that are read, over its turns.
-use Rattle.std.proofs.Common.{◌≡◌, ◌⊎◌, inl, inr, ℕ, Bool, true, false, cond, eqb, List, [], ◌∷◌, ◌++◌, sym, refl, ap, ap₂, ◌∙◌, subst, append_assoc}
-use Rattle.std.proofs.Common.{append-nil}
-use Rattle.std.specs.Prelude.{Some, drop}
-use Rattle.std.specs.Option.{option_map_or}
-use Rattle.std.proofs.lemmas.Bool.{cases_Bool, eqb-true, eq-eqb}
-use Rattle.std.proofs.lemmas.List.Sums.{fold-append}
-use Rattle.node_laws.proofs.Words.{Deed, End, Entry, Message, MessagesAreRead, Port, Work, end_c, handles, holds_back, holds_in, hosts_of_ends, is_held_at}
-use Rattle.node_laws.proofs.Words.{is_one_of, lets_go, port_at, same_end, unhandled_after, unhandled_in, waiting_at}
+use Rattle.node_laws.proofs.Words.{Bool, Deed, End, Entry, List, Message, MessagesAreRead, Port, Some, Work, [], ap, append-nil, append_assoc, ap₂, cases_Bool}
+use Rattle.node_laws.proofs.Words.{cond, drop, end_c, eq-eqb, eqb, eqb-true, false, fold-append, handles, holds_back, holds_in, hosts_of_ends, inl, inr}
+use Rattle.node_laws.proofs.Words.{is_held_at, is_one_of, lets_go, option_map_or, port_at, refl, same_end, subst, sym, true, unhandled_after, unhandled_in}
+use Rattle.node_laws.proofs.Words.{waiting_at, ℕ, ◌++◌, ◌∙◌, ◌∷◌, ◌≡◌, ◌⊎◌}
 use Rattle.trace_model.specs.declared.entry.Entry.TheVariants as entry
 use Rattle.node_laws.proofs.passes.Ends.{HasFirst, SeesAt, has_first, lets_see}
 use Rattle.node_laws.proofs.passes.Passing.{handles_sees}

@@ -1,15 +1,12 @@
 -- In a history, as a pass of the controller begins, the messages that wait at its ends are those that are read.
-use Rattle.std.proofs.Common.{◌≡◌, ℕ, false, cond, eqb, List, [], ◌∷◌, ◌++◌, map, sym, refl, ap, ◌∙◌, subst}
-use Rattle.std.specs.Prelude.{Option, Some, None, is_some}
-use Rattle.std.specs.Option.{option_map_or}
-use Rattle.std.proofs.lemmas.Bool.{eqb-true}
 use Rattle.node_laws.proofs.Words.{AreDifferent, AreHosts, AreNoTurns, AtEnd, Comes, Controller, Desk, Entry, FollowsNodes, Happening, HasEnds, Header, Host}
-use Rattle.node_laws.proofs.Words.{IsOutside, Line, Link, LinkEnd, LinkInput, MayBoot, MessagesAreRead, NodeHistory, NodeInput, NodeWorld, NumberedEnd}
-use Rattle.node_laws.proofs.Words.{Occurrence, Port, Running, Site, TimePasses, Work, aged, aged_entries, all_aged, arrival, as_it_ticks, by_test, comes_to}
-use Rattle.node_laws.proofs.Words.{comes_to_pass, controller_begins, end_c, entries_for, entries_in, holds_in, hosts_in, hosts_of_ends, input_of, link_to}
-use Rattle.node_laws.proofs.Words.{near_end_in, new_world, occurrences_in, own_side, port_at, port_for, site_at, steps_from, unhandled_in, work_of}
-use Rattle.node_laws.proofs.Words.{world_behind, world_step}
-use Rattle.node_laws.proofs.telling.Lasting.{AllHold, AnyLine, all_lines, boots_may, events_of_steps, front_holds, lines_hold}
+use Rattle.node_laws.proofs.Words.{IsOutside, Line, Link, LinkEnd, LinkInput, List, MayBoot, MessagesAreRead, NodeHistory, NodeInput, NodeWorld, None}
+use Rattle.node_laws.proofs.Words.{NumberedEnd, Occurrence, Option, Port, Running, Site, Some, TimePasses, Work, [], aged, aged_entries, all_aged, ap, arrival}
+use Rattle.node_laws.proofs.Words.{as_it_ticks, by_test, comes_to, comes_to_pass, cond, controller_begins, end_c, entries_for, entries_in, eqb, eqb-true, false}
+use Rattle.node_laws.proofs.Words.{holds_in, hosts_in, hosts_of_ends, input_of, is_some, link_to, map, near_end_in, new_world, occurrences_in, option_map_or}
+use Rattle.node_laws.proofs.Words.{own_side, port_at, port_for, refl, site_at, subst, sym, unhandled_in, work_of, world_behind, world_step, ℕ, ◌++◌, ◌∙◌, ◌∷◌}
+use Rattle.node_laws.proofs.Words.{◌≡◌}
+use Rattle.node_laws.proofs.telling.Lasting.{AnyLine, all_lines, boots_may, history_holds}
 use Rattle.node_laws.proofs.telling.Nodes.{hosts_same, link_is, ports_for}
 use Rattle.node_laws.proofs.telling.Orderly.{new_orderly, step_orderly}
 use Rattle.node_laws.proofs.telling.Worlds.{node_is}
@@ -65,11 +62,7 @@ new_reads hosts are = record {
 pub history_waits : (header : Header) (lines : List Line) (t : NodeHistory) → FollowsNodes header lines t → AreHosts header.hosts.items
     → (front back : List Occurrence) → occurrences_in t ≡ front ++ back → WaitsRead (entries_in front) (world_behind (new_world header.hosts.items) front)
 history_waits header lines t follows are front back parts =
-    let hosts : List ℕ = header.hosts.items in
-    let all : AllHold WaitsRead MayBoot AnyLine reads_last boots_may [] (new_world hosts) (events_of_steps (steps_from (new_world hosts) lines)) =
-    lines_hold WaitsRead MayBoot AnyLine reads_last boots_may lines [] (new_world hosts) (new_reads hosts are) (all_lines lines) in
-    front_holds WaitsRead MayBoot AnyLine reads_last boots_may front back [] (new_world hosts)
-    (subst (AllHold WaitsRead MayBoot AnyLine reads_last boots_may [] (new_world hosts)) (sym (ap events_of_steps follows.steps_are) ∙ parts) all)
+    history_holds WaitsRead MayBoot AnyLine reads_last boots_may header lines t follows (new_reads header.hosts.items are) (all_lines lines) front back parts
 
 -- ## The controller
 

@@ -1,14 +1,11 @@
 -- As the pass of a node begins, the messages that wait at its ends are what is read.
-use Rattle.std.proofs.Common.{◌≡◌, ℕ, Bool, true, false, cond, eqb, List, [], ◌∷◌, ◌++◌, map, sym, refl, ap, ◌∙◌, subst, append_assoc, append-nil}
-use Rattle.std.specs.Prelude.{◌||◌, Option, Some, None, drop}
-use Rattle.std.specs.List.{AllByRecursion, flat_map}
-use Rattle.std.proofs.lemmas.Bool.{eqb-true, true≢false}
-use Rattle.std.proofs.lemmas.List.Sums.{fold-append}
-use Rattle.node_laws.proofs.Words.{AreDifferent, AtEnd, Controller, Core, Deed, End, Entry, Got, Host, IsComing, IsOutside, LinkEnd, LinkInput, Message}
-use Rattle.node_laws.proofs.Words.{NodeInput, Port, Reset, TimePasses, Work, after_input, after_sessions, all_come, all_done, by_test, comes_to_pass, end_of}
-use Rattle.node_laws.proofs.Words.{entries_for, forgets, forgotten, has_come, has_come_so, has_freed, has_synced, hosts_of_ends, input_at, is_late, is_one_of}
-use Rattle.node_laws.proofs.Words.{node_of, owed_in_step, own_side, port_at, report, reset_late, same_end, syncs_in, times_out, told, told_at}
-use Rattle.node_laws.proofs.Words.{told_late, unhandled_after, unhandled_in, whole_acked, with_older, without_notice}
+use Rattle.node_laws.proofs.Words.{AllByRecursion, AreDifferent, AtEnd, Bool, Controller, Core, Deed, End, Entry, Got, Host, IsComing, IsOutside, LinkEnd}
+use Rattle.node_laws.proofs.Words.{LinkInput, List, Message, NodeInput, None, Option, Port, Reset, Some, TimePasses, Work, [], after_input, after_sessions}
+use Rattle.node_laws.proofs.Words.{all_come, all_done, ap, append-nil, append_assoc, by_test, comes_to_pass, cond, drop, end_of, entries_for, eqb, eqb-true}
+use Rattle.node_laws.proofs.Words.{false, flat_map, fold-append, forgets, forgotten, has_come, has_come_so, has_freed, has_synced, hosts_of_ends, input_at}
+use Rattle.node_laws.proofs.Words.{is_late, is_one_of, map, node_of, owed_in_step, own_side, port_at, refl, report, reset_late, same_end, subst, sym, syncs_in}
+use Rattle.node_laws.proofs.Words.{times_out, told, told_at, told_late, true, true≢false, unhandled_after, unhandled_in, whole_acked, with_older}
+use Rattle.node_laws.proofs.Words.{without_notice, ℕ, ◌++◌, ◌||◌, ◌∙◌, ◌∷◌, ◌≡◌}
 use Rattle.trace_model.specs.declared.entry.Entry.TheVariants as entry
 use Rattle.link_laws.specs.entries.Entries.{End as Side}
 use Rattle.node_laws.proofs.steps.Ports.{come_host, forgets_host, without_host, late_host}

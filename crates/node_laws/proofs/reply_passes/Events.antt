@@ -1,11 +1,9 @@
 -- A line causes 100 events at most.
-use Rattle.std.proofs.Common.{◌≡◌, ℕ, ◌*◌, ◌≤◌, Bool, true, false, cond, List, [], ◌∷◌, ◌++◌, length, length-append, sym, ap, ◌∙◌, arith, Option, Some, None}
-use Rattle.std.specs.List.{AllByRecursion}
-use Rattle.std.proofs.lemmas.List.{length-replicate}
-use Rattle.node_laws.proofs.Words.{AreNodeLinesOf, ArePlayable, End, FollowsNodes, Happening, Header, IsNodeLineOf, Line, Link, NodeHistory, NodeWorld}
-use Rattle.node_laws.proofs.Words.{Occurrence, OnWire, Running, Same, Site, Takes, Ticks, Verdict, all_happen, by_option, by_test, can_happen, exchanged}
-use Rattle.node_laws.proofs.Words.{first_verdict, frames_at, goes_on, happenings, happens_by, line_step, link_to, new_world, node_at, occurrences_in}
-use Rattle.node_laws.proofs.Words.{occurrences_of, refusal_in, site_at, steps_from, tables_told, taken_of, world_step}
+use Rattle.node_laws.proofs.Words.{AllByRecursion, AreNodeLinesOf, ArePlayable, Bool, End, FollowsNodes, Happening, Header, IsNodeLineOf, Line, Link, List}
+use Rattle.node_laws.proofs.Words.{NodeHistory, NodeWorld, None, Occurrence, OnWire, Option, Running, Same, Site, Some, Takes, Ticks, Verdict, [], all_happen}
+use Rattle.node_laws.proofs.Words.{ap, arith, by_option, by_test, can_happen, cond, exchanged, false, first_verdict, frames_at, goes_on, happenings, happens_by}
+use Rattle.node_laws.proofs.Words.{length, length-append, length-replicate, line_step, link_to, new_world, node_at, occurrences_in, occurrences_of, refusal_in}
+use Rattle.node_laws.proofs.Words.{site_at, steps_from, sym, tables_told, taken_of, true, world_step, ℕ, ◌*◌, ◌++◌, ◌∙◌, ◌∷◌, ◌≡◌, ◌≤◌}
 use Rattle.trace_model.specs.declared.line.Line.TheVariants as line
 use Rattle.node_laws.proofs.links.Worlds.{AreFineSites, IsFineWorld}
 use Rattle.node_laws.proofs.links.Playing.{lines_fine, world_fine}

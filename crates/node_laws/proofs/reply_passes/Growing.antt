@@ -1,12 +1,10 @@
 -- The generation of the journal of a node grows by one at most with each command that is noted.
-use Rattle.std.proofs.Common.{◌≡◌, ℕ, ◌+◌, ◌≤◌, ◌<◌, Bool, true, cond, List, [], ◌∷◌, ◌++◌, map, sym, refl, ap, append-nil, arith, lt-ltb}
-use Rattle.std.specs.Prelude.{Some, None, length}
-use Rattle.std.specs.List.{AllByRecursion, list_any}
-use Rattle.node_laws.proofs.Words.{About, Asks, AtEnd, ComesTo, Command, Commits, Core, Deed, Drops, Ends, Entry, FetchMessage, Give, HciTables, Hold, Message}
-use Rattle.node_laws.proofs.Words.{NodeInput, Orders, Port, Release, Releases, Removed, SaysOk, Sends, SetAside, State, Tells, TimePasses, Turn, Waits, Work}
-use Rattle.node_laws.proofs.Words.{after_sessions, all_come, all_done, anyone, body_of, by_test, comes_to_pass, commit, commit_writes, committed, count_of}
-use Rattle.node_laws.proofs.Words.{deeds_of, done, end_of_node, fails_within, finds_room, forgets, forgotten, has_come_so, has_freed, has_synced, is_over}
-use Rattle.node_laws.proofs.Words.{notified, noting, owed_in_step, record_fits, steps, syncs_in, turn_at, without_notice}
+use Rattle.node_laws.proofs.Words.{About, AllByRecursion, Asks, AtEnd, Bool, ComesTo, Command, Commits, Core, Deed, Drops, Ends, Entry, FetchMessage, Give}
+use Rattle.node_laws.proofs.Words.{HciTables, Hold, List, Message, NodeInput, None, Orders, Port, Release, Releases, Removed, SaysOk, Sends, SetAside, Some}
+use Rattle.node_laws.proofs.Words.{State, Tells, TimePasses, Turn, Waits, Work, [], after_sessions, all_come, all_done, anyone, ap, append-nil, arith, body_of}
+use Rattle.node_laws.proofs.Words.{by_test, comes_to_pass, commit, commit_writes, committed, cond, count_of, deeds_of, done, end_of_node, fails_within}
+use Rattle.node_laws.proofs.Words.{finds_room, forgets, forgotten, has_come_so, has_freed, has_synced, is_over, length, list_any, lt-ltb, map, notified, noting}
+use Rattle.node_laws.proofs.Words.{owed_in_step, record_fits, refl, steps, sym, syncs_in, true, turn_at, without_notice, ℕ, ◌++◌, ◌+◌, ◌<◌, ◌∷◌, ◌≡◌, ◌≤◌}
 use Rattle.trace_model.specs.declared.entry.Entry.TheVariants as entry
 use Rattle.node_laws.proofs.steps.StepWalks.{Lasts, all_last, got_at, handled, holds, lets, rest_lasts, unless}
 use Rattle.node_laws.proofs.passes.Passing.{comes_so}

@@ -1,21 +1,17 @@
 -- Whatever happens to a world, whether the first message at an end of the controller is held is what is read.
-use Rattle.std.proofs.Common.{◌≡◌, ℕ, Bool, true, false, cond, eqb, List, [], ◌∷◌, ◌++◌, map, sym, refl, ap, ◌∙◌, subst, append_assoc, append-nil}
-use Rattle.std.specs.Prelude.{◌&&◌, Option, Some, None}
-use Rattle.std.specs.Option.{option_map_or}
-use Rattle.std.specs.List.{AllByRecursion, find, flat_map}
-use Rattle.std.proofs.lemmas.Bool.{true≢false}
-use Rattle.std.proofs.lemmas.List.Sums.{fold-append}
-use Rattle.node_laws.proofs.Words.{Activates, AreNoTurns, Arms, AsksReset, AtEnd, Boots, Broken, Comes, Controller, Core, Deed, Desk, End, Entry, Give, Gives}
-use Rattle.node_laws.proofs.Words.{Happening, HasEnds, Host, IfItRuns, Inits, IsCut, IsOrderly, Link, LinkInput, Loses, Loss, Memory, Message, NextFrame}
-use Rattle.node_laws.proofs.Words.{NoInput, NodeInput, NodeWorld, NumberedEnd, Plan, Port, Resets, Running, Site, Starts, Takes, Ticks, TimePasses, Turn, Work}
-use Rattle.node_laws.proofs.Words.{activates, after_controller, after_host_step, after_near_tick, aged, aged_entries, all_aged, arrival, beginning, begins_with}
-use Rattle.node_laws.proofs.Words.{boot_found, boot_written, boots, by_boot, by_coming, by_controller, by_controller_tick, by_host, by_host_tick, by_loss}
-use Rattle.node_laws.proofs.Words.{by_memory, by_option, by_power, by_running, by_test, comes_at, comes_to, controller_cut, controller_does, controller_ticks}
-use Rattle.node_laws.proofs.Words.{controller_work, count_of, counts, end_c, end_h, ending_entries, ending_of, entries_for, exchanged, first_lost, frame_lost}
-use Rattle.node_laws.proofs.Words.{frames_noted, holds_in, host_cut, host_does, host_tick, host_ticks, host_work, hosts_in, hosts_tick, is_command_message}
-use Rattle.node_laws.proofs.Words.{is_held_at, link_after_controller, link_to, links_of, loses_power_at, memory_at, near_end_in, near_tick, new_desk}
-use Rattle.node_laws.proofs.Words.{noted_by_deed, noted_of, own_side, port_at, port_for, runs_on, sending, site_at, site_ticked, site_unticked, steps}
-use Rattle.node_laws.proofs.Words.{turn_entry, wires_for, with_error, with_memory, with_node, with_site, work_of, world_step, world_ticks}
+use Rattle.node_laws.proofs.Words.{Activates, AllByRecursion, AreNoTurns, Arms, AsksReset, AtEnd, Bool, Boots, Broken, Comes, Controller, Core, Deed, Desk, End}
+use Rattle.node_laws.proofs.Words.{Entry, Give, Gives, Happening, HasEnds, Host, IfItRuns, Inits, IsCut, IsOrderly, Link, LinkInput, List, Loses, Loss, Memory}
+use Rattle.node_laws.proofs.Words.{Message, NextFrame, NoInput, NodeInput, NodeWorld, None, NumberedEnd, Option, Plan, Port, Resets, Running, Site, Some}
+use Rattle.node_laws.proofs.Words.{Starts, Takes, Ticks, TimePasses, Turn, Work, [], activates, after_controller, after_host_step, after_near_tick, aged}
+use Rattle.node_laws.proofs.Words.{aged_entries, all_aged, ap, append-nil, append_assoc, arrival, beginning, begins_with, boot_found, boot_written, boots}
+use Rattle.node_laws.proofs.Words.{by_boot, by_coming, by_controller, by_controller_tick, by_host, by_host_tick, by_loss, by_memory, by_option, by_power}
+use Rattle.node_laws.proofs.Words.{by_running, by_test, comes_at, comes_to, cond, controller_cut, controller_does, controller_ticks, controller_work, count_of}
+use Rattle.node_laws.proofs.Words.{counts, end_c, end_h, ending_entries, ending_of, entries_for, eqb, exchanged, false, find, first_lost, flat_map, fold-append}
+use Rattle.node_laws.proofs.Words.{frame_lost, frames_noted, holds_in, host_cut, host_does, host_tick, host_ticks, host_work, hosts_in, hosts_tick}
+use Rattle.node_laws.proofs.Words.{is_command_message, is_held_at, link_after_controller, link_to, links_of, loses_power_at, map, memory_at, near_end_in}
+use Rattle.node_laws.proofs.Words.{near_tick, new_desk, noted_by_deed, noted_of, option_map_or, own_side, port_at, port_for, refl, runs_on, sending, site_at}
+use Rattle.node_laws.proofs.Words.{site_ticked, site_unticked, steps, subst, sym, true, true≢false, turn_entry, wires_for, with_error, with_memory, with_node}
+use Rattle.node_laws.proofs.Words.{with_site, work_of, world_step, world_ticks, ℕ, ◌&&◌, ◌++◌, ◌∙◌, ◌∷◌, ◌≡◌}
 use Rattle.trace_model.specs.declared.entry.Entry.TheVariants as entry
 use Rattle.link_laws.specs.entries.Entries.{End as Side}
 use Rattle.node_laws.proofs.telling.Mute.{AreMute}

@@ -1,14 +1,10 @@
 -- Whether the first message at an end of a node is held is what is read, as its pass begins and as its step ends.
-use Rattle.std.proofs.Common.{◌≡◌, ℕ, Bool, true, false, List, ◌++◌, map, sym, refl, ap, ◌∙◌, subst, append_assoc}
-use Rattle.std.specs.Prelude.{Option, Some, None}
-use Rattle.std.specs.Option.{option_map_or}
-use Rattle.std.proofs.lemmas.Bool.{true≢false}
-use Rattle.node_laws.proofs.Words.{AllByRecursion-append, AreNoTurns, ArePassed, AtEnd, ComesTo, End, Entry, IsNoTurn, IsWaitingRead, LinkInput, Message}
-use Rattle.node_laws.proofs.Words.{NodeInput, Port, TimePasses, Work, after_sessions, all_done, asked_at, by_test, comes_to_pass, forgets, forgotten, has_come}
-use Rattle.node_laws.proofs.Words.{has_come_so, has_freed, has_synced, holds_in, hosts_of_ends, input_at, is_forgotten, is_held_at, is_late, is_over}
-use Rattle.node_laws.proofs.Words.{noted_before_pass, owed_in_step, own_side, passes, reset_late, steps, syncs_in, waiting_at, waits_behind, with_older}
-use Rattle.node_laws.proofs.Words.{without_notice}
-use Rattle.std.proofs.lemmas.List.{append_cancel_left}
+use Rattle.node_laws.proofs.Words.{AllByRecursion-append, AreNoTurns, ArePassed, AtEnd, Bool, ComesTo, End, Entry, IsNoTurn, IsWaitingRead, LinkInput, List}
+use Rattle.node_laws.proofs.Words.{Message, NodeInput, None, Option, Port, Some, TimePasses, Work, after_sessions, all_done, ap, append_assoc}
+use Rattle.node_laws.proofs.Words.{append_cancel_left, asked_at, by_test, comes_to_pass, false, forgets, forgotten, has_come, has_come_so, has_freed}
+use Rattle.node_laws.proofs.Words.{has_synced, holds_in, hosts_of_ends, input_at, is_forgotten, is_held_at, is_late, is_over, map, noted_before_pass}
+use Rattle.node_laws.proofs.Words.{option_map_or, owed_in_step, own_side, passes, refl, reset_late, steps, subst, sym, syncs_in, true, true≢false, waiting_at}
+use Rattle.node_laws.proofs.Words.{waits_behind, with_older, without_notice, ℕ, ◌++◌, ◌∙◌, ◌≡◌}
 use Rattle.link_laws.specs.entries.Entries.{End as Side}
 use Rattle.node_laws.proofs.steps.Ports.{come_host, forgets_host, without_host, late_host}
 use Rattle.node_laws.proofs.steps.StepWalks.{unless}

@@ -1,12 +1,8 @@
 -- In the turns of a pass of the controller the messages at each end have them in the order in which they came.
-use Rattle.std.proofs.Common.{◌≡◌, ℕ, Bool, true, false, cond, eqb, List, [], ◌∷◌, ◌++◌, map, sym, refl, ap, ◌∙◌, subst, append-nil}
-use Rattle.std.specs.Prelude.{Option, Some, None, is_some}
-use Rattle.std.specs.Option.{option_map_or}
-use Rattle.std.specs.List.{AllByRecursion}
-use mathlib.Core.Bool.{and-false}
-use Rattle.node_laws.proofs.Words.{AreDifferent, AreInTurn, ComesTo, Controller, Desk, End, Entry, Host, IsOutside, Link, LinkEnd, Message, NodeInput}
-use Rattle.node_laws.proofs.Words.{NodeWorld, NumberedEnd, Port, Running, Site, Work, by_option, by_test, comes_to_pass, end_c, end_of, hosts_in, hosts_of_ends}
-use Rattle.node_laws.proofs.Words.{link_to, own_side, port_at, same_end, site_at, waiting_at, work_of}
+use Rattle.node_laws.proofs.Words.{AllByRecursion, AreDifferent, AreInTurn, Bool, ComesTo, Controller, Desk, End, Entry, Host, IsOutside, Link, LinkEnd, List}
+use Rattle.node_laws.proofs.Words.{Message, NodeInput, NodeWorld, None, NumberedEnd, Option, Port, Running, Site, Some, Work, [], and-false, ap, append-nil}
+use Rattle.node_laws.proofs.Words.{by_option, by_test, comes_to_pass, cond, end_c, end_of, eqb, false, hosts_in, hosts_of_ends, is_some, link_to, map}
+use Rattle.node_laws.proofs.Words.{option_map_or, own_side, port_at, refl, same_end, site_at, subst, sym, true, waiting_at, work_of, ℕ, ◌++◌, ◌∙◌, ◌∷◌, ◌≡◌}
 use Rattle.node_laws.proofs.telling.Nodes.{hosts_same, link_is}
 use Rattle.node_laws.proofs.read_rooms.Beginning.{HasSite, site_for}
 use Rattle.node_laws.proofs.turns.Lines.{AllWait, Waiting}

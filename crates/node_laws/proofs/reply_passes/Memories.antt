@@ -1,10 +1,9 @@
 -- The generation that a memory says grows by one at most where a commit is written to it, whole or cut.
-use Rattle.std.proofs.Common.{◌≡◌, ◌⊎◌, inl, inr, ℕ, ◌+◌, ◌≤◌, ◌<◌, Bool, true, false, cond, List, [], length, slice_index, sym, refl, ap, ◌∙◌, arith}
+use Rattle.node_laws.proofs.Words.{AreTables, Bool, Command, FindsRoom, HciTables, IsCommand, IsRecordable, Journal, Knows, List, Memory, State, Write, []}
+use Rattle.node_laws.proofs.Words.{after_planned, after_writes, ap, append_writes, apply, arith, body_of, by_test, cases_Bool, cases_eq, commit_writes}
+use Rattle.node_laws.proofs.Words.{committed, compact_writes, cond, fails_within, false, inl, inr, is_opened_gate, journal, length, opens_gate, record_fits}
+use Rattle.node_laws.proofs.Words.{refl, room_writes, slice_index, snapshot_bodies, state_of, sym, true, with_room, ℕ, ◌+◌, ◌<◌, ◌∙◌, ◌≡◌, ◌≤◌, ◌⊎◌}
 use Rattle.std.specs.Prelude.{◌≢◌}
-use Rattle.std.proofs.lemmas.Bool.{cases_Bool, cases_eq}
-use Rattle.node_laws.proofs.Words.{AreTables, Command, FindsRoom, HciTables, IsCommand, IsRecordable, Journal, Knows, Memory, State, Write, after_planned}
-use Rattle.node_laws.proofs.Words.{after_writes, append_writes, apply, body_of, by_test, commit_writes, committed, compact_writes, fails_within, is_opened_gate}
-use Rattle.node_laws.proofs.Words.{journal, opens_gate, record_fits, room_writes, snapshot_bodies, state_of, with_room}
 use Rattle.nv_journal.proofs.Compacting as compacting
 use Rattle.node_laws.proofs.kept.Commits.{says_of, can, room_knows, next_of}
 use Rattle.node_laws.proofs.cuts.Filled.{IsFilled}

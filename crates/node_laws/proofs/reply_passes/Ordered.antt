@@ -1,16 +1,12 @@
 -- What is noted as a node comes from the beginning of a pass by turns has its turns in order, in whatever order the ends have them.
-use Rattle.std.proofs.Common.{◌≡◌, ℕ, ◌&&◌, Bool, true, false, cond, eqb, List, [], ◌∷◌, ◌++◌, map, sym, refl, ap, ◌∙◌, subst, append_assoc}
-use Rattle.std.specs.Prelude.{Option, Some, None}
-use Rattle.std.specs.List.{AllByRecursion, flat_map}
-use Rattle.std.specs.Option.{option_map_or}
-use Rattle.std.proofs.lemmas.Bool.{eqb-true}
-use mathlib.Core.Bool.{and-false}
-use Rattle.node_laws.proofs.Words.{AllByRecursion-append, AreInTurn, Asks, AtEnd, ComesTo, Commits, Controller, Core, Deed, Drops, End, Ends, Entry, Give}
-use Rattle.node_laws.proofs.Words.{Handles, Host, LetsGo, LinkInput, Message, NodeInput, Orders, Port, Refused, Reset, SaysOk, Sends, SetAside, Tells}
-use Rattle.node_laws.proofs.Words.{TimePasses, Work, after_input, all_come, by_test, comes_to_pass, deeds_of, done, end_of, end_of_node, entries_for, forgets}
-use Rattle.node_laws.proofs.Words.{give_refusal, goes_in, handles, has_come_so, has_freed, has_synced, holds_back, input_at, is_held_at, is_late, lets_go}
-use Rattle.node_laws.proofs.Words.{noted_before_pass, noted_by_deed, noted_by_deeds, noted_of, owed_in_step, own_side, port_at, report, same_end, sent_unless}
-use Rattle.node_laws.proofs.Words.{syncs_in, takes_up, told, told_at, told_late, told_of_coming, told_of_late, turn_at, waiting_at, whole_acked, with_older}
+use Rattle.node_laws.proofs.Words.{AllByRecursion, AllByRecursion-append, AreInTurn, Asks, AtEnd, Bool, ComesTo, Commits, Controller, Core, Deed, Drops, End}
+use Rattle.node_laws.proofs.Words.{Ends, Entry, Give, Handles, Holds, Host, LetsGo, LinkInput, List, Message, NodeInput, None, Option, Orders, Port, Refused}
+use Rattle.node_laws.proofs.Words.{Reset, SaysOk, Sends, SetAside, Some, Tells, TimePasses, Work, [], after_input, all_come, and-false, ap, append_assoc}
+use Rattle.node_laws.proofs.Words.{by_test, comes_to_pass, cond, deeds_of, done, end_of, end_of_node, entries_for, eqb, eqb-true, false, flat_map, forgets}
+use Rattle.node_laws.proofs.Words.{give_refusal, goes_in, handles, has_come_so, has_freed, has_synced, holds_back, input_at, is_held_at, is_late, lets_go, map}
+use Rattle.node_laws.proofs.Words.{noted_before_pass, noted_by_deed, noted_by_deeds, noted_of, option_map_or, owed_in_step, own_side, port_at, refl, report}
+use Rattle.node_laws.proofs.Words.{same_end, sent_unless, subst, sym, syncs_in, takes_up, told, told_at, told_late, told_of_coming, told_of_late, true, turn_at}
+use Rattle.node_laws.proofs.Words.{waiting_at, whole_acked, with_older, ℕ, ◌&&◌, ◌++◌, ◌∙◌, ◌∷◌, ◌≡◌}
 use Rattle.trace_model.specs.declared.entry.Entry.TheVariants as entry
 use Rattle.link_laws.specs.entries.Entries.{End as Side}
 use Rattle.node_laws.proofs.telling.Mute.{IsMute, AreMute, deeds_mute, all_owed_mute, all_synced_mute}
@@ -21,7 +17,7 @@ use Rattle.node_laws.proofs.passes.Before.{before_entries}
 use Rattle.node_laws.proofs.passes.Behind.{held_own, other_handles, other_holds}
 use Rattle.node_laws.proofs.passes.Ends.{SeesAt, lets_see}
 use Rattle.node_laws.proofs.passes.Passing.{comes_so, handles_entries, handles_sees, holds_notes, lets_notes, own_held}
-use Rattle.node_laws.specs.passes.Passing.ComesTo.{Begins, Holds}
+use Rattle.node_laws.specs.passes.Passing.ComesTo.{Begins}
 use Rattle.node_laws.proofs.reply_passes.Sides.{is_host_side, side_comes}
 use Rattle.node_laws.proofs.turns.Coming.{gots_still, told_goes}
 

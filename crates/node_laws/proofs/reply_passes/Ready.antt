@@ -1,11 +1,9 @@
 -- In a history the controller finds room for any command in the turns of each of its passes, while few commands were noted.
-use Rattle.std.proofs.Common.{◌≡◌, ℕ, ◌≤◌, List, [], ◌++◌, ap, subst, arith}
-use Rattle.std.specs.Prelude.{Some}
-use Rattle.std.specs.List.{AllByRecursion}
-use Rattle.node_laws.proofs.Words.{AllKeep, AreHosts, AtEnd, Comes, ComesTo, Controller, FollowsNodes, HasRoomForAll, Header, IfRuns, IsFew, IsSentByHost, Line}
-use Rattle.node_laws.proofs.Words.{LinkInput, MessagesAreRead, NodeHistory, NodeWorld, Occurrence, Running, RunsSo, TimePasses, Work, all_aged, arrival}
-use Rattle.node_laws.proofs.Words.{as_it_ticks, comes_to, comes_to_pass, controller_begins, entries_for, entries_in, input_of, link_to, near_end_in, new_world}
-use Rattle.node_laws.proofs.Words.{node_entries, noted_before_pass, occurrences_in, world_behind}
+use Rattle.node_laws.proofs.Words.{AllByRecursion, AllKeep, AreHosts, AtEnd, Comes, ComesTo, Controller, FollowsNodes, HasRoomForAll, Header, IfRuns, IsFew}
+use Rattle.node_laws.proofs.Words.{IsSentByHost, Line, LinkInput, List, MessagesAreRead, NodeHistory, NodeWorld, Occurrence, Running, RunsSo, Some, TimePasses}
+use Rattle.node_laws.proofs.Words.{Work, [], all_aged, ap, arith, arrival, as_it_ticks, comes_to, comes_to_pass, controller_begins, entries_for, entries_in}
+use Rattle.node_laws.proofs.Words.{input_of, link_to, near_end_in, new_world, node_entries, noted_before_pass, occurrences_in, subst, world_behind, ℕ, ◌++◌}
+use Rattle.node_laws.proofs.Words.{◌≡◌, ◌≤◌}
 use Rattle.node_laws.proofs.kept.Plainly.{plain_entries}
 use Rattle.node_laws.proofs.kept.Ticking.{aged_goes}
 use Rattle.node_laws.proofs.views.Lines.{events_so}

@@ -1,26 +1,20 @@
 -- In a history the generation of the controller's memory is one above the commands that were noted, at most.
-use Rattle.std.proofs.Common.{◌≡◌, ◌⊎◌, inl, inr, ℕ, ◌+◌, ◌≤◌, Bool, true, false, cond, eqb, List, [], ◌∷◌, ◌++◌, length, sym, refl, ap, ◌∙◌, subst}
-use Rattle.std.proofs.Common.{append_assoc, append-nil, arith}
-use Rattle.std.specs.Prelude.{◌&&◌, slice_index, Option, Some, None, replicate}
-use Rattle.std.specs.Option.{option_map_or}
-use Rattle.std.specs.List.{AllByRecursion, flat_map}
-use Rattle.std.proofs.lemmas.Bool.{cases_Bool, true≢false}
-use Rattle.node_laws.proofs.Words.{Activates, AllKeep, AreHosts, Arms, AsksReset, AtEnd, Boots, Comes, Controller, Core, End, Entry, FollowsNodes, Gives}
-use Rattle.node_laws.proofs.Words.{Happening, Header, IfRuns, Inits, IsCut, IsFew, IsNodeNumber, IsPlain, IsSentByHost, Journal, Line, LinkInput, Loses, Loss}
-use Rattle.node_laws.proofs.Words.{Memory, NextFrame, NoInput, NodeHistory, NodeInput, NodeWorld, NumberedEnd, Occurrence, Plan, Resets, Running, RunsSo, Side}
-use Rattle.node_laws.proofs.Words.{Site, Starts, State, StillRuns, Takes, Ticks, TimePasses, Work, Write, activates, after_controller, after_near_tick}
-use Rattle.node_laws.proofs.Words.{after_planned, after_writes, all_aged, arrival, beginning, begins_with, body_of, boot_found, boot_writes, boot_written}
-use Rattle.node_laws.proofs.Words.{boots, by_boot, by_coming, by_controller, by_controller_tick, by_host, by_loss, by_memory, by_power, by_running, comes_at}
-use Rattle.node_laws.proofs.Words.{comes_to, commit_writes, controller_does, controller_ticks, controller_work, count_of, current, end_c, end_h, entries_for}
-use Rattle.node_laws.proofs.Words.{entries_in, fails_within, format_writes, frame_lost, frames_noted, fresh, host_does, hosts_tick, is_opened_gate, journal}
-use Rattle.node_laws.proofs.Words.{link_to, loses_power_at, memory_at, near_end_in, near_tick, new_world, no_journal, node_entries, occurrences_in, sending}
-use Rattle.node_laws.proofs.Words.{steps, wires_for, work_of, world_behind, world_step, world_ticks}
+use Rattle.node_laws.proofs.Words.{Activates, AllByRecursion, AllKeep, AreHosts, Arms, AsksReset, AtEnd, Bool, Boots, Comes, Controller, Core, End, Entry}
+use Rattle.node_laws.proofs.Words.{FollowsNodes, Gives, Happening, Header, IfRuns, Inits, IsCut, IsFew, IsNodeNumber, IsPlain, IsSentByHost, IsUnformatted}
+use Rattle.node_laws.proofs.Words.{Journal, Line, LinkInput, List, Loses, Loss, Memory, NextFrame, NoInput, NodeHistory, NodeInput, NodeWorld, None}
+use Rattle.node_laws.proofs.Words.{NumberedEnd, Occurrence, Option, Plan, Resets, Running, RunsSo, Side, Site, Some, Starts, State, StillRuns, Takes, Ticks}
+use Rattle.node_laws.proofs.Words.{TimePasses, Work, Write, [], activates, after_controller, after_near_tick, after_planned, after_writes, all_aged, ap}
+use Rattle.node_laws.proofs.Words.{append-nil, append_assoc, arith, arrival, beginning, begins_with, body_of, boot_found, boot_writes, boot_written, boots}
+use Rattle.node_laws.proofs.Words.{by_boot, by_coming, by_controller, by_controller_tick, by_host, by_loss, by_memory, by_power, by_running, cases_Bool}
+use Rattle.node_laws.proofs.Words.{comes_at, comes_to, commit_writes, cond, controller_does, controller_ticks, controller_work, count_of, current, end_c, end_h}
+use Rattle.node_laws.proofs.Words.{entries_for, entries_in, eqb, fails_within, false, flat_map, format_writes, frame_lost, frames_noted, fresh, host_does}
+use Rattle.node_laws.proofs.Words.{hosts_tick, inl, inr, is_opened_gate, journal, last_place, length, link_to, loses_power_at, memory_at, near_end_in}
+use Rattle.node_laws.proofs.Words.{near_tick, new_world, no_journal, node_entries, occurrences_in, option_map_or, refl, replicate, sending, slice_index, steps}
+use Rattle.node_laws.proofs.Words.{subst, sym, true, true≢false, wires_for, work_of, world_behind, world_step, world_ticks, ℕ, ◌&&◌, ◌++◌, ◌+◌, ◌∙◌, ◌∷◌, ◌≡◌}
+use Rattle.node_laws.proofs.Words.{◌≤◌, ◌⊎◌}
 use Rattle.trace_model.specs.declared.entry.Entry.TheVariants as entry
-use Rattle.journal_laws.specs.Writes.{last_place}
-use Rattle.journal_laws.specs.Operations.{IsUnformatted}
 use Rattle.journal_laws.proofs.Opening.{format_is_cut, format_state}
-use Rattle.node_laws.proofs.telling.Lasting.{Any, AnyLine, AreCaused, all_any, all_lines, events_of_steps, lines_caused}
-use Rattle.node_laws.proofs.order.Asked.{behind_push}
+use Rattle.node_laws.proofs.telling.Lasting.{Any, AreCaused, fronts_last, history_caused}
 use Rattle.node_laws.proofs.kept.Doing.{GoesOn_or_lost}
 use Rattle.node_laws.proofs.kept.Plainly.{plain_entries}
 use Rattle.node_laws.proofs.kept.Planned.{planned_cut, planned_whole}
@@ -31,7 +25,6 @@ use Rattle.node_laws.proofs.views.Lines.{events_so}
 use Rattle.node_laws.specs.reply_passes.Counts.{commands_noted as commits}
 use Rattle.node_laws.proofs.reply_passes.Growing.{Grows, commits-append, spent, steps_grow}
 use Rattle.node_laws.proofs.reply_passes.Memories.{cut_grows, generation_in, known_generation}
-use Rattle.node_laws.proofs.read_steps.Events.{entries_one}
 
 -- ## A step of a node
 
@@ -247,37 +240,15 @@ module _ (hosts : List ℕ) (are : AreHosts hosts) where
 -- ## Histories
 
 -- what lasts over each event, where all nodes keep what is read, holds behind any first ones
-module _ (P : List Entry → NodeWorld → Type 0) (hosts : List ℕ)
-    (lasts : (t : List Entry) (w : NodeWorld) (c : Happening) → P t w → AllKeep hosts t w → P (t ++ (world_step w c).1) (world_step w c).0)
-    (events : List Occurrence)
-    (keeps : (front back : List Occurrence) → events ≡ front ++ back → AllKeep hosts (entries_in front) (world_behind (new_world hosts) front)) where
-  fronts_last : (done front back : List Occurrence) → events ≡ done ++ (front ++ back) → AreCaused Any (world_behind (new_world hosts) done) (front ++ back)
-      → P (entries_in done) (world_behind (new_world hosts) done) → P (entries_in (done ++ front)) (world_behind (new_world hosts) (done ++ front))
-  fronts_last done [] back is caused grown =
-      subst (λ l. P (entries_in l) (world_behind (new_world hosts) l)) (sym (append-nil done)) grown
-  fronts_last done (o ∷ front) back is caused grown =
-      let w : NodeWorld = world_behind (new_world hosts) done in
-      let next : NodeWorld = (world_step w o.cause).0 in
-      let now : P (entries_in done ++ o.entries) next =
-      subst (λ l. P (entries_in done ++ l) next) (sym caused.0)
-      (lasts (entries_in done) w o.cause grown (keeps done (o ∷ (front ++ back)) is)) in
-      subst (λ l. P (entries_in l) (world_behind (new_world hosts) l)) (append_assoc done (o ∷ []) front)
-      (fronts_last (done ++ o ∷ []) front back (is ∙ sym (append_assoc done (o ∷ []) (front ++ back)))
-      (subst (λ v. AreCaused Any v (front ++ back)) (sym (behind_push done o (new_world hosts))) caused.2)
-      (subst (P (entries_in (done ++ o ∷ []))) (sym (behind_push done o (new_world hosts)))
-      (subst (λ l. P l next) (sym (entries_one done o)) now)))
-
 pub history_lasts : (P : List Entry → NodeWorld → Type 0) (header : Header) (lines : List Line) (t : NodeHistory) → FollowsNodes header lines t
     → AreHosts header.hosts.items → AllByRecursion IsSentByHost lines → IsFew (node_entries t)
     → ((t : List Entry) (w : NodeWorld) (c : Happening) → P t w → AllKeep header.hosts.items t w → P (t ++ (world_step w c).1) (world_step w c).0)
     → P [] (new_world header.hosts.items) → (front back : List Occurrence) → occurrences_in t ≡ front ++ back
     → P (entries_in front) (world_behind (new_world header.hosts.items) front)
 history_lasts P header lines t follows are sent few lasts begins front back parts =
-    let hosts : List ℕ = header.hosts.items in
-    let caused : AreCaused Any (new_world hosts) (front ++ back) =
-    subst (AreCaused Any (new_world hosts)) (sym (ap events_of_steps follows.steps_are) ∙ parts)
-    (lines_caused Any AnyLine (λ w l any none. all_any w _) lines (new_world hosts) (all_lines lines)) in
-    fronts_last P hosts lasts (occurrences_in t) (λ f b p. (events_so header lines t follows are sent few f b p).keep) [] front back parts caused begins
+    fronts_last P (AllKeep header.hosts.items) lasts (new_world header.hosts.items) (occurrences_in t)
+    (λ f b p. (events_so header lines t follows are sent few f b p).keep) [] front back parts
+    (subst (AreCaused Any (new_world header.hosts.items)) parts (history_caused header lines t follows)) begins
 
 pub history_grown : (header : Header) (lines : List Line) (t : NodeHistory) → FollowsNodes header lines t → AreHosts header.hosts.items
     → AllByRecursion IsSentByHost lines → IsFew (node_entries t) → (front back : List Occurrence) → occurrences_in t ≡ front ++ back

@@ -1,15 +1,12 @@
 -- Turns and messages that are held are noted at the node's own ends.
-use Rattle.std.proofs.Common.{◌≡◌, ℕ, ◌&&◌, Bool, true, false, cond, eqb, List, [], ◌∷◌, ◌++◌, map, sym, refl, ap, ◌∙◌, subst, append_assoc, append-nil}
-use Rattle.std.specs.Prelude.{not}
-use Rattle.std.specs.Option.{option_map_or}
-use Rattle.std.specs.List.{AllByRecursion}
-use Rattle.std.proofs.lemmas.List.Sums.{fold-append}
-use Rattle.node_laws.proofs.Words.{AllByRecursion-append, AreNoTurns, ArePassed, AtEnd, ComesTo, Controller, Cut, Deed, End, Ends, Entry, Host, IsNoTurn}
-use Rattle.node_laws.proofs.Words.{IsTurnSo, Message, NodeInput, Port, Restarted, Sends, TimePasses, Work, after_sessions, all_done, begins_with, by_test}
-use Rattle.node_laws.proofs.Words.{comes_to_pass, deeds_of, end_of, entries_for, entry_of, forgets, forgotten, has_come_so, has_freed, has_synced, holds_in}
-use Rattle.node_laws.proofs.Words.{is_held, owed_in_step, own_side, port_at, same_end, same_side, steps, syncs_in, waits_behind, without_notice}
+use Rattle.node_laws.proofs.Words.{AllByRecursion, AllByRecursion-append, AreNoTurns, ArePassed, AtEnd, Bool, ComesTo, Controller, Cut, Deed, End, Ends, Entry}
+use Rattle.node_laws.proofs.Words.{Host, IsNoTurn, IsTurnSo, List, Message, NodeInput, Noted, Port, Restarted, Sends, TimePasses, Work, [], after_sessions}
+use Rattle.node_laws.proofs.Words.{all_done, ap, append-nil, append_assoc, begins_with, by_test, comes_to_pass, cond, deeds_of, end_of, entries_for, entry_of}
+use Rattle.node_laws.proofs.Words.{eqb, false, fold-append, forgets, forgotten, has_come_so, has_freed, has_synced, holds_in, is_held, map, not, option_map_or}
+use Rattle.node_laws.proofs.Words.{owed_in_step, own_side, port_at, refl, same_end, same_side, steps, subst, sym, syncs_in, true, waiting_after, waits_behind}
+use Rattle.node_laws.proofs.Words.{without_notice, ℕ, ◌&&◌, ◌++◌, ◌∙◌, ◌∷◌, ◌≡◌}
 use Rattle.trace_model.specs.declared.entry.Entry.TheVariants as entry
-use Rattle.link_laws.specs.entries.Entries.{End as Side, Entry as Noted}
+use Rattle.link_laws.specs.entries.Entries.{End as Side}
 use Rattle.link_laws.specs.entries.Entries.Entry.{Tick}
 use Rattle.node_laws.proofs.telling.Mute.{IsPlain, IsMute, AreMute, deeds_mute, forgotten_mute, all_owed_mute, all_synced_mute}
 use Rattle.node_laws.proofs.readings.Noting.{IsBeside, NotesSo, Notes, all_do as notes_do, steps_note}
@@ -17,7 +14,6 @@ use Rattle.node_laws.proofs.telling.Walks.{all_last, handling}
 use Rattle.node_laws.proofs.telling.Steps.{sessions_side}
 use Rattle.node_laws.proofs.steps.StepWalks.{unless}
 use Rattle.node_laws.proofs.passes.Passing.{comes_so}
-use Rattle.node_laws.specs.passes.Passing.{waiting_after}
 
 -- ## No boots
 

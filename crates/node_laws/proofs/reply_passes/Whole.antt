@@ -1,11 +1,8 @@
 -- In a history each pass of the controller begins as is asked of it, so it replies to messages as is read.
-use Rattle.std.proofs.Common.{◌≡◌, ℕ, ◌≤◌, false, List, ◌++◌, length, arith}
-use Rattle.std.specs.Prelude.{Some}
-use Rattle.std.specs.List.{AllByRecursion}
-use Rattle.node_laws.proofs.Words.{AreCausedSo, AreHosts, ArePlayable, AreRepliedIn, AtEnd, BeginsPass, Comes, ComesTo, Entry, FollowsNodes, HasRoomForAll}
-use Rattle.node_laws.proofs.Words.{Header, IsFew, IsSentByHost, Line, LinkInput, NodeHistory, NodeWorld, Occurrence, Running, TimePasses, Work, all_aged}
-use Rattle.node_laws.proofs.Words.{as_it_ticks, comes_to_pass, commands_by_events, controller_begins, entries_in, input_of, link_to, new_world, node_entries}
-use Rattle.node_laws.proofs.Words.{occurrences_in, world_behind}
+use Rattle.node_laws.proofs.Words.{AllByRecursion, AreCausedSo, AreHosts, ArePlayable, AreRepliedIn, AtEnd, BeginsPass, Comes, ComesTo, Entry, FollowsNodes}
+use Rattle.node_laws.proofs.Words.{HasRoomForAll, Header, IsFew, IsSentByHost, Line, LinkInput, List, NodeHistory, NodeWorld, Occurrence, Running, Some}
+use Rattle.node_laws.proofs.Words.{TimePasses, Work, all_aged, arith, as_it_ticks, comes_to_pass, commands_by_events, controller_begins, entries_in, false}
+use Rattle.node_laws.proofs.Words.{input_of, length, link_to, new_world, node_entries, occurrences_in, world_behind, ℕ, ◌++◌, ◌≡◌, ◌≤◌}
 use Rattle.node_laws.proofs.bounds.Begun.{passes_bounded, ticks_bounded}
 use Rattle.node_laws.proofs.bounds.Lines.{front_so}
 use Rattle.node_laws.proofs.replies.Histories.{comes_replied, tick_replied}

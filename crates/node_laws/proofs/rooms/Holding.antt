@@ -1,18 +1,14 @@
 -- The messages of an end that aren't acknowledged whole are those that are read to be so.
-use Rattle.std.proofs.Common.{◌≡◌, ℕ, cond, List, [], ◌∷◌, ◌++◌, Some, None, refl, ap, ap₂, sym, subst, ◌∙◌}
-use Rattle.std.specs.Prelude.{drop}
-use Rattle.node_laws.proofs.Words.{AllAllowed, End, Entry, Good, IsLine, IsLinkTold, IsReadOff, Link, LinkEvent, LinkState, Message, NumberedEnd, Reached}
-use Rattle.node_laws.proofs.Words.{Sounds, Up, Waiting, after_link_events, aside_in, core_event, core_of, end_c, end_h, event_entries, event_step, happens}
-use Rattle.node_laws.proofs.Words.{new_line, node_of, number_of, reached_more, same_number, session_now, start_good, start_reached, talk_of, unacknowledged_in}
-use Rattle.node_laws.proofs.Words.{whole_acked, whole_among}
+use Rattle.node_laws.proofs.Words.{AllAllowed, AreReadOff, End, Entry, Good, IsLine, IsLinkTold, IsReadOff, Link, LinkEvent, LinkState, List, Message, None}
+use Rattle.node_laws.proofs.Words.{NumberedEnd, Reached, Some, Sounds, Up, Waiting, [], after_link_events, ap, ap₂, aside_in, cond, core_event, core_of, drop}
+use Rattle.node_laws.proofs.Words.{end_c, end_h, ended_talk, event_entries, event_step, happens, new_line, node_of, number_of, own_session, reached_more, refl}
+use Rattle.node_laws.proofs.Words.{same_number, session_now, start_good, start_reached, subst, sym, talk_now, talk_of, unacknowledged_in, whole_acked}
+use Rattle.node_laws.proofs.Words.{whole_among, ℕ, ◌++◌, ◌∙◌, ◌∷◌, ◌≡◌}
 use Rattle.shdlc_core.specs.declared.answers.LinkState.TheVariants.{Down}
 use Rattle.link_laws.proofs.machine.Runs.{Sound}
-use Rattle.link_laws.specs.messages.Links.{talk_now, ended_talk}
 use Rattle.link_laws.specs.entries.Entries.{Entry as Note, first_entries}
-use Rattle.link_laws.specs.entries.Sessions.{number_now as own_session}
 use Rattle.link_laws.proofs.entries.Books.{up_talk}
 use Rattle.link_laws.proofs.entries.Running.{Noted, note_event, start_noted}
-use Rattle.node_laws.specs.order.Told.{AreReadOff}
 use Rattle.node_laws.proofs.order.Quiet.{read_off}
 use Rattle.node_laws.specs.notices.Spares.{IsEndRead}
 use Rattle.node_laws.specs.rooms.Rooms.{IsHeldRead, AreHeldRead}

@@ -1,12 +1,11 @@
 -- Of worlds of nodes: what both ends of each link have to spare.
-use Rattle.std.proofs.Common.{◌≡◌, ℕ, false, eqb, List, Some, ap, sym, ◌∙◌}
-use Rattle.node_laws.proofs.Words.{AreSessionsRead, Entry, IsLinkTold, Link, NodeWorld, Occurrence, Site, end_c, end_h, entries_in, site_at}
+use Rattle.node_laws.proofs.Words.{AreSessionsRead, AsidesAreRead, Entry, IsLinkTold, Link, List, NodeWorld, Occurrence, Site, Some, ap, end_c, end_h}
+use Rattle.node_laws.proofs.Words.{entries_in, eqb, false, site_at, sym, ℕ, ◌∙◌, ◌≡◌}
 use Rattle.node_laws.proofs.telling.Nodes.{site_host, link_is}
 use Rattle.node_laws.proofs.telling.Worlds.{site_is}
 use Rattle.node_laws.proofs.order.Lines.{IsSo}
 use Rattle.node_laws.proofs.order.Sessions.{are_read}
 use Rattle.node_laws.proofs.notices.Sparing.{spare_is}
-use Rattle.node_laws.specs.creations.Creations.{AsidesAreRead}
 use Rattle.node_laws.specs.rooms.Rooms.{AreSparesRead}
 use Rattle.node_laws.proofs.rooms.Holding.{controller_end, host_end}
 

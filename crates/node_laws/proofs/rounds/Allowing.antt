@@ -1,16 +1,15 @@
 -- What the rounds of a world are on a link may happen on it.
-use Rattle.std.proofs.Common.{◌≡◌, ℕ, zero, suc, ◌==◌, ◌&&◌, Bool, true, false, not, List, [], ◌∷◌, ◌++◌, Option, Some, None}
-use Rattle.std.proofs.Common.{refl, sym, subst, ◌∙◌, cond, length}
-use Rattle.std.proofs.lemmas.Bool.{and_parts, not-true}
-use Rattle.node_laws.proofs.Words.{AllAllowed, AreSendableTurns, AsksReset, AtController, AtEnd, AtHost, Controller, End, Happening, Host, IsEvent, LinkEnd}
-use Rattle.node_laws.proofs.Words.{LinkEvent, LinkInput, NextFrame, Node, NodeWorld, NumberedEnd, Running, Site, Step, Takes, TicksWithout, Work}
-use Rattle.node_laws.proofs.Words.{after_link_events, all_aged, all_happen, arrival, by_test, can_happen, comes_to, controller_takes, controller_work}
-use Rattle.node_laws.proofs.Words.{end_takes_all, ending_of, ends_events, ends_in_order, ends_take_all, entries_for, events_on, exchanged, frames_at}
-use Rattle.node_laws.proofs.Words.{happenings, host_work, input_of, is_waiting, link_events_in, link_to, near_end_in, round_events, site_at, site_takes, steps}
-use Rattle.node_laws.proofs.Words.{ticks_on, turns_at, work_of, world_after_round, world_step}
+use Rattle.node_laws.proofs.Words.{AllAllowed, AreSendableTurns, AsksReset, AtController, AtEnd, AtHost, Bool, Controller, End, Happening, Host, IsEvent}
+use Rattle.node_laws.proofs.Words.{LinkEnd, LinkEvent, LinkInput, List, NextFrame, Node, NodeWorld, None, NumberedEnd, Option, Running, Site, Some, Step, Takes}
+use Rattle.node_laws.proofs.Words.{TicksWithout, TimePassing, Work, [], after_link_events, all_aged, all_happen, and_parts, arrival, by_test, can_happen}
+use Rattle.node_laws.proofs.Words.{comes_to, cond, controller_takes, controller_tick_on, controller_work, end_takes_all, ending_of, ends_events, ends_in_order}
+use Rattle.node_laws.proofs.Words.{ends_take_all, entries_for, events_on, exchanged, false, frames_at, happenings, host_work, input_of, is_waiting, length}
+use Rattle.node_laws.proofs.Words.{link_events_in, link_to, near_end_in, not, refl, round_events, rounds_events, site_at, site_takes, site_ticks, steps, subst}
+use Rattle.node_laws.proofs.Words.{suc, sym, takes_on, tick_so, ticks_on, true, turns_at, work_of, world_after_round, world_step, zero, ℕ, ◌&&◌, ◌++◌, ◌==◌}
+use Rattle.node_laws.proofs.Words.{◌∙◌, ◌∷◌, ◌≡◌}
+use Rattle.std.proofs.lemmas.Bool.{not-true}
 use Rattle.trace_model.specs.declared.line.Line.TheVariants as line
 use Rattle.link_laws.specs.messages.Links.LinkEvent.{Ticks}
-use Rattle.node_machine.specs.world.World.Happening.{Ticks as TimePassing}
 use Rattle.node_laws.proofs.telling.Worlds.{site_is}
 use Rattle.node_laws.proofs.links.Got.{Clean}
 use Rattle.node_laws.proofs.links.Playing.{step_fine}
@@ -19,8 +18,6 @@ use Rattle.node_laws.proofs.links.Works.{IsFineWork, steps_fine}
 use Rattle.node_laws.proofs.links.Worlds.{IsFineNode, IsFineSite, IsFineWorld, near_end_clean, near_clean, fine_clean, ports_fine, turns_fine, may_here}
 use Rattle.node_laws.proofs.order.Ticking.{aged_clean, near_sends, far_sends}
 use Rattle.node_laws.proofs.telling.WorldTicks.{host_turns, near_turns}
-use Rattle.node_laws.specs.rounds.LinkEvents.{takes_on, site_ticks, tick_so, controller_tick_on}
-use Rattle.node_laws.specs.rounds.RoundEvents.{rounds_events}
 use Rattle.node_laws.proofs.rounds.BareRounds.{allowed-append}
 use Rattle.node_laws.proofs.rounds.LinkEvents.{takes_go, ticks_go, Ticked, world_ticked}
 use Rattle.node_laws.proofs.rounds.RoundEvents.{ArePassing, all_go, takes_pass, ends_go, round_goes}

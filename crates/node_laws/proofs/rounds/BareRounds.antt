@@ -1,9 +1,7 @@
 -- The rounds of the link of a bare world are events that may happen on it.
-use Rattle.std.proofs.Common.{◌≡◌, ℕ, zero, suc, List, [], ◌∷◌, ◌++◌, map, refl, ap, sym, subst, ◌∙◌, length}
-use Rattle.std.specs.Prelude.{replicate}
-use Rattle.std.proofs.lemmas.List.{map-append}
-use Rattle.node_laws.proofs.Words.{AllAllowed, AtController, AtHost, Controller, EndEvent, FetchMessage, GoesOut, Host, Link, LinkEvent, NextFrame, Step}
-use Rattle.node_laws.proofs.Words.{after_link_events, end_of, event_of, happens, link_after_all}
+use Rattle.node_laws.proofs.Words.{AllAllowed, AtController, AtHost, Controller, EndEvent, FetchMessage, GoesOut, Host, Link, LinkEvent, List, NextFrame, Step}
+use Rattle.node_laws.proofs.Words.{[], after_link_events, ap, end_of, event_of, happens, length, link_after_all, map, map-append, refl, replicate, subst, suc}
+use Rattle.node_laws.proofs.Words.{sym, zero, ℕ, ◌++◌, ◌∙◌, ◌∷◌, ◌≡◌}
 use Rattle.history.specs.Histories.{Cause}
 use Rattle.history.specs.Histories.Cause.{Taken, Ticked}
 use Rattle.node_laws.specs.rounds.BareRounds.{causes_of_round}

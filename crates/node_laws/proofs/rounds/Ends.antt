@@ -1,9 +1,7 @@
 -- The ends of a round: those of the links ascending, of each link the controller's first; and the events of a round in their parts.
-use Rattle.std.proofs.Common.{◌≡◌, ℕ, ◌==◌, false, List, [], ◌∷◌, ◌++◌, Some, None, refl, ap, sym, subst, ◌∙◌, append_assoc}
-use Rattle.std.specs.List.{AllByRecursion, flat_map}
-use Rattle.std.proofs.lemmas.Bool.{eqb-true}
-use Rattle.node_laws.proofs.Words.{AreDifferent, End, LinkEvent, NodeWorld, Site, by_test, end_c, end_h, end_takes_all, ends_events, ends_take_all, events_on}
-use Rattle.node_laws.proofs.Words.{happenings, hosts_in, site_at}
+use Rattle.node_laws.proofs.Words.{AllByRecursion, AreDifferent, End, LinkEvent, List, NodeWorld, None, Site, Some, [], ap, append_assoc, by_test, end_c, end_h}
+use Rattle.node_laws.proofs.Words.{end_takes_all, ends_events, ends_take_all, eqb-true, events_on, false, flat_map, happenings, hosts_in, refl, site_at, subst}
+use Rattle.node_laws.proofs.Words.{sym, ℕ, ◌++◌, ◌==◌, ◌∙◌, ◌∷◌, ◌≡◌}
 use Rattle.trace_model.specs.declared.line.Line.TheVariants as line
 use Rattle.node_laws.proofs.telling.Nodes.{swapped}
 

@@ -1,14 +1,12 @@
 -- What happens in a world is on each link the event that is said of it.
-use Rattle.std.proofs.Common.{◌≡◌, ℕ, ◌==◌, ◌&&◌, Bool, true, false, not, List, [], ◌∷◌, map, Option, Some, None, refl, ap, sym, subst, ◌∙◌}
-use Rattle.std.proofs.lemmas.Bool.{eqb-true, eq-eqb}
-use Rattle.node_laws.proofs.Words.{AtController, AtEnd, AtHost, End, GoesOnLink, GoesOut, Link, LinkEvent, LinkInput, NextFrame, Node, NodeWorld, NumberedEnd}
-use Rattle.node_laws.proofs.Words.{Running, Site, Step, Takes, Ticks, TimePasses, Work, after_controller, after_host, after_link_events, aged, all_aged}
-use Rattle.node_laws.proofs.Words.{by_option, by_test, changed_if, comes_to, controller_takes, controller_ticks, controller_work, end_c, end_h, ending_of}
-use Rattle.node_laws.proofs.Words.{exchanged, happens, host_ticks, host_work, hosts_tick, input_of, is_late_at, is_waiting, link_after_controller}
-use Rattle.node_laws.proofs.Words.{link_events_in, link_to, site_at, site_takes, steps, ticked_so, ticks_at_controller, ticks_on, turns_at, with_site, work_of}
-use Rattle.node_laws.proofs.Words.{world_step}
+use Rattle.node_laws.proofs.Words.{AtController, AtEnd, AtHost, Bool, End, GoesOnLink, GoesOut, Link, LinkEvent, LinkInput, List, NextFrame, Node, NodeWorld}
+use Rattle.node_laws.proofs.Words.{None, NumberedEnd, Option, Running, Site, Some, Step, Takes, Ticks, TimePasses, Work, [], after_controller, after_host}
+use Rattle.node_laws.proofs.Words.{after_link_events, aged, all_aged, ap, by_option, by_test, changed_if, comes_to, controller_takes, controller_tick_on}
+use Rattle.node_laws.proofs.Words.{controller_ticks, controller_work, end_c, end_h, ending_of, eq-eqb, eqb-true, exchanged, false, happens, host_ticks}
+use Rattle.node_laws.proofs.Words.{host_work, hosts_tick, input_of, is_late_at, is_waiting, link_after_controller, link_events_in, link_to, map, not, refl}
+use Rattle.node_laws.proofs.Words.{site_at, site_takes, site_ticks, steps, subst, sym, takes_on, tick_so, ticked_so, ticks_at_controller, ticks_on, true}
+use Rattle.node_laws.proofs.Words.{turns_at, with_site, work_of, world_step, ℕ, ◌&&◌, ◌==◌, ◌∙◌, ◌∷◌, ◌≡◌}
 use Rattle.node_laws.proofs.links.Worlds.{so_host}
-use Rattle.node_laws.specs.rounds.LinkEvents.{takes_on, site_ticks, tick_so, controller_tick_on}
 
 -- ## Sites that change and keep their hosts
 

@@ -1,12 +1,10 @@
 -- The rounds of a world are on each link the events that are said of them.
-use Rattle.std.proofs.Common.{◌≡◌, ℕ, zero, suc, Bool, true, false, List, [], ◌∷◌, ◌++◌, Some, None, refl, ap, sym, ◌∙◌, length}
-use Rattle.std.specs.Prelude.{replicate}
-use Rattle.node_laws.proofs.Words.{End, GoesOnLink, Happening, Link, LinkEvent, NodeWorld, Site, Takes, Ticks, after_link_events, all_happen, can_happen}
-use Rattle.node_laws.proofs.Words.{end_takes_all, ends_events, ends_in_order, ends_take_all, events_on, frames_at, happenings, link_events_in, round_events}
-use Rattle.node_laws.proofs.Words.{rounds_of_world, site_at, world_after_round, world_step}
+use Rattle.node_laws.proofs.Words.{Bool, End, GoesOnLink, Happening, Link, LinkEvent, List, NodeWorld, None, Site, Some, Takes, Ticks, [], after_link_events}
+use Rattle.node_laws.proofs.Words.{all_happen, ap, can_happen, end_takes_all, ends_events, ends_in_order, ends_take_all, events_on, false, frames_at}
+use Rattle.node_laws.proofs.Words.{happenings, length, link_events_in, refl, replicate, round_events, rounds_events, rounds_of_world, site_at, suc, sym, true}
+use Rattle.node_laws.proofs.Words.{world_after_round, world_step, zero, ℕ, ◌++◌, ◌∙◌, ◌∷◌, ◌≡◌}
 use Rattle.trace_model.specs.declared.line.Line.TheVariants as line
 use Rattle.node_laws.proofs.telling.Events.{after-append}
-use Rattle.node_laws.specs.rounds.RoundEvents.{rounds_events}
 use Rattle.node_laws.proofs.rounds.LinkEvents.{takes_go, ticks_go}
 
 go_then : (v u : NodeWorld) (h : ℕ) (s : Site) (es fs : List LinkEvent) → (g : GoesOnLink v h s es) → GoesOnLink u h g.later fs → GoesOnLink u h s (es ++ fs)

@@ -1,15 +1,14 @@
 -- Few RSETs are put on the links of a world: two at most in each tick, and one where a reset is asked for.
-use Rattle.std.proofs.Common.{◌≡◌, ℕ, ◌+◌, ◌≤◌, ◌==◌, Bool, true, false, List, [], ◌∷◌, map, refl, arith}
-use Rattle.std.specs.Prelude.{Some, None, not, ◌&&◌, replicate}
-use Rattle.node_laws.proofs.Words.{Activates, Arms, AsksReset, AtController, AtEnd, AtHost, Boots, Comes, CutOff, End, Ending, Gives, GoesOut, Happening, Inits}
-use Rattle.node_laws.proofs.Words.{IsCut, Link, LinkEvent, Lose, Loses, Loss, Memory, NextFrame, NoInput, NodeWorld, Occurrence, Resets, Running, Site, Starts}
-use Rattle.node_laws.proofs.Words.{Step, Takes, Ticks, Turn, Work, activates, after_host, aged, all_aged, all_happen, beginning, begins_with, boot_found}
-use Rattle.node_laws.proofs.Words.{boot_written, boots, by_boot, by_coming, by_controller, by_controller_tick, by_host, by_host_tick, by_list, by_loss}
-use Rattle.node_laws.proofs.Words.{by_memory, by_power, by_running, by_test, can_happen, changed_if, comes_at, comes_to, controller_does, controller_ticks}
-use Rattle.node_laws.proofs.Words.{controller_work, counts, end_c, end_h, ending_of, exchanged, frame_lost, happens, host_cut, host_does, host_tick, host_ticks}
-use Rattle.node_laws.proofs.Words.{host_work, hosts_tick, is_late_at, is_waiting, link_after_controller, loses_power_at, memory_at, near_end_in, near_tick}
-use Rattle.node_laws.proofs.Words.{new_site, new_world, number_of, sending, site_lost, site_ticked, steps, ticked_so, ticks_at_controller, turns_at}
-use Rattle.node_laws.proofs.Words.{with_memory, with_node, with_site, world_behind, world_step, world_ticks}
+use Rattle.node_laws.proofs.Words.{Activates, Arms, AsksReset, AtController, AtEnd, AtHost, Bool, Boots, Comes, CutOff, End, Ending, Gives, GoesOut, Happening}
+use Rattle.node_laws.proofs.Words.{Inits, IsCut, Link, LinkEvent, List, Lose, Loses, Loss, Memory, NextFrame, NoInput, NodeWorld, None, Occurrence, Resets}
+use Rattle.node_laws.proofs.Words.{Running, Site, Some, Starts, Step, Takes, Ticks, Turn, Work, [], activates, after_host, aged, all_aged, all_happen, arith}
+use Rattle.node_laws.proofs.Words.{beginning, begins_with, boot_found, boot_written, boots, by_boot, by_coming, by_controller, by_controller_tick, by_host}
+use Rattle.node_laws.proofs.Words.{by_host_tick, by_list, by_loss, by_memory, by_power, by_running, by_test, can_happen, changed_if, comes_at, comes_to}
+use Rattle.node_laws.proofs.Words.{controller_does, controller_ticks, controller_work, counts, end_c, end_h, ending_of, exchanged, false, frame_lost, happens}
+use Rattle.node_laws.proofs.Words.{host_cut, host_does, host_tick, host_ticks, host_work, hosts_tick, is_late_at, is_waiting, link_after_controller}
+use Rattle.node_laws.proofs.Words.{loses_power_at, map, memory_at, near_end_in, near_tick, new_site, new_world, not, number_of, refl, replicate, sending}
+use Rattle.node_laws.proofs.Words.{site_lost, site_ticked, steps, ticked_so, ticks_at_controller, true, turns_at, with_memory, with_node, with_site}
+use Rattle.node_laws.proofs.Words.{world_behind, world_step, world_ticks, ℕ, ◌&&◌, ◌+◌, ◌==◌, ◌∷◌, ◌≡◌, ◌≤◌}
 use Rattle.link_laws.specs.messages.Rsets.{FewRsets, WireIsLow, resets_in_coming, rset_causes}
 use Rattle.node_laws.specs.rsets.Causes.{FewRsetsOnEach, NumbersWithinOnEach, happened_in, world_ticks_in, resets_among, others_among, rsets_by, rsets_by_all}
 use Rattle.link_laws.proofs.messages.RsetsOnLinks.{made_by_event, made_in_tick, made_in_tick_there}

@@ -1,7 +1,6 @@
 -- Ends in lists: where none stands more often in one list than in another, the first is no longer.
-use Rattle.std.proofs.Common.{◌≡◌, ℕ, ◌+◌, ◌≤◌, ◌==◌, Bool, true, false, List, [], ◌∷◌, length, sym, refl, ap, ap₂, arith}
-use Rattle.std.proofs.lemmas.Bool.{and_parts, eqb-true}
-use Rattle.node_laws.proofs.Words.{End, by_test, same_end, same_end_itself, same_side}
+use Rattle.node_laws.proofs.Words.{Bool, End, List, [], and_parts, ap, ap₂, arith, by_test, eqb-true, false, length, refl, same_end, same_end_itself, same_side}
+use Rattle.node_laws.proofs.Words.{sym, true, ℕ, ◌+◌, ◌==◌, ◌∷◌, ◌≡◌, ◌≤◌}
 
 abbrev pub one_at : Bool → ℕ
 one_at true = 1

@@ -1,11 +1,9 @@
 -- A schedule whose lines have every form of nodes, and lines that are outside the ranges.
-use Rattle.std.proofs.Common.{◌≡◌, ℕ, zero, suc, true, List, [], ◌∷◌, length, refl, sym, arith}
-use Rattle.std.specs.Prelude.{Some, None, All, Contains}
+use Rattle.node_laws.proofs.Words.{All, AreNodeLinesOf, Contains, End, Header, IsHost, IsNodeHeader, IsNodeLineOf, Line, List, None, Some, [], arith, end_c}
+use Rattle.node_laws.proofs.Words.{end_h, length, refl, suc, sym, true, true≢false, zero, ℕ, ◌∷◌, ◌≡◌}
 use Rattle.std.specs.List.Sorted.{IsStrictlyIncreasing}
-use Rattle.std.proofs.lemmas.Bool.{true≢false}
 use Rattle.std.proofs.lemmas.List.Elements.{All-from_recursion}
 use Rattle.swp_base.specs.Bits.{IsByte}
-use Rattle.node_laws.proofs.Words.{AreNodeLinesOf, End, Header, IsHost, IsNodeHeader, IsNodeLineOf, Line, end_c, end_h}
 use Rattle.trace_model.specs.declared.line.Line.TheVariants as line
 
 -- `swp 1 hci 01 02`

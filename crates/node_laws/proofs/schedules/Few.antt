@@ -1,9 +1,7 @@
 -- No node has more commands than a journal counts behind a schedule of which 20,000 lines ask for something.
-use Rattle.std.proofs.Common.{◌≡◌, ℕ, ◌+◌, ◌*◌, ◌≤◌, ◌==◌, Bool, true, false, cond, List, [], ◌∷◌, ◌++◌, length, length-append, length-take, sym, ap}
-use Rattle.std.proofs.Common.{append-nil, arith}
-use Rattle.std.specs.List.{fold}
-use Rattle.node_laws.proofs.Words.{AreNodeLinesOf, Book, Entry, FollowsNodes, Header, IsFew, IsNodeHeader, Line, NodeHistory, book_after, commands_in}
-use Rattle.node_laws.proofs.Words.{lines_asking, new_book, node_entries, occurrences_in, with_command, with_found}
+use Rattle.node_laws.proofs.Words.{AreNodeLinesOf, Book, Bool, Entry, FollowsNodes, Header, IsFew, IsNodeHeader, Line, List, NodeHistory, [], ap, append-nil}
+use Rattle.node_laws.proofs.Words.{arith, book_after, commands_in, cond, false, fold, length, length-append, length-take, lines_asking, new_book, node_entries}
+use Rattle.node_laws.proofs.Words.{occurrences_in, sym, true, with_command, with_found, ℕ, ◌*◌, ◌++◌, ◌+◌, ◌==◌, ◌∷◌, ◌≡◌, ◌≤◌}
 use Rattle.trace_model.specs.declared.entry.Entry.TheVariants as entry
 use Rattle.node_laws.specs.reply_passes.Counts.{commands_noted as commits}
 use Rattle.node_laws.proofs.reply_passes.Growing.{commits-append}

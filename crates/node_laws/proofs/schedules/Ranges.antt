@@ -1,16 +1,13 @@
 -- What may stand in a schedule of a world of nodes is what the laws of such worlds ask for.
-use Rattle.std.proofs.Common.{◌≡◌, ℕ, ◌+◌, ◌≤◌, ◌<◌, ◌==◌, false, List, [], ◌∷◌, ◌++◌, length, map, refl, sym, arith}
-use Rattle.std.specs.Prelude.{Some, None, All}
-use Rattle.std.specs.List.{AllByRecursion}
+use Rattle.node_laws.proofs.Words.{All, AllByRecursion, AreDifferent, AreHosts, AreInitsShort, AreNodeLinesOf, ArePlayable, Header, IsHost, IsInitOfHost}
+use Rattle.node_laws.proofs.Words.{IsNodeHeader, IsNodeLineOf, IsPlayable, IsSentByHost, Line, List, None, Some, [], all_so, arith, false, init_of, length, map}
+use Rattle.node_laws.proofs.Words.{ne_eqb, refl, sym, ℕ, ◌++◌, ◌+◌, ◌<◌, ◌==◌, ◌∷◌, ◌≡◌, ◌≤◌}
 use Rattle.std.specs.List.Sorted.{IsStrictlySortedBy}
 use Rattle.std.specs.declared.cmp.Ordering.TheVariants.{Less}
 use Rattle.std.specs.Ordering.{nat_cmp}
-use Rattle.std.proofs.lemmas.Bool.{ne_eqb}
 use Rattle.std.proofs.lemmas.Cmp.{ranked}
 use Rattle.std.proofs.lemmas.List.Elements.{recursion_from_All}
-use Rattle.std.proofs.lemmas.Map.Keys.{sorted_head, sorted_tail, sorted_from_strictly_increasing}
-use Rattle.node_laws.proofs.Words.{AreDifferent, AreHosts, AreInitsShort, AreNodeLinesOf, ArePlayable, Header, IsHost, IsInitOfHost, IsNodeHeader, IsNodeLineOf}
-use Rattle.node_laws.proofs.Words.{IsPlayable, IsSentByHost, Line, init_of}
+use Rattle.std.proofs.lemmas.Map.Keys.{sorted_from_strictly_increasing, sorted_head, sorted_tail}
 use Rattle.trace_model.specs.Lines.{MayFollow}
 use Rattle.trace_model.specs.declared.line.Line.TheVariants as line
 
@@ -23,8 +20,7 @@ above : (x y : ℕ) → IsAbove x y → x < y
 above x y a = ranked x y Less (sym a)
 
 others : (x : ℕ) (xs : List ℕ) → AllByRecursion (IsAbove x) xs → AllByRecursion (λ y. (y == x) ≡ false) xs
-others x [] a = tt
-others x (y ∷ xs) a = (ne_eqb y x (λ z. let more = above x y a.0 in omega (arith, z, more)), others x xs a.1)
+others x xs a = all_so (IsAbove x) (λ y. (y == x) ≡ false) (λ y b. ne_eqb y x (λ z. let more = above x y b in omega (arith, z, more))) xs a
 
 different : (xs : List ℕ) → IsStrictlySortedBy nat_cmp xs → AreDifferent xs
 different [] a = tt
@@ -57,8 +53,7 @@ hosts_few header is =
 -- ## Lines
 
 each_line : (P Q : Line → Type 0) → ((l : Line) → P l → Q l) → (lines : List Line) → AllByRecursion P lines → AllByRecursion Q lines
-each_line P Q one [] a = tt
-each_line P Q one (l ∷ lines) a = (one l a.0, each_line P Q one lines a.1)
+each_line P Q one lines a = all_so P Q one lines a
 
 -- what may be said below a header is in these ranges, but for settling, which no world of nodes does yet
 pub in_range : (header : Header) (l : Line) → MayFollow header l → ((rounds : ℕ) → l ≡ line.Settle rounds → ⊥) → IsNodeLineOf header l

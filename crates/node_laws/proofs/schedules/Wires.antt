@@ -1,14 +1,11 @@
 -- No wire of a link holds more than 64 frames.
-use Rattle.std.proofs.Common.{◌+◌, ◌≤◌, Bool, true, false, List, [], ◌∷◌, ◌++◌, length, length-append, length-drop, subst, arith}
-use Rattle.std.specs.Prelude.{nat_lt, is_some}
-use Rattle.std.proofs.lemmas.Bool.{ltb-false}
-use Rattle.node_laws.proofs.Words.{Activate, AsksReset, AtController, AtHost, Comes, Control, CutOff, EndEvent, Ending, GoesOut, IsRun, Link, LinkEnd}
-use Rattle.node_laws.proofs.Words.{LinkEvent, LinkInput, Lose, NextFrame, NoInput, OnWire, Reset, Starts, Step, Stops, Take, Tick, TicksWithout, Turn}
-use Rattle.node_laws.proofs.Words.{after_input, after_link_events, aged, all_at_controller, by_test, deactivated, ended_by, exchanged, finished, frames_out}
-use Rattle.node_laws.proofs.Words.{happens, happens_at_controller, has_input, has_taken, is_rset, new_line, put, put_all, silent, started, steps_at_controller}
-use Rattle.node_laws.proofs.Words.{ticks_at_controller, took_with, turned, with_ended}
-use Rattle.link_laws.specs.sessions.Sessions.{fits, aged_wire}
-use Rattle.link_laws.specs.messages.Links.{has_restarted}
+use Rattle.node_laws.proofs.Words.{Activate, AsksReset, AtController, AtHost, Bool, Comes, Control, CutOff, EndEvent, Ending, GoesOut, IsRun, Link, LinkEnd}
+use Rattle.node_laws.proofs.Words.{LinkEvent, LinkInput, List, Lose, NextFrame, NoInput, OnWire, Reset, Starts, Step, Stops, Take, Tick, TicksWithout, Turn, []}
+use Rattle.node_laws.proofs.Words.{after_input, after_link_events, aged, aged_wire, all_at_controller, arith, by_test, deactivated, ended_by, exchanged, false}
+use Rattle.node_laws.proofs.Words.{finished, fits, frames_out, happens, happens_at_controller, has_input, has_restarted, has_taken, is_rset, is_some, length}
+use Rattle.node_laws.proofs.Words.{length-append, ltb-false, nat_lt, new_line, put, put_all, silent, started, steps_at_controller, subst, ticks_at_controller}
+use Rattle.node_laws.proofs.Words.{took_with, true, turned, with_ended, ◌++◌, ◌+◌, ◌∷◌, ◌≤◌}
+use Rattle.std.proofs.Common.{length-drop}
 use Rattle.link_laws.specs.messages.Links.LinkEvent.{Ticks}
 
 -- both wires hold 64 frames at most

@@ -1,24 +1,18 @@
 -- Entries that change nothing of what decides a reply of a host: behind them a message there lacks what it lacked before.
-use Rattle.std.proofs.Common.{◌≡◌, ℕ, ◌-◌, ◌+◌, Bool, true, false, cond, eqb, List, [], ◌∷◌, ◌++◌, drop, sym, subst, refl, ap, ap₂, ◌∙◌}
-use Rattle.std.proofs.Common.{append_assoc, append-nil}
-use Rattle.std.specs.Prelude.{Option, Some, None, is_some}
-use Rattle.std.specs.List.{AllByRecursion, fold, filter_map}
-use Rattle.std.proofs.lemmas.Bool.{eqb-true}
-use Rattle.std.proofs.lemmas.List.Elements.{filter_map-append}
-use Rattle.std.proofs.lemmas.List.Sums.{fold-append}
-use Rattle.node_laws.proofs.Words.{AreNotOf, Begins, Book, Counts, Cut, Emit, End, Entry, Gets, Init, IsSilent, LeavesInit, Link, Lost, Message, Moment, Puts}
-use Rattle.node_laws.proofs.Words.{Saying, Took, Work, acked_after, acked_in, book_after, book_in, by_option, by_test, end_h, end_of_number, ending_entries}
-use Rattle.node_laws.proofs.Words.{ending_of, entries_for, errors_in, first_lack, frames_noted, host_deeds, is_of_node, is_up_read, lack_of, need_of_all, needs}
-use Rattle.node_laws.proofs.Words.{order_in, own_read, port_at, reply, runs_in, said_of, same_end, sent_by, sent_in, session_now, spare_at, spare_read}
-use Rattle.node_laws.proofs.Words.{tables_in, unacknowledged_in, unhandled_after, unhandled_in, until}
+use Rattle.node_laws.proofs.Words.{AllByRecursion, AreNotOf, Begins, Book, Bool, Counts, Cut, Emit, End, Entry, Gets, Init, IsSilent, LeavesInit, Link, List}
+use Rattle.node_laws.proofs.Words.{Lost, Message, Moment, None, Noted, Option, Puts, Saying, Some, Took, Work, [], acked_after, acked_in, ap, append-nil}
+use Rattle.node_laws.proofs.Words.{append_assoc, ap₂, book_after, book_in, by_option, by_test, cond, drop, end_h, end_of_number, end_read, ending_entries}
+use Rattle.node_laws.proofs.Words.{ending_of, entries_for, eqb, eqb-true, errors_in, false, filter_map, filter_map-append, first_lack, fold, fold-append}
+use Rattle.node_laws.proofs.Words.{frames_noted, host_deeds, is_of_node, is_some, is_up_read, lack_of, need_of_all, needs, order_in, own_read, port_at, refl}
+use Rattle.node_laws.proofs.Words.{reply, runs_in, said_of, same_end, sent_by, sent_in, session_now, spare_at, spare_read, subst, sym, tables_in, true}
+use Rattle.node_laws.proofs.Words.{unacknowledged_in, unhandled_after, unhandled_in, until, ℕ, ◌++◌, ◌+◌, ◌-◌, ◌∙◌, ◌∷◌, ◌≡◌}
 use Rattle.trace_model.specs.declared.entry.Entry.TheVariants as entry
-use Rattle.link_laws.specs.entries.Entries.{End as Side, Entry as Noted}
+use Rattle.link_laws.specs.entries.Entries.{End as Side}
 use Rattle.history.specs.Filters.Saying.{Ends, Loses, Sends, Takes}
 use Rattle.node_laws.proofs.kept.Books.{book_more}
 use Rattle.node_laws.proofs.telling.Frames.{ending_all}
 use Rattle.node_laws.proofs.readings.Silent.{order_more}
 use Rattle.node_laws.proofs.views.Answering.{reads_init}
-use Rattle.node_laws.specs.answers.Moments.{end_read}
 use Rattle.node_laws.proofs.replies.Turns.{lack_alike}
 use Rattle.node_laws.proofs.worlds.Hearing.{IsFrame}
 use Rattle.node_laws.proofs.worlds.Resting.{idle_unhandled, other_end, others_idle}

@@ -1,11 +1,9 @@
 -- At the end of each event in which a host made a step and runs on, the first message that is left at its end lacks room.
-use Rattle.std.proofs.Common.{◌≡◌, inl, inr, ℕ, ◌≤◌, ◌||◌, true, false, eqb, List, [], ◌∷◌, ◌++◌, refl, sym, ap, ap₂, subst, ◌∙◌, append_assoc, arith}
-use Rattle.std.specs.Prelude.{None, Some, is_some}
-use Rattle.std.specs.List.{AllByRecursion, list_any}
-use Rattle.std.proofs.lemmas.Bool.{ne_eqb}
-use Rattle.node_laws.proofs.Words.{AreHosts, ArePlayable, AtEachOccurrence, End, Entry, FollowsNodes, Happening, Header, IsBegunByHost, IsFew, IsHost}
-use Rattle.node_laws.proofs.Words.{IsInitOfHost, IsNodeOf, IsSentByHost, Line, NodeHistory, NodeWorld, Occurrence, Site, Takes, by_option, by_test, end_h}
-use Rattle.node_laws.proofs.Words.{entries_in, is_left_short, new_world, node_at, node_entries, occurrences_in, same_number, site_at, world_behind, world_step}
+use Rattle.node_laws.proofs.Words.{AllByRecursion, AreHosts, ArePlayable, AtEachOccurrence, End, Entry, FollowsNodes, Happening, Header, IsBegunByHost, IsFew}
+use Rattle.node_laws.proofs.Words.{IsHost, IsInitOfHost, IsNodeOf, IsSentByHost, Line, List, NodeHistory, NodeWorld, None, Occurrence, Site, Some, Takes, []}
+use Rattle.node_laws.proofs.Words.{ap, append_assoc, ap₂, arith, by_option, by_test, end_h, entries_in, eqb, false, inl, inr, is_left_short, is_some, list_any}
+use Rattle.node_laws.proofs.Words.{ne_eqb, new_world, node_at, node_entries, occurrences_in, refl, same_number, site_at, subst, sym, true, world_behind}
+use Rattle.node_laws.proofs.Words.{world_step, ℕ, ◌++◌, ◌||◌, ◌∙◌, ◌∷◌, ◌≡◌, ◌≤◌}
 use Rattle.node_laws.proofs.cuts.Worlds.{node_far}
 use Rattle.node_laws.proofs.telling.Lasting.{AreCaused, events_of_steps, lines_caused}
 use Rattle.node_laws.proofs.order.Lines.{IsSo}

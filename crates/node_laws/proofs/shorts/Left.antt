@@ -1,18 +1,11 @@
 -- Behind a step of a host that runs on, the first message that is left at its end lacks room, as it is read.
-use Rattle.std.proofs.Common.{◌≡◌, ◌⊎◌, inl, inr, ℕ, ◌≤◌, Bool, true, false, cond, List, [], ◌∷◌, ◌++◌, sym, refl, ap, ap₂, ◌∙◌, subst, append_assoc}
-use Rattle.std.proofs.Common.{append-nil, arith}
-use Rattle.std.specs.Prelude.{Option, is_some, not}
-use Rattle.std.specs.List.{AllByRecursion, take_while}
-use Rattle.std.specs.Option.{option_and_then}
-use Rattle.std.proofs.lemmas.Bool.{true≢false}
-use Rattle.std.proofs.lemmas.List.Sums.{take_while-cons}
-use Rattle.registry.proofs.ValueLemmas.{AllByRecursion-append as all_append}
-use Rattle.node_laws.proofs.Words.{AreAlong, BeginWithTurn, ComesTo, End, Entry, ErrorCount, Happening, HciTables, Init, IsBehind, IsHost, Message, Moment}
-use Rattle.node_laws.proofs.Words.{NodeInput, Occurrence, Work, by_list, comes_to_pass, end_h, end_of_node, entries_in, errors_in, goes_through_ends}
-use Rattle.node_laws.proofs.Words.{hosts_of_ends, init_begun, init_in, is_held_at, is_later, is_left_short, lack_of, lacking, links_of_turns, no_errors, oldest}
-use Rattle.node_laws.proofs.Words.{order_in, own_read, passes, runs_in, steps, tables_in, through, unhandled_in, until, waiting_at}
+use Rattle.node_laws.proofs.Words.{AllByRecursion, AreAlong, BeginWithTurn, Bool, ComesTo, End, Entry, ErrorCount, Happening, HciTables, Init, IsBehind, IsHost}
+use Rattle.node_laws.proofs.Words.{List, Message, Moment, NodeInput, Occurrence, Option, Stays, Work, [], all_append, ap, append-nil, append_assoc, ap₂, arith}
+use Rattle.node_laws.proofs.Words.{as_left, by_list, comes_to_pass, cond, end_h, end_of_node, entries_in, errors_in, false, goes_through_ends, hosts_of_ends}
+use Rattle.node_laws.proofs.Words.{init_begun, init_in, inl, inr, is_held_at, is_later, is_left_short, is_some, lack_of, lacking, links_of_turns, no_errors}
+use Rattle.node_laws.proofs.Words.{not, oldest, option_and_then, order_in, own_read, passes, refl, runs_in, steps, subst, sym, tables_in, take_while}
+use Rattle.node_laws.proofs.Words.{take_while-cons, through, true, true≢false, unhandled_in, until, waiting_at, ℕ, ◌++◌, ◌∙◌, ◌∷◌, ◌≡◌, ◌≤◌, ◌⊎◌}
 use Rattle.trace_model.specs.declared.entry.Entry.TheVariants as entry
-use Rattle.node_laws.specs.passes.Passing.{Stays}
 use Rattle.node_laws.specs.passes.Passing.ComesTo.{Begins}
 use Rattle.node_laws.proofs.passes.Before.{steps_are}
 use Rattle.node_laws.proofs.passes.Behind.{leaves_behind}
@@ -21,7 +14,6 @@ use Rattle.node_laws.proofs.power.Doing.{Fine, Lost, Runs}
 use Rattle.node_laws.proofs.power.Steps.{steps_fine}
 use Rattle.node_laws.proofs.views.Answering.{init_append, reads_init}
 use Rattle.node_laws.proofs.views.Leaving.{IsRead, Leaves, leaves_all, plainly, reads, reads_append}
-use Rattle.node_laws.specs.answers.Answered.{as_left}
 use Rattle.node_laws.specs.reply_passes.Counts.{commands_noted as commits}
 use Rattle.node_laws.proofs.reply_passes.Growing.{commits-append}
 use Rattle.node_laws.proofs.reply_passes.Sides.{AreNoBoots}

@@ -1,13 +1,10 @@
 -- Lines let a host take no more frames than stand on its wire.
-use Rattle.std.proofs.Common.{◌≡◌, ℕ, zero, suc, ◌≤◌, true, List, [], ◌∷◌, length, sym, refl, ap, ◌∙◌, subst, arith}
-use Rattle.std.specs.Prelude.{Some, None, is_some, unwrap_or, replicate}
-use Rattle.std.proofs.lemmas.Bool.{true≢false}
-use Rattle.node_laws.proofs.Words.{AtEnd, End, Ending, GoesOut, Happening, IsSentByHost, Line, Link, LinkInput, LostFor, NextFrame, NodeWorld, OnWire, Same}
-use Rattle.node_laws.proofs.Words.{Site, Takes, Ticks, Undetected, Verdict, Work, after_host, by_coming, by_host, by_test, ending_of, exchanged, first_verdict}
-use Rattle.node_laws.proofs.Words.{frames_at, happenings, happens_by, host_does, host_work, lpdu_of, refusal_in, runs_on, site_at, steps, steps_at_controller}
-use Rattle.node_laws.proofs.Words.{taken_of, turns_at, world_step}
+use Rattle.node_laws.proofs.Words.{AtEnd, End, Ending, GoesOut, Happening, IsSentByHost, Line, Link, LinkInput, List, LostFor, NextFrame, NodeWorld, None}
+use Rattle.node_laws.proofs.Words.{OnWire, Same, Site, Some, Takes, Ticks, Undetected, Verdict, Work, [], after_host, ap, arith, by_coming, by_host, by_test}
+use Rattle.node_laws.proofs.Words.{ending_of, exchanged, first_verdict, frames_at, happenings, happens_by, host_does, host_work, is_some, length, lpdu_of, refl}
+use Rattle.node_laws.proofs.Words.{refusal_in, replicate, runs_on, site_at, steps, steps_at_controller, subst, suc, sym, taken_of, true, true≢false, turns_at}
+use Rattle.node_laws.proofs.Words.{unwrap_or, verdict_on, world_step, zero, ℕ, ◌∙◌, ◌∷◌, ◌≡◌, ◌≤◌}
 use Rattle.trace_model.specs.declared.line.Line.TheVariants as line
-use Rattle.history.specs.Damage.{verdict_on}
 use Rattle.history.specs.Follows.{frames_to}
 use Rattle.node_laws.proofs.cuts.Worlds.{with_here}
 use Rattle.node_laws.proofs.telling.Lasting.{AllMay, repeated_may}

@@ -1,7 +1,7 @@
 -- What a controller does with a message commits and asks for creations only as it may.
-use Rattle.std.proofs.Common.{ℕ, List, refl, inl, inr}
-use Rattle.node_laws.proofs.Words.{Answer, Ask, AsksAsAllowed, Commit, Core, Decision, HciTables, Message, OfDecision, Plain, Port, Tells, all_of_controller}
-use Rattle.node_laws.proofs.Words.{anyone, body_in, controller_deeds, decided, decided_as_allowed, has, hosts_where, view_for, view_of}
+use Rattle.node_laws.proofs.Words.{Answer, Ask, AsksAsAllowed, Commit, Core, Decision, HciTables, List, Message, OfDecision, Plain, Port, Tells}
+use Rattle.node_laws.proofs.Words.{all_of_controller, anyone, body_in, controller_deeds, decided, decided_as_allowed, has, hosts_where, inl, inr, refl}
+use Rattle.node_laws.proofs.Words.{view_for, view_of, ℕ}
 use Rattle.node_laws.specs.steps.Creations.{IsAllowedDeed, AreAllowedDeeds}
 
 plain : (t : HciTables) (ports : List Port) (h : ℕ) → Plain (IsAllowedDeed t ports h)

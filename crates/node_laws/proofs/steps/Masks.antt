@@ -1,9 +1,8 @@
 -- A host that passes a test is in the mask of the hosts that pass it.
-use Rattle.std.proofs.Common.{◌≡◌, ℕ, zero, suc, ◌+◌, ◌*◌, ◌/◌, ◌%◌, ◌^◌, ◌≤◌, Bool, true, false, eqb, List, [], ◌∷◌, refl, sym, ap, ◌∙◌, arith}
-use Rattle.std.specs.List.{filter}
-use Rattle.std.proofs.lemmas.Bool.{cond_both}
+use Rattle.node_laws.proofs.Words.{Bool, List, [], ap, arith, cond_both, eqb, false, filter, has, mask_of, refl, suc, sym, true, zero, ℕ, ◌%◌, ◌*◌, ◌+◌, ◌/◌}
+use Rattle.node_laws.proofs.Words.{◌^◌, ◌∙◌, ◌∷◌, ◌≡◌, ◌≤◌}
 use Rattle.std.proofs.lemmas.List.Sums.{sum_by-cons}
-use Rattle.gate_admin.specs.View.{has, hosts_where, mask_of}
+use Rattle.gate_admin.specs.View.{hosts_where}
 
 -- one where it is so
 pub bit : Bool → ℕ

@@ -1,10 +1,7 @@
 -- What an input leaves of a port of a node, and of its core.
-use Rattle.std.proofs.Common.{◌≡◌, ℕ, Bool, true, false, eqb, List, [], ◌∷◌, refl, subst}
-use Rattle.std.specs.Prelude.{Option, Some, None}
-use Rattle.std.specs.List.{list_any, AllByRecursion}
-use Rattle.std.proofs.lemmas.Bool.{cond_both}
-use Rattle.node_laws.proofs.Words.{Core, LinkInput, Port, after_sessions, asked_at, by_test, changed_if, forgets, has_come, is_forgotten, is_late, is_over}
-use Rattle.node_laws.proofs.Words.{port_at, reset_late, without_notice}
+use Rattle.node_laws.proofs.Words.{AllByRecursion, Bool, Core, LinkInput, List, None, Option, Port, Some, [], after_sessions, asked_at, by_test, changed_if}
+use Rattle.node_laws.proofs.Words.{cond_both, eqb, false, forgets, has_come, is_forgotten, is_late, is_over, list_any, port_at, refl, reset_late, subst, true}
+use Rattle.node_laws.proofs.Words.{without_notice, ℕ, ◌∷◌, ◌≡◌}
 
 pub come_host : (p : Port) (o : Option LinkInput) → (has_come p o).desk.host ≡ p.desk.host
 come_host p None = refl

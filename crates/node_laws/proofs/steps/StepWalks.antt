@@ -1,11 +1,8 @@
 -- What lasts over each thing that a node does lasts over all that it does in a step.
-use Rattle.std.proofs.Common.{ℕ, Bool, true, false, List, [], ◌∷◌}
-use Rattle.std.specs.List.{AllByRecursion}
-use Rattle.std.specs.Option.{option_map_or}
+use Rattle.node_laws.proofs.Words.{AllByRecursion, Bool, Deed, FetchMessage, Hold, List, Message, Port, Work, [], all_done, answers_and_passes, by_option}
+use Rattle.node_laws.proofs.Words.{by_test, deeds_of, done, end_of_node, false, goes_through_ends, handles, have_turns, holds_back, is_held, lack, lets_go}
+use Rattle.node_laws.proofs.Words.{needs, noting, option_map_or, passes, port_at, true, turn_at, unless_cut, with_desk, ℕ, ◌∷◌}
 use Rattle.trace_model.specs.declared.entry.Entry.TheVariants as entry
-use Rattle.node_laws.proofs.Words.{Deed, FetchMessage, Hold, Message, Port, Work, all_done, answers_and_passes, by_option, by_test, deeds_of, done, end_of_node}
-use Rattle.node_laws.proofs.Words.{goes_through_ends, handles, have_turns, holds_back, is_held, lack, lets_go, needs, noting, passes, port_at, turn_at}
-use Rattle.node_laws.proofs.Words.{unless_cut, with_desk}
 
 -- the messages that came at the end of the link with this host
 abbrev pub got_at : ℕ → Work → List Message

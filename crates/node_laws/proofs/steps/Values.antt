@@ -1,9 +1,7 @@
 -- A command that neither sets nor clears the whitelist of a host leaves it as it is.
-use Rattle.std.proofs.Common.{◌≡◌, ℕ, ◌≤◌, true, false, not, cond, eqb, leb, ◌&&◌, refl, ap, ◌∙◌}
-use Rattle.std.specs.Prelude.{IsTrue}
-use Rattle.std.proofs.lemmas.Bool.{and_from, le-leb}
-use Rattle.node_laws.proofs.Words.{AreTables, Clear, Command, HciTables, IsCommand, Set, Sync, apply, by_test, is_kept, is_kept_sync}
-use Rattle.registry.specs.Values.{value_at, default_of}
+use Rattle.node_laws.proofs.Words.{AreTables, Clear, Command, HciTables, IsCommand, IsTrue, Set, Sync, and_from, ap, apply, by_test, cond, eqb, false, is_kept}
+use Rattle.node_laws.proofs.Words.{is_kept_sync, le-leb, leb, not, refl, true, value_at, ℕ, ◌&&◌, ◌∙◌, ◌≡◌, ◌≤◌}
+use Rattle.registry.specs.Values.{default_of}
 use Rattle.tables_laws.specs.tables.Changes.{told_value}
 use Rattle.tables_laws.proofs.tables.Values.{values-apply}
 use Rattle.node_laws.specs.steps.Creations.{LeavesWhitelist}

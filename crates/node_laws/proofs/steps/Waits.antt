@@ -1,16 +1,12 @@
 -- Creations that wait stay allowed.
-use Rattle.std.proofs.Common.{◌≡◌, ◌⊎◌, inl, inr, ℕ, ◌≤◌, true, eqb, leb, ◌&&◌, List, [], ◌∷◌, sym, refl, ap, ◌∙◌, subst}
-use Rattle.std.specs.Prelude.{Option, Some, None}
-use Rattle.std.specs.List.{AllByRecursion}
-use Rattle.std.proofs.lemmas.Bool.{and_parts, leb-true, eq-eqb, or_left, or_right}
+use Rattle.node_laws.proofs.Words.{About, AllByRecursion, AreTables, Asks, Command, Commits, Core, Create, Creation, Deed, Forgotten, HciTables, IsAllowedBy}
+use Rattle.node_laws.proofs.Words.{IsAllowedFor, IsAllowedStill, IsAskedFor, IsCommand, LinkView, List, MayWait, Message, None, Notice, Option, Port, Removed}
+use Rattle.node_laws.proofs.Words.{Some, Waits, [], and_parts, ap, apply, asked_at, controller_deeds, creation_in, eq-eqb, eqb, inl, inr, is_asked_at, leb}
+use Rattle.node_laws.proofs.Words.{leb-true, refl, subst, sym, true, value_at, view_for, view_of, ℕ, ◌&&◌, ◌∙◌, ◌∷◌, ◌≡◌, ◌≤◌, ◌⊎◌}
+use Rattle.std.proofs.lemmas.Bool.{or_left, or_right}
 use Rattle.whitelist.specs.Whitelist.{holds}
-use Rattle.registry.specs.Values.{value_at}
-use Rattle.node_laws.proofs.Words.{About, AreTables, Asks, Command, Commits, Core, Create, Creation, Deed, Forgotten, HciTables, IsAllowedFor, IsAllowedStill}
-use Rattle.node_laws.proofs.Words.{IsAskedFor, IsCommand, LinkView, MayWait, Message, Notice, Port, Removed, Waits, apply, asked_at, controller_deeds}
-use Rattle.node_laws.proofs.Words.{creation_in, is_asked_at, view_for, view_of}
 use Rattle.gate_admin.specs.Decide.{allows}
 use Rattle.tables_laws.specs.gate.Rules.{EndsAtController}
-use Rattle.node_machine.specs.world.NodeLegal.{IsAllowedBy}
 use Rattle.node_laws.specs.steps.Creations.{IsWaitedFor, IsAllowedDeed, DeedLeavesWhitelist, IsBeingAsked, IsMaking, WaitsForPipes}
 use Rattle.node_laws.proofs.steps.Deeds.{controller_fine}
 use Rattle.node_laws.proofs.steps.Values.{whitelist_left}

@@ -1,13 +1,9 @@
 -- While a host is asked for a creation, nothing that a controller commits sets or clears its whitelist.
-use Rattle.std.proofs.Common.{◌≡◌, ℕ, Bool, true, false, eqb, ◌&&◌, List, sym, ap, ◌∙◌}
-use Rattle.std.specs.List.{AllByRecursion}
-use Rattle.std.specs.Option.{option_map_or}
-use Rattle.std.proofs.lemmas.Bool.{eqb-true, true≢false}
-use Rattle.node_laws.proofs.Words.{Answer, Ask, Clear, Command, Commit, Core, Decision, HciTables, LinkView, Message, OfDecision, Plain, Port, Set, Tells}
-use Rattle.node_laws.proofs.Words.{all_false, all_of_controller, anyone, body_in, by_test, controller_deeds, decided, decided_holds, has, hosts_where}
-use Rattle.node_laws.proofs.Words.{is_asked_at, param_in, port_at, view_for, view_of}
+use Rattle.node_laws.proofs.Words.{AllByRecursion, Answer, Ask, Bool, Clear, Command, Commit, Core, Decision, HciTables, LinkView, List, Message, OfDecision}
+use Rattle.node_laws.proofs.Words.{Plain, Port, Set, Tells, all_false, all_of_controller, anyone, ap, body_in, by_test, controller_deeds, decided}
+use Rattle.node_laws.proofs.Words.{decided_holds, eqb, eqb-true, false, has, hosts_where, is_asked_at, option_map_or, param_in, port_at, sym, tests_to_clear}
+use Rattle.node_laws.proofs.Words.{tests_to_set_it, true, true≢false, view_for, view_of, ℕ, ◌&&◌, ◌∙◌, ◌≡◌}
 use Rattle.gate_admin.specs.View.{is_asked}
-use Rattle.gate_admin.specs.Decide.{tests_to_set_it, tests_to_clear}
 use Rattle.gate_admin.proofs.CreationLemmas.{AllFalse}
 use Rattle.node_laws.specs.steps.Creations.{LeavesWhitelist, DeedLeavesWhitelist, IsBeingAsked, IsMaking, WaitsForPipes}
 use Rattle.node_laws.proofs.steps.Masks.{is_in_mask}

@@ -1,14 +1,11 @@
 -- What a node notes of the end of a link in a step is what the law of one link notes of the turns that it has there.
-use Rattle.std.proofs.Common.{◌≡◌, ℕ, ◌==◌, Bool, true, false, if◌then◌else◌, List, [], ◌∷◌, ◌++◌, Option, Some, None, refl, ap, sym, subst, ◌∙◌, append-nil}
-use Rattle.std.proofs.Common.{append_assoc}
-use Rattle.std.specs.Option.{option_map_or}
-use Rattle.std.proofs.lemmas.Bool.{true≢false, eqb-true, ne_eqb}
-use Rattle.std.proofs.lemmas.List.Concat.{flat_map-append}
-use Rattle.node_laws.proofs.Words.{Acked, Active, Controller, Desk, Down, Emit, Entry, GaveUp, Got, Host, LinkEnd, Lost, Port, Sent, Took, Turn, Work}
-use Rattle.node_laws.proofs.Words.{after_turn, by_test, changed_if, end_of, entries_for, entry_of, is_of, keeps, noted_of, noting, of_link, own_side, port_at}
-use Rattle.node_laws.proofs.Words.{said, same_number, tells_of, turn, turn_at, turn_entries, turn_entry, turned, with_desk, with_port}
+use Rattle.node_laws.proofs.Words.{Acked, Active, Bool, Controller, Desk, Down, Emit, Entry, GaveUp, Got, Host, LinkEnd, List, Lost, None, Noted, Option, Port}
+use Rattle.node_laws.proofs.Words.{Sent, Some, Took, Turn, Work, [], after_turn, ap, append-nil, append_assoc, by_test, changed_if, end_of, entries_for}
+use Rattle.node_laws.proofs.Words.{entry_of, eqb-true, false, flat_map-append, if◌then◌else◌, is_of, keeps, ne_eqb, noted_of, noting, of_link, option_map_or}
+use Rattle.node_laws.proofs.Words.{own_side, port_at, refl, said, same_number, subst, sym, tells_of, true, true≢false, turn, turn_at, turn_entries, turn_entry}
+use Rattle.node_laws.proofs.Words.{turned, with_desk, with_port, ℕ, ◌++◌, ◌==◌, ◌∙◌, ◌∷◌, ◌≡◌}
 use Rattle.trace_model.specs.declared.entry.Entry.TheVariants as entry
-use Rattle.link_laws.specs.entries.Entries.{End as Side, Entry as Noted}
+use Rattle.link_laws.specs.entries.Entries.{End as Side}
 use Rattle.link_laws.specs.entries.Entries.Entry.{Up}
 use Rattle.node_laws.proofs.telling.Walks.{AreSilent}
 use Rattle.node_laws.proofs.steps.Ports.{changed_host}

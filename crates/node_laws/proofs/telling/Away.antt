@@ -1,8 +1,7 @@
 -- A node that has no end on a link notes nothing of it.
-use Rattle.std.proofs.Common.{◌≡◌, ℕ, ◌==◌, true, false, List, [], ◌∷◌, ◌++◌, Option, Some, None, map, refl, ap, subst, ◌∙◌}
-use Rattle.std.specs.Option.{option_map_or}
-use Rattle.node_laws.proofs.Words.{Desk, Entry, Port, Turn, Work, after_turn, by_test, changed_if, noted_of, noting, of_link, own_side, port_at, turn_at}
-use Rattle.node_laws.proofs.Words.{turn_entry, with_desk}
+use Rattle.node_laws.proofs.Words.{Desk, Entry, List, None, Option, Port, Some, Turn, Work, [], after_turn, ap, by_test, changed_if, false, map, noted_of}
+use Rattle.node_laws.proofs.Words.{noting, of_link, option_map_or, own_side, port_at, refl, subst, true, turn_at, turn_entry, with_desk, ℕ, ◌++◌, ◌==◌, ◌∙◌}
+use Rattle.node_laws.proofs.Words.{◌∷◌, ◌≡◌}
 use Rattle.node_laws.proofs.telling.Walks.{AreSilent}
 use Rattle.node_laws.proofs.telling.Accounts.{of-append, of_silent, of_other}
 use Rattle.node_laws.proofs.steps.Ports.{changed_host}

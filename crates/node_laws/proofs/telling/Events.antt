@@ -1,22 +1,18 @@
 -- Each event of a world but a tick tells of each link.
-use Rattle.std.proofs.Common.{◌≡◌, ℕ, ◌==◌, Bool, true, false, cond, List, [], ◌∷◌, ◌++◌, Option, Some, None, map, refl, ap, sym, subst, ◌∙◌}
-use Rattle.std.proofs.Common.{append-nil, append_assoc}
-use Rattle.std.specs.Prelude.{◌&&◌}
-use Rattle.std.specs.List.{AllByRecursion}
-use Rattle.std.proofs.lemmas.Bool.{eqb-true}
-use Rattle.node_laws.proofs.Words.{Activates, AreDifferent, Arms, AsksReset, AtController, AtEnd, AtHost, Boots, Broken, Comes, Controller, CutOff, Deed, Desk}
-use Rattle.node_laws.proofs.Words.{End, Entry, Gives, Happening, HasEnds, Host, IfItRuns, Inits, IsCut, IsOrderly, Link, LinkEvent, LinkInput, Lose, Loses}
-use Rattle.node_laws.proofs.Words.{Loss, Memory, Message, NextFrame, NoInput, NodeWorld, NumberedEnd, Resets, Running, Site, Starts, Step, Takes, TellOf, Ticks}
-use Rattle.node_laws.proofs.Words.{Work, activates, after_controller, after_host, after_host_step, after_link_events, after_planned, arrival, beginning}
-use Rattle.node_laws.proofs.Words.{begins_with, boot_found, boot_writes, boot_written, boots, by_boot, by_coming, by_controller, by_host, by_loss, by_memory}
-use Rattle.node_laws.proofs.Words.{by_power, by_running, by_test, changed_if, comes_at, comes_to, controller_does, controller_work, count_of, counts, end_c}
-use Rattle.node_laws.proofs.Words.{end_h, ending_of, entries, entries_for, event_entries, exchanged, first_lost, found, frame_lost, happens, host_cut}
-use Rattle.node_laws.proofs.Words.{host_does, host_work, hosts_in, input_of, is_command_message, link_after_controller, link_to, links_of, loses_power_at}
-use Rattle.node_laws.proofs.Words.{memory_at, near_end_in, of_link, runs_on, sending, site_at, site_lost, steps, turns_at, with_memory, with_node, with_site}
-use Rattle.node_laws.proofs.Words.{work_of, world_step}
+use Rattle.node_laws.proofs.Words.{Activates, AllByRecursion, AreDifferent, Arms, AsksReset, AtController, AtEnd, AtHost, Bool, Boots, Broken, Comes}
+use Rattle.node_laws.proofs.Words.{Controller, CutOff, Deed, Desk, EachGoesSo, End, Entry, Gives, GoesSo, Happening, HasEnds, Host, IfItRuns, Inits, IsCut}
+use Rattle.node_laws.proofs.Words.{IsOrderly, IsUntimed, Link, LinkEvent, LinkInput, List, Lose, Loses, Loss, Memory, Message, NextFrame, NoInput, NodeWorld}
+use Rattle.node_laws.proofs.Words.{None, NumberedEnd, Option, Resets, Running, Site, Some, Starts, Step, Takes, TellOf, Ticks, Work, [], activates}
+use Rattle.node_laws.proofs.Words.{after_controller, after_host, after_host_step, after_link_events, after_planned, ap, append-nil, append_assoc, arrival}
+use Rattle.node_laws.proofs.Words.{beginning, begins_with, boot_found, boot_writes, boot_written, boots, by_boot, by_coming, by_controller, by_host, by_loss}
+use Rattle.node_laws.proofs.Words.{by_memory, by_power, by_running, by_test, changed_if, comes_at, comes_to, cond, controller_does, controller_work, count_of}
+use Rattle.node_laws.proofs.Words.{counts, end_c, end_h, ending_of, entries, entries_for, eqb-true, event_entries, exchanged, false, first_lost, found}
+use Rattle.node_laws.proofs.Words.{frame_lost, happens, host_cut, host_does, host_work, hosts_in, input_of, is_command_message, link_after_controller, link_to}
+use Rattle.node_laws.proofs.Words.{links_of, loses_power_at, map, memory_at, near_end_in, of_link, refl, runs_on, sending, site_at, site_lost, steps, subst}
+use Rattle.node_laws.proofs.Words.{sym, true, turns_at, with_memory, with_node, with_site, work_of, world_step, ℕ, ◌&&◌, ◌++◌, ◌==◌, ◌∙◌, ◌∷◌, ◌≡◌}
 use Rattle.trace_model.specs.declared.entry.Entry.TheVariants as entry
 use Rattle.node_laws.proofs.kept.Sites.{hosts_same, changed_host}
-use Rattle.node_laws.specs.telling.Telling.{Tells, GoesSo, EachGoesSo, IsUntimed}
+use Rattle.node_laws.specs.telling.Telling.{Tells}
 use Rattle.node_laws.proofs.telling.Mute.{AreMute}
 use Rattle.node_laws.proofs.telling.Accounts.{of-append, of_other}
 use Rattle.node_laws.proofs.telling.Steps.{notes-append}

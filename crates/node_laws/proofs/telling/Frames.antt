@@ -1,12 +1,8 @@
 -- What holds of all that is noted of frames and of power holds as frames come, go out, are lost and grow old.
-use Rattle.std.proofs.Common.{Bool, true, false, cond, List, [], ◌∷◌, ◌++◌, length}
-use Rattle.std.specs.Prelude.{nat_lt}
-use Rattle.std.specs.List.{AllByRecursion}
-use Rattle.node_laws.proofs.Words.{Comes, Control, Cut, CutOff, Emit, Ending, GoesOut, Link, LinkEnd, Loss, Lost, NextFrame, OnWire, TooMany, TooOld, Took}
-use Rattle.node_laws.proofs.Words.{aged_entries, arrival, by_list, by_test, ending_entries, far, first_lost, frames_out, pushed_out, put, put_entries}
-use Rattle.node_laws.proofs.Words.{puts_entries, wire_with}
-use Rattle.link_laws.specs.entries.Entries.{End as Side, Entry as Noted}
-use Rattle.registry.proofs.ValueLemmas.{AllByRecursion-append as all_append}
+use Rattle.node_laws.proofs.Words.{AllByRecursion, Bool, Comes, Control, Cut, CutOff, Emit, Ending, GoesOut, Link, LinkEnd, List, Loss, Lost, NextFrame, Noted}
+use Rattle.node_laws.proofs.Words.{OnWire, TooMany, TooOld, Took, [], aged_entries, all_append, arrival, by_list, by_test, cond, ending_entries, false, far}
+use Rattle.node_laws.proofs.Words.{first_lost, frames_out, length, nat_lt, pushed_out, put, put_entries, puts_entries, true, wire_with, ◌++◌, ◌∷◌}
+use Rattle.link_laws.specs.entries.Entries.{End as Side}
 
 module _ (P : Noted → Type 0) where
   abbrev All : List Noted → Type 0

@@ -1,11 +1,9 @@
 -- What a history without ticks tells of each link.
-use Rattle.std.proofs.Common.{◌≡◌, ℕ, zero, suc, List, [], ◌∷◌, Option, Some, None, refl}
-use Rattle.std.specs.Prelude.{replicate}
-use Rattle.std.specs.List.{AllByRecursion}
-use Rattle.node_laws.proofs.Words.{End, Happening, IsOrderly, Line, LostFor, NodeWorld, Same, Takes, Undetected, Verdict, first_verdict, frames_at, happenings}
-use Rattle.node_laws.proofs.Words.{happens_by, refusal_in, steps_from, taken_of, world_after, world_step}
+use Rattle.node_laws.proofs.Words.{AllByRecursion, EachGoesSo, End, Happening, IsOrderly, IsUntimed, Line, List, LostFor, NodeWorld, None, Option, Same, Some}
+use Rattle.node_laws.proofs.Words.{Takes, Undetected, Verdict, [], first_verdict, frames_at, happenings, happens_by, refl, refusal_in, replicate, steps_from}
+use Rattle.node_laws.proofs.Words.{suc, taken_of, world_after, world_step, zero, ℕ, ◌∷◌, ◌≡◌}
 use Rattle.trace_model.specs.declared.line.Line.TheVariants as line
-use Rattle.node_laws.specs.telling.Telling.{EachGoesSo, IsUntimed, IsUntimedLine, AreUntimed}
+use Rattle.node_laws.specs.telling.Telling.{AreUntimed, IsUntimedLine}
 use Rattle.node_laws.proofs.telling.Events.{goes_not, goes_then, untimed_goes}
 use Rattle.node_laws.proofs.telling.Lasting.{AllMay, entries_of_steps, lines_last}
 

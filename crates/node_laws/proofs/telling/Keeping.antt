@@ -1,9 +1,8 @@
 -- A node keeps its number and its ends.
-use Rattle.std.proofs.Common.{◌≡◌, ℕ, ◌==◌, List, [], ◌∷◌, Some, map, refl, ap, ◌∙◌}
-use Rattle.std.specs.List.{flat_map}
-use Rattle.node_laws.proofs.Words.{AtEnd, Deed, Desk, Entry, IfItRuns, LinkInput, Port, Tick, TimePasses, Turn, Work, after_sessions, after_turn, all_come}
-use Rattle.node_laws.proofs.Words.{all_owed, begins_with, by_test, changed_if, forgets, forgotten, has_come, hosts_of_ends, input_at, noting, reset_late}
-use Rattle.node_laws.proofs.Words.{runs_on, steps, synced, times_out, turn_at, with_desk, with_older, without_notice}
+use Rattle.node_laws.proofs.Words.{AtEnd, Deed, Desk, Entry, IfItRuns, LinkInput, List, Port, Some, Tick, TimePasses, Turn, Work, [], after_sessions}
+use Rattle.node_laws.proofs.Words.{after_turn, all_come, all_owed, ap, begins_with, by_test, changed_if, flat_map, forgets, forgotten, has_come, hosts_of_ends}
+use Rattle.node_laws.proofs.Words.{input_at, map, noting, refl, reset_late, runs_on, steps, synced, times_out, turn_at, with_desk, with_older, without_notice}
+use Rattle.node_laws.proofs.Words.{ℕ, ◌==◌, ◌∙◌, ◌∷◌, ◌≡◌}
 use Rattle.node_laws.proofs.kept.Plainly.{hosts_map}
 use Rattle.node_laws.proofs.telling.Mute.{AreMute, forgotten_mute, all_owed_mute, all_synced_mute}
 use Rattle.node_laws.proofs.telling.Walks.{AreSilent, all_do, rest}

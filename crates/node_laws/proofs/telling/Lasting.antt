@@ -1,14 +1,13 @@
 -- What lasts over each event of a world of nodes, with the entries noted so far, lasts over all events of a schedule.
-use Rattle.std.proofs.Common.{◌≡◌, ℕ, zero, suc, List, [], ◌∷◌, ◌++◌, sym, refl, ap, ◌∙◌, subst, append_assoc, append-nil}
-use Rattle.std.specs.Prelude.{Option, Some, None, is_some, replicate, unwrap_or}
-use Rattle.std.specs.List.{AllByRecursion, flat_map}
-use Rattle.std.proofs.lemmas.List.Concat.{flat_map-append}
-use Rattle.node_laws.proofs.Words.{End, Entry, Happening, Line, LineStep, Loses, Loss, LostFor, MayBoot, NodeWorld, Occurrence, Running, Same, Takes, Ticks}
-use Rattle.node_laws.proofs.Words.{Undetected, Verdict, all_happen, by_option, by_test, can_happen, entries_in, first_verdict, frames_at, goes_on, happenings}
-use Rattle.node_laws.proofs.Words.{happens_by, line_step, node_at, occurrences_of, refusal_in, steps_from, taken_of, world_after, world_behind, world_step}
+use Rattle.node_laws.proofs.Words.{AllByRecursion, End, Entry, FollowsNodes, Happening, Header, Line, LineStep, List, Loses, Loss, LostFor, MayBoot}
+use Rattle.node_laws.proofs.Words.{NodeHistory, NodeWorld, None, Occurrence, Option, Running, Same, Some, Takes, Ticks, Undetected, Verdict, [], all_happen, ap}
+use Rattle.node_laws.proofs.Words.{append-nil, append_assoc, by_option, by_test, can_happen, entries_in, first_verdict, flat_map, flat_map-append, frames_at}
+use Rattle.node_laws.proofs.Words.{goes_on, happenings, happens_by, is_some, line_step, new_world, node_at, occurrences_in, occurrences_of, refl, refusal_in}
+use Rattle.node_laws.proofs.Words.{replicate, steps_from, subst, suc, sym, tables_told, taken_of, unwrap_or, world_after, world_behind, world_step, zero, ℕ}
+use Rattle.node_laws.proofs.Words.{◌++◌, ◌∙◌, ◌∷◌, ◌≡◌}
 use Rattle.trace_model.specs.declared.entry.NoCause.TheVariants as cause
 use Rattle.trace_model.specs.declared.line.Line.TheVariants as line
-use Rattle.node_machine.specs.world.Lines.{if_true, tables_told}
+use Rattle.node_machine.specs.world.Lines.{if_true}
 
 -- events that may happen one after another
 abbrev pub AllMay : (NodeWorld → Happening → Type 0) → NodeWorld → List Happening → Type 0
@@ -233,3 +232,46 @@ module _ (Holds : List Entry → NodeWorld → Type 0) (May : NodeWorld → Happ
       let events : List Occurrence = events_of_steps (steps_from w lines) in
       subst (λ x. Holds (t ++ entries_in events) x) (behind_lines lines w)
       (front_holds events [] t w (subst (AllHold t w) (sym (append-nil events)) (lines_hold lines t w all are)))
+
+  -- so it is behind any first events of a history
+  pub history_holds : (header : Header) (lines : List Line) (t : NodeHistory) → FollowsNodes header lines t → Holds [] (new_world header.hosts.items)
+      → AllByRecursion Is lines → (front back : List Occurrence) → occurrences_in t ≡ front ++ back
+      → Holds (entries_in front) (world_behind (new_world header.hosts.items) front)
+  history_holds header lines t follows begins are front back parts =
+      let first : NodeWorld = new_world header.hosts.items in
+      front_holds front back [] first
+      (subst (AllHold [] first) (sym (ap events_of_steps follows.steps_are) ∙ parts) (lines_hold lines [] first begins are))
+
+-- the events of a history happened
+pub history_caused : (header : Header) (lines : List Line) (t : NodeHistory) → FollowsNodes header lines t
+    → AreCaused Any (new_world header.hosts.items) (occurrences_in t)
+history_caused header lines t follows =
+    let first : NodeWorld = new_world header.hosts.items in
+    subst (λ steps. AreCaused Any first (events_of_steps steps)) (sym follows.steps_are)
+    (lines_caused Any AnyLine (λ w l any none. all_any w (happenings w l)) lines first (all_lines lines))
+
+pub behind_push : (os : List Occurrence) (o : Occurrence) (w : NodeWorld) → world_behind w (os ++ o ∷ []) ≡ (world_step (world_behind w os) o.cause).0
+behind_push [] o w = refl
+behind_push (x ∷ os) o w = behind_push os o (world_step w x.cause).0
+
+pub entries_one : (xs : List Occurrence) (o : Occurrence) → entries_in (xs ++ o ∷ []) ≡ entries_in xs ++ o.entries
+entries_one xs o = flat_map-append (λ (o : Occurrence). o.entries) xs (o ∷ []) ∙ ap (λ l. entries_in xs ++ l) (append-nil o.entries)
+
+-- what lasts over each event while something else is kept holds behind any first events
+module _ (P K : List Entry → NodeWorld → Type 0)
+    (lasts : (t : List Entry) (w : NodeWorld) (c : Happening) → P t w → K t w → P (t ++ (world_step w c).1) (world_step w c).0) (first : NodeWorld)
+    (events : List Occurrence)
+    (keeps : (front back : List Occurrence) → events ≡ front ++ back → K (entries_in front) (world_behind first front)) where
+  pub fronts_last : (done front back : List Occurrence) → events ≡ done ++ (front ++ back) → AreCaused Any (world_behind first done) (front ++ back)
+      → P (entries_in done) (world_behind first done) → P (entries_in (done ++ front)) (world_behind first (done ++ front))
+  fronts_last done [] back is caused now = subst (λ l. P (entries_in l) (world_behind first l)) (sym (append-nil done)) now
+  fronts_last done (o ∷ front) back is caused now =
+      let w : NodeWorld = world_behind first done in
+      let next : P (entries_in done ++ o.entries) (world_step w o.cause).0 =
+      subst (λ l. P (entries_in done ++ l) (world_step w o.cause).0) (sym caused.0)
+      (lasts (entries_in done) w o.cause now (keeps done (o ∷ (front ++ back)) is)) in
+      subst (λ l. P (entries_in l) (world_behind first l)) (append_assoc done (o ∷ []) front)
+      (fronts_last (done ++ o ∷ []) front back (is ∙ sym (append_assoc done (o ∷ []) (front ++ back)))
+      (subst (λ v. AreCaused Any v (front ++ back)) (sym (behind_push done o first)) caused.2)
+      (subst (P (entries_in (done ++ o ∷ []))) (sym (behind_push done o first))
+      (subst (λ l. P l (world_step w o.cause).0) (sym (entries_one done o)) next)))

@@ -1,17 +1,14 @@
 -- An end that is up and has a tick in which its session goes on, and is reset then: what that does and tells is what a reset in place of
 -- the tick does and tells.
-use Rattle.std.proofs.Common.{◌≡◌, ℕ, ◌-◌, Bool, true, false, cond, List, [], ◌∷◌, ◌++◌, map, Option, Some, None, refl, ap, sym, ◌∙◌, arith}
-use Rattle.std.specs.Prelude.{is_some, nat_lt, option_to_list}
-use Rattle.node_laws.proofs.Words.{Acked, ActOut, Active, Asked, Cause, Down, EndState, GaveUp, LinkEnd, Reset, Tick, Up, Waiting, act_event, act_out}
-use Rattle.node_laws.proofs.Words.{after_input, ended_by, if_so, is_open, no_act_out, no_session, report, runs_timer, tick_answer, ticked, told, whole_acked}
-use Rattle.node_laws.proofs.Words.{whole_among}
-use Rattle.swp_base.specs.declared.link_terms.Cause.TheVariants.{NoAnswer}
+use Rattle.node_laws.proofs.Words.{Acked, ActOut, Active, Asked, Bool, Cause, Down, EndState, GaveUp, LinkEnd, List, NoAnswer, None, Noted, Option, Reset, Some}
+use Rattle.node_laws.proofs.Words.{Tick, Timed, Up, Waiting, [], act_event, act_out, after_input, ap, arith, cond, ended_by, false, if_so, in_front, is_open}
+use Rattle.node_laws.proofs.Words.{is_some, map, nat_lt, no_act_out, no_session, nothing_ticked, option_to_list, refl, report, runs_timer, sym, tick_answer}
+use Rattle.node_laws.proofs.Words.{ticked, timed, told, true, whole_acked, whole_among, ℕ, ◌++◌, ◌-◌, ◌∙◌, ◌∷◌, ◌≡◌}
 use Rattle.shdlc_core.specs.declared.answers.Ticked.{Ticked}
 use Rattle.shdlc_core.specs.declared.answers.Due.TheVariants.{Rset as Rset_due}
-use Rattle.shdlc_core.specs.Machine.{timed, Timed, nothing_ticked}
 use Rattle.shdlc_core.specs.Machine.Timed.{Runs, Over, Spent}
-use Rattle.link_laws.specs.machine.Machine.{in_front, gave_up_by}
-use Rattle.link_laws.specs.entries.Entries.{End as Side, Entry as Noted}
+use Rattle.link_laws.specs.machine.Machine.{gave_up_by}
+use Rattle.link_laws.specs.entries.Entries.{End as Side}
 use Rattle.link_laws.specs.entries.Entries.Entry.{Up as IsUpNow}
 
 -- an end that is active and up, and whose session doesn't end by the next tick

@@ -1,8 +1,7 @@
 -- What nodes do notes nothing of a link but by what it does to an end.
-use Rattle.std.proofs.Common.{◌≡◌, ℕ, false, List, refl}
-use Rattle.std.specs.List.{AllByRecursion, flat_map}
-use Rattle.node_laws.proofs.Words.{Core, Deed, Ends, Entry, Message, NodeInput, OfHost, Plain, Port, all_of_host, all_owed, all_owed_hold, all_synced_hold}
-use Rattle.node_laws.proofs.Words.{any_of_controller, deeds_hold, deeds_of, forgotten, forgotten_hold, synced, tells_of}
+use Rattle.node_laws.proofs.Words.{AllByRecursion, Core, Deed, Ends, Entry, List, Message, NodeInput, OfHost, Plain, Port, all_of_host, all_owed, all_owed_hold}
+use Rattle.node_laws.proofs.Words.{all_synced_hold, any_of_controller, deeds_hold, deeds_of, false, flat_map, forgotten, forgotten_hold, refl, synced, tells_of}
+use Rattle.node_laws.proofs.Words.{ℕ, ◌≡◌}
 use Rattle.trace_model.specs.declared.entry.Entry.TheVariants as entry
 
 -- what a node notes beside its links, its turns, its boots and its power

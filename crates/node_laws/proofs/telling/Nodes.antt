@@ -1,14 +1,11 @@
 -- What the steps of a controller and of hosts tell of each link.
-use Rattle.std.proofs.Common.{◌≡◌, ℕ, ◌==◌, Bool, true, false, cond, List, [], ◌∷◌, ◌++◌, Option, Some, None, map, refl, ap, sym, subst, ◌∙◌}
-use Rattle.std.specs.Prelude.{if◌then◌else◌}
-use Rattle.std.specs.List.{flat_map}
-use Rattle.std.specs.Option.{option_map_or}
-use Rattle.std.proofs.lemmas.Bool.{eqb-true, ne_eqb, true≢false}
-use Rattle.node_laws.proofs.Words.{AreDifferent, AtController, AtEnd, AtHost, Bare, Comes, Controller, Deed, Desk, Entry, HasEnds, Host, IsOrderly, LinkInput}
-use Rattle.node_laws.proofs.Words.{NextFrame, NoInput, NodeWorld, NumberedEnd, Port, Running, Site, Standing, StandsOf, Step, TellOf, Work, after_controller}
-use Rattle.node_laws.proofs.Words.{after_power, arrival, begins_with, by_test, comes_to, controller_work, ending_of, entries_for, exchanged, frames_noted}
-use Rattle.node_laws.proofs.Words.{host_work, hosts_in, hosts_of_ends, input_of, link_to, near_end_in, new_link, number_of, of_link, port_at, port_for}
-use Rattle.node_laws.proofs.Words.{same_number, site_at, standing, step_entries, steps, turns_at, wires_for, without_power, work_of}
+use Rattle.node_laws.proofs.Words.{AreDifferent, AtController, AtEnd, AtHost, Bare, Bool, Comes, Controller, Deed, Desk, Entry, HasEnds, Host, IsOrderly}
+use Rattle.node_laws.proofs.Words.{LinkInput, List, NextFrame, NoInput, NodeWorld, None, NumberedEnd, Option, Port, Running, Site, Some, Standing, StandsOf}
+use Rattle.node_laws.proofs.Words.{Step, TellOf, Work, [], after_controller, after_power, ap, arrival, begins_with, by_test, comes_to, cond, controller_work}
+use Rattle.node_laws.proofs.Words.{ending_of, entries_for, eqb-true, exchanged, false, flat_map, frames_noted, host_work, hosts_in, hosts_of_ends}
+use Rattle.node_laws.proofs.Words.{if◌then◌else◌, input_of, link_to, map, ne_eqb, near_end_in, new_link, number_of, of_link, option_map_or, port_at, port_for}
+use Rattle.node_laws.proofs.Words.{refl, same_number, site_at, standing, step_entries, steps, subst, sym, true, true≢false, turns_at, wires_for, without_power}
+use Rattle.node_laws.proofs.Words.{work_of, ℕ, ◌++◌, ◌==◌, ◌∙◌, ◌∷◌, ◌≡◌}
 use Rattle.node_laws.proofs.telling.Mute.{AreMute}
 use Rattle.node_laws.proofs.telling.Accounts.{of-append, of_other, at_host}
 use Rattle.node_laws.proofs.telling.Away.{Away}

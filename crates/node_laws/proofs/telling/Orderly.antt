@@ -1,16 +1,14 @@
 -- Whatever lines are played, a world of nodes is orderly.
-use Rattle.std.proofs.Common.{◌≡◌, ℕ, ◌==◌, false, List, [], ◌∷◌, map, refl, ap, sym, subst, ◌∙◌}
-use Rattle.std.specs.Prelude.{replicate}
-use Rattle.std.specs.List.{AllByRecursion}
-use Rattle.node_laws.proofs.Words.{Activates, AreDifferent, Arms, Boots, Gives, Happening, HasEnds, IfItRuns, Inits, IsCut, IsOrderly, Line, Loses, NodeWorld}
-use Rattle.node_laws.proofs.Words.{NumberedEnd, Resets, Site, Takes, Ticks, Work, after_planned, aged, all_aged, by_controller_tick, by_host_tick}
-use Rattle.node_laws.proofs.Words.{controller_ticks, happenings, host_tick, host_ticks, hosts_in, hosts_tick, link_to, near_tick, new_site, new_world, runs_on}
-use Rattle.node_laws.proofs.Words.{site_ticked, site_unticked, work_of, world_after, world_step, world_ticks}
-use Rattle.node_laws.proofs.telling.Keeping.{Keeps, tick_keeps, runs_keep}
+use Rattle.node_laws.proofs.Words.{Activates, AllByRecursion, AreDifferent, Arms, Boots, Entry, FollowsNodes, Gives, Happening, HasEnds, Header, IfItRuns}
+use Rattle.node_laws.proofs.Words.{Inits, IsCut, IsOrderly, Line, List, Loses, NodeHistory, NodeWorld, NumberedEnd, Occurrence, Resets, Site, Takes, Ticks}
+use Rattle.node_laws.proofs.Words.{Work, [], after_planned, all_aged, ap, by_controller_tick, by_host_tick, controller_ticks, false, happenings, host_tick}
+use Rattle.node_laws.proofs.Words.{host_ticks, hosts_in, hosts_tick, link_to, map, near_tick, new_site, new_world, occurrences_in, refl, replicate, runs_on}
+use Rattle.node_laws.proofs.Words.{site_ticked, site_unticked, subst, sym, work_of, world_after, world_step, world_ticks, ℕ, ◌++◌, ◌==◌, ◌∙◌, ◌∷◌, ◌≡◌}
+use Rattle.node_laws.proofs.telling.Keeping.{Keeps, runs_keep, tick_keeps}
 use Rattle.node_laws.proofs.telling.Nodes.{hosts_same}
 use Rattle.node_laws.proofs.telling.Events.{orderly_map, untimed_goes}
-use Rattle.node_laws.proofs.telling.Lasting.{Any, AnyLine, all_any, all_lines, lines_last}
-use Rattle.node_laws.proofs.telling.WorldTicks.{tick_host}
+use Rattle.node_laws.proofs.telling.Lasting.{Any, AnyLine, AreCaused, all_any, all_lines, history_caused, lines_last}
+use Rattle.node_laws.proofs.telling.WorldTicks.{aged_orderly, tick_host}
 
 -- ## Ticks
 
@@ -53,20 +51,17 @@ ticks_orderly w a =
     old : NodeWorld
     old = (all_aged w).0
 
-    old_orderly : IsOrderly old
-    old_orderly = orderly_map w w.memory w.controller (λ (x : Site). record x { link = aged x.link }) (λ x. refl) a a.controller (λ x n. n)
-
     near : IsOrderly (controller_ticks old).0
     near =
         by_controller_tick (λ p. IsOrderly p.0) old
-        (λ q. orderly_map old old.memory old.controller site_unticked (λ x. refl) old_orderly old_orderly.controller (λ x m. m))
+        (λ q. orderly_map old old.memory old.controller site_unticked (λ x. refl) (aged_orderly w a) (aged_orderly w a).controller (λ x m. m))
         (λ r q.
-        let n : HasEnds 0 (hosts_in old.sites) r = subst (IfItRuns 0 (hosts_in old.sites)) q old_orderly.controller in
+        let n : HasEnds 0 (hosts_in old.sites) r = subst (IfItRuns 0 (hosts_in old.sites)) q (aged_orderly w a).controller in
         let near_ends : ℕ → NumberedEnd = λ j. (link_to old.sites j).controller in
         let begun : Work = work_of r old.memory.plan near_ends [] in
         let first : Keeps 0 (hosts_in old.sites) begun = record { number = n.number; ends = hosts_same near_ends r.desks ∙ n.ends } in
         orderly_map old (after_planned (near_tick old r).writes old.memory) (runs_on (near_tick old r)) (site_ticked (near_tick old r)) (λ x. refl)
-        old_orderly (runs_keep 0 (hosts_in old.sites) (near_tick old r) (tick_keeps 0 (hosts_in old.sites) begun first)) (λ x m. m))
+        (aged_orderly w a) (runs_keep 0 (hosts_in old.sites) (near_tick old r) (tick_keeps 0 (hosts_in old.sites) begun first)) (λ x m. m))
 
     same : hosts_in (hosts_tick (controller_ticks old).0.sites).0 ≡ hosts_in (controller_ticks old).0.sites
     same = hosts_ticked (controller_ticks old).0.sites
@@ -109,3 +104,18 @@ pub worlds_are_orderly : (hosts : List ℕ) (lines : List Line) → AreDifferent
 worlds_are_orderly hosts lines d a =
     lines_last (λ t w. IsOrderly w) Any AnyLine (λ t w c is may. step_orderly w c is) (λ w l is none. all_any w (happenings w l)) lines [] (new_world hosts)
     (new_orderly hosts d a) (all_lines lines)
+
+-- ## Each event
+
+-- what each event of an orderly world notes is so
+module _ (P : List Entry → Type 0) (event : (w : NodeWorld) (c : Happening) → IsOrderly w → P (world_step w c).1) where
+  each_event : (past later : List Occurrence) (o : Occurrence) (w : NodeWorld) → IsOrderly w → AreCaused Any w (past ++ (o ∷ later)) → P o.entries
+  each_event [] later o w a caused = subst P (sym caused.0) (event w o.cause a)
+  each_event (x ∷ past) later o w a caused = each_event past later o (world_step w x.cause).0 (step_orderly w x.cause a) caused.2
+
+  pub history_event : (header : Header) (lines : List Line) (t : NodeHistory) → FollowsNodes header lines t → AreDifferent header.hosts.items
+      → AllByRecursion (λ h. (h == 0) ≡ false) header.hosts.items → (past later : List Occurrence) (o : Occurrence)
+      → occurrences_in t ≡ past ++ (o ∷ later) → P o.entries
+  history_event header lines t follows different numbers past later o is =
+      each_event past later o (new_world header.hosts.items) (new_orderly header.hosts.items different numbers)
+      (subst (AreCaused Any (new_world header.hosts.items)) is (history_caused header lines t follows))

@@ -1,11 +1,11 @@
 -- What the law of one link notes of a step of one end, part by part.
-use Rattle.std.proofs.Common.{◌≡◌, ℕ, Bool, true, false, List, [], ◌∷◌, ◌++◌, Option, Some, None, refl, ap, subst, ◌∙◌, max}
-use Rattle.std.specs.Prelude.{◌+◌, if◌then◌else◌, is_some}
-use Rattle.node_laws.proofs.Words.{AsksReset, Comes, Control, CutOff, Emit, Ending, GoesOut, Link, LinkEnd, LinkInput, NextFrame, NoInput, Node, NumberedEnd}
-use Rattle.node_laws.proofs.Words.{OnWire, Reset, Start, Starts, Stop, Stops, Take, Tick, Turn, after_input, arrival, ended_by, ending_entries, entries_for}
-use Rattle.node_laws.proofs.Words.{far, frames_out, input_of, is_rset, is_up, left_after, near_end_in, number_of, pushed_out, put, put_entries, puts_entries}
-use Rattle.node_laws.proofs.Words.{rest_entries, silent, step_entries, tick_entries, told_of, took_with, turn_entries, turned, wire_with, wires_for, with_ended}
-use Rattle.link_laws.specs.entries.Entries.{End as Side, Entry as Noted}
+use Rattle.node_laws.proofs.Words.{AsksReset, Bool, Comes, Control, CutOff, Emit, Ending, GoesOut, Link, LinkEnd, LinkInput, List, NextFrame, NoInput, Node}
+use Rattle.node_laws.proofs.Words.{None, Noted, NumberedEnd, OnWire, Option, Reset, Some, Start, Starts, Stop, Stops, Take, Tick, Turn, [], after_input, ap}
+use Rattle.node_laws.proofs.Words.{arrival, ended_by, ending_entries, entries_for, false, far, frames_out, if◌then◌else◌, input_of, is_rset, is_some, is_up}
+use Rattle.node_laws.proofs.Words.{left_after, max, near_end_in, number_of, pushed_out, put, put_entries, puts_entries, refl, rest_entries, silent}
+use Rattle.node_laws.proofs.Words.{step_entries, subst, tick_entries, told_of, took_with, true, turn_entries, turned, wire_with, wires_for, with_ended, ℕ, ◌++◌}
+use Rattle.node_laws.proofs.Words.{◌+◌, ◌∙◌, ◌∷◌, ◌≡◌}
+use Rattle.link_laws.specs.entries.Entries.{End as Side}
 use Rattle.link_laws.proofs.entries.Noting.{ended_number}
 
 -- ## Frames that go out

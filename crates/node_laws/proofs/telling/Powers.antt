@@ -1,19 +1,15 @@
 -- How a link stands as it is read off a step of a node: what its end has and both wires, also where the node loses its power.
-use Rattle.std.proofs.Common.{◌≡◌, ℕ, ◌==◌, Bool, true, false, cond, List, [], ◌∷◌, ◌++◌, Option, Some, None, map, refl, ap, sym, ◌∙◌}
-use Rattle.std.specs.List.{AllByRecursion, flat_map, fold}
-use Rattle.std.specs.Option.{option_map_or}
-use Rattle.std.proofs.lemmas.List.Sums.{fold-append}
-use Rattle.node_laws.proofs.Words.{AtEnd, Core, Cut, Deed, Desk, End, Entry, Give, LinkInput, Message, NodeInput, Port, Refused, Reset, Restarted, Saying}
-use Rattle.node_laws.proofs.Words.{Standing, TimePasses, Turn, Work, Write, after_input, after_power, after_sessions, all_come, all_owed, begins_with, by_test}
-use Rattle.node_laws.proofs.Words.{end_of, entries_for, entry_of, forgets, forgotten, give_refusal, input_at, is_late, is_of, law_noted, loses_power, noted_of}
-use Rattle.node_laws.proofs.Words.{noting, of_link, own_side, port_at, report, said, said_far, said_near, sent_unless, standing, standing_by_law, stands_noted}
-use Rattle.node_laws.proofs.Words.{stands_said, stands_told, steps, synced, tells_of, times_out, told, told_at, told_late, turn_at, whole_acked, with_desk}
-use Rattle.node_laws.proofs.Words.{with_older, without_notice}
+use Rattle.node_laws.proofs.Words.{AllByRecursion, AtEnd, Bool, Core, Cut, Deed, Desk, End, Entry, Give, LinkInput, List, Message, NodeInput, None, Noted}
+use Rattle.node_laws.proofs.Words.{Option, Port, Refused, Reset, Restarted, Saying, Some, Standing, TimePasses, Turn, Work, Write, [], after_input, after_power}
+use Rattle.node_laws.proofs.Words.{after_sessions, all_append, all_come, all_owed, ap, begins_with, by_test, cond, end_of, entries_for, entry_of, false}
+use Rattle.node_laws.proofs.Words.{flat_map, fold, fold-append, forgets, forgotten, give_refusal, input_at, is_late, is_of, law_noted, loses_power, map}
+use Rattle.node_laws.proofs.Words.{noted_of, noting, of_link, option_map_or, own_side, port_at, refl, report, said, said_far, said_near, sent_unless, standing}
+use Rattle.node_laws.proofs.Words.{standing_by_law, stands_noted, stands_said, stands_told, steps, sym, synced, tells_of, times_out, told, told_at, told_late}
+use Rattle.node_laws.proofs.Words.{true, turn_at, whole_acked, with_desk, with_older, without_notice, ℕ, ◌++◌, ◌==◌, ◌∙◌, ◌∷◌, ◌≡◌}
 use Rattle.trace_model.specs.declared.entry.Entry.TheVariants as entry
-use Rattle.link_laws.specs.entries.Entries.{End as Side, Entry as Noted}
+use Rattle.link_laws.specs.entries.Entries.{End as Side}
 use Rattle.link_laws.specs.entries.Entries.Entry.{Tick}
 use Rattle.history.specs.Filters.Saying.{Sends}
-use Rattle.registry.proofs.ValueLemmas.{AllByRecursion-append as all_append}
 use Rattle.node_laws.proofs.telling.Mute.{AreMute, forgotten_mute, all_owed_mute, all_synced_mute}
 use Rattle.node_laws.proofs.steps.Ports.{sessions_node}
 use Rattle.node_laws.proofs.telling.Walks.{AreSilent, IsUncut, AreUncut, all_last, rest_lasts}

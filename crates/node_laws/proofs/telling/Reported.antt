@@ -1,10 +1,7 @@
 -- Where a fact holds of each kind of note, it holds of all that is told of an input that comes to an end.
-use Rattle.std.proofs.Common.{ℕ, Bool, true, false, List, [], ◌∷◌, ◌++◌, map}
-use Rattle.std.specs.Prelude.{nat_lt, option_to_list}
-use Rattle.std.specs.List.{AllByRecursion}
-use Rattle.registry.proofs.ValueLemmas.{AllByRecursion-append as all_append}
-use Rattle.node_laws.proofs.Words.{Acked, Active, Cause, Down, GaveUp, Got, Message, Report, if_so, told}
-use Rattle.link_laws.specs.entries.Entries.{End as Side, Entry as Noted}
+use Rattle.node_laws.proofs.Words.{Acked, Active, AllByRecursion, Bool, Cause, Down, GaveUp, Got, List, Message, Noted, Report, [], all_append, false, if_so}
+use Rattle.node_laws.proofs.Words.{map, nat_lt, option_to_list, told, true, ℕ, ◌++◌, ◌∷◌}
+use Rattle.link_laws.specs.entries.Entries.{End as Side}
 use Rattle.link_laws.specs.entries.Entries.Entry.{Up}
 
 module _ (P : Noted → Type 0) (who : Side) (n acked : ℕ) (up : P (Up who n)) (active : P (Active who)) (gave_up : (tries : ℕ) → P (GaveUp who tries))

@@ -1,19 +1,15 @@
 -- What the law of one link notes of a step ends with a cut exactly where the step does, and tells of no other one. So how the link
 -- stands by that law is read off the step of a node.
-use Rattle.std.proofs.Common.{◌≡◌, ℕ, Bool, true, false, cond, List, [], ◌∷◌, ◌++◌, length, Option, Some, None, refl, ap, sym, ◌∙◌, append-nil}
-use Rattle.std.proofs.Common.{append_assoc}
-use Rattle.std.specs.Prelude.{nat_lt, is_some}
-use Rattle.std.specs.List.{flat_map}
-use Rattle.std.proofs.lemmas.List.Sums.{fold-append}
-use Rattle.node_laws.proofs.Words.{AsksReset, Comes, Control, Controller, Cut, CutOff, Ending, Entry, Give, GoesOut, Host, Link, LinkEnd, LinkInput, Loss}
-use Rattle.node_laws.proofs.Words.{Message, NextFrame, NoInput, Node, NumberedEnd, OnWire, Refused, Report, Reset, Restarted, Site, Standing, Start, Starts}
-use Rattle.node_laws.proofs.Words.{Stop, Stops, Take, TooMany, Took, Turn, Work, after_input, after_power, aged_entries, by_option, by_test, ended_by}
-use Rattle.node_laws.proofs.Words.{ending_entries, ending_of, entries_for, entry_of, far, first_lost, frames_noted, frames_out, give_refusal, input_entries}
-use Rattle.node_laws.proofs.Words.{input_of, law_noted, left_after, number_of, of_link, port_at, pushed_out, put, puts_entries, report, rest_entries}
-use Rattle.node_laws.proofs.Words.{sent_unless, silent, standing, standing_by_law, stands_noted, stands_told, step_entries, tick_entries, told, told_of}
-use Rattle.node_laws.proofs.Words.{took_with, turn, turn_entries, turn_entry, turned, whole_acked, wire_with, with_ended, without_power}
-use Rattle.link_laws.specs.machine.Machine.LinkInput.{Tick as HasTick}
-use Rattle.link_laws.specs.entries.Entries.{End as Side, Entry as Noted}
+use Rattle.node_laws.proofs.Words.{AsksReset, Bool, Comes, Control, Controller, Cut, CutOff, Ending, Entry, Give, GoesOut, HasTick, Host, Link, LinkEnd}
+use Rattle.node_laws.proofs.Words.{LinkInput, List, Loss, Message, NextFrame, NoInput, Node, None, Noted, NumberedEnd, OnWire, Option, Refused, Report, Reset}
+use Rattle.node_laws.proofs.Words.{Restarted, Site, Some, Standing, Start, Starts, Stop, Stops, Take, TooMany, Took, Turn, Work, [], after_input, after_power}
+use Rattle.node_laws.proofs.Words.{aged_entries, ap, append-nil, append_assoc, by_option, by_test, cond, ended_by, ending_entries, ending_of, entries_for}
+use Rattle.node_laws.proofs.Words.{entry_of, false, far, first_lost, flat_map, fold-append, frames_noted, frames_out, give_refusal, input_entries, input_of}
+use Rattle.node_laws.proofs.Words.{is_some, law_noted, left_after, length, nat_lt, number_of, of_link, port_at, pushed_out, put, puts_entries, refl, report}
+use Rattle.node_laws.proofs.Words.{rest_entries, sent_unless, silent, standing, standing_by_law, stands_noted, stands_told, step_entries, sym, tick_entries}
+use Rattle.node_laws.proofs.Words.{told, told_of, took_with, true, turn, turn_entries, turn_entry, turned, whole_acked, wire_with, with_ended, without_power, ℕ}
+use Rattle.node_laws.proofs.Words.{◌++◌, ◌∙◌, ◌∷◌, ◌≡◌}
+use Rattle.link_laws.specs.entries.Entries.{End as Side}
 use Rattle.node_laws.proofs.telling.Reported.{told_all}
 use Rattle.node_laws.proofs.telling.Walks.{AreUncut}
 use Rattle.node_laws.proofs.telling.Powers.{standing_said, uncut_said, said_of_link, AreClear, clear_said, uncut_flat, entries_uncut, Powered, IsClear}

@@ -1,16 +1,12 @@
 -- What a node notes of a link in a step is what the law of one link notes of the step of that end.
-use Rattle.std.proofs.Common.{◌≡◌, ℕ, ◌==◌, Bool, false, List, [], ◌∷◌, ◌++◌, Option, Some, None, map, refl, ap, sym, subst, ◌∙◌, append-nil}
-use Rattle.std.proofs.Common.{append_assoc}
-use Rattle.std.specs.List.{AllByRecursion, find, flat_map, list_any}
-use Rattle.std.specs.Option.{option_map_or}
-use Rattle.std.proofs.lemmas.Bool.{eqb-true}
-use Rattle.std.proofs.lemmas.List.Concat.{flat_map-append}
-use Rattle.node_laws.proofs.Words.{AreDifferent, AtEnd, Comes, Core, Deed, Entry, Link, LinkEnd, LinkInput, NodeInput, Port, Turn, Work, after_input}
-use Rattle.node_laws.proofs.Words.{after_sessions, all_come, all_owed, arrival, asked_at, begins_with, by_option, by_test, ending_entries, ending_of}
-use Rattle.node_laws.proofs.Words.{entries_for, entry_of, forgets, forgotten, frames_noted, has_come, hosts_of_ends, input_at, input_of, is_forgotten, is_over}
-use Rattle.node_laws.proofs.Words.{near_end_in, number_of, of_link, own_side, port_at, report, step_entries, steps, synced, told, told_at, turn_entries, turned}
-use Rattle.node_laws.proofs.Words.{turns_at, whole_acked, wires_for, without_notice}
-use Rattle.link_laws.specs.entries.Entries.{End as Side, Entry as Noted}
+use Rattle.node_laws.proofs.Words.{AllByRecursion, AreDifferent, AtEnd, Bool, Comes, Core, Deed, Entry, Link, LinkEnd, LinkInput, List, NodeInput, None, Noted}
+use Rattle.node_laws.proofs.Words.{Option, Port, Some, Turn, Work, [], after_input, after_sessions, all_come, all_owed, ap, append-nil, append_assoc, arrival}
+use Rattle.node_laws.proofs.Words.{asked_at, begins_with, by_option, by_test, ending_entries, ending_of, entries_for, entry_of, eqb-true, false, find, flat_map}
+use Rattle.node_laws.proofs.Words.{flat_map-append, forgets, forgotten, frames_noted, has_come, hosts_of_ends, input_at, input_of, is_forgotten, is_over}
+use Rattle.node_laws.proofs.Words.{list_any, map, near_end_in, number_of, of_link, option_map_or, own_side, port_at, refl, report, step_entries, steps, subst}
+use Rattle.node_laws.proofs.Words.{sym, synced, told, told_at, turn_entries, turned, turns_at, whole_acked, wires_for, without_notice, ℕ, ◌++◌, ◌==◌, ◌∙◌, ◌∷◌}
+use Rattle.node_laws.proofs.Words.{◌≡◌}
+use Rattle.link_laws.specs.entries.Entries.{End as Side}
 use Rattle.node_laws.proofs.telling.Mute.{AreMute, forgotten_mute, all_owed_mute, all_synced_mute}
 use Rattle.node_laws.proofs.telling.Walks.{all_do, rest}
 use Rattle.node_laws.proofs.telling.Accounts.{of-append, of_other, at_host, SameEnd, Account, note, desk, turns, beside}

@@ -1,12 +1,10 @@
 -- What a node notes of a link in its tick.
-use Rattle.std.proofs.Common.{◌≡◌, ℕ, ◌==◌, Bool, true, false, List, [], ◌∷◌, ◌++◌, Option, Some, None, map, refl, ap, sym, subst, ◌∙◌, append-nil}
-use Rattle.std.specs.Prelude.{nat_le, ◌+◌, ◌&&◌, is_some}
-use Rattle.std.specs.List.{flat_map}
-use Rattle.std.proofs.lemmas.Bool.{eqb-true}
-use Rattle.node_laws.proofs.Words.{AreDifferent, AsksReset, Core, Entry, Link, LinkEnd, LinkInput, NoInput, Notice, Port, Reset, Tick, TimePasses, Up, Work}
-use Rattle.node_laws.proofs.Words.{after_input, after_sessions, all_come, all_owed, by_option, by_test, ended_by, entries_for, forgets, forgotten, has_come}
-use Rattle.node_laws.proofs.Words.{is_due, is_late, is_open, number_of, of_link, own_side, port_at, report, reset_late, steps, synced, times_out, told, told_at}
-use Rattle.node_laws.proofs.Words.{told_late, told_of, turn_entries, turned, whole_acked, with_older, without_notice}
+use Rattle.node_laws.proofs.Words.{AreDifferent, AsksReset, Bool, Core, Entry, Link, LinkEnd, LinkInput, List, NoInput, None, Notice, Option, Port, Reset, Some}
+use Rattle.node_laws.proofs.Words.{Tick, TimePasses, Up, Work, [], after_input, after_sessions, all_come, all_owed, ap, append-nil, by_option, by_test}
+use Rattle.node_laws.proofs.Words.{ended_by, entries_for, eqb-true, false, flat_map, forgets, forgotten, has_come, is_due, is_late, is_open, is_some, map}
+use Rattle.node_laws.proofs.Words.{nat_le, number_of, of_link, own_side, port_at, refl, report, reset_late, steps, subst, sym, synced, times_out, told, told_at}
+use Rattle.node_laws.proofs.Words.{told_late, told_of, true, turn_entries, turned, whole_acked, with_older, without_notice, ℕ, ◌&&◌, ◌++◌, ◌+◌, ◌==◌, ◌∙◌, ◌∷◌}
+use Rattle.node_laws.proofs.Words.{◌≡◌}
 use Rattle.link_laws.specs.entries.Entries.{End as Side}
 use Rattle.node_laws.proofs.kept.Plainly.{hosts_map}
 use Rattle.node_laws.proofs.telling.Mute.{forgotten_mute, all_owed_mute, all_synced_mute}

@@ -1,11 +1,10 @@
 -- A fact of a node lasts over all that it does in a step, where it lasts over entries that tell of no link, over changes of what is
 -- kept of an end, over turns, over the loss of power, and over what changes neither ends nor entries.
-use Rattle.std.proofs.Common.{◌≡◌, ℕ, Bool, true, false, List, [], ◌∷◌, ◌++◌, length, Some, None, refl}
-use Rattle.std.specs.List.{AllByRecursion}
-use Rattle.node_laws.proofs.Words.{About, Asks, Command, Commits, Deed, Desk, Drops, Ends, Entry, FetchMessage, Give, GoesOn, Hears, Hold, IsAnswered, Message}
-use Rattle.node_laws.proofs.Words.{Orders, Release, Releases, Removed, SaysOk, Sends, SetAside, SetsErrors, Tells, Turn, Waits, Work, Write, all_done}
-use Rattle.node_laws.proofs.Words.{answers_and_passes, anyone, body_of, by_test, commit, commit_writes, count_of, done, end_of_node, fails_within, handles}
-use Rattle.node_laws.proofs.Words.{holds_back, keeps, lets_go, loses_power, notified, noting, tells_of, turn_at, with_desk}
+use Rattle.node_laws.proofs.Words.{About, AllByRecursion, Asks, Bool, Command, Commits, Deed, Desk, Drops, Ends, Entry, FetchMessage, Give, GoesOn, Hears, Hold}
+use Rattle.node_laws.proofs.Words.{IsAnswered, List, Message, None, Orders, Release, Releases, Removed, SaysOk, Sends, SetAside, SetsErrors, Some, Tells, Turn}
+use Rattle.node_laws.proofs.Words.{Waits, Work, Write, [], all_done, answers_and_passes, anyone, body_of, by_test, commit, commit_writes, count_of, done}
+use Rattle.node_laws.proofs.Words.{end_of_node, fails_within, false, handles, holds_back, keeps, length, lets_go, loses_power, notified, noting, refl, tells_of}
+use Rattle.node_laws.proofs.Words.{true, turn_at, with_desk, ℕ, ◌++◌, ◌∷◌, ◌≡◌}
 use Rattle.trace_model.specs.declared.entry.Entry.TheVariants as entry
 use Rattle.node_laws.proofs.steps.StepWalks.{got_at, all_do as all_done_so, lets as lets_as, holds as holds_as, Lasts, handled, rest_lasts as rest_as}
 use Rattle.node_laws.proofs.telling.Mute.{IsPlain, plain_untold, IsMute, AreMute, deeds_mute}

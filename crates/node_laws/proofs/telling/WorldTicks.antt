@@ -1,38 +1,31 @@
 -- What a tick of a world tells of each link.
-use Rattle.std.proofs.Common.{◌≡◌, ℕ, ◌==◌, Bool, true, false, List, [], ◌∷◌, ◌++◌, Option, Some, None, refl, ap, sym, subst, ◌∙◌, append-nil}
-use Rattle.std.proofs.Common.{append_assoc}
-use Rattle.std.specs.Prelude.{if◌then◌else◌, is_some}
-use Rattle.std.specs.List.{AllByRecursion, find, flat_map}
-use Rattle.std.specs.Option.{option_map_or}
-use Rattle.std.specs.Option.{option_map}
-use Rattle.std.proofs.lemmas.Bool.{eqb-true}
-use Rattle.std.proofs.lemmas.List.Sums.{fold-append}
-use Rattle.node_laws.proofs.Words.{AreDifferent, AsksReset, Clf, Controller, Desk, Ending, Entry, GoesOut, HasEnds, Host, IfDue, IfItRuns, IfOff, IsOrderly}
-use Rattle.node_laws.proofs.Words.{IsTimely, Link, LinkEnd, LinkEvent, LinkInput, NoInput, Node, NodeWorld, NoneDue, NumberedEnd, Port, Reset, Running, Site}
-use Rattle.node_laws.proofs.Words.{Standing, StandsOf, Step, TellOf, Tick, TicksWithout, TimePasses, Turn, Uicc, Work, after_input, aged, aged_entries}
-use Rattle.node_laws.proofs.Words.{all_aged, by_controller_tick, by_host_tick, by_test, controller_ticks, ended_by, ending_of, entries_for, event_entries}
-use Rattle.node_laws.proofs.Words.{exchanged, frames_noted, frames_out, happens, has_input, host_ended, host_finished, host_tick, host_ticks, hosts_in}
-use Rattle.node_laws.proofs.Words.{hosts_tick, is_due, is_late, is_late_at, is_waiting, law_noted, link_to, near_tick, new_clf, new_link_end, new_uicc}
-use Rattle.node_laws.proofs.Words.{number_of, of_link, port_at, port_for, puts_entries, report, site_at, site_ticked, site_unticked, standing, standing_by_law}
-use Rattle.node_laws.proofs.Words.{stands_noted, step_entries, steps_at_controller, tick_entries, ticked_so, ticks_at_controller, told, turned, turns_at}
-use Rattle.node_laws.proofs.Words.{whole_acked, with_ended, without_power, work_of, world_ticks}
+use Rattle.node_laws.proofs.Words.{AllByRecursion, AreDifferent, AsksReset, Bool, Clf, Controller, Desk, Ending, Entry, GoesOut, GoesSo, HasEnds, Host, IfDue}
+use Rattle.node_laws.proofs.Words.{IfItRuns, IfOff, IsOrderly, IsTimely, Link, LinkEnd, LinkEvent, LinkInput, List, NoInput, Node, NodeWorld, None, NoneDue}
+use Rattle.node_laws.proofs.Words.{Noted, NumberedEnd, Option, Port, Reset, Running, Site, Some, Standing, StandsOf, Step, TellOf, Tick, TicksWithout}
+use Rattle.node_laws.proofs.Words.{TimePasses, Turn, Uicc, Work, [], after_input, after_tick, aged, aged_entries, all_aged, ap, append-nil, append_assoc}
+use Rattle.node_laws.proofs.Words.{by_controller_tick, by_host_tick, by_test, controller_ticks, ended_by, ending_of, entries_for, eqb-true, event_entries}
+use Rattle.node_laws.proofs.Words.{exchanged, false, find, flat_map, fold-append, frames_noted, frames_out, happens, has_input, host_ended, host_finished}
+use Rattle.node_laws.proofs.Words.{host_tick, host_ticks, hosts_in, hosts_tick, if◌then◌else◌, is_due, is_late, is_late_at, is_some, is_waiting, law_noted}
+use Rattle.node_laws.proofs.Words.{link_to, near_tick, new_clf, new_link_end, new_uicc, number_of, of_link, option_map, option_map_or, port_at, port_for}
+use Rattle.node_laws.proofs.Words.{puts_entries, refl, report, site_at, site_ticked, site_unticked, standing, standing_by_law, stands_noted, step_entries}
+use Rattle.node_laws.proofs.Words.{steps_at_controller, subst, sym, tick_entries, ticked_so, ticks_at_controller, told, true, turned, turns_at, whole_acked}
+use Rattle.node_laws.proofs.Words.{with_ended, without_power, work_of, world_ticks, ℕ, ◌++◌, ◌==◌, ◌∙◌, ◌∷◌, ◌≡◌}
 use Rattle.link_laws.specs.messages.Links.LinkEvent.{Ticks}
-use Rattle.link_laws.specs.entries.Entries.{End as Side, Entry as Noted}
-use Rattle.node_machine.proofs.world.Cases.{after_tick}
-use Rattle.node_laws.specs.telling.Telling.{GoesSo, Tells}
+use Rattle.link_laws.specs.entries.Entries.{End as Side}
+use Rattle.node_laws.specs.telling.Telling.{Tells}
 use Rattle.node_laws.proofs.telling.Walks.{AreUncut}
-use Rattle.node_laws.proofs.telling.Powers.{uncut_flat, entries_uncut, clear_stands, steps_powered}
-use Rattle.node_laws.proofs.telling.Shapes.{clear-append, clear_aged, IsShaped, IsStepShaped, shaped_tick, shaped_step, twice, step_stands, step_away}
+use Rattle.node_laws.proofs.telling.Powers.{clear_stands, entries_uncut, steps_powered, uncut_flat}
+use Rattle.node_laws.proofs.telling.Shapes.{IsShaped, IsStepShaped, clear-append, clear_aged, shaped_step, shaped_tick, step_away, step_stands, twice}
 use Rattle.node_laws.proofs.telling.Shapes.{own_frames}
 use Rattle.node_laws.proofs.telling.Shapes.{all_frames}
 use Rattle.node_laws.proofs.telling.Accounts.{of-append, of_other}
 use Rattle.node_laws.proofs.telling.Away.{Away}
 use Rattle.node_laws.proofs.telling.Parts.{tick_is}
-use Rattle.node_laws.proofs.telling.Steps.{only, notes-append, Opening, in_parts, closed, frames_of}
-use Rattle.node_laws.proofs.telling.Nodes.{site_host, link_is, ports_for, hosts_same, Stands, stands, own_power, other_power, host_opened, host_away}
+use Rattle.node_laws.proofs.telling.Steps.{Opening, closed, frames_of, in_parts, notes-append, only}
+use Rattle.node_laws.proofs.telling.Nodes.{Stands, host_away, host_opened, hosts_same, link_is, other_power, own_power, ports_for, site_host, stands}
 use Rattle.node_laws.proofs.telling.Worlds.{site_is}
-use Rattle.node_laws.proofs.telling.Events.{tells_one, site_map, orderly_map}
-use Rattle.node_laws.proofs.telling.Ticks.{older, not_late, late_parts, IfLate, Ticked, ticked, away_tick}
+use Rattle.node_laws.proofs.telling.Events.{orderly_map, site_map, tells_one}
+use Rattle.node_laws.proofs.telling.Ticks.{IfLate, Ticked, away_tick, late_parts, not_late, older, ticked}
 
 pub young_ports : (near_ends : ℕ → NumberedEnd) (desks : List Desk) (h : ℕ) (p : Port) → AllByRecursion (λ (d : Desk). is_due d ≡ false) desks
     → port_at (ports_for near_ends desks) h ≡ Some p → is_due p.desk ≡ false
@@ -375,6 +368,14 @@ near_orderly w a =
     (λ q. orderly_map w w.memory None site_unticked (λ x. refl) a tt (λ x n. n))
     (λ r q. orderly_map w w.memory None (site_ticked (near_tick w r)) (λ x. refl) a tt (λ x n. n))
 
+-- so is the world as the nodes have their ticks, and behind that of the controller
+pub aged_orderly : (w : NodeWorld) → IsOrderly w → IsOrderly (all_aged w).0
+aged_orderly w a = orderly_map w w.memory w.controller (λ (x : Site). record x { link = aged x.link }) (λ x. refl) a a.controller (λ x n. n)
+
+pub ticked_orderly : (w : NodeWorld) → IsOrderly w
+    → IsOrderly (record { memory = w.memory; controller = None; sites = (controller_ticks (all_aged w).0).0.sites })
+ticked_orderly w a = near_orderly (all_aged w).0 (aged_orderly w a)
+
 -- an input to the controller's end leaves the other one
 pub host_left : (l : Link) (i : LinkInput) (ts : List Turn) (ending : Ending) → (has_input l i ts ending).host ≡ l.host
 host_left l i ts ending =
@@ -414,7 +415,7 @@ module _ (w : NodeWorld) (h : ℕ) (s : Site) (orderly : IsOrderly w) (found : s
   old = (all_aged w).0
 
   pub old_orderly : IsOrderly old
-  old_orderly = orderly_map w w.memory w.controller older_site (λ x. refl) orderly orderly.controller (λ x a. a)
+  old_orderly = aged_orderly w orderly
 
   pub old_found : site_at old.sites h ≡ Some (older_site s)
   old_found = site_map older_site (λ x. refl) w.sites h s found
@@ -428,13 +429,10 @@ module _ (w : NodeWorld) (h : ℕ) (s : Site) (orderly : IsOrderly w) (found : s
   abbrev mine : Site
   mine = record s { link = between first.late (aged s.link) first.had }
 
-  next_orderly : IsOrderly (record { memory = old.memory; controller = None; sites = (controller_ticks old).0.sites })
-  next_orderly = near_orderly old old_orderly
-
   second : Far mine
   second =
-      far mine (site_is (λ (x : Site). (x.host == 0) ≡ false) (controller_ticks old).0.sites h mine next_orderly.hosts first.there)
-      (site_is (λ (x : Site). IfItRuns x.host (x.host ∷ []) x.node) (controller_ticks old).0.sites h mine next_orderly.nodes first.there)
+      far mine (site_is (λ (x : Site). (x.host == 0) ≡ false) (controller_ticks old).0.sites h mine (ticked_orderly w orderly).hosts first.there)
+      (site_is (λ (x : Site). IfItRuns x.host (x.host ∷ []) x.node) (controller_ticks old).0.sites h mine (ticked_orderly w orderly).nodes first.there)
       (let P : LinkEnd → Type 0 = IfOff s.node (new_link_end (Uicc new_uicc)) in subst P (sym (between_far first.late (aged s.link) first.had)) timely.host)
       timely.young
 
@@ -453,7 +451,7 @@ module _ (w : NodeWorld) (h : ℕ) (s : Site) (orderly : IsOrderly w) (found : s
   far_told : of_link h (hosts_tick (controller_ticks old).0.sites).1 ≡ of_link h (entries_for h far_notes)
   far_told =
       let P : ℕ → Type 0 = λ m. of_link m (host_ticks mine).1 ≡ of_link m (entries_for m far_notes) in
-      hosts_only h (controller_ticks old).0.sites mine next_orderly.different next_orderly.hosts next_orderly.nodes first.there ∙ subst P number second.told
+      hosts_only h (controller_ticks old).0.sites mine (ticked_orderly w orderly).different (ticked_orderly w orderly).hosts (ticked_orderly w orderly).nodes first.there ∙ subst P number second.told
 
   told_all : of_link h (world_ticks w).1 ≡ of_link h (entries_for h (aged_notes s ++ (near_notes first.late (aged s.link) first.had ++ far_notes)))
   told_all =
@@ -479,7 +477,7 @@ module _ (w : NodeWorld) (h : ℕ) (s : Site) (orderly : IsOrderly w) (found : s
 
   far_stands : (x : Standing) → standing h x (hosts_tick (controller_ticks old).0.sites).1 ≡ standing_by_law h x far_notes
   far_stands x =
-      stands_only h (controller_ticks old).0.sites mine next_orderly.different next_orderly.hosts next_orderly.nodes first.there x
+      stands_only h (controller_ticks old).0.sites mine (ticked_orderly w orderly).different (ticked_orderly w orderly).hosts (ticked_orderly w orderly).nodes first.there x
       ∙ subst (λ (m : ℕ). (y : Standing) → standing m y (host_ticks mine).1 ≡ standing_by_law m y far_notes) number second.stands x
 
   stands_all : (x : Standing) → standing h x (world_ticks w).1

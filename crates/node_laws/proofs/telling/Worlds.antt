@@ -1,9 +1,8 @@
 -- What the events of a world tell of each link.
-use Rattle.std.proofs.Common.{◌≡◌, ℕ, ◌==◌, false, List, [], ◌∷◌, ◌++◌, Option, Some, None, refl, ap, sym, subst, ◌∙◌}
-use Rattle.std.specs.List.{AllByRecursion}
-use Rattle.node_laws.proofs.Words.{AtEnd, AtHost, Comes, Deed, Entry, HasEnds, Host, IfItRuns, IsOrderly, LinkInput, NoInput, NodeWorld, Running, Site}
-use Rattle.node_laws.proofs.Words.{Standing, StandsOf, Step, TellOf, Work, begins_with, by_test, ending_of, exchanged, frames_noted, host_does, host_work}
-use Rattle.node_laws.proofs.Words.{input_of, of_link, site_at, standing, steps, turns_at, wires_for}
+use Rattle.node_laws.proofs.Words.{AllByRecursion, AtEnd, AtHost, Comes, Deed, Entry, HasEnds, Host, IfItRuns, IsOrderly, LinkInput, List, NoInput, NodeWorld}
+use Rattle.node_laws.proofs.Words.{None, Option, Running, Site, Some, Standing, StandsOf, Step, TellOf, Work, [], ap, begins_with, by_test, ending_of}
+use Rattle.node_laws.proofs.Words.{exchanged, false, frames_noted, host_does, host_work, input_of, of_link, refl, site_at, standing, steps, subst, sym}
+use Rattle.node_laws.proofs.Words.{turns_at, wires_for, ℕ, ◌++◌, ◌==◌, ◌∙◌, ◌∷◌, ◌≡◌}
 use Rattle.node_laws.proofs.telling.Mute.{AreMute}
 use Rattle.node_laws.proofs.telling.Nodes.{site_host, HostTells, host_steps, host_begins}
 

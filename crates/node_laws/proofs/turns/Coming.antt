@@ -1,19 +1,14 @@
 -- What waits at an end over a step of its node, and over one of another node.
-use Rattle.std.proofs.Common.{◌≡◌, ℕ, ◌==◌, Bool, true, false, cond, List, [], ◌∷◌, ◌++◌, Option, Some, None, map, refl, ap, sym, subst, ◌∙◌, append-nil}
-use Rattle.std.proofs.Common.{append_assoc}
-use Rattle.std.specs.Prelude.{if◌then◌else◌, nat_lt, option_to_list}
-use Rattle.std.specs.List.{AllByRecursion, flat_map}
-use Rattle.std.proofs.lemmas.Bool.{eqb-true}
-use Rattle.std.proofs.lemmas.List.Concat.{flat_map-append}
-use mathlib.Core.Bool.{and-false}
-use Rattle.node_laws.proofs.Words.{Acked, Active, AreDifferent, AtEnd, Cause, Core, Cut, Deed, Down, End, Entry, GaveUp, Got, IsComing, IsOutside, LinkEnd}
-use Rattle.node_laws.proofs.Words.{LinkInput, Message, NodeInput, Port, Report, Reset, Restarted, Tick, TimePasses, Work, after_input, after_sessions, all_come}
-use Rattle.node_laws.proofs.Words.{all_owed, answers_and_passes, begins_with, by_test, end_of, entries_for, entry_of, forgets, forgotten, has_come}
-use Rattle.node_laws.proofs.Words.{hosts_of_ends, if_so, input_at, is_late, own_side, port_at, report, reset_got, reset_late, same_end, steps, synced}
-use Rattle.node_laws.proofs.Words.{times_out, told, told_at, told_late, whole_acked, with_older, without_notice}
+use Rattle.node_laws.proofs.Words.{Acked, Active, AllByRecursion, AreDifferent, AtEnd, Bool, Cause, Core, Cut, Deed, Down, End, Entry, GaveUp, Got, IsComing}
+use Rattle.node_laws.proofs.Words.{IsOutside, LinkEnd, LinkInput, List, Message, NodeInput, None, Noted, Option, Port, Report, Reset, Restarted, Some, Tick}
+use Rattle.node_laws.proofs.Words.{Ticked, TimePasses, Work, [], after_input, after_sessions, all_come, all_owed, and-false, answers_and_passes, ap, append-nil}
+use Rattle.node_laws.proofs.Words.{append_assoc, begins_with, by_test, cond, end_of, entries_for, entry_of, eqb-true, false, flat_map, flat_map-append, forgets}
+use Rattle.node_laws.proofs.Words.{forgotten, has_come, hosts_of_ends, if_so, if◌then◌else◌, input_at, is_late, map, nat_lt, option_to_list, own_side, port_at}
+use Rattle.node_laws.proofs.Words.{refl, report, reset_got, reset_late, same_end, steps, subst, sym, synced, times_out, told, told_at, told_late, true}
+use Rattle.node_laws.proofs.Words.{whole_acked, with_older, without_notice, ℕ, ◌++◌, ◌==◌, ◌∙◌, ◌∷◌, ◌≡◌}
 use Rattle.trace_model.specs.declared.entry.Entry.TheVariants as entry
-use Rattle.link_laws.specs.entries.Entries.{End as Side, Entry as Noted}
-use Rattle.link_laws.specs.entries.Entries.Entry.{Up, Tick as Ticked}
+use Rattle.link_laws.specs.entries.Entries.{End as Side}
+use Rattle.link_laws.specs.entries.Entries.Entry.{Up}
 use Rattle.node_laws.proofs.telling.Mute.{AreMute, forgotten_mute, all_owed_mute, all_synced_mute}
 use Rattle.node_laws.proofs.telling.Parts.{after_coming}
 use Rattle.node_laws.proofs.telling.Accounts.{at_host}

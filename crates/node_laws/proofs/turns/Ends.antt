@@ -1,14 +1,13 @@
 -- The messages that came at an end of a link and weren't fetched, over all that happens there.
-use Rattle.std.proofs.Common.{◌≡◌, Bool, true, List, [], ◌∷◌, ◌++◌, Option, Some, None, refl, ap, sym, ◌∙◌, append-nil}
-use Rattle.std.specs.Prelude.{drop, is_some, not, ◌&&◌}
-use Rattle.swp_act.specs.declared.ActEvent.TheVariants.{Start as ActStart, Tick as ActTick, Stop as ActStop}
-use Rattle.node_laws.proofs.Words.{AsksReset, Comes, CutOff, Ending, FetchMessage, Give, GoesOut, IsComing, Link, LinkEnd, LinkInput, Message, NextFrame}
-use Rattle.node_laws.proofs.Words.{NoInput, Reset, SetAside, Start, Starts, Stop, Stops, Take, Tick, Turn, after_input, aside_refusal, by_list, by_option}
-use Rattle.node_laws.proofs.Words.{by_test, deactivated, ended_by, finished, give_refusal, has_input, input_of, is_open, is_waiting, moved, reset_got, silent}
-use Rattle.node_laws.proofs.Words.{started, steps_at_controller, stopped, tick_answer, ticked, ticked_so, ticks_at_controller, turn, turned, with_ended}
+use Rattle.node_laws.proofs.Words.{ActStart, ActStop, ActTick, AsksReset, Bool, Comes, CutOff, Ending, FetchMessage, Give, GoesOut, IsComing, Link, LinkEnd}
+use Rattle.node_laws.proofs.Words.{LinkInput, List, Message, NextFrame, NoInput, None, Option, Reset, SetAside, Some, Start, Starts, Stop, Stops, Take, Tick}
+use Rattle.node_laws.proofs.Words.{Turn, [], activated_got, after_input, ap, append-nil, aside_refusal, by_list, by_option, by_test, deactivated, drop}
+use Rattle.node_laws.proofs.Words.{ended_by, finished, give_refusal, has_input, input_of, is_open, is_some, is_waiting, moved, moved_got, not, refl, reset_got}
+use Rattle.node_laws.proofs.Words.{silent, started, steps_at_controller, stopped, sym, tick_answer, ticked, ticked_so, ticks_at_controller, true, turn, turned}
+use Rattle.node_laws.proofs.Words.{with_ended, ◌&&◌, ◌++◌, ◌∙◌, ◌∷◌, ◌≡◌}
 use Rattle.link_laws.specs.machine.Machine.{got_by}
 use Rattle.node_laws.proofs.telling.Parts.{after_coming, IsStep}
-use Rattle.link_laws.proofs.machine.Kept.{moved_got, activated_got, took_got}
+use Rattle.link_laws.proofs.machine.Kept.{took_got}
 
 -- ## Turns
 

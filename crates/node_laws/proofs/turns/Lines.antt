@@ -1,9 +1,8 @@
 -- What waits at each end of a world behind any lines of a schedule, and that messages have their turns in order.
-use Rattle.std.proofs.Common.{◌≡◌, ℕ, ◌==◌, Bool, true, false, List, [], ◌∷◌, ◌++◌, Option, Some, None, map, refl, ap, sym, subst}
-use Rattle.std.specs.Prelude.{is_some, replicate}
-use Rattle.std.specs.List.{AllByRecursion}
-use Rattle.node_laws.proofs.Words.{AreDifferent, AreInTurn, Entry, FollowsNodes, Happening, Header, IsOrderly, Line, MayBoot, Message, NodeHistory, NodeWorld}
-use Rattle.node_laws.proofs.Words.{Running, Site, by_option, end_c, end_h, new_site, new_world, node_entries, site_at, world_after, world_step}
+use Rattle.node_laws.proofs.Words.{AllByRecursion, AreDifferent, AreInTurn, Bool, Entry, FollowsNodes, Happening, Header, IsOrderly, Line, List, MayBoot}
+use Rattle.node_laws.proofs.Words.{Message, NodeHistory, NodeWorld, None, Option, Running, Site, Some, [], ap, by_option, end_c, end_h, false, is_some, map}
+use Rattle.node_laws.proofs.Words.{new_site, new_world, node_entries, refl, replicate, site_at, subst, sym, true, world_after, world_step, ℕ, ◌++◌, ◌==◌, ◌∷◌}
+use Rattle.node_laws.proofs.Words.{◌≡◌}
 use Rattle.node_laws.proofs.telling.Lasting.{AnyLine, boots_may, all_lines, entries_of_steps, lines_last}
 use Rattle.node_laws.proofs.telling.Orderly.{step_orderly, new_orderly}
 use Rattle.node_laws.proofs.telling.Worlds.{site_is}

@@ -1,22 +1,18 @@
 -- What waits at the ends of a world as the controller or a host has a step.
-use Rattle.std.proofs.Common.{◌≡◌, ℕ, ◌==◌, Bool, true, false, cond, List, [], ◌∷◌, ◌++◌, Option, Some, None, map, refl, ap, sym, subst, ◌∙◌}
-use Rattle.std.specs.Prelude.{is_some, if◌then◌else◌}
-use Rattle.std.specs.List.{flat_map}
-use Rattle.std.proofs.lemmas.Bool.{eqb-true, eq-eqb}
-use Rattle.node_laws.proofs.Words.{AreDifferent, AtEnd, Comes, Controller, Deed, Desk, End, Entry, HasEnds, Host, IsOutside, Link, LinkEnd, LinkInput, Memory}
-use Rattle.node_laws.proofs.Words.{Message, NoInput, NodeInput, NodeWorld, NumberedEnd, Port, Running, Site, Step, TimePasses, Work, after_controller}
-use Rattle.node_laws.proofs.Words.{after_host, after_input, after_planned, arrival, begins_with, by_option, by_test, comes_to, controller_work, end_c, end_h}
-use Rattle.node_laws.proofs.Words.{ending_of, entries_for, exchanged, frames_noted, host_tick, host_work, hosts_in, hosts_of_ends, input_of, is_late_at}
-use Rattle.node_laws.proofs.Words.{link_after_controller, link_to, near_end_in, own_side, port_at, port_for, runs_on, same_end, same_number, site_at}
-use Rattle.node_laws.proofs.Words.{site_ticked, steps, steps_at_controller, ticked_so, turns_at, wires_for, work_of}
+use Rattle.node_laws.proofs.Words.{AreDifferent, AtEnd, Bool, Comes, Controller, Deed, Desk, End, Entry, HasEnds, Host, IsOutside, Link, LinkEnd, LinkInput}
+use Rattle.node_laws.proofs.Words.{List, Memory, Message, NoInput, NodeInput, NodeWorld, None, NumberedEnd, Option, Port, Running, Site, Some, Step, TimePasses}
+use Rattle.node_laws.proofs.Words.{Work, [], after_controller, after_host, after_input, after_planned, after_tick, ap, arrival, begins_with, by_option, by_test}
+use Rattle.node_laws.proofs.Words.{comes_to, cond, controller_work, end_c, end_h, ending_of, entries_for, eq-eqb, eqb-true, exchanged, false, flat_map}
+use Rattle.node_laws.proofs.Words.{frames_noted, host_tick, host_work, hosts_in, hosts_of_ends, if◌then◌else◌, input_of, is_late_at, is_some}
+use Rattle.node_laws.proofs.Words.{link_after_controller, link_to, map, near_end_in, own_side, port_at, port_for, refl, runs_on, same_end, same_number, site_at}
+use Rattle.node_laws.proofs.Words.{site_ticked, steps, steps_at_controller, subst, sym, tick_host, ticked_so, true, turns_at, wires_for, work_of, ℕ, ◌++◌, ◌==◌}
+use Rattle.node_laws.proofs.Words.{◌∙◌, ◌∷◌, ◌≡◌}
 use Rattle.link_laws.specs.entries.Entries.{End as Side}
 use Rattle.node_laws.proofs.links.Ends.{here_host}
-use Rattle.link_laws.proofs.entries.Together.{ticks_host as tick_host}
 use Rattle.node_laws.proofs.telling.Mute.{AreMute}
 use Rattle.node_laws.proofs.telling.Parts.{after_coming}
 use Rattle.node_laws.proofs.telling.Keeping.{Keeps, steps_keep, tick_keeps, begins_keep}
 use Rattle.node_laws.proofs.telling.Nodes.{link_is, site_host, ports_for, hosts_same, stands, is_step}
-use Rattle.node_machine.proofs.world.Cases.{after_tick}
 use Rattle.node_laws.proofs.readings.Sites.{near_end_side, comes_outside}
 use Rattle.node_laws.proofs.turns.Queues.{goes-append, AreStill, still_goes}
 use Rattle.node_laws.proofs.turns.Ends.{left_by, ended_with, tick_got, step_got, ticks_got, late_got}

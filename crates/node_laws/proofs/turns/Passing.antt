@@ -1,12 +1,9 @@
 -- What waits at an end over the deeds of a node and over its pass through its ends.
-use Rattle.std.proofs.Common.{◌≡◌, ℕ, ◌==◌, ◌&&◌, Bool, true, false, List, [], ◌∷◌, ◌++◌, Option, Some, None, map, refl, ap, sym, subst, ◌∙◌}
-use Rattle.std.specs.Prelude.{drop, not, if◌then◌else◌}
-use Rattle.std.specs.Option.{option_map_or}
-use Rattle.std.proofs.lemmas.Bool.{eqb-true, eq-eqb, true≢false, and_parts}
-use Rattle.node_laws.proofs.Words.{Controller, Core, Deed, Desk, End, Entry, FetchMessage, Give, Host, Message, Port, Refused, Turn, Work, Write, after_turn}
-use Rattle.node_laws.proofs.Words.{all_done, answers_and_passes, by_cut, by_option, by_test, changed_if, deeds_of, end_of, end_of_node, entries_for}
-use Rattle.node_laws.proofs.Words.{give_refusal, handles, have_turns, lack, loses_power, needs, noted_of, noting, own_side, port_at, same_end, sent_unless}
-use Rattle.node_laws.proofs.Words.{turn_at, unless_cut, with_desk}
+use Rattle.node_laws.proofs.Words.{Bool, Controller, Core, Deed, Desk, End, Entry, FetchMessage, Give, Host, List, Message, None, Option, Port, Refused, Some}
+use Rattle.node_laws.proofs.Words.{Turn, Work, Write, [], after_turn, all_done, and_parts, answers_and_passes, ap, by_cut, by_option, by_test, changed_if}
+use Rattle.node_laws.proofs.Words.{deeds_of, drop, end_of, end_of_node, entries_for, eq-eqb, eqb-true, false, give_refusal, handles, have_turns, if◌then◌else◌}
+use Rattle.node_laws.proofs.Words.{lack, loses_power, map, needs, not, noted_of, noting, option_map_or, own_side, port_at, refl, same_end, sent_unless, subst}
+use Rattle.node_laws.proofs.Words.{sym, true, true≢false, turn_at, unless_cut, with_desk, ℕ, ◌&&◌, ◌++◌, ◌==◌, ◌∙◌, ◌∷◌, ◌≡◌}
 use Rattle.trace_model.specs.declared.entry.Entry.TheVariants as entry
 use Rattle.link_laws.specs.entries.Entries.{End as Side}
 use Rattle.node_laws.proofs.telling.Mute.{IsMute, AreMute, deeds_mute}

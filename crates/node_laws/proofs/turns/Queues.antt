@@ -1,9 +1,6 @@
 -- The messages that came at an end and had no turn, as they are read off entries.
-use Rattle.std.proofs.Common.{◌≡◌, ℕ, ◌==◌, List, [], ◌∷◌, ◌++◌, refl, ap, sym, subst, ◌∙◌, append-nil, append_assoc}
-use Rattle.std.specs.Prelude.{if◌then◌else◌}
-use Rattle.std.specs.List.{AllByRecursion, filter_map}
-use Rattle.std.proofs.lemmas.List.Elements.{filter_map-append}
-use Rattle.node_laws.proofs.Words.{End, Entry, Message, by_test, got_entry, node_number, same_end, since_boot, turn_entry_at}
+use Rattle.node_laws.proofs.Words.{AllByRecursion, End, Entry, List, Message, [], ap, append-nil, append_assoc, by_test, filter_map, filter_map-append}
+use Rattle.node_laws.proofs.Words.{got_entry, if◌then◌else◌, node_number, refl, same_end, since_boot, subst, sym, turn_entry_at, ℕ, ◌++◌, ◌==◌, ◌∙◌, ◌∷◌, ◌≡◌}
 use Rattle.trace_model.specs.declared.entry.Entry.TheVariants as entry
 use Rattle.node_laws.proofs.telling.Mute.{IsPlain}
 use Rattle.node_laws.proofs.telling.Walks.{ArePlain}

@@ -1,13 +1,10 @@
 -- What waits at the ends of a world as one node has a step.
-use Rattle.std.proofs.Common.{◌≡◌, ℕ, ◌==◌, ◌&&◌, Bool, true, false, cond, List, [], ◌∷◌, ◌++◌, Option, Some, None, map, refl, ap, sym, subst, ◌∙◌}
+use Rattle.node_laws.proofs.Words.{Bool, Comes, CutOff, End, Entry, GoesOut, Link, LinkEnd, List, Loss, Message, NodeWorld, None, OnWire, Option, Port, Running}
+use Rattle.node_laws.proofs.Words.{Site, Some, Work, [], aged_entries, ap, arrival, by_option, by_test, changed_if, cond, end_c, end_h, ending_entries}
+use Rattle.node_laws.proofs.Words.{ending_of, entries_for, eq-eqb, eqb-true, false, first_lost, flat_map, frames_noted, hosts_of_ends, is_some, map}
+use Rattle.node_laws.proofs.Words.{option_map_or, port_at, refl, runs_on, same_end, site_at, subst, sym, true, true≢false, turns_at, with_site, ℕ, ◌&&◌, ◌++◌}
+use Rattle.node_laws.proofs.Words.{◌==◌, ◌∙◌, ◌∷◌, ◌≡◌}
 use Rattle.std.proofs.Math.Bool.{and-false}
-use Rattle.std.specs.Prelude.{is_some}
-use Rattle.std.specs.List.{flat_map}
-use Rattle.std.specs.Option.{option_map_or}
-use Rattle.std.proofs.lemmas.Bool.{eqb-true, eq-eqb, true≢false}
-use Rattle.node_laws.proofs.Words.{Comes, CutOff, End, Entry, GoesOut, Link, LinkEnd, Loss, Message, NodeWorld, OnWire, Port, Running, Site, Work, aged_entries}
-use Rattle.node_laws.proofs.Words.{arrival, by_option, by_test, changed_if, end_c, end_h, ending_entries, ending_of, entries_for, first_lost, frames_noted}
-use Rattle.node_laws.proofs.Words.{hosts_of_ends, port_at, runs_on, same_end, site_at, turns_at, with_site}
 use Rattle.link_laws.specs.entries.Entries.{End as Side}
 use Rattle.node_laws.proofs.telling.Nodes.{swapped, site_host}
 use Rattle.node_laws.proofs.telling.Events.{site_map}

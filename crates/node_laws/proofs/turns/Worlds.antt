@@ -1,35 +1,32 @@
 -- What waits at each end of a world over whatever happens there.
-use Rattle.std.proofs.Common.{◌≡◌, ℕ, ◌==◌, ◌&&◌, Bool, true, false, cond, List, [], ◌∷◌, ◌++◌, Option, Some, None, map, refl, ap, sym, subst, ◌∙◌}
+use Rattle.node_laws.proofs.Words.{Activates, AllByRecursion, AreDifferent, Arms, AsksReset, AtController, AtEnd, AtHost, Bool, Boots, Broken, Comes}
+use Rattle.node_laws.proofs.Words.{Controller, CutOff, Deed, End, Entry, Gives, GoesOut, Happening, HasEnds, Host, IfItRuns, Inits, IsCut, IsOrderly, Link}
+use Rattle.node_laws.proofs.Words.{LinkInput, List, Lose, Loses, Loss, MayBoot, Memory, Message, NextFrame, NoInput, NodeWorld, None, NumberedEnd, OnWire}
+use Rattle.node_laws.proofs.Words.{Option, Resets, Running, Site, Some, Starts, Step, Takes, Ticks, Work, [], activates, after_host, after_host_step}
+use Rattle.node_laws.proofs.Words.{after_planned, aged, aged_entries, all_aged, ap, beginning, begins_with, boot_found, boot_writes, boot_written, boots}
+use Rattle.node_laws.proofs.Words.{by_boot, by_coming, by_controller, by_controller_tick, by_host, by_host_tick, by_loss, by_memory, by_option, by_power}
+use Rattle.node_laws.proofs.Words.{by_test, comes_at, cond, controller_does, controller_ticks, count_of, counts, end_c, end_h, entries_for, eq-eqb, eqb-true}
+use Rattle.node_laws.proofs.Words.{exchanged, false, first_lost, frame_lost, frames_noted, happens, host_cut, host_does, host_ticks, host_work, hosts_in}
+use Rattle.node_laws.proofs.Words.{hosts_tick, input_of, is_some, link_to, loses_power_at, map, memory_at, node_at, node_number, refl, same_end, sending}
+use Rattle.node_laws.proofs.Words.{site_at, site_lost, site_unticked, steps, subst, sym, tick_host, ticks_at_controller, true, true≢false, wires_for}
+use Rattle.node_laws.proofs.Words.{with_memory, with_node, with_site, world_step, world_ticks, ℕ, ◌&&◌, ◌++◌, ◌==◌, ◌∙◌, ◌∷◌, ◌≡◌}
 use Rattle.std.proofs.Math.Bool.{and-false}
-use Rattle.std.specs.Prelude.{is_some}
-use Rattle.std.specs.List.{AllByRecursion}
-use Rattle.std.proofs.lemmas.Bool.{eqb-true, eq-eqb, true≢false}
-use Rattle.node_laws.proofs.Words.{Activates, AreDifferent, Arms, AsksReset, AtController, AtEnd, AtHost, Boots, Broken, Comes, Controller, CutOff, Deed, End}
-use Rattle.node_laws.proofs.Words.{Entry, Gives, GoesOut, Happening, HasEnds, Host, IfItRuns, Inits, IsCut, IsOrderly, Link, LinkInput, Lose, Loses, Loss}
-use Rattle.node_laws.proofs.Words.{MayBoot, Memory, Message, NextFrame, NoInput, NodeWorld, NumberedEnd, OnWire, Resets, Running, Site, Starts, Step, Takes}
-use Rattle.node_laws.proofs.Words.{Ticks, Work, activates, after_host, after_host_step, after_planned, aged, aged_entries, all_aged, beginning, begins_with}
-use Rattle.node_laws.proofs.Words.{boot_found, boot_writes, boot_written, boots, by_boot, by_coming, by_controller, by_controller_tick, by_host, by_host_tick}
-use Rattle.node_laws.proofs.Words.{by_loss, by_memory, by_option, by_power, by_test, comes_at, controller_does, controller_ticks, count_of, counts, end_c}
-use Rattle.node_laws.proofs.Words.{end_h, entries_for, exchanged, first_lost, frame_lost, frames_noted, happens, host_cut, host_does, host_ticks, host_work}
-use Rattle.node_laws.proofs.Words.{hosts_in, hosts_tick, input_of, link_to, loses_power_at, memory_at, node_at, node_number, same_end, sending, site_at}
-use Rattle.node_laws.proofs.Words.{site_lost, site_unticked, steps, ticks_at_controller, wires_for, with_memory, with_node, with_site, world_step, world_ticks}
 use Rattle.trace_model.specs.declared.entry.Entry.TheVariants as entry
 use Rattle.link_laws.specs.entries.Entries.{End as Side}
 use Rattle.node_laws.proofs.kept.Sites.{with_site_twice}
 use Rattle.node_laws.proofs.links.Ends.{here_host}
-use Rattle.link_laws.proofs.entries.Together.{ticks_host as tick_host}
 use Rattle.node_laws.proofs.telling.Mute.{AreMute}
-use Rattle.node_laws.proofs.telling.Nodes.{site_host, link_is}
-use Rattle.node_laws.proofs.telling.Worlds.{site_is, node_is}
-use Rattle.node_laws.proofs.telling.Events.{comes_goes, sending_mute, orderly_map}
-use Rattle.node_laws.proofs.telling.WorldTicks.{near_orderly, tick_host as site_ticked}
+use Rattle.node_laws.proofs.telling.Nodes.{link_is, site_host}
+use Rattle.node_laws.proofs.telling.Worlds.{node_is, site_is}
+use Rattle.node_laws.proofs.telling.Events.{comes_goes, sending_mute}
+use Rattle.node_laws.proofs.telling.WorldTicks.{aged_orderly, near_orderly, tick_host as site_ticked}
 use Rattle.node_laws.proofs.turns.Queues.Doing.{Clears, Nothing}
-use Rattle.node_laws.proofs.turns.Queues.{Becomes, Goes, goes-append, doing}
+use Rattle.node_laws.proofs.turns.Queues.{Becomes, Goes, doing, goes-append}
 use Rattle.node_laws.proofs.turns.Ends.{ticks_got}
 use Rattle.node_laws.proofs.turns.Coming.{notes_still}
-use Rattle.node_laws.proofs.turns.Works.{lost_none, aged_none, ByPower, NearWaits, FarWaits, Waits, end_at, AllMove, move_then, Leaves, leaves-append}
-use Rattle.node_laws.proofs.turns.Works.{still_leaves, flat_leaves, sites_is, OwnMoves, SiteGoes, at_site}
-use Rattle.node_laws.proofs.turns.Nodes.{host_steps, host_begins, host_ticked, controller_steps, controller_ticked}
+use Rattle.node_laws.proofs.turns.Works.{AllMove, ByPower, FarWaits, Leaves, NearWaits, Waits, aged_none, end_at, leaves-append, lost_none, move_then}
+use Rattle.node_laws.proofs.turns.Works.{OwnMoves, SiteGoes, at_site, flat_leaves, sites_is, still_leaves}
+use Rattle.node_laws.proofs.turns.Nodes.{controller_steps, controller_ticked, host_begins, host_steps, host_ticked}
 
 -- ## Worlds that stay
 
@@ -408,7 +405,7 @@ ticks_move w a =
     let near : NodeWorld × List Entry = controller_ticks old.0 in
     let far : List Site × List Entry = hosts_tick near.0.sites in
     let first : NearTick old.0 near =
-    near_moves old.0 (orderly_map w w.memory w.controller (λ (s : Site). record s { link = aged s.link }) (λ s. refl) a a.controller (λ s n. n)) in
+    near_moves old.0 (aged_orderly w a) in
     move_then w old.0 (record near.0 { sites = far.0 }) old.1 (near.1 ++ far.1) (old_moves w)
     (move_then old.0 near.0 (record near.0 { sites = far.0 }) near.1 far.1 first.moves (hosts_move near.0 first.different first.hosts first.nodes))
 

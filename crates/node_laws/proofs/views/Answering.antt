@@ -1,19 +1,14 @@
 -- A host has its turns, in which an init goes on or ends: what is read of it stays what the host keeps.
-use Rattle.std.proofs.Common.{◌≡◌, ◌⊎◌, inl, inr, ℕ, ◌&&◌, Bool, true, false, cond, eqb, List, [], ◌∷◌, ◌++◌, length, sym, refl, ap, ◌∙◌, subst, append-nil}
-use Rattle.std.specs.Prelude.{Option, Some, None, Result, Ok, Err, is_some}
-use Rattle.std.specs.List.{AllByRecursion, fold}
-use Rattle.std.specs.Option.{option_map}
-use Rattle.std.proofs.lemmas.Bool.{cases_Bool, cond_both, true≢false}
-use Rattle.std.proofs.lemmas.List.Sums.{fold-append}
-use Rattle.node_laws.proofs.Words.{Asks, Command, Core, Deed, Drops, Ends, Entry, GoesOn, Hears, Host, Init, InitMade, LinkState, Message, MessageFault}
-use Rattle.node_laws.proofs.Words.{MessageKind, Orders, Plain, Port, Sends, Set, Tells, Up, Waiting, body_in, by_option, end_h, end_of, end_of_node, end_view}
-use Rattle.node_laws.proofs.Words.{gate_of_pipe, header_of, host_deeds, init_deeds, init_holds, is_gate, is_response, is_up, learned, learned_holds, learns}
-use Rattle.node_laws.proofs.Words.{learns_holds, ordered_deeds, own_side, own_view, response_deeds, same_end, with_response}
+use Rattle.node_laws.proofs.Words.{AllByRecursion, Asks, Bool, Command, Core, Deed, Drops, Ends, Entry, Err, GoesOn, Hears, Host, Init, InitMade, IsResponse}
+use Rattle.node_laws.proofs.Words.{LinkState, List, Message, MessageFault, MessageKind, None, Ok, Option, Orders, Plain, Port, Result, Sends, Set, Some, Tells}
+use Rattle.node_laws.proofs.Words.{Up, Waiting, [], ap, append-nil, body_in, by_option, cases_Bool, cond, cond_both, end_h, end_of, end_of_node, end_view, eqb}
+use Rattle.node_laws.proofs.Words.{false, fold, fold-append, gate_of_pipe, header_of, host_deeds, init_after, init_deeds, init_holds, inl, inr, is_gate}
+use Rattle.node_laws.proofs.Words.{is_response, is_some, is_up, learned, learned_holds, learns, learns_holds, length, option_map, ordered_deeds, own_side}
+use Rattle.node_laws.proofs.Words.{own_view, refl, response_deeds, same_end, subst, sym, true, true≢false, with_response, ℕ, ◌&&◌, ◌++◌, ◌∙◌, ◌∷◌, ◌≡◌, ◌⊎◌}
 use Rattle.shdlc_core.specs.declared.answers.LinkState.TheVariants.{Down}
-use Rattle.hcp_packet.specs.declared.MessageKind.TheVariants.{Command as IsCommand, Event as IsEvent, Response as IsResponse}
+use Rattle.hcp_packet.specs.declared.MessageKind.TheVariants.{Command as IsCommand, Event as IsEvent}
 use Rattle.gate_loopback.specs.Loopback.{posts_back}
 use Rattle.node_machine.proofs.Walks.{all_ordered}
-use Rattle.node_laws.specs.views.Inits.{init_after}
 use Rattle.node_laws.proofs.readings.Silent.{same_own}
 
 -- what is read behind these entries, where this was read before

@@ -1,12 +1,9 @@
 -- Something comes to a host, or it begins something: the init that runs there stays what is read.
-use Rattle.std.proofs.Common.{◌≡◌, ◌⊎◌, inl, inr, ℕ, ◌&&◌, true, false, cond, eqb, List, [], ◌∷◌, ◌++◌, sym, refl, ap, ◌∙◌, subst}
-use Rattle.std.specs.Prelude.{Option, Some, None}
-use Rattle.std.specs.List.{AllByRecursion, flat_map}
-use Rattle.std.proofs.lemmas.Bool.{cases_Bool, cond_both, true≢false}
-use Rattle.node_laws.proofs.Words.{Core, Deed, Entry, Init, IsComing, IsFresh, IsHost, IsOutside, LinkInput, LinkState, Message, NodeInput, Orders, Port}
-use Rattle.node_laws.proofs.Words.{Sends, Up, Work, after_sessions, all_done, all_synced_hold, beginning, begins_with}
-use Rattle.node_laws.proofs.Words.{comes_to_pass, has_come, init_of, init_of_running, input_at, is_command_message, passes}
-use Rattle.node_laws.proofs.Words.{runs_on, sending, steps, synced, told_at, unless_cut}
+use Rattle.node_laws.proofs.Words.{AllByRecursion, Core, Deed, Entry, Init, IsComing, IsFresh, IsHost, IsOutside, LinkInput, LinkState, List, Message}
+use Rattle.node_laws.proofs.Words.{NodeInput, None, Option, Orders, Port, Sends, Some, Up, Work, [], after_sessions, all_done, all_synced_hold, ap, beginning}
+use Rattle.node_laws.proofs.Words.{begins_with, cases_Bool, comes_to_pass, cond, cond_both, eqb, false, flat_map, has_come, init_of, init_of_running, inl}
+use Rattle.node_laws.proofs.Words.{input_at, inr, is_command_message, passes, refl, runs_on, sending, steps, subst, sym, synced, told_at, true, true≢false}
+use Rattle.node_laws.proofs.Words.{unless_cut, ℕ, ◌&&◌, ◌++◌, ◌∙◌, ◌∷◌, ◌≡◌, ◌⊎◌}
 use Rattle.node_laws.proofs.links.Noticing.{outside}
 use Rattle.node_laws.proofs.links.Staying.{stays_up}
 use Rattle.node_laws.proofs.readings.Silent.{host_side}

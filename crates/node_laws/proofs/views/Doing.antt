@@ -1,16 +1,12 @@
 -- A node does deeds that don't set REC_ERROR of its end: what is read of it stays what the node keeps.
-use Rattle.std.proofs.Common.{◌≡◌, ◌⊎◌, inl, inr, ℕ, Bool, true, false, cond, eqb, List, [], ◌∷◌, ◌++◌, length, map, sym, refl, ap, ◌∙◌, subst}
-use Rattle.std.specs.Prelude.{Option, Some, None}
-use Rattle.std.specs.List.{AllByRecursion}
-use Rattle.std.specs.Option.{option_map_or}
-use Rattle.std.proofs.lemmas.Bool.{cases_Bool, eqb-true, true≢false}
-use mathlib.Core.Bool.{and-true}
-use Rattle.node_laws.proofs.Words.{About, Asks, Book, Command, Commits, Controller, Core, Deed, Desk, Drops, End, Ends, Entry, ErrorCount, Give, GoesOn, Hears}
-use Rattle.node_laws.proofs.Words.{Hold, Host, InitFailed, InitMade, InitSame, IsAnswered, Orders, Port, Release, Releases, Removed, SaysOk, Sends, SetAside}
-use Rattle.node_laws.proofs.Words.{SetsErrors, Tells, Turn, Waits, Work, Write, after_turn, all_done, apply, body_of, by_cut, by_option, by_test, changed_if}
-use Rattle.node_laws.proofs.Words.{changed_same, commit, commit_writes, count_of, done, end_of, end_of_node, errors_after, fails_within, give_refusal}
-use Rattle.node_laws.proofs.Words.{holds_back, hosts_of_ends, is_held, lets_go, node_of, noted_of, notified, noting, own_side, port_at, same_end, turn_at}
-use Rattle.node_laws.proofs.Words.{turn_entry, unless_cut, with_command, with_desk, with_port}
+use Rattle.node_laws.proofs.Words.{About, AllByRecursion, Asks, Book, Bool, Command, Commits, Controller, Core, Deed, Desk, Drops, End, Ends, Entry, ErrorCount}
+use Rattle.node_laws.proofs.Words.{Give, GoesOn, Hears, Hold, Host, InitFailed, InitMade, InitSame, IsAnswered, List, None, Option, Orders, Port, Release}
+use Rattle.node_laws.proofs.Words.{Releases, Removed, SaysOk, Sends, SetAside, SetsErrors, Some, Tells, Turn, Waits, Work, Write, [], after_turn, all_done}
+use Rattle.node_laws.proofs.Words.{and-true, ap, apply, body_of, by_cut, by_option, by_test, cases_Bool, changed_if, changed_same, commit, commit_writes, cond}
+use Rattle.node_laws.proofs.Words.{count_of, done, end_of, end_of_node, eqb, eqb-true, errors_after, fails_within, false, give_refusal, holds_back}
+use Rattle.node_laws.proofs.Words.{hosts_of_ends, inl, inr, is_held, length, lets_go, map, node_of, noted_of, notified, noting, option_map_or, own_side}
+use Rattle.node_laws.proofs.Words.{port_at, refl, same_end, subst, sym, true, true≢false, turn_at, turn_entry, unless_cut, with_command, with_desk, with_port}
+use Rattle.node_laws.proofs.Words.{ℕ, ◌++◌, ◌∙◌, ◌∷◌, ◌≡◌, ◌⊎◌}
 use Rattle.trace_model.specs.declared.entry.Entry.TheVariants as entry
 use Rattle.link_laws.specs.entries.Entries.{End as Side}
 use Rattle.node_laws.proofs.views.Leaving.{reads, reads_append, IsRead, IsStill, still_all, notes_still, IsUndamaged, plainly, beside_leaves}

@@ -1,14 +1,11 @@
 -- What other nodes note tells nothing of the init that runs at a host.
-use Rattle.std.proofs.Common.{◌≡◌, ℕ, ◌&&◌, Bool, false, cond, eqb, List, [], ◌∷◌, map, sym, refl, ap, ◌∙◌, subst}
-use Rattle.std.specs.Prelude.{Option, Some, None}
-use Rattle.std.specs.List.{AllByRecursion}
-use Rattle.std.specs.Option.{option_map, option_map_or}
-use mathlib.Core.Bool.{and-true}
-use Rattle.node_laws.proofs.Words.{Acked, Active, Controller, Core, Cut, Deed, Desk, Down, Entry, GaveUp, Got, HasEnds, Host, Init, LeavesInit, Message}
-use Rattle.node_laws.proofs.Words.{NodeInput, NumberedEnd, Plan, Port, Restarted, Running, Sent, begins_with, by_test, deeds_of, end_h, end_of, end_of_node}
-use Rattle.node_laws.proofs.Words.{end_view, entries_for, entry_of, has, host_deeds, own_view, port_at, same_end, steps, with_response, work_of}
+use Rattle.node_laws.proofs.Words.{Acked, Active, AllByRecursion, Bool, Controller, Core, Cut, Deed, Desk, Down, Entry, GaveUp, Got, HasEnds, Host, Init}
+use Rattle.node_laws.proofs.Words.{LeavesInit, List, Message, NodeInput, None, Noted, NumberedEnd, Option, Plan, Port, Restarted, Running, Sent, Some, []}
+use Rattle.node_laws.proofs.Words.{and-true, ap, begins_with, by_test, cond, deeds_of, end_h, end_of, end_of_node, end_view, entries_for, entry_of, eqb, false}
+use Rattle.node_laws.proofs.Words.{has, host_deeds, map, option_map, option_map_or, own_view, port_at, refl, same_end, steps, subst, sym, with_response}
+use Rattle.node_laws.proofs.Words.{work_of, ℕ, ◌&&◌, ◌∙◌, ◌∷◌, ◌≡◌}
 use Rattle.trace_model.specs.declared.entry.Entry.TheVariants as entry
-use Rattle.link_laws.specs.entries.Entries.{End as Side, Entry as Noted}
+use Rattle.link_laws.specs.entries.Entries.{End as Side}
 use Rattle.link_laws.specs.entries.Entries.Entry.{Up, Tick}
 use Rattle.node_laws.proofs.telling.Nodes.{ports_for}
 use Rattle.node_laws.proofs.readings.Silent.{IsQuiet}

@@ -1,14 +1,12 @@
 -- A tick of a world, losses and power: a node that runs keeps what is read of REC_ERROR of its end.
-use Rattle.std.proofs.Common.{◌≡◌, ◌⊎◌, inl, inr, ℕ, Bool, true, false, cond, eqb, List, [], ◌∷◌, ◌++◌, map, sym, refl, ap, ◌∙◌, subst}
-use Rattle.std.specs.Prelude.{Option, Some, None}
-use Rattle.std.specs.List.{AllByRecursion, flat_map}
-use Rattle.std.proofs.lemmas.Bool.{cases_Bool, eqb-true, eq-eqb, true≢false, ne_eqb, eqb-false}
-use Rattle.node_laws.proofs.Words.{AllByRecursion-append, AtController, Book, Controller, CutOff, Desk, End, Entry, ErrorCount, HasEnds, Host, IfItRuns}
-use Rattle.node_laws.proofs.Words.{IsOrderly, Memory, NoInput, NodeWorld, NumberedEnd, Running, Site, Step, TimePasses, Work, after_near_tick, after_planned}
-use Rattle.node_laws.proofs.Words.{aged, aged_entries, all_aged, all_flat, boot_found, boot_writes, boot_written, boots, by_boot, by_controller_tick}
-use Rattle.node_laws.proofs.Words.{by_host_tick, by_memory, by_power, by_running, by_test, controller_cut, controller_ticks, count_of, entries_for, exchanged}
-use Rattle.node_laws.proofs.Words.{found, frames_noted, happens, host_cut, host_tick, host_ticks, hosts_in, hosts_tick, link_to, links_of, loses_power_at}
-use Rattle.node_laws.proofs.Words.{memory_at, near_tick, new_desk, node_of, site_at, site_ticked, site_unticked, with_memory, with_site, world_ticks}
+use Rattle.node_laws.proofs.Words.{AllByRecursion, AllByRecursion-append, AtController, Book, Bool, Controller, CutOff, Desk, End, Entry, ErrorCount, HasEnds}
+use Rattle.node_laws.proofs.Words.{Host, IfItRuns, IsOrderly, List, Memory, NoInput, NodeWorld, None, NumberedEnd, Option, Running, Site, Some, Step}
+use Rattle.node_laws.proofs.Words.{TimePasses, Work, [], after_near_tick, after_planned, aged, aged_entries, all_aged, all_flat, ap, boot_found, boot_writes}
+use Rattle.node_laws.proofs.Words.{boot_written, boots, by_boot, by_controller_tick, by_host_tick, by_memory, by_power, by_running, by_test, cases_Bool, cond}
+use Rattle.node_laws.proofs.Words.{controller_cut, controller_ticks, count_of, entries_for, eq-eqb, eqb, eqb-false, eqb-true, exchanged, false, flat_map, found}
+use Rattle.node_laws.proofs.Words.{frames_noted, happens, host_cut, host_tick, host_ticks, hosts_in, hosts_tick, inl, inr, link_to, links_of, loses_power_at}
+use Rattle.node_laws.proofs.Words.{map, memory_at, ne_eqb, near_tick, new_desk, node_of, refl, site_at, site_ticked, site_unticked, subst, sym, true}
+use Rattle.node_laws.proofs.Words.{true≢false, with_memory, with_site, world_ticks, ℕ, ◌++◌, ◌∙◌, ◌∷◌, ◌≡◌, ◌⊎◌}
 use Rattle.trace_model.specs.declared.entry.Entry.TheVariants as entry
 use Rattle.node_laws.proofs.telling.WorldTicks.{tick_host}
 use Rattle.node_laws.proofs.views.Leaving.{reads, reads_append, Leaves, IsStill, still_all, still_leaves}

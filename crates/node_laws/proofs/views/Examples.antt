@@ -1,9 +1,7 @@
 -- REC_ERROR and views as they are read off the entries of small runs.
-use Rattle.std.proofs.Common.{◌≡◌, refl, ℕ, List, [], ◌∷◌, ◌++◌}
-use Rattle.std.specs.Prelude.{true, map, Option, Some, None}
-use Rattle.node_laws.proofs.Words.{Booted, Entry, Line, LineOutcome, NodeWorld, end_c, end_h, entries_in, errors_in, errors_of, line_step, new_world, node_at}
-use Rattle.node_laws.proofs.Words.{occurrences_of, view_at}
-use Rattle.trace_model.specs.declared.entry.Entry.TheVariants.{Cut, Command, Lost, Up, Down, Turn, Ask, Sent, AnyOk}
+use Rattle.node_laws.proofs.Words.{AnyOk, Booted, Entry, Line, LineOutcome, List, NodeWorld, None, Option, Some, [], end_c, end_h, entries_in, errors_in}
+use Rattle.node_laws.proofs.Words.{errors_of, line_step, map, new_world, node_at, occurrences_of, refl, true, view_at, ℕ, ◌++◌, ◌∷◌, ◌≡◌}
+use Rattle.trace_model.specs.declared.entry.Entry.TheVariants.{Ask, Command, Cut, Down, Lost, Sent, Turn, Up}
 use Rattle.swp_base.specs.declared.link_terms.Cause.TheVariants as cause
 use Rattle.trace_model.specs.declared.entry.LostCause.TheVariants as lost
 use Rattle.trace_model.specs.declared.line.Line.TheVariants as line

@@ -1,22 +1,18 @@
 -- A step of a host: the init that runs there stays what is read.
-use Rattle.std.proofs.Common.{◌≡◌, ◌⊎◌, inl, inr, ℕ, ◌&&◌, Bool, true, false, cond, eqb, List, [], ◌∷◌, ◌++◌, length, map, sym, refl, ap, ◌∙◌, subst}
-use Rattle.std.specs.Prelude.{Option, Some, None, is_some, option_to_list}
-use Rattle.std.specs.List.{AllByRecursion}
-use Rattle.std.specs.Option.{option_map, option_map_or}
-use Rattle.std.proofs.lemmas.Bool.{cases_Bool, cond-true, eq-eqb, eqb-true, true≢false}
-use Rattle.node_laws.proofs.Words.{Asks, Cause, Commits, Core, Deed, Desk, Drops, Ends, Entry, FetchMessage, Give, GoesOn, Hears, Hold, Host, Init, IsAnswered}
-use Rattle.node_laws.proofs.Words.{IsHost, LinkInput, LinkState, Message, Orders, Port, Refused, Release, Releases, SaysOk, Sends, Sent, SetsErrors, Tells}
-use Rattle.node_laws.proofs.Words.{Turn, Up, Work, Write, after_input, after_turn, all_done, body_of, by_cut, by_option, by_test, changed_if, changed_same}
-use Rattle.node_laws.proofs.Words.{commit, commit_writes, count_of, deeds_of, done, end_h, end_of, end_of_node, end_view, ended_by, entries_for, fails_within}
-use Rattle.node_laws.proofs.Words.{give_refusal, goes_through_ends, handles, have_turns, holds_back, host_deeds, is_held, is_response, keeps, lack, lets_go}
-use Rattle.node_laws.proofs.Words.{loses_power, needs, noted_of, noting, own_side, own_view, passes, port_at, report, same_end, sent_unless, told_at, turn_at}
-use Rattle.node_laws.proofs.Words.{unless_cut, whole_acked, with_desk, with_port, with_response}
+use Rattle.node_laws.proofs.Words.{AllByRecursion, Asks, Bool, Cause, Commits, Core, Deed, Desk, Drops, Ends, Entry, FetchMessage, Give, GoesOn, Hears, Hold}
+use Rattle.node_laws.proofs.Words.{Host, Init, IsAnswered, IsHost, LinkInput, LinkState, List, Message, None, Noted, Option, Orders, Port, Refused, Release}
+use Rattle.node_laws.proofs.Words.{Releases, SaysOk, Sends, Sent, SetsErrors, Some, Tells, Turn, Up, Work, Write, [], after_input, after_turn, all_done, ap}
+use Rattle.node_laws.proofs.Words.{body_of, by_cut, by_option, by_test, cases_Bool, changed_if, changed_same, commit, commit_writes, cond, cond-true, count_of}
+use Rattle.node_laws.proofs.Words.{deeds_of, done, end_h, end_of, end_of_node, end_view, ended_by, entries_for, eq-eqb, eqb, eqb-true, fails_within, false}
+use Rattle.node_laws.proofs.Words.{give_refusal, goes_through_ends, handles, have_turns, holds_back, host_deeds, init_after, inl, inr, is_held, is_response}
+use Rattle.node_laws.proofs.Words.{is_some, keeps, lack, length, lets_go, loses_power, map, needs, noted_of, noting, option_map, option_map_or, option_to_list}
+use Rattle.node_laws.proofs.Words.{own_side, own_view, passes, port_at, refl, report, same_end, sent_unless, subst, sym, told_at, true, true≢false, turn_at}
+use Rattle.node_laws.proofs.Words.{unless_cut, whole_acked, with_desk, with_port, with_response, ℕ, ◌&&◌, ◌++◌, ◌∙◌, ◌∷◌, ◌≡◌, ◌⊎◌}
 use Rattle.trace_model.specs.declared.entry.Entry.TheVariants as entry
-use Rattle.link_laws.specs.entries.Entries.{End as Side, Entry as Noted}
+use Rattle.link_laws.specs.entries.Entries.{End as Side}
 use Rattle.link_laws.specs.entries.Entries.Entry.{Down as IsDown}
 use Rattle.node_laws.proofs.links.Noticing.{turn-phase}
 use Rattle.node_laws.proofs.readings.Silent.{IsQuiet, host_side, told_rest, rest_quiet, same_own}
-use Rattle.node_laws.specs.views.Inits.{init_after}
 use Rattle.node_laws.proofs.views.Answering.{reads_init, init_append, MayGo, answered_by, host_go}
 
 -- ## What is noted of an end

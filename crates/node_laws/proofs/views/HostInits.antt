@@ -1,16 +1,13 @@
 -- A host of a world keeps the init that is read of it over each of its own events.
-use Rattle.std.proofs.Common.{◌≡◌, ℕ, ◌&&◌, false, cond, eqb, List, [], ◌∷◌, ◌++◌, map, sym, refl, ap, ◌∙◌, subst}
-use Rattle.std.specs.Prelude.{Option, Some, None}
-use Rattle.std.proofs.lemmas.Bool.{cond_both, eq-eqb, true≢false}
-use Rattle.node_laws.proofs.Words.{AtEnd, Comes, CutOff, Deed, Desk, Entry, GoesOut, Host, IfRunsInit, Init, IsHost, Link, LinkEnd, LinkInput, LinkState}
-use Rattle.node_laws.proofs.Words.{Memory, Message, NoInput, NumberedEnd, Orders, Port, Running, Sends, Site, SiteKeepsInit, Tick, TimePasses, Up, Work}
-use Rattle.node_laws.proofs.Words.{after_host, after_input, after_planned, arrival, beginning, begins_with, by_host_tick, by_option, by_test, ending_entries}
-use Rattle.node_laws.proofs.Words.{ending_of, entries_for, exchanged, found, frames_noted, has_come, host_cut, host_tick, host_ticks, host_work, init_of}
-use Rattle.node_laws.proofs.Words.{init_of_running, input_at, input_of, is_command_message, near_end_in, new_desk, port_at, port_for, runs_on, sending, steps}
-use Rattle.node_laws.proofs.Words.{steps_at_controller, ticks_at_controller, turns_at, wires_for, work_of}
+use Rattle.node_laws.proofs.Words.{AtEnd, Comes, CutOff, Deed, Desk, Entry, GoesOut, Host, IfRunsInit, Init, IsHost, Link, LinkEnd, LinkInput, LinkState, List}
+use Rattle.node_laws.proofs.Words.{Memory, Message, NoInput, None, NumberedEnd, Option, Orders, Port, Running, Sends, Site, SiteKeepsInit, Some, Tick}
+use Rattle.node_laws.proofs.Words.{TimePasses, Up, Work, [], after_host, after_input, after_planned, ap, arrival, beginning, begins_with, by_host_tick}
+use Rattle.node_laws.proofs.Words.{by_option, by_test, cond, cond_both, ending_entries, ending_of, entries_for, eq-eqb, eqb, exchanged, false, found}
+use Rattle.node_laws.proofs.Words.{frames_noted, has_come, host_cut, host_does_so, host_tick, host_ticks, host_work, init_of, init_of_running, input_at}
+use Rattle.node_laws.proofs.Words.{input_of, is_command_message, map, near_end_in, new_desk, port_at, port_for, refl, runs_on, sending, steps}
+use Rattle.node_laws.proofs.Words.{steps_at_controller, subst, sym, ticks_at_controller, true≢false, turns_at, wires_for, work_of, ℕ, ◌&&◌, ◌++◌, ◌∙◌, ◌∷◌, ◌≡◌}
 use Rattle.trace_model.specs.declared.entry.Entry.TheVariants as entry
 use Rattle.link_laws.specs.entries.Entries.{End as Side}
-use Rattle.node_laws.specs.readings.Worlds.{host_does_so}
 use Rattle.node_laws.proofs.readings.Sites.{ending_quiet, arrival_quiet, sent_phase, stepped_phase, comes_outside, near_end_side}
 use Rattle.node_laws.specs.views.Inits.{RunsInit}
 use Rattle.node_laws.proofs.views.Answering.{reads_init, init_append, MayGo}

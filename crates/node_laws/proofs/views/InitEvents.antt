@@ -1,17 +1,15 @@
 -- A tick of a world, losses and power: a host keeps the init that is read of it.
-use Rattle.std.proofs.Common.{◌≡◌, ◌⊎◌, inl, inr, ℕ, ◌+◌, Bool, true, false, cond, eqb, List, [], ◌∷◌, ◌++◌, sym, refl, ap, ◌∙◌, subst}
-use Rattle.std.specs.Prelude.{Option, Some, None, min}
-use Rattle.std.specs.List.{AllByRecursion, flat_map}
-use Rattle.std.proofs.lemmas.Bool.{cases_Bool, eqb-true, eq-eqb, ne_eqb, eqb-false}
-use Rattle.node_laws.proofs.Words.{Activates, AllByRecursion-append, Arms, AsksReset, AtController, AtHost, Boots, Broken, Controller, CutOff, Desk, End, Entry}
-use Rattle.node_laws.proofs.Words.{Gives, GoesOut, Happening, Host, IfItRuns, IfRunsInit, Init, Inits, IsCut, IsHost, IsOrderly, LeavesInit, Link, Lose, Loses}
-use Rattle.node_laws.proofs.Words.{Loss, Memory, NextFrame, NoInput, NodeWorld, NumberedEnd, Resets, Running, Site, SiteKeepsInit, Step, Takes, Ticks}
-use Rattle.node_laws.proofs.Words.{TimePasses, Work, after_near_tick, after_planned, aged, aged_entries, all_aged, all_flat, boot_found, boot_writes}
-use Rattle.node_laws.proofs.Words.{boot_written, boots, by_boot, by_controller_tick, by_host_tick, by_memory, by_option, by_power, by_running, by_test}
-use Rattle.node_laws.proofs.Words.{changed_if, changed_same, controller_cut, controller_ticks, count_of, counts, ending_of, entries_for, exchanged, first_lost}
-use Rattle.node_laws.proofs.Words.{found, frame_lost, frames_noted, happens, host_cut, host_tick, host_ticks, hosts_in, hosts_tick, init_begun, init_of_running}
-use Rattle.node_laws.proofs.Words.{is_late_at, link_to, links_of, loses_power_at, memory_at, near_tick, node_at, site_at, site_ticked, site_unticked}
-use Rattle.node_laws.proofs.Words.{ticks_host, turns_at, with_error, with_memory, with_site, world_step, world_ticks}
+use Rattle.node_laws.proofs.Words.{Activates, AllByRecursion, AllByRecursion-append, Arms, AsksReset, AtController, AtHost, Bool, Boots, Broken, Controller}
+use Rattle.node_laws.proofs.Words.{CutOff, Desk, End, Entry, Gives, GoesOut, Happening, Host, IfItRuns, IfRunsInit, Init, Inits, IsCut, IsHost, IsOrderly}
+use Rattle.node_laws.proofs.Words.{LeavesInit, Link, List, Lose, Loses, Loss, Memory, NextFrame, NoInput, NodeWorld, None, NumberedEnd, Option, Resets, Running}
+use Rattle.node_laws.proofs.Words.{Site, SiteKeepsInit, Some, Step, Takes, Ticks, TimePasses, Work, [], after_near_tick, after_planned, aged, aged_entries}
+use Rattle.node_laws.proofs.Words.{all_aged, all_flat, ap, boot_found, boot_writes, boot_written, boots, by_boot, by_controller_tick, by_host_tick, by_memory}
+use Rattle.node_laws.proofs.Words.{by_option, by_power, by_running, by_test, cases_Bool, changed_if, changed_same, cond, controller_cut, controller_ticks}
+use Rattle.node_laws.proofs.Words.{count_of, counts, ending_of, entries_for, eq-eqb, eqb, eqb-false, eqb-true, exchanged, false, first_lost, flat_map, found}
+use Rattle.node_laws.proofs.Words.{frame_lost, frames_noted, happens, host_cut, host_tick, host_ticks, hosts_in, hosts_tick, init_begun, init_of_running, inl}
+use Rattle.node_laws.proofs.Words.{inr, is_late_at, link_to, links_of, loses_power_at, memory_at, min, ne_eqb, near_tick, node_at, refl, site_at, site_ticked}
+use Rattle.node_laws.proofs.Words.{site_unticked, subst, sym, ticks_host, true, turns_at, with_error, with_memory, with_site, world_step, world_ticks, ℕ, ◌++◌}
+use Rattle.node_laws.proofs.Words.{◌+◌, ◌∙◌, ◌∷◌, ◌≡◌, ◌⊎◌}
 use Rattle.trace_model.specs.declared.entry.Entry.TheVariants as entry
 use Rattle.node_laws.proofs.links.Ends.{here_host}
 use Rattle.node_laws.proofs.telling.Nodes.{site_host}

@@ -1,6 +1,5 @@
 -- An init as it is read off the events of a small run.
-use Rattle.std.proofs.Common.{◌≡◌, refl, List, [], ◌∷◌, ◌++◌, None, Some}
-use Rattle.node_laws.proofs.Words.{Booted, Boots, InitMade, Inits, IsCut, Occurrence, Takes, end_h, init_in}
+use Rattle.node_laws.proofs.Words.{Booted, Boots, InitMade, Inits, IsCut, List, None, Occurrence, Some, Takes, [], end_h, init_in, refl, ◌++◌, ◌∷◌, ◌≡◌}
 use Rattle.trace_model.specs.declared.entry.Entry.TheVariants.{Cut, Turn, Sent}
 
 -- host 02 begins an init with one pipe, and its first two commands are answered

@@ -1,21 +1,18 @@
 -- The init that runs at a host over the lines of a schedule is the one that is read.
-use Rattle.std.proofs.Common.{◌≡◌, ℕ, ◌&&◌, Bool, true, false, eqb, List, [], ◌∷◌, ◌++◌, sym, refl, ap, ◌∙◌, subst, append-nil}
-use Rattle.std.specs.Prelude.{Option, Some, None, IsTrue, unwrap_or}
-use Rattle.std.specs.List.{AllByRecursion, fold}
-use Rattle.std.proofs.lemmas.Bool.{cond_both}
-use Rattle.node_laws.proofs.Words.{AreHosts, End, FollowsNodes, Header, Init, IsBegunByHost, IsHost, IsOrderly, Line, LinkEnd, LinkState, Message, NodeHistory}
-use Rattle.node_laws.proofs.Words.{NodeWorld, NotUp, Occurrence, Takes, Ticks, Up, Waiting, by_option, first_verdict, frames_at, give_refusal, happenings}
-use Rattle.node_laws.proofs.Words.{has_order, if_not_sent, if_off, if_waiting, init_begun, init_behind, init_in, init_of_running, is_command_message, link_to}
-use Rattle.node_laws.proofs.Words.{machine_in, new_world, node_at, node_of, occurrences_in, refusal_in, site_at, steps_from, taken_of, world_after}
-use Rattle.node_laws.proofs.Words.{world_behind, world_step}
+use Rattle.node_laws.proofs.Words.{AllByRecursion, AreHosts, Bool, End, FollowsNodes, Header, Init, IsBegunByHost, IsHost, IsOrderly, IsTrue, Line, LinkEnd}
+use Rattle.node_laws.proofs.Words.{LinkState, List, Message, NodeHistory, NodeWorld, None, NotUp, Occurrence, Option, Some, Takes, Ticks, Up, Waiting, [], ap}
+use Rattle.node_laws.proofs.Words.{append-nil, by_option, cond_both, eqb, false, first_verdict, fold, frames_at, give_refusal, happenings, has_order}
+use Rattle.node_laws.proofs.Words.{if_not_sent, if_off, if_waiting, init_begun, init_behind, init_in, init_of_running, is_command_message, link_to, machine_in}
+use Rattle.node_laws.proofs.Words.{new_world, node_at, node_of, occurrences_in, refl, refusal_in, site_at, steps_from, subst, sym, taken_of, true, unwrap_or}
+use Rattle.node_laws.proofs.Words.{world_after, world_behind, world_step, ℕ, ◌&&◌, ◌++◌, ◌∙◌, ◌∷◌, ◌≡◌}
 use Rattle.trace_model.specs.declared.line.Line.TheVariants as line
 use Rattle.shdlc_core.specs.declared.answers.LinkState.TheVariants.{Down}
-use Rattle.node_laws.proofs.telling.Orderly.{step_orderly, new_orderly}
-use Rattle.node_laws.proofs.telling.Lasting.{AllMay, repeated_may, damaged_may, stands_none, events_of_steps, behind_lines}
+use Rattle.node_laws.proofs.telling.Orderly.{new_orderly, step_orderly}
+use Rattle.node_laws.proofs.telling.Lasting.{AllMay, behind_lines, damaged_may, events_of_steps, repeated_may, stands_none}
 use Rattle.node_laws.proofs.views.Answering.{reads_init}
 use Rattle.node_laws.proofs.kept.Lines.{first_none, off_none}
-use Rattle.node_laws.proofs.views.Lines.{none_zero}
-use Rattle.node_laws.proofs.views.InitWorlds.{AtSite, MayInit, Keeps, absent, present, zero}
+use Rattle.node_laws.proofs.readings.NoticedWorlds.{numbers}
+use Rattle.node_laws.proofs.views.InitWorlds.{AtSite, Keeps, MayInit, absent, present, zero}
 use Rattle.node_laws.proofs.views.InitEvents.{MayKeep, event_keeps}
 use Rattle.node_laws.proofs.telling.Lasting.{AreCaused, lines_caused}
 
@@ -65,7 +62,7 @@ line_may w _ side none = (tt, tt)
 module _ (h : ℕ) (host : IsHost h) where
   -- ## Events
 
-  front_keeps : (front back : List Occurrence) (w : NodeWorld) (i : Option Init) → IsOrderly w → Keeps h host w i → AreCaused MayKeep w (front ++ back)
+  pub front_keeps : (front back : List Occurrence) (w : NodeWorld) (i : Option Init) → IsOrderly w → Keeps h host w i → AreCaused MayKeep w (front ++ back)
       → Keeps h host (world_behind w front) (fold (init_behind h) i front)
   front_keeps [] back w i orderly keeps caused = keeps
   front_keeps (o ∷ front) back w i orderly keeps caused =
@@ -80,7 +77,7 @@ module _ (h : ℕ) (host : IsHost h) where
       (λ s z. (subst (AtSite i) z keeps).read ∙ ap init_of_running (sym (present w h (zero h host) s z)))
 
   -- none runs at the beginning
-  new_keeps : (hosts : List ℕ) → Keeps h host (new_world hosts) None
+  pub new_keeps : (hosts : List ℕ) → Keeps h host (new_world hosts) None
   new_keeps [] = refl
   new_keeps (k ∷ hosts) = cond_both (eqb k h) _ _ (AtSite None) (λ _. record { read = refl; runs = tt }) (λ _. new_keeps hosts)
 
@@ -93,7 +90,7 @@ module _ (h : ℕ) (host : IsHost h) where
       let hosts : List ℕ = header.hosts.items in
       let same : events_of_steps (steps_from (new_world hosts) lines) ≡ front ++ back = sym (ap events_of_steps follows.steps_are) ∙ parts in
       kept_is (world_behind (new_world hosts) front) (init_in front h) (front_keeps front back (new_world hosts) None
-      (new_orderly hosts are.different (none_zero hosts are.all)) (new_keeps hosts)
+      (new_orderly hosts are.different (numbers hosts are.all)) (new_keeps hosts)
       (subst (AreCaused MayKeep (new_world hosts)) same (lines_caused MayKeep IsBegunByHost line_may lines (new_world hosts) sides)))
 
   pub inits_read : (header : Header) (lines : List Line) (t : NodeHistory) → FollowsNodes header lines t → AreHosts header.hosts.items

@@ -1,21 +1,17 @@
 -- What happens to a world: a host keeps the init that is read of it.
-use Rattle.std.proofs.Common.{◌≡◌, ℕ, ◌&&◌, Bool, true, false, cond, eqb, List, [], ◌∷◌, ◌++◌, map, sym, refl, ap, ◌∙◌, subst, arith}
-use Rattle.std.specs.Prelude.{Option, Some, None}
-use Rattle.std.specs.List.{AllByRecursion, flat_map}
-use Rattle.std.proofs.lemmas.Bool.{cond_both, eqb-true, eq-eqb, eqb-false, ne_eqb}
-use mathlib.Core.Bool.{and-false}
-use Rattle.node_laws.proofs.Words.{AllByRecursion-append, AtEnd, Comes, Controller, Deed, End, Entry, HasEnds, Host, IfItRuns, IfRunsInit, Init, Inits, IsHost}
-use Rattle.node_laws.proofs.Words.{IsOrderly, LeavesInit, Link, LinkEnd, LinkInput, Message, NoInput, NodeInput, NodeWorld, NumberedEnd, Orders, Running, Sends}
-use Rattle.node_laws.proofs.Words.{Site, SiteKeepsInit, Starts, Step, Up, Work, activates, after_controller, after_host, after_host_step, all_flat, arrival}
-use Rattle.node_laws.proofs.Words.{beginning, begins_with, by_coming, by_controller, by_host, by_option, by_test, changed_if, changed_same, comes_at, comes_to}
-use Rattle.node_laws.proofs.Words.{controller_does, controller_work, end_c, end_h, end_of, ending_of, entries_for, exchanged, frames_noted, host_does}
-use Rattle.node_laws.proofs.Words.{host_work, hosts_in, init_begun, init_of, init_of_running, input_of, is_command_message, link_after_controller, link_to}
-use Rattle.node_laws.proofs.Words.{near_end_in, node_at, port_at, same_end, sending, site_at, steps, turns_at, wires_for, with_site, work_of}
+use Rattle.node_laws.proofs.Words.{AllByRecursion, AllByRecursion-append, AtEnd, Bool, Comes, Controller, Deed, End, Entry, HasEnds, Host, IfItRuns, IfRunsInit}
+use Rattle.node_laws.proofs.Words.{Init, Inits, IsHost, IsOrderly, LeavesInit, Link, LinkEnd, LinkInput, List, Message, NoInput, NodeInput, NodeWorld, None}
+use Rattle.node_laws.proofs.Words.{NumberedEnd, Option, Orders, Running, Sends, Site, SiteKeepsInit, Some, Starts, Step, Up, Work, [], activates}
+use Rattle.node_laws.proofs.Words.{after_controller, after_host, after_host_step, all_flat, and-false, ap, arith, arrival, beginning, begins_with, by_coming}
+use Rattle.node_laws.proofs.Words.{by_controller, by_host, by_option, by_test, changed_if, changed_same, comes_at, comes_to, cond, cond_both, controller_does}
+use Rattle.node_laws.proofs.Words.{controller_work, end_c, end_h, end_of, ending_of, entries_for, eq-eqb, eqb, eqb-false, eqb-true, exchanged, false, flat_map}
+use Rattle.node_laws.proofs.Words.{frames_noted, host_does, host_does_so, host_work, hosts_in, init_begun, init_of, init_of_running, input_of}
+use Rattle.node_laws.proofs.Words.{is_command_message, link_after_controller, link_to, map, ne_eqb, near_end_in, node_at, port_at, refl, same_end, sending}
+use Rattle.node_laws.proofs.Words.{site_at, steps, subst, sym, true, turns_at, wires_for, with_site, work_of, ℕ, ◌&&◌, ◌++◌, ◌∙◌, ◌∷◌, ◌≡◌}
 use Rattle.link_laws.specs.entries.Entries.{End as Side}
 use Rattle.node_laws.proofs.links.Ends.{here_host}
 use Rattle.node_laws.proofs.telling.Nodes.{site_host}
 use Rattle.node_laws.proofs.telling.Events.{comes_goes}
-use Rattle.node_laws.specs.readings.Worlds.{host_does_so}
 use Rattle.node_laws.proofs.readings.Sites.{ending_quiet, arrival_quiet}
 use Rattle.node_laws.proofs.readings.Noting.{NotesSo}
 use Rattle.node_laws.proofs.views.Answering.{reads_init, init_append}

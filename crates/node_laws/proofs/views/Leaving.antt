@@ -1,18 +1,11 @@
 -- What leaves REC_ERROR of an end as it is.
-use Rattle.std.proofs.Common.{◌≡◌, ℕ, ◌&&◌, Bool, true, false, cond, List, [], ◌∷◌, ◌++◌, refl, ap, ◌∙◌}
-use Rattle.std.specs.Prelude.{Option, None, unwrap_or, min, ◌+◌}
-use Rattle.std.specs.List.{AllByRecursion, fold}
-use Rattle.std.proofs.lemmas.Bool.{cond_both}
-use Rattle.std.proofs.lemmas.List.Sums.{fold-append}
-use Rattle.node_laws.proofs.Words.{AllByRecursion-append, Broken, Cut, End, Entry, ErrorCount, Lost, OnDemand, Restarted, Sent, TooMany, TooOld, book_after}
-use Rattle.node_laws.proofs.Words.{end_of, entries_for, entry_of, errors_after, errors_set_by, lost_as, lpdu_of, same_end}
+use Rattle.node_laws.proofs.Words.{AllByRecursion, AllByRecursion-append, Bool, Broken, Cut, End, Entry, ErrorCount, List, Lost, None, Noted, OnDemand, Option}
+use Rattle.node_laws.proofs.Words.{Restarted, Sent, TooMany, TooOld, Unread, [], all_so, ap, book_after, cond, cond_both, end_of, entries_for, entry_of}
+use Rattle.node_laws.proofs.Words.{errors_after, errors_set_by, false, fold, fold-append, is_any_ok, leads_to_link_gate, lost_as, lpdu_of, min, refl, same_end}
+use Rattle.node_laws.proofs.Words.{true, unwrap_or, was_refused, ℕ, ◌&&◌, ◌++◌, ◌+◌, ◌∙◌, ◌∷◌, ◌≡◌}
 use Rattle.trace_model.specs.declared.entry.Entry.TheVariants as entry
 use Rattle.trace_model.specs.declared.entry.LostCause.{LostCause}
-use Rattle.link_laws.specs.messages.Links.Loss.{Unread}
-use Rattle.link_laws.specs.entries.Entries.{Entry as Noted}
 use Rattle.link_laws.specs.entries.Entries.Entry.{Tick}
-use Rattle.node_machine.specs.world.NodeFilters.{was_refused}
-use Rattle.node_laws.specs.views.Errors.{leads_to_link_gate, is_any_ok}
 use Rattle.node_laws.proofs.readings.Noting.{IsBeside}
 
 -- what is read after these entries, where this was read before
@@ -48,8 +41,7 @@ still_all e (y ∷ es) x n all r =
     (rest.0, rest.1 ∙ one.1)
 
 pub still_leaves : (e : End) (es : List Entry) → AllByRecursion (IsStill e) es → AllByRecursion (Leaves e) es
-still_leaves e [] all = tt
-still_leaves e (y ∷ es) all = ((λ x n r. (all.0 x n r).0), still_leaves e es all.1)
+still_leaves e es all = all_so (IsStill e) (Leaves e) (λ y b. (λ x n r. (b x n r).0)) es all
 
 -- ## Each entry
 

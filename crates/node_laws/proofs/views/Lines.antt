@@ -1,35 +1,33 @@
 -- What is read of REC_ERROR of all ends over the lines of a schedule.
-use Rattle.std.proofs.Common.{◌≡◌, ℕ, ◌&&◌, true, false, cond, eqb, List, [], ◌∷◌, ◌++◌, sym, refl, ap, ◌∙◌, subst, arith, ◌||◌}
-use Rattle.std.specs.Prelude.{Option, Some, None, unwrap_or}
-use Rattle.std.specs.List.{AllByRecursion, find}
-use Rattle.std.specs.Option.{option_map}
-use Rattle.std.proofs.lemmas.Bool.{cond_both, eqb-true, true≢false, ne_eqb}
-use Rattle.std.proofs.lemmas.Grind.{flat_map-append}
-use Rattle.node_laws.proofs.Words.{Activates, AllKeep, AreHosts, Arms, AsksReset, Book, Boots, Desk, End, Entry, ErrorCount, FollowsNodes, Gives, Happening}
-use Rattle.node_laws.proofs.Words.{HasEnds, Header, IfItRuns, IfRuns, Inits, IsCut, IsFew, IsHost, IsOrderly, IsSameView, IsSentByHost, KeepsNotices, Line}
-use Rattle.node_laws.proofs.Words.{Loses, LostFor, MayBoot, MayHappen, Message, NextFrame, NodeHistory, NodeWorld, Occurrence, OnWire, Orders, Resets, Running}
-use Rattle.node_laws.proofs.Words.{Same, Sends, Takes, Ticks, Undetected, Verdict, beginning, by_test, ends_between, entries_in, errors_in, errors_of}
+use Rattle.node_laws.proofs.Words.{Activates, AllByRecursion, AllKeep, AreHosts, Arms, AsksReset, Book, Boots, Desk, End, Entry, ErrorCount, ErrorsAreRead}
+use Rattle.node_laws.proofs.Words.{FollowsNodes, Gives, Happening, HasEnds, Header, IfItRuns, IfRuns, Inits, IsCut, IsFew, IsHost, IsOrderly, IsSameView}
+use Rattle.node_laws.proofs.Words.{IsSentByHost, KeepsNotices, Line, List, Loses, LostFor, MayBoot, MayHappen, Message, NextFrame, NodeHistory, NodeWorld, None}
+use Rattle.node_laws.proofs.Words.{Occurrence, OnWire, Option, Orders, Resets, Running, Same, Sends, Some, Takes, Ticks, Undetected, Verdict, [], ap, arith}
+use Rattle.node_laws.proofs.Words.{beginning, by_test, cond, cond_both, ends_between, entries_in, eqb, eqb-true, errors_in, errors_of, false, find}
 use Rattle.node_laws.proofs.Words.{first_verdict, frames_at, happenings, happens_by, hosts_in, if_not_sent, if_off, is_command_message, is_one_of, memory_at}
-use Rattle.node_laws.proofs.Words.{new_world, no_errors, node_at, node_entries, node_of, occurrences_in, refusal_in, sending, site_at, steps_from, taken_of}
-use Rattle.node_laws.proofs.Words.{view_at, view_for, world_after, world_behind, world_step}
+use Rattle.node_laws.proofs.Words.{ne_eqb, new_world, no_errors, node_at, node_entries, node_of, occurrences_in, option_map, refl, refusal_in, sending, site_at}
+use Rattle.node_laws.proofs.Words.{subst, sym, taken_of, true, true≢false, unwrap_or, view_at, view_for, world_after, world_behind, world_step, ℕ, ◌&&◌, ◌++◌}
+use Rattle.node_laws.proofs.Words.{◌||◌, ◌∙◌, ◌∷◌, ◌≡◌}
+use Rattle.std.proofs.lemmas.Grind.{flat_map-append}
 use Rattle.trace_model.specs.declared.line.Line.TheVariants as line
 use Rattle.history.specs.Follows.{if_empty}
 use Rattle.node_laws.proofs.kept.Kept.{all_begin}
-use Rattle.node_laws.proofs.kept.Lines.{world_goes, few_front, first_none, off_none, send_may}
-use Rattle.node_laws.proofs.telling.Orderly.{step_orderly, new_orderly}
-use Rattle.node_laws.proofs.notices.Events.{event_read, begins_read}
+use Rattle.node_laws.proofs.kept.Lines.{few_front, first_none, off_none, send_may, world_goes}
+use Rattle.node_laws.proofs.telling.Orderly.{new_orderly, step_orderly}
+use Rattle.node_laws.proofs.notices.Events.{begins_read, event_read}
 use Rattle.node_laws.proofs.notices.Lines.{notices_of}
-use Rattle.node_laws.proofs.telling.Lasting.{AllMay, repeated_may, stands_none, events_of_steps, entries_of_steps, AllHold, front_holds, lines_hold, lines_last}
-use Rattle.node_laws.specs.views.Errors.{ErrorsAreRead, MayBeCounted}
-use Rattle.node_laws.proofs.views.Leaving.{reads, reads_append, book_reads}
+use Rattle.node_laws.proofs.telling.Lasting.{AllMay, entries_of_steps, history_holds, lines_last, repeated_may, stands_none}
+use Rattle.node_laws.specs.views.Errors.{MayBeCounted}
+use Rattle.node_laws.proofs.views.Leaving.{book_reads, reads, reads_append}
 use Rattle.node_laws.proofs.views.Setting.{AreUnset}
 use Rattle.node_laws.proofs.views.Nodes.{IfKeeps}
-use Rattle.node_laws.proofs.views.Worlds.{far_node, near_node, host_node, own_node_is, Kept, Known, After, orderly_fine, far_begins, comes_kept}
+use Rattle.node_laws.proofs.views.Worlds.{After, Kept, Known, comes_kept, far_begins, far_node, host_node, near_node, orderly_fine, own_node_is}
 use Rattle.node_laws.proofs.views.Worlds.{activates_kept}
-use Rattle.node_laws.proofs.views.Events.{ticks_kept, cut_kept, memory_kept, boots_kept}
+use Rattle.node_laws.proofs.views.Events.{boots_kept, cut_kept, memory_kept, ticks_kept}
 use Rattle.node_laws.proofs.views.Losses.{lost_kept}
-use Rattle.node_laws.proofs.views.Viewing.{SessionsAreRead, PipesAreRead, same_view}
+use Rattle.node_laws.proofs.views.Viewing.{PipesAreRead, SessionsAreRead, same_view}
 use Rattle.node_laws.proofs.telling.Events.{sending_mute}
+use Rattle.node_laws.proofs.readings.NoticedWorlds.{numbers}
 
 -- the end of the link with a host is no end of 00
 pub real_of : (e : End) → IsHost e.link → e.at_host ≡ true → eqb e.link 0 ≡ false
@@ -162,9 +160,13 @@ begun_kept hosts e host = by_test e.at_host
       none_runs [] = refl
       none_runs (h ∷ hosts) = cond_both (eqb h e.link) _ _ (λ o. far_node o ≡ None) (λ _. refl) (λ _. none_runs hosts)
 
-pub none_zero : (hosts : List ℕ) → AllByRecursion IsHost hosts → AllByRecursion (λ h. (eqb h 0) ≡ false) hosts
-none_zero [] all = tt
-none_zero (h ∷ hosts) all = (ne_eqb h 0 (λ z. omega (arith, z, all.0.0)), none_zero hosts all.1)
+begin_so : (hosts : List ℕ) → AreHosts hosts → IsSo hosts [] (new_world hosts)
+begin_so hosts are = record {
+  keep = all_begin hosts;
+  orderly = new_orderly hosts are.different (numbers hosts are.all);
+  notices = begins_read hosts are;
+  errors = begun_kept hosts;
+}
 
 pub schedule_so : (header : Header) (lines : List Line) (t : NodeHistory) → FollowsNodes header lines t → AreHosts header.hosts.items
     → AllByRecursion IsSentByHost lines → IsFew (node_entries t)
@@ -173,31 +175,16 @@ schedule_so header lines t follows are sides few =
     let hosts : List ℕ = header.hosts.items in
     let all : IfFew hosts (node_entries t) (world_after (new_world hosts) lines) =
     subst (λ l. IfFew hosts l (world_after (new_world hosts) lines)) (ap entries_of_steps (sym follows.steps_are))
-    (lines_last (IfFew hosts) May IsSentByHost (event_so hosts are) line_may lines [] (new_world hosts) (λ f. record {
-      keep = all_begin hosts;
-      orderly = new_orderly hosts are.different (none_zero hosts are.all);
-      notices = begins_read hosts are;
-      errors = begun_kept hosts;
-    }) sides) in all few
+    (lines_last (IfFew hosts) May IsSentByHost (event_so hosts are) line_may lines [] (new_world hosts) (λ f. begin_so hosts are) sides) in all few
 
 -- so it is at the end of each event
 pub events_so : (header : Header) (lines : List Line) (t : NodeHistory) → FollowsNodes header lines t → AreHosts header.hosts.items
     → AllByRecursion IsSentByHost lines → IsFew (node_entries t) → (front back : List Occurrence) → occurrences_in t ≡ front ++ back
     → IsSo header.hosts.items (entries_in front) (world_behind (new_world header.hosts.items) front)
 events_so header lines t follows are sides few front back parts =
-    let hosts : List ℕ = header.hosts.items in
-    let events : List Occurrence = events_of_steps (steps_from (new_world hosts) lines) in
-    let all : AllHold (IfFew hosts) May IsSentByHost (event_so hosts are) line_may [] (new_world hosts) events =
-    lines_hold (IfFew hosts) May IsSentByHost (event_so hosts are) line_may lines [] (new_world hosts) (λ f. record {
-      keep = all_begin hosts;
-      orderly = new_orderly hosts are.different (none_zero hosts are.all);
-      notices = begins_read hosts are;
-      errors = begun_kept hosts;
-    }) sides in
-    let same : events ≡ front ++ back = sym (ap events_of_steps follows.steps_are) ∙ parts in
-    front_holds (IfFew hosts) May IsSentByHost (event_so hosts are) line_may front back [] (new_world hosts) (subst (AllHold (IfFew hosts) May IsSentByHost
-    (event_so hosts are) line_may [] (new_world hosts)) same all) (few_front (entries_in front) (entries_in back) (subst IsFew (ap entries_in parts
-    ∙ flat_map-append (λ (o : Occurrence). o.entries) front back) few))
+    history_holds (IfFew header.hosts.items) May IsSentByHost (event_so header.hosts.items are) line_may header lines t follows
+    (λ f. begin_so header.hosts.items are) sides front back parts
+    (few_front (entries_in front) (entries_in back) (subst IsFew (ap entries_in parts ∙ flat_map-append (λ (o : Occurrence). o.entries) front back) few))
 
 pub errors_read_events : (header : Header) (lines : List Line) (t : NodeHistory) → FollowsNodes header lines t → AreHosts header.hosts.items
     → AllByRecursion IsSentByHost lines → IsFew (node_entries t) → (front back : List Occurrence) → occurrences_in t ≡ front ++ back

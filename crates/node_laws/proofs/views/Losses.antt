@@ -1,18 +1,13 @@
 -- A frame is lost on its way: where it was refused, the node of the end counts one more, which is what is read.
-use Rattle.std.proofs.Common.{◌≡◌, ◌⊎◌, inl, inr, ℕ, ◌+◌, ◌&&◌, Bool, true, false, cond, eqb, List, [], ◌∷◌, sym, refl, ap, ◌∙◌, subst}
-use Rattle.std.specs.Prelude.{Option, Some, None, min}
-use Rattle.std.specs.List.{AllByRecursion}
-use Rattle.std.proofs.lemmas.Bool.{cases_Bool, eqb-true, eq-eqb, true≢false, ne_eqb, eqb-false}
-use mathlib.Core.Bool.{and-false}
+use Rattle.node_laws.proofs.Words.{AllByRecursion, AtController, AtHost, Bool, Broken, Controller, Desk, End, Entry, ErrorCount, Host, List, Lose, Loss}
+use Rattle.node_laws.proofs.Words.{NodeWorld, None, OnDemand, OnWire, Option, Running, Site, Some, TooMany, TooOld, Unread, [], and-false, ap, by_option}
+use Rattle.node_laws.proofs.Words.{by_test, cases_Bool, changed_if, cond, counts, end_of, entries_for, eq-eqb, eqb, eqb-false, eqb-true, errors_after, false}
+use Rattle.node_laws.proofs.Words.{first_lost, frame_lost, frames_at, happens, inl, inr, link_to, lost_as, lpdu_of, min, ne_eqb, refl, same_end, site_at, subst}
+use Rattle.node_laws.proofs.Words.{sym, true, true≢false, was_refused, with_error, with_site, ℕ, ◌&&◌, ◌+◌, ◌∙◌, ◌∷◌, ◌≡◌, ◌⊎◌}
 use Rattle.swp_base.specs.declared.link_terms.FrameFault.{FrameFault}
 use Rattle.swp_base.specs.declared.link_terms.FrameFault.TheVariants as fault
-use Rattle.node_laws.proofs.Words.{AtController, AtHost, Broken, Controller, Desk, End, Entry, ErrorCount, Host, Lose, Loss, NodeWorld, OnDemand, OnWire}
-use Rattle.node_laws.proofs.Words.{Running, Site, TooMany, TooOld, by_option, by_test, changed_if, counts, end_of, entries_for, errors_after, first_lost}
-use Rattle.node_laws.proofs.Words.{frame_lost, frames_at, happens, link_to, lost_as, lpdu_of, same_end, site_at, with_error, with_site}
 use Rattle.trace_model.specs.declared.entry.Entry.TheVariants as entry
-use Rattle.link_laws.specs.messages.Links.Loss.{Unread}
 use Rattle.link_laws.specs.entries.Entries.{End as Side}
-use Rattle.node_machine.specs.world.NodeFilters.{was_refused}
 use Rattle.node_laws.proofs.views.Leaving.{Leaves, still_leaves, IsUndamaged, notes_still}
 use Rattle.node_laws.proofs.views.Doing.{own_is}
 use Rattle.node_laws.proofs.views.Nodes.{IfKeeps}

@@ -1,14 +1,12 @@
 -- A node of a world does something: REC_ERROR of its ends stays what is read, and that of others is left.
-use Rattle.std.proofs.Common.{◌≡◌, ℕ, Bool, true, false, cond, eqb, List, [], ◌∷◌, ◌++◌, length, map, sym, refl, ap, ◌∙◌, subst}
-use Rattle.std.specs.Prelude.{Option, Some, None, nat_lt}
-use Rattle.std.specs.List.{AllByRecursion}
-use Rattle.node_laws.proofs.Words.{AllByRecursion-append, Comes, Control, Controller, Core, CutOff, Deed, Desk, End, Ending, Ends, Entry, ErrorCount, GoesOut}
-use Rattle.node_laws.proofs.Words.{HasEnds, Host, Link, LinkEnd, Message, NextFrame, NodeInput, NumberedEnd, OnWire, Plan, Port, Running, Sends, TooMany, Work}
-use Rattle.node_laws.proofs.Words.{aged_entries, arrival, begins_with, by_list, by_option, by_test, end_of, ending_entries, ending_of, entries_for, entry_of}
-use Rattle.node_laws.proofs.Words.{far, first_lost, frames_noted, frames_out, node_of, own_side, port_at, pushed_out, put, put_entries, puts_entries, runs_on}
-use Rattle.node_laws.proofs.Words.{same_end, steps, wire_with, work_of}
+use Rattle.node_laws.proofs.Words.{AllByRecursion, AllByRecursion-append, Bool, Comes, Control, Controller, Core, CutOff, Deed, Desk, End, Ending, Ends, Entry}
+use Rattle.node_laws.proofs.Words.{ErrorCount, GoesOut, HasEnds, Host, Link, LinkEnd, List, Message, NextFrame, NodeInput, None, Noted, NumberedEnd, OnWire}
+use Rattle.node_laws.proofs.Words.{Option, Plan, Port, Running, Sends, Some, TooMany, Work, [], aged_entries, ap, arrival, begins_with, by_list, by_option}
+use Rattle.node_laws.proofs.Words.{by_test, cond, end_of, ending_entries, ending_of, entries_for, entry_of, eqb, false, far, first_lost, frames_noted}
+use Rattle.node_laws.proofs.Words.{frames_out, length, map, nat_lt, node_of, own_side, port_at, pushed_out, put, put_entries, puts_entries, refl, runs_on}
+use Rattle.node_laws.proofs.Words.{same_end, steps, subst, sym, true, wire_with, work_of, ℕ, ◌++◌, ◌∙◌, ◌∷◌, ◌≡◌}
 use Rattle.trace_model.specs.declared.entry.Entry.TheVariants as entry
-use Rattle.link_laws.specs.entries.Entries.{End as Side, Entry as Noted}
+use Rattle.link_laws.specs.entries.Entries.{End as Side}
 use Rattle.node_laws.proofs.telling.Mute.{IsPlain, IsMute, AreMute, deeds_mute}
 use Rattle.node_laws.proofs.telling.Nodes.{hosts_same, ports_for}
 use Rattle.node_laws.proofs.readings.Noting.{IsOwnNote, NotesSo, Notes, all_do as notes_do, steps_note}

@@ -1,20 +1,15 @@
 -- Which deeds of a message set REC_ERROR: those of a command that sets it, at its turn on a pipe to the link management gate, which
 -- is answered by ANY_OK next. Where such a command isn't carried out, it is answered otherwise, or dropped.
-use Rattle.std.proofs.Common.{◌≡◌, ℕ, ◌&&◌, ◌||◌, Bool, true, false, not, cond, eqb, List, [], ◌∷◌, sym, refl, ap, ◌∙◌, subst}
-use Rattle.std.specs.Prelude.{Option, Some, None, Result, Ok, Err}
-use Rattle.std.specs.List.{AllByRecursion}
-use Rattle.std.specs.Option.{option_map_or}
-use Rattle.std.proofs.lemmas.Bool.{cond_both, eqb-true, true≢false}
-use mathlib.Core.Bool.{and-true}
-use Rattle.node_laws.proofs.Words.{Answer, Ask, Commit, Core, Decision, Deed, Drops, Ends, Entry, HciTables, InitFailed, InitMade, InitSame, LinkView, Message}
-use Rattle.node_laws.proofs.Words.{MessageFault, MessageKind, OfDecision, OfHost, Plain, Port, Sends, SetsErrors, Tells, Up, all_of_controller, all_of_host}
-use Rattle.node_laws.proofs.Words.{answer_of, answers, anyone, asks_for, body_in, by_option, by_test, controller_deeds, count_in, decided, decision_deeds}
-use Rattle.node_laws.proofs.Words.{deeds_by_relay, end_view, errors_set_by, far_end, first_of, goes_through, has, has_link, header_of, host_deeds, hosts_where}
-use Rattle.node_laws.proofs.Words.{is_opened, is_up, kind_deeds, link_deeds, link_served, ordered_deeds, own_deeds, own_gate, own_view, port_at, relayed_to}
-use Rattle.node_laws.proofs.Words.{served_at, tests_to_get, tests_to_set_errors, unless_asking, value_in, view_for, view_of}
-use Rattle.hcp_packet.specs.declared.MessageKind.TheVariants.{Command as IsCommand, Event as IsEvent, Response as IsResponse}
+use Rattle.node_laws.proofs.Words.{AllByRecursion, Answer, Ask, Bool, Commit, Core, Decision, Deed, Drops, Ends, Entry, Err, HciTables, InitFailed, InitMade}
+use Rattle.node_laws.proofs.Words.{InitSame, IsResponse, LinkView, List, Message, MessageFault, MessageKind, None, OfDecision, OfHost, Ok, Option, Plain, Port}
+use Rattle.node_laws.proofs.Words.{Result, Sends, SetsErrors, Some, Tells, Up, [], all_of_controller, all_of_host, and-true, answer_of, answers, anyone, ap}
+use Rattle.node_laws.proofs.Words.{asks_for, body_in, by_option, by_test, command_deeds, cond, cond_both, controller_deeds, count_in, decided, decision_deeds}
+use Rattle.node_laws.proofs.Words.{deeds_by_relay, end_view, eqb, eqb-true, errors_set_by, false, far_end, first_of, goes_through, has, has_link, header_of}
+use Rattle.node_laws.proofs.Words.{host_deeds, hosts_where, is_opened, is_up, kind_deeds, link_deeds, link_served, not, option_map_or, ordered_deeds, own_deeds}
+use Rattle.node_laws.proofs.Words.{own_gate, own_view, port_at, refl, relayed_to, served_at, subst, sym, tests_to_get, tests_to_set_errors, true, true≢false}
+use Rattle.node_laws.proofs.Words.{unless_asking, value_in, view_for, view_of, ℕ, ◌&&◌, ◌||◌, ◌∙◌, ◌∷◌, ◌≡◌}
+use Rattle.hcp_packet.specs.declared.MessageKind.TheVariants.{Command as IsCommand, Event as IsEvent}
 use Rattle.gate_answers.specs.declared.response.Response.TheVariants as response
-use Rattle.node_machine.specs.Controller.{command_deeds}
 use Rattle.node_laws.proofs.readings.Noticed.{up_is}
 
 -- an init ends so

@@ -1,21 +1,18 @@
 -- A step of a node: what is read of REC_ERROR of its end stays what it keeps.
-use Rattle.std.proofs.Common.{◌≡◌, ℕ, true, List, [], ◌∷◌, map, refl}
-use Rattle.std.specs.Prelude.{Option, Some, None}
-use Rattle.std.specs.List.{AllByRecursion, flat_map}
-use Rattle.std.proofs.lemmas.Bool.{cond_both}
-use Rattle.node_laws.proofs.Words.{Acked, Active, AtEnd, Core, Deed, Down, End, ErrorCount, GaveUp, Got, LinkInput, NodeInput, Port, Reset, Sent, TimePasses}
-use Rattle.node_laws.proofs.Words.{Work, after_input, after_sessions, all_come, all_done, all_flat, all_owed, all_owed_hold, all_synced_hold, forgets}
-use Rattle.node_laws.proofs.Words.{forgotten, forgotten_hold, has_come, input_at, is_late, own_side, passes, report, reset_late, steps, synced, times_out, told}
-use Rattle.node_laws.proofs.Words.{told_at, told_late, unless_cut, whole_acked, with_older, without_notice}
-use Rattle.link_laws.specs.entries.Entries.{End as Side, Entry as Noted}
+use Rattle.node_laws.proofs.Words.{Acked, Active, AllByRecursion, AtEnd, Core, Deed, Down, End, ErrorCount, GaveUp, Got, LinkInput, List, NodeInput, None}
+use Rattle.node_laws.proofs.Words.{Noted, Option, Port, Reset, Sent, Some, TimePasses, Work, [], after_input, after_sessions, all_come, all_done, all_flat}
+use Rattle.node_laws.proofs.Words.{all_owed, all_owed_hold, all_so, all_synced_hold, cond_both, flat_map, forgets, forgotten, forgotten_hold, has_come}
+use Rattle.node_laws.proofs.Words.{input_at, is_late, map, own_side, passes, refl, report, reset_late, steps, synced, times_out, told, told_at, told_late, true}
+use Rattle.node_laws.proofs.Words.{unless_cut, whole_acked, with_older, without_notice, ℕ, ◌∷◌, ◌≡◌}
+use Rattle.link_laws.specs.entries.Entries.{End as Side}
 use Rattle.link_laws.specs.entries.Entries.Entry.{Up}
 use Rattle.node_laws.proofs.readings.Noting.{IsOwnNote, all_notes}
-use Rattle.node_laws.proofs.views.Leaving.{IsStill, notes_still, IsUndamaged}
-use Rattle.node_laws.proofs.views.Setting.{IsUnset, AreUnset}
-use Rattle.node_laws.proofs.views.Doing.{Right, note, maps, with_core, unless, unset_fine, all_do}
+use Rattle.node_laws.proofs.views.Leaving.{IsStill, IsUndamaged, notes_still}
+use Rattle.node_laws.proofs.views.Setting.{AreUnset, IsUnset}
+use Rattle.node_laws.proofs.views.Doing.{Right, all_do, maps, note, unless, unset_fine, with_core}
 use Rattle.node_laws.proofs.views.Turning.{passes_right}
 use Rattle.node_laws.proofs.notices.Steps.{sessions_tables}
-use Rattle.node_laws.proofs.steps.Ports.{come_host, forgets_host, sessions_node, without_host, late_host}
+use Rattle.node_laws.proofs.steps.Ports.{come_host, forgets_host, late_host, sessions_node, without_host}
 
 own_undamaged : (who : Side) (x : Noted) → IsOwnNote who x → IsUndamaged x
 own_undamaged who (Up side n) is = tt
@@ -28,8 +25,7 @@ own_undamaged who (Sent side n m) is = tt
 own_undamaged who x is = absurd is
 
 pub all_undamaged : (who : Side) (xs : List Noted) → AllByRecursion (IsOwnNote who) xs → AllByRecursion IsUndamaged xs
-all_undamaged who [] all = tt
-all_undamaged who (x ∷ xs) all = (own_undamaged who x all.0, all_undamaged who xs all.1)
+all_undamaged who xs all = all_so (IsOwnNote who) IsUndamaged (own_undamaged who) xs all
 
 come_still : (e : End) (core : Core) (p : Port) (o : Option LinkInput) → AllByRecursion (IsStill e) (told_at core p o)
 come_still e core p None = tt

@@ -1,21 +1,16 @@
 -- A node has its turns, in which REC_ERROR of its end may be set: what is read of it stays what the node keeps.
-use Rattle.std.proofs.Common.{◌≡◌, ◌⊎◌, inl, inr, ℕ, ◌&&◌, Bool, true, false, cond, eqb, List, [], ◌∷◌, ◌++◌, length, map, sym, refl, ap, ◌∙◌, subst}
-use Rattle.std.proofs.Common.{append-nil}
-use Rattle.std.specs.Prelude.{Option, Some, None, nat_lt, unwrap_or}
-use Rattle.std.specs.List.{AllByRecursion}
-use Rattle.std.specs.Option.{option_map_or}
-use Rattle.std.proofs.lemmas.Bool.{cases_Bool, eqb-true, eq-eqb, true≢false}
-use Rattle.node_laws.proofs.Words.{Book, Controller, Core, Deed, Drops, End, Entry, ErrorCount, FetchMessage, Give, Host, LinkEnd, Message, Port, Sends}
-use Rattle.node_laws.proofs.Words.{SetsErrors, Up, Work, after_turn, answer_of, by_option, by_test, changed_if, changed_same, controller_deeds, deeds_of}
-use Rattle.node_laws.proofs.Words.{end_of, end_of_node, end_view, entries_for, errors_after, errors_set_by, give_refusal, goes_through_ends, handles}
-use Rattle.node_laws.proofs.Words.{have_turns, host_deeds, hosts_of_ends, lack, need, needs, noted_of, noting, own_gate, own_side, own_view, passes, port_at}
-use Rattle.node_laws.proofs.Words.{same_end, sent_unless, spare, turn_at, view_of, with_desk, with_port}
+use Rattle.node_laws.proofs.Words.{AllByRecursion, Book, Bool, Controller, Core, Deed, Drops, End, Entry, ErrorCount, FetchMessage, Give, Host, LinkEnd, List}
+use Rattle.node_laws.proofs.Words.{Message, None, Option, Port, Sends, SetsErrors, Some, Up, Work, [], after_turn, answer_of, ap, append-nil, by_option}
+use Rattle.node_laws.proofs.Words.{by_test, cases_Bool, changed_if, changed_same, cond, controller_deeds, deeds_of, end_of, end_of_node, end_view, entries_for}
+use Rattle.node_laws.proofs.Words.{eq-eqb, eqb, eqb-true, errors_after, errors_set_by, false, give_refusal, goes_through_ends, handles, have_turns, host_deeds}
+use Rattle.node_laws.proofs.Words.{hosts_of_ends, inl, inr, is_any_ok, lack, leads_to_link_gate, length, map, nat_lt, need, needs, noted_of, noting}
+use Rattle.node_laws.proofs.Words.{option_map_or, own_gate, own_side, own_view, passes, port_at, refl, same_end, sent_unless, spare, subst, sym, true}
+use Rattle.node_laws.proofs.Words.{true≢false, turn_at, unwrap_or, view_of, with_desk, with_port, ℕ, ◌&&◌, ◌++◌, ◌∙◌, ◌∷◌, ◌≡◌, ◌⊎◌}
 use Rattle.trace_model.specs.declared.entry.Entry.TheVariants as entry
 use Rattle.gate_answers.specs.declared.response.Response.TheVariants as response
 use Rattle.node_laws.proofs.telling.Away.{at_map}
 use Rattle.node_laws.proofs.links.Noticing.{at_host}
 use Rattle.node_laws.proofs.readings.Turning.{lack_parts}
-use Rattle.node_laws.specs.views.Errors.{leads_to_link_gate, is_any_ok}
 use Rattle.node_laws.proofs.views.Leaving.{reads, reads_append, IsRead}
 use Rattle.node_laws.proofs.views.Setting.{is_link_gate, controller_unset, host_unset, controller_sets, host_sets, SetDeeds, IsUpAt}
 use Rattle.node_laws.proofs.views.Setting.SetDeeds.{IsSet, IsRefused, IsDropped}

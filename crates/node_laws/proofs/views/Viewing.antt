@@ -1,20 +1,14 @@
 -- What a controller knows is what is read.
-use Rattle.std.proofs.Common.{◌≡◌, ℕ, ◌&&◌, ◌||◌, Bool, true, false, cond, eqb, List, [], ◌∷◌, map, sym, refl, ap, ap₂, ◌∙◌, subst}
-use Rattle.std.specs.Prelude.{Option, Some, None, is_some, slice_index}
-use Rattle.std.specs.List.{filter, find, list_any, range_with_len}
-use Rattle.std.specs.Option.{option_map, option_map_or, option_and_then}
-use Rattle.std.proofs.lemmas.Bool.{cond_both, eqb-true, true≢false}
-use Rattle.node_laws.proofs.Words.{Desk, Entry, HasEnds, HciTables, IsHost, IsKeptNotice, IsSameView, Link, LinkState, LinkView, NodeWorld, NumberedEnd, Port}
-use Rattle.node_laws.proofs.Words.{Running, Site, Up, asked_pipes, asking_in, by_option, by_test, decided, end_c, ends_between, errors_in, errors_of, hosts_in}
-use Rattle.node_laws.proofs.Words.{is_asked_at, is_asked_pipe, is_connected_at, is_of_creation, is_one_of, is_opened, is_up, link_to, mask_of, notice_at}
-use Rattle.node_laws.proofs.Words.{notice_in, port_at, port_for, session_now, site_at, tables_in, view_at, view_for, waiting_pipes}
+use Rattle.node_laws.proofs.Words.{Bool, Desk, Entry, ErrorsAreRead, HasEnds, HciTables, IsHost, IsKeptNotice, IsSameView, Link, LinkState, LinkView, List}
+use Rattle.node_laws.proofs.Words.{NodeWorld, None, NoticesAreRead, NumberedEnd, Option, Port, Running, Site, Some, Up, [], ap, ap₂, asked_pipes, asking_in}
+use Rattle.node_laws.proofs.Words.{by_option, by_test, cond, cond_both, decided, end_c, ends_between, eqb, eqb-true, errors_in, errors_of, false, filter, find}
+use Rattle.node_laws.proofs.Words.{hosts_in, is_asked_at, is_asked_pipe, is_connected_at, is_connected_in, is_of_creation, is_one_of, is_opened, is_some, is_up}
+use Rattle.node_laws.proofs.Words.{link_to, list_any, map, mask_of, notice_at, notice_in, notice_of_running, option_and_then, option_map, option_map_or}
+use Rattle.node_laws.proofs.Words.{port_at, port_for, range_with_len, refl, session_at, session_now, site_at, slice_index, subst, sym, tables_in, true}
+use Rattle.node_laws.proofs.Words.{true≢false, view_at, view_for, waiting_pipes, ℕ, ◌&&◌, ◌||◌, ◌∙◌, ◌∷◌, ◌≡◌}
 use Rattle.pipe_table.specs.PipeRows.{lowest_free}
 use Rattle.gate_admin.specs.View.{hosts_where}
-use Rattle.link_laws.specs.entries.Sessions.{number_now as session_at}
-use Rattle.node_machine.specs.world.NodeFilters.{is_connected_in}
-use Rattle.node_laws.specs.notices.Notices.{NoticesAreRead, notice_of_running}
 use Rattle.node_laws.proofs.notices.Knowing.{noticed_is, asked_is}
-use Rattle.node_laws.specs.views.Errors.{ErrorsAreRead}
 use Rattle.node_laws.proofs.creations.Knowing.{given_same}
 use Rattle.node_laws.proofs.telling.Nodes.{link_is}
 

@@ -1,12 +1,9 @@
 -- The view of a controller over whole histories: sessions and creations that wait are read there.
-use Rattle.std.proofs.Common.{◌≡◌, ℕ, true, List, ◌++◌, Some, subst}
-use Rattle.std.specs.List.{AllByRecursion}
-use Rattle.node_laws.proofs.Words.{AreHosts, ArePlayable, Entry, FollowsNodes, Header, IsFew, IsSameView, IsSentByHost, Line, NodeHistory, NodeWorld}
-use Rattle.node_laws.proofs.Words.{Occurrence, Running, ends_between, entries_in, is_one_of, new_world, node_entries, occurrences_in, view_at, view_for}
-use Rattle.node_laws.proofs.Words.{world_behind}
+use Rattle.node_laws.proofs.Words.{AllByRecursion, AreHosts, ArePlayable, Entry, FollowsNodes, Header, IfKnowsAsRead, IsFew, IsSameView, IsSentByHost, Line}
+use Rattle.node_laws.proofs.Words.{List, NodeHistory, NodeWorld, Occurrence, Running, Some, ends_between, entries_in, is_one_of, new_world, node_entries}
+use Rattle.node_laws.proofs.Words.{occurrences_in, subst, true, view_at, view_for, world_behind, ℕ, ◌++◌, ◌≡◌}
 use Rattle.node_laws.proofs.order.Lines.{IsSo, host_number, history_so}
 use Rattle.node_laws.proofs.order.Sessions.{are_read}
-use Rattle.node_laws.specs.creations.Creations.{IfKnowsAsRead}
 use Rattle.node_laws.proofs.creations.Knowing.{if_known}
 use Rattle.node_laws.proofs.creations.Lines.{history_keeps}
 use Rattle.node_laws.proofs.views.Viewing.{SessionsAreRead, PipesAreRead}

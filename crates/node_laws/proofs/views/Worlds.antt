@@ -1,15 +1,12 @@
 -- What happens to a world: a node that runs keeps what is read of REC_ERROR of its end.
-use Rattle.std.proofs.Common.{◌≡◌, ◌⊎◌, inl, inr, ℕ, true, false, cond, eqb, List, [], ◌∷◌, ◌++◌, map, sym, refl, ap, ◌∙◌, subst}
-use Rattle.std.specs.Prelude.{Option, Some, None}
-use Rattle.std.specs.List.{AllByRecursion, flat_map}
-use Rattle.std.proofs.lemmas.Bool.{cases_Bool, eqb-true, eq-eqb, true≢false, ne_eqb, eqb-false}
-use mathlib.Core.Bool.{and-false}
-use Rattle.node_laws.proofs.Words.{AllByRecursion-append, AreDifferent, AtEnd, Comes, Controller, Deed, End, Entry, ErrorCount, HasEnds, Host, IfItRuns}
-use Rattle.node_laws.proofs.Words.{IsOrderly, LinkInput, NoInput, NodeWorld, Running, Site, Starts, Work, activates, after_controller, after_host}
-use Rattle.node_laws.proofs.Words.{after_host_step, all_flat, arrival, begins_with, by_coming, by_controller, by_controller_tick, by_host, by_test, changed_if}
-use Rattle.node_laws.proofs.Words.{changed_same, comes_at, comes_to, controller_does, controller_ticks, controller_work, end_c, end_h, entries_for, exchanged}
-use Rattle.node_laws.proofs.Words.{frames_noted, host_does, host_work, hosts_in, link_after_controller, link_to, near_end_in, near_tick, node_at, node_of}
-use Rattle.node_laws.proofs.Words.{runs_on, site_at, site_ticked, site_unticked, steps, wires_for, with_site}
+use Rattle.node_laws.proofs.Words.{AllByRecursion, AllByRecursion-append, AreDifferent, AtEnd, Comes, Controller, Deed, End, Entry, ErrorCount, HasEnds, Host}
+use Rattle.node_laws.proofs.Words.{IfItRuns, IsOrderly, LinkInput, List, NoInput, NodeWorld, None, Option, Running, Site, Some, Starts, Work, [], activates}
+use Rattle.node_laws.proofs.Words.{after_controller, after_host, after_host_step, all_flat, and-false, ap, arrival, begins_with, by_coming, by_controller}
+use Rattle.node_laws.proofs.Words.{by_controller_tick, by_host, by_test, cases_Bool, changed_if, changed_same, comes_at, comes_to, cond, controller_does}
+use Rattle.node_laws.proofs.Words.{controller_ticks, controller_work, end_c, end_h, entries_for, eq-eqb, eqb, eqb-false, eqb-true, exchanged, false, flat_map}
+use Rattle.node_laws.proofs.Words.{frames_noted, host_does, host_work, hosts_in, inl, inr, link_after_controller, link_to, map, ne_eqb, near_end_in, near_tick}
+use Rattle.node_laws.proofs.Words.{node_at, node_of, refl, runs_on, site_at, site_ticked, site_unticked, steps, subst, sym, true, true≢false, wires_for}
+use Rattle.node_laws.proofs.Words.{with_site, ℕ, ◌++◌, ◌∙◌, ◌∷◌, ◌≡◌, ◌⊎◌}
 use Rattle.node_laws.proofs.telling.Mute.{AreMute}
 use Rattle.node_laws.proofs.telling.Nodes.{site_host}
 use Rattle.node_laws.proofs.views.Leaving.{reads, reads_append, Leaves, IsStill, still_leaves}

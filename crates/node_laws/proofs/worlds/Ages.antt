@@ -1,16 +1,11 @@
 -- As a controller handles messages the ages of its notices are the ticks since they were sent.
-use Rattle.std.proofs.Common.{◌≡◌, ℕ, ◌≤◌, Bool, true, false, cond, List, [], ◌∷◌, ◌++◌, map, Option, Some, None, refl}
-use Rattle.std.proofs.Common.{sym, ap, ap₂, subst, ◌∙◌, ◌||◌, ◌&&◌, eqb, arith}
-use Rattle.std.specs.Prelude.{is_some}
-use Rattle.std.specs.List.{AllByRecursion, list_any}
-use Rattle.std.specs.Option.{option_map, option_map_or, option_and_then}
-use Rattle.std.proofs.lemmas.Bool.{true≢false, eqb-true, or_parts}
-use mathlib.Core.Bool.{or-false, or-true}
-use Rattle.node_laws.proofs.Words.{About, Asks, Commits, Controller, Core, Deed, Desk, Drops, Ends, Entry, FetchMessage, Give, GoesToFree, Host, IsAnswered}
-use Rattle.node_laws.proofs.Words.{IsHost, IsKeptNotice, Message, Notice, Orders, Port, Refused, Release, Releases, SaysOk, Sends, SetAside, SetsErrors, Tells}
-use Rattle.node_laws.proofs.Words.{Turn, Work, after_turn, all_done, awaited_after, by_option, by_test, changed_if, controller_deeds, done, end_c, end_of}
-use Rattle.node_laws.proofs.Words.{entries_for, give_refusal, goes_in, handles, has_notice, is_notice, noted_by_deed, noted_of, notice_in, own_side, port_at}
-use Rattle.node_laws.proofs.Words.{same_end, same_side, sent_unless, takes_up, turn_at, view_of, with_desk, with_port}
+use Rattle.node_laws.proofs.Words.{About, AllByRecursion, Asks, Bool, Commits, Controller, Core, Deed, Desk, Drops, Ends, Entry, FetchMessage, Give, GoesToFree}
+use Rattle.node_laws.proofs.Words.{Host, IsAnswered, IsHost, IsKeptNotice, List, Message, None, Notice, Option, Orders, Port, Refused, Release, Releases}
+use Rattle.node_laws.proofs.Words.{SaysOk, Sends, SetAside, SetsErrors, Some, Tells, Turn, Work, [], after_turn, all_done, ap, ap₂, arith, awaited_after}
+use Rattle.node_laws.proofs.Words.{by_option, by_test, changed_if, cond, controller_deeds, done, end_c, end_of, entries_for, eqb, eqb-true, false, give_refusal}
+use Rattle.node_laws.proofs.Words.{goes_in, handles, has_notice, is_notice, is_some, list_any, map, noted_by_deed, noted_of, notice_in, option_and_then}
+use Rattle.node_laws.proofs.Words.{option_map, option_map_or, or-false, or-true, or_parts, own_side, port_at, refl, same_end, same_side, sent_unless, subst}
+use Rattle.node_laws.proofs.Words.{sym, takes_up, true, true≢false, turn_at, view_of, with_desk, with_port, ℕ, ◌&&◌, ◌++◌, ◌||◌, ◌∙◌, ◌∷◌, ◌≡◌, ◌≤◌}
 use Rattle.trace_model.specs.declared.entry.Entry.TheVariants as entry
 use Rattle.link_laws.specs.entries.Entries.{End as Side}
 use Rattle.node_laws.proofs.steps.StepWalks.{all_do}

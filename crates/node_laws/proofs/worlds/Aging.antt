@@ -1,18 +1,14 @@
 -- In each event the ages of the controller's notices stay those that are read.
-use Rattle.std.proofs.Common.{◌≡◌, ℕ, ◌≤◌, cond, List, [], ◌∷◌, ◌++◌, map, Option, Some, None, refl, sym, ap, subst, ◌∙◌, ◌||◌}
-use Rattle.std.specs.Prelude.{◌+◌}
-use Rattle.std.specs.List.{AllByRecursion}
-use Rattle.std.proofs.lemmas.Bool.{true≢false}
-use Rattle.std.proofs.lemmas.List.Sums.{fold-append}
-use Rattle.node_laws.proofs.Words.{Activates, AreDifferent, Arms, AsksReset, AtEnd, Boots, Broken, Comes, Controller, ControllerReads, Deed, End, Entry}
-use Rattle.node_laws.proofs.Words.{Gives, Happening, HasEnds, Host, IfHostNode, IfItRuns, IfNoticedUp, IfReads, Inits, IsCut, IsFresh, IsOutside, IsShut}
-use Rattle.node_laws.proofs.Words.{KeepsNotices, LinkInput, Loses, Loss, NextFrame, NoInput, NodeInput, NodeWorld, Notice, NumberedEnd, Occurrence, Plan, Port}
-use Rattle.node_laws.proofs.Words.{Resets, Running, Site, Starts, Takes, Ticks, TimePasses, Work, activates, age_in, all_aged, arrival, beginning, begins_with}
-use Rattle.node_laws.proofs.Words.{boot_found, boot_written, boots, by_boot, by_coming, by_controller, by_controller_tick, by_host, by_loss, by_memory}
-use Rattle.node_laws.proofs.Words.{by_option, by_power, by_running, by_test, comes_at, comes_to, controller_does, controller_ticks, controller_work}
-use Rattle.node_laws.proofs.Words.{count_of, counts, end_c, end_h, entries_for, entries_in, exchanged, first_lost, frame_lost, frames_noted, has_come_so}
-use Rattle.node_laws.proofs.Words.{host_does, hosts_in, hosts_tick, input_of, is_tick, link_to, loses_power_at, memory_at, near_end_in, near_tick}
-use Rattle.node_laws.proofs.Words.{notice_at, runs_on, sending, steps, wires_for, with_memory, work_of, world_step, world_ticks}
+use Rattle.node_laws.proofs.Words.{Activates, AllByRecursion, AreDifferent, Arms, AsksReset, AtEnd, Boots, Broken, Comes, Controller, ControllerReads, Deed}
+use Rattle.node_laws.proofs.Words.{End, Entry, Gives, Happening, HasEnds, Host, IfHostNode, IfItRuns, IfNoticedUp, IfReads, Inits, IsCut, IsFresh, IsOutside}
+use Rattle.node_laws.proofs.Words.{IsShut, KeepsNotices, LinkInput, List, Loses, Loss, NextFrame, NoInput, NodeInput, NodeWorld, None, Notice, NumberedEnd}
+use Rattle.node_laws.proofs.Words.{Occurrence, Option, Plan, Port, Resets, Running, Site, Some, Starts, Takes, Ticks, TimePasses, Work, [], activates, age_in}
+use Rattle.node_laws.proofs.Words.{all_aged, ap, arrival, beginning, begins_with, boot_found, boot_written, boots, by_boot, by_coming, by_controller}
+use Rattle.node_laws.proofs.Words.{by_controller_tick, by_host, by_loss, by_memory, by_option, by_power, by_running, by_test, comes_at, comes_to, cond}
+use Rattle.node_laws.proofs.Words.{controller_does, controller_ticks, controller_work, count_of, counts, end_c, end_h, entries_for, entries_in, exchanged}
+use Rattle.node_laws.proofs.Words.{first_lost, fold-append, frame_lost, frames_noted, has_come_so, host_does, hosts_in, hosts_tick, input_of, is_tick, link_to}
+use Rattle.node_laws.proofs.Words.{loses_power_at, map, memory_at, near_end_in, near_tick, notice_at, refl, runs_on, sending, steps, subst, sym, true≢false}
+use Rattle.node_laws.proofs.Words.{wires_for, with_memory, work_of, world_step, world_ticks, ℕ, ◌++◌, ◌+◌, ◌||◌, ◌∙◌, ◌∷◌, ◌≡◌, ◌≤◌}
 use Rattle.trace_model.specs.declared.entry.Entry.TheVariants as entry
 use Rattle.node_laws.proofs.readings.Sites.{near_end_side, comes_outside, lost_quiet}
 use Rattle.node_laws.proofs.telling.Lasting.{occurs}

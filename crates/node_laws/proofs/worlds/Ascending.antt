@@ -1,17 +1,14 @@
 -- In a step of a node messages have their turns in the order of its ends.
-use Rattle.std.proofs.Common.{◌≡◌, ◌⊎◌, inl, inr, ℕ, ◌≤◌, ◌<◌, Bool, true, false, cond, List, [], ◌∷◌, ◌++◌, Option}
-use Rattle.std.proofs.Common.{Some, None, refl, sym, ap, subst, ◌∙◌, arith, append-nil}
-use Rattle.std.specs.Prelude.{◌==◌}
-use Rattle.std.specs.List.{AllByRecursion, filter_map}
+use Rattle.node_laws.proofs.Words.{AllByRecursion, AreAlong, AreNoTurns, ArePassed, Bool, ComesTo, Entry, IsAscending, IsNoTurn, Link, List, NodeInput, None}
+use Rattle.node_laws.proofs.Words.{Option, Some, Work, [], all_append, ap, append-nil, arith, by_option, by_test, comes_to_pass, cond, ending_entries}
+use Rattle.node_laws.proofs.Words.{ending_of, false, filter_map, frames_noted, hosts_of_ends, inl, inr, link_of_turn, links_of_turns, node_of}
+use Rattle.node_laws.proofs.Words.{noted_before_pass, passes, port_at, refl, steps, subst, sym, true, turn_link, unless_cut, ℕ, ◌++◌, ◌<◌, ◌==◌, ◌∙◌, ◌∷◌, ◌≡◌}
+use Rattle.node_laws.proofs.Words.{◌≤◌, ◌⊎◌}
 use Rattle.std.specs.List.Sorted.{IsStrictlySortedBy}
 use Rattle.std.specs.declared.cmp.Ordering.TheVariants.{Less}
 use Rattle.std.specs.Ordering.{nat_cmp}
 use Rattle.std.proofs.lemmas.Cmp.{ranked}
 use Rattle.std.proofs.lemmas.Map.Keys.{sorted_head, sorted_tail}
-use Rattle.registry.proofs.ValueLemmas.{AllByRecursion-append as all_append}
-use Rattle.node_laws.proofs.Words.{AreAlong, AreNoTurns, ArePassed, ComesTo, Entry, IsAscending, IsNoTurn, Link, NodeInput, Work, by_option, by_test}
-use Rattle.node_laws.proofs.Words.{comes_to_pass, ending_entries, ending_of, frames_noted, hosts_of_ends, link_of_turn, links_of_turns, node_of}
-use Rattle.node_laws.proofs.Words.{noted_before_pass, passes, port_at, steps, turn_link, unless_cut}
 use Rattle.trace_model.specs.declared.entry.Entry.TheVariants as entry
 use Rattle.link_laws.specs.entries.Entries.{End as Side}
 use Rattle.node_laws.specs.passes.Passing.ComesTo.{Begins}

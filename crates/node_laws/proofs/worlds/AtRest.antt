@@ -1,11 +1,9 @@
 -- Whatever happens to a world, all messages at the ends of nodes that run have had their turns, or all before one that is held.
-use Rattle.std.proofs.Common.{◌≡◌, ℕ, true, false, cond, eqb, List, [], ◌∷◌, ◌++◌, map, refl, sym, ap, subst, ◌∙◌, append_assoc}
-use Rattle.std.specs.Prelude.{Option, Some, None}
-use Rattle.std.specs.List.{flat_map}
-use Rattle.registry.proofs.ValueLemmas.{AllByRecursion-append as all_append}
-use Rattle.node_laws.proofs.Words.{AreDifferent, AreNoTurns, AreNotOf, Controller, End, Entry, HasEnds, Host, IsOutside, Link, LinkEnd, NodeInput, NumberedEnd}
-use Rattle.node_laws.proofs.Words.{Plan, Port, Running, Site, Work, by_option, by_test, end_c, end_h, ending_entries, ending_of, frames_noted, holds_in}
-use Rattle.node_laws.proofs.Words.{hosts_in, hosts_of_ends, is_done, is_held_at, link_to, own_side, port_at, runs_on, same_number, site_at, steps, work_of}
+use Rattle.node_laws.proofs.Words.{AreDifferent, AreNoTurns, AreNotOf, Controller, End, Entry, HasEnds, Host, IsOutside, Link, LinkEnd, List, NodeInput, None}
+use Rattle.node_laws.proofs.Words.{NumberedEnd, Option, Plan, Port, Running, Site, Some, Work, [], all_append, ap, append_assoc, by_option, by_test, cond}
+use Rattle.node_laws.proofs.Words.{end_c, end_h, ending_entries, ending_of, eqb, false, flat_map, frames_noted, holds_in, hosts_in, hosts_of_ends, is_done}
+use Rattle.node_laws.proofs.Words.{is_held_at, link_to, map, own_side, port_at, refl, runs_on, same_number, site_at, steps, subst, sym, true, work_of, ℕ, ◌++◌}
+use Rattle.node_laws.proofs.Words.{◌∙◌, ◌∷◌, ◌≡◌}
 use Rattle.trace_model.specs.declared.entry.Entry.TheVariants as entry
 use Rattle.link_laws.specs.entries.Entries.{End as Side}
 use Rattle.node_laws.proofs.telling.Nodes.{hosts_same, link_is}

@@ -1,18 +1,12 @@
 -- Why sessions end: by a reset of the end itself only as that is asked for.
-use Rattle.std.proofs.Common.{◌≡◌, ℕ, Bool, true, false, cond, eqb, Option, Some, None, refl, ap, ◌∙◌}
-use Rattle.std.specs.Prelude.{is_some, not}
-use Rattle.std.specs.Option.{option_map_or}
-use Rattle.std.proofs.lemmas.Bool.{cond_both}
-use Rattle.node_laws.proofs.Words.{ActEvent, Asked, Chain, Control, EndState, LinkEnd, LinkState, Reset, Start, Take, Tick, act_answer, by_option, ended_by}
-use Rattle.node_laws.proofs.Words.{if_up, is_faulty, is_open, is_own_reset, is_up, reset_refusal, runs_timer, take_answer, taken, tick_answer}
+use Rattle.node_laws.proofs.Words.{ActEvent, ActTake, ActTick, Asked, Bool, ByAct, Chain, Control, EndState, EndedBy, IsDown, IsUpNow, IsWaitingNow, LinkEnd}
+use Rattle.node_laws.proofs.Words.{LinkState, NoAnswer, None, Option, Reset, Some, Start, Take, Tick, Timed, act_answer, ap, by_option, cond, cond_both}
+use Rattle.node_laws.proofs.Words.{ended_by, ended_by_act, ended_by_reset, eqb, false, if_up, is_faulty, is_open, is_own_reset, is_some, is_up, not}
+use Rattle.node_laws.proofs.Words.{nothing_ticked, option_map_or, refl, reset_refusal, runs_timer, take_answer, taken, tick_answer, timed, true, ℕ, ◌∙◌, ◌≡◌}
 use Rattle.swp_base.specs.declared.control_frames.Control.TheVariants as control
-use Rattle.swp_base.specs.declared.link_terms.Cause.{Cause as EndedBy}
-use Rattle.swp_base.specs.declared.link_terms.Cause.TheVariants.{NoAnswer, Peer, Act as ByAct}
-use Rattle.swp_act.specs.declared.ActEvent.TheVariants.{Take as ActTake, Tick as ActTick}
-use Rattle.shdlc_core.specs.declared.answers.LinkState.TheVariants.{Up as IsUpNow, Waiting as IsWaitingNow, Down as IsDown}
-use Rattle.shdlc_core.specs.Machine.{timed, Timed, nothing_taken, nothing_ticked}
+use Rattle.swp_base.specs.declared.link_terms.Cause.TheVariants.{Peer}
+use Rattle.shdlc_core.specs.Machine.{nothing_taken}
 use Rattle.shdlc_core.specs.Machine.Timed.{Runs, Over, Spent}
-use Rattle.link_laws.specs.machine.Machine.{ended_by_reset, ended_by_act}
 
 -- it is a reset on demand
 abbrev pub asked : Option EndedBy → Bool

@@ -1,27 +1,22 @@
 -- Behind each event of a history all messages at the ends of nodes that run have had their turns, or all before one that is held.
-use Rattle.std.proofs.Common.{◌≡◌, ℕ, true, false, List, [], ◌∷◌, ◌++◌, refl, sym, ap, subst, ◌∙◌, append_assoc, append-nil}
-use Rattle.std.specs.Prelude.{◌==◌, Some, None}
-use Rattle.std.specs.List.{AllByRecursion, flat_map}
-use Rattle.std.proofs.lemmas.Bool.{true≢false}
-use Rattle.std.proofs.lemmas.List.Concat.{flat_map-append}
-use Rattle.node_laws.proofs.Words.{Activates, AreDifferent, AreHosts, ArePlayable, Arms, AsksReset, AtEachOccurrence, Boots, Comes, Controller, End, Entry}
-use Rattle.node_laws.proofs.Words.{FollowsNodes, Gives, GoesOut, Happening, HasEnds, Header, Host, IfItRuns, Inits, IsCut, IsOrderly, Line, Loses, MayBoot}
-use Rattle.node_laws.proofs.Words.{NextFrame, NodeHistory, NodeWorld, NumberedEnd, Occurrence, Resets, Running, Site, Starts, Takes, Ticks, TimePasses, Work}
-use Rattle.node_laws.proofs.Words.{after_planned, aged, aged_entries, all_aged, beginning, by_coming, by_controller_tick, by_host_tick, by_test, comes_at}
-use Rattle.node_laws.proofs.Words.{controller_ticks, end_c, end_h, ending_of, ends_in, entries_for, entries_in, exchanged, frames_noted, host_tick, host_ticks}
-use Rattle.node_laws.proofs.Words.{hosts_in, hosts_tick, is_done, link_to, memory_at, near_tick, new_world, occurrences_in, runs_on, sending, site_at}
-use Rattle.node_laws.proofs.Words.{site_ticked, site_unticked, steps_from, through, ticks_at_controller, ticks_host, turns_at, world_behind, world_step}
-use Rattle.node_laws.proofs.Words.{world_ticks}
+use Rattle.node_laws.proofs.Words.{Activates, AllByRecursion, AreDifferent, AreDone, AreHosts, ArePlayable, Arms, AsksReset, AtEachOccurrence, Boots, Comes}
+use Rattle.node_laws.proofs.Words.{Controller, End, Entry, FollowsNodes, Gives, GoesOut, Happening, HasEnds, Header, Host, IfItRuns, Inits, IsCut, IsOrderly}
+use Rattle.node_laws.proofs.Words.{Line, List, Loses, MayBoot, NextFrame, NodeHistory, NodeWorld, None, NumberedEnd, Occurrence, Resets, Running, Site, Some}
+use Rattle.node_laws.proofs.Words.{Starts, Takes, Ticks, TimePasses, Work, [], after_planned, aged, aged_entries, all_aged, ap, append-nil, append_assoc}
+use Rattle.node_laws.proofs.Words.{beginning, by_coming, by_controller_tick, by_host_tick, by_test, comes_at, controller_ticks, end_c, end_h, ending_of}
+use Rattle.node_laws.proofs.Words.{ends_in, entries_for, entries_in, exchanged, false, flat_map, flat_map-append, frames_noted, host_tick, host_ticks, hosts_in}
+use Rattle.node_laws.proofs.Words.{hosts_tick, is_done, link_to, memory_at, near_tick, new_world, occurrences_in, refl, runs_on, sending, site_at, site_ticked}
+use Rattle.node_laws.proofs.Words.{site_unticked, subst, sym, through, ticks_at_controller, ticks_host, true, true≢false, turns_at, world_behind, world_step}
+use Rattle.node_laws.proofs.Words.{world_ticks, ℕ, ◌++◌, ◌==◌, ◌∙◌, ◌∷◌, ◌≡◌}
 use Rattle.node_laws.proofs.kept.Sites.{hosts_same as sites_same}
-use Rattle.node_laws.proofs.telling.Events.{comes_goes, orderly_map, sending_mute}
-use Rattle.node_laws.proofs.telling.Lasting.{AllHold, AnyLine, all_lines, boots_may, events_of_steps, front_holds, lines_hold}
-use Rattle.node_laws.proofs.telling.WorldTicks.{near_orderly}
+use Rattle.node_laws.proofs.telling.Events.{comes_goes, sending_mute}
+use Rattle.node_laws.proofs.telling.Lasting.{AnyLine, all_lines, boots_may, history_holds}
+use Rattle.node_laws.proofs.telling.WorldTicks.{aged_orderly, ticked_orderly}
 use Rattle.node_laws.proofs.telling.Worlds.{node_is}
 use Rattle.node_laws.proofs.order.Lines.{IsSo, history_so}
 use Rattle.node_laws.proofs.power.Parts.{IsPart, own_not, part_own}
 use Rattle.node_laws.proofs.turns.Queues.{Goes, goes-append, still_goes}
 use Rattle.node_laws.proofs.turns.Works.{aged_none, sites_is}
-use Rattle.node_laws.specs.answers.Answered.{AreDone}
 use Rattle.node_laws.proofs.passes.Turnless.{beginning_turnless, sending_turnless}
 use Rattle.node_laws.proofs.reply_passes.Begins.{WaitsRead, new_reads, reads_last}
 use Rattle.node_laws.proofs.reply_passes.Held.{aged_leave}
@@ -29,7 +24,7 @@ use Rattle.node_laws.proofs.reply_passes.InTurn.{near_goes}
 use Rattle.node_laws.proofs.worlds.AtRest.{SiteRests, SiteWaits, far_site, flat_idle, frames_idle, idle_still, near_rests, site_on}
 use Rattle.node_laws.proofs.worlds.Events.{AllAtRest, AllWaiting, after_near, all_rests, each_done, far_begins, far_coming, far_idle, idle_all, near_comes}
 use Rattle.node_laws.proofs.worlds.Events.{boot_rests, cut_rests, lost_rests, quiet_links, rest_on, same_sym, waiting_from, written}
-use Rattle.node_laws.proofs.power.Events.{far_tick, near_ticks_part, sending_mine, AreNodes, both_nodes, others_tick}
+use Rattle.node_laws.proofs.power.Events.{AreNodes, far_tick, near_ticks_part, others_tick, sending_mine, ticked_nodes}
 use Rattle.node_laws.proofs.worlds.Resting.{AreIdle, idle_done, others_idle}
 use Rattle.node_laws.proofs.worlds.Late.{ticked_host}
 
@@ -51,9 +46,6 @@ module _ (t : List Entry) (w : NodeWorld) (reads : WaitsRead t w) (before : AllW
   abbrev since : List Entry
   since = t ++ (all_aged w).1
 
-  old_orderly : IsOrderly old
-  old_orderly = orderly_map w w.memory w.controller (λ (x : Site). record x { link = aged x.link }) (λ x. refl) a a.controller (λ x n. n)
-
   old_waiting : AllWaiting since old.sites
   old_waiting =
       idle_all t (all_aged w).1 (λ (x : Site). record x { link = aged x.link }) (λ s. refl) (λ s. refl) (λ s. refl) (λ e. aged_idle e w) w.sites before
@@ -70,7 +62,7 @@ module _ (t : List Entry) (w : NodeWorld) (reads : WaitsRead t w) (before : AllW
       (still_goes (end_c k) (all_aged w).1 x.link.controller.side.got (idle_still (end_c k) (all_aged w).1 (aged_idle (end_c k) w))))) here
 
   near_part : IsPart 0 (controller_ticks old).1
-  near_part = near_ticks_part old old_orderly
+  near_part = near_ticks_part old (aged_orderly w a)
 
   near_waiting : AllWaiting (since ++ (controller_ticks old).1) (controller_ticks old).0.sites
   near_waiting =
@@ -79,14 +71,14 @@ module _ (t : List Entry) (w : NodeWorld) (reads : WaitsRead t w) (before : AllW
       (λ s. ap (λ (x : NumberedEnd). x.side.got) (ticks_host s.link [] GoesOut)) (λ e. tt) old.sites old_waiting)
       (λ r q part.
       let kept : hosts_in old.sites ≡ hosts_in w.sites = sites_same (λ (x : Site). record x { link = aged x.link }) (λ s. refl) w.sites in
-      let has : HasEnds 0 (hosts_in old.sites) r = node_is 0 (hosts_in old.sites) old.controller r old_orderly.controller q in
+      let has : HasEnds 0 (hosts_in old.sites) r = node_is 0 (hosts_in old.sites) old.controller r (aged_orderly w a).controller q in
       let v : Work = near_tick old r in
       let f : Site → List Entry = λ s. frames_noted Controller s.host s.link v in
       after_near since old.sites (site_ticked v) (λ s. refl) (λ s. refl)
       (λ s. ap (λ (x : NumberedEnd). x.side.got) (ticked_host v s)) v.entries (flat_map f old.sites) part
-      (λ e. flat_idle e f (λ s. frames_idle e Controller s.host s.link v) old.sites) old_orderly.hosts
-      (each_done since v.entries old.sites old_orderly.different
-      (near_rests since old.sites w.memory.plan r has old_orderly.different (λ h. (link_to old.sites h).controller) [] (λ k. refl) (old_goes r q)
+      (λ e. flat_idle e f (λ s. frames_idle e Controller s.host s.link v) old.sites) (aged_orderly w a).hosts
+      (each_done since v.entries old.sites (aged_orderly w a).different
+      (near_rests since old.sites w.memory.plan r has (aged_orderly w a).different (λ h. (link_to old.sites h).controller) [] (λ k. refl) (old_goes r q)
       (λ k. aged_leave w t k ∙ reads.holds r q k) tt tt tt tt (λ k. tt) TimePasses tt))
       old_waiting)
       near_part
@@ -159,11 +151,9 @@ module _ (t : List Entry) (w : NodeWorld) (reads : WaitsRead t w) (rests : AllAt
   ticks_rest : AllAtRest (t ++ (world_ticks w).1) (world_ticks w).0.sites
   ticks_rest =
       let near : NodeWorld × List Entry = controller_ticks (all_aged w).0 in
-      let kept : IsOrderly (record { memory = (all_aged w).0.memory; controller = None; sites = near.0.sites }) =
-      near_orderly (all_aged w).0 (old_orderly t w reads begins) in
       subst (λ l. AllAtRest l (world_ticks w).0.sites)
       (append_assoc (t ++ (all_aged w).1) near.1 (hosts_tick near.0.sites).1 ∙ append_assoc t (all_aged w).1 (near.1 ++ (hosts_tick near.0.sites).1))
-      (hosts_rest ((t ++ (all_aged w).1) ++ near.1) near.0.sites kept.different (both_nodes near.0.sites kept.hosts kept.nodes)
+      (hosts_rest ((t ++ (all_aged w).1) ++ near.1) near.0.sites (ticked_orderly w o).different (ticked_nodes w o)
       (near_waiting t w reads begins))
 
   near_coming : (h : ℕ) (comes : Comes) → AllWaiting (t ++ (comes_at w (end_c h) comes).1) (comes_at w (end_c h) comes).0.sites
@@ -217,12 +207,8 @@ new_rests (h ∷ hosts) =
 pub history_rests : (header : Header) (lines : List Line) (t : NodeHistory) → FollowsNodes header lines t → AreHosts header.hosts.items
     → (front back : List Occurrence) → occurrences_in t ≡ front ++ back → IsAtRest (entries_in front) (world_behind (new_world header.hosts.items) front)
 history_rests header lines t follows are front back parts =
-    let hosts : List ℕ = header.hosts.items in
-    let all : AllHold IsAtRest MayBoot AnyLine rest_lasts boots_may [] (new_world hosts) (events_of_steps (steps_from (new_world hosts) lines)) =
-    lines_hold IsAtRest MayBoot AnyLine rest_lasts boots_may lines [] (new_world hosts)
-    (record { reads = new_reads hosts are; rests = new_rests hosts }) (all_lines lines) in
-    front_holds IsAtRest MayBoot AnyLine rest_lasts boots_may front back [] (new_world hosts)
-    (subst (AllHold IsAtRest MayBoot AnyLine rest_lasts boots_may [] (new_world hosts)) (sym (ap events_of_steps follows.steps_are) ∙ parts) all)
+    history_holds IsAtRest MayBoot AnyLine rest_lasts boots_may header lines t follows
+    (record { reads = new_reads header.hosts.items are; rests = new_rests header.hosts.items }) (all_lines lines) front back parts
 
 done_of : (t : List Entry) (sites : List Site) → AllAtRest t sites → AllByRecursion (λ e. is_done t e ≡ true) (ends_in (hosts_in sites))
 done_of t [] a = tt

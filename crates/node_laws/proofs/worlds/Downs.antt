@@ -1,17 +1,11 @@
 -- Which sessions end in what a node notes in a step: only what comes to its ends, and late notices, tell of that.
-use Rattle.std.proofs.Common.{◌≡◌, ℕ, Bool, false, List, [], ◌∷◌, ◌++◌, Option, Some, None, refl, ap, ◌∙◌, ◌||◌, ◌&&◌}
-use Rattle.std.specs.List.{AllByRecursion, flat_map, list_any}
-use Rattle.std.specs.Option.{option_map_or}
-use Rattle.std.proofs.lemmas.Bool.{true≢false}
-use mathlib.Core.Bool.{or-false}
-use Rattle.registry.proofs.ValueLemmas.{AllByRecursion-append as all_append}
-use Rattle.swp_base.specs.declared.link_terms.Cause.{Cause as EndedBy}
-use Rattle.node_laws.proofs.Words.{Comes, Core, Cut, Deed, Down, End, Entry, Link, LinkInput, Message, NodeInput, Port, Report, Restarted, Sent, Work}
-use Rattle.node_laws.proofs.Words.{after_input, all_done, arrival, beginning, by_option, by_test, end_of, ended_by, ending_entries, ending_of, ends_session}
-use Rattle.node_laws.proofs.Words.{entries_for, frames_noted, is_down, own_side, port_at, report, same_end, sending, steps, told, told_at, told_of_coming}
-use Rattle.node_laws.proofs.Words.{whole_acked}
+use Rattle.node_laws.proofs.Words.{AllByRecursion, Bool, Comes, Core, Cut, Deed, Down, End, EndedBy, Entry, Link, LinkInput, List, Message, NodeInput, None}
+use Rattle.node_laws.proofs.Words.{Noted, Option, Port, Report, Restarted, Sent, Some, Work, [], after_input, all_append, all_done, ap, arrival, beginning}
+use Rattle.node_laws.proofs.Words.{by_option, by_test, end_of, ended_by, ending_entries, ending_of, ends_session, entries_for, false, flat_map, frames_noted}
+use Rattle.node_laws.proofs.Words.{is_down, list_any, option_map_or, or-false, own_side, port_at, refl, report, same_end, sending, steps, told, told_at}
+use Rattle.node_laws.proofs.Words.{told_of_coming, true≢false, whole_acked, ℕ, ◌&&◌, ◌++◌, ◌||◌, ◌∙◌, ◌∷◌, ◌≡◌}
 use Rattle.trace_model.specs.declared.entry.Entry.TheVariants as entry
-use Rattle.link_laws.specs.entries.Entries.{End as Side, Entry as Noted}
+use Rattle.link_laws.specs.entries.Entries.{End as Side}
 use Rattle.link_laws.specs.entries.Entries.Entry.{Tick}
 use Rattle.node_laws.proofs.readings.Silent.{IsQuiet, told_rest, rest_quiet}
 use Rattle.node_laws.proofs.readings.Sites.{ending_quiet, arrival_quiet}

@@ -1,19 +1,16 @@
 -- Before its first turn in an event a host answers exactly what is due: the message of a line, or the first command of an init.
-use Rattle.std.proofs.Common.{◌≡◌, ℕ, ◌==◌, Bool, true, false, cond, eqb, ◌&&◌, List, [], ◌∷◌, ◌++◌, Option, Some, None, refl, sym, ap, subst, ◌∙◌, append-nil}
-use Rattle.std.specs.Prelude.{IsTrue, unwrap_or}
-use Rattle.std.specs.List.{AllByRecursion, filter, list_any}
-use Rattle.std.specs.Option.{option_and_then, option_map_or}
-use Rattle.std.proofs.lemmas.Bool.{and_parts, eqb-true}
-use Rattle.node_laws.proofs.Words.{Activates, AnswersSo, AreHosts, ArePlayable, AreSessionsRead, AreTaken, Arms, AsksReset, AtEachOccurrence, Boots}
-use Rattle.node_laws.proofs.Words.{CountsCommands, Deed, End, Entry, FollowsNodes, Gives, Happening, HasEnds, Header, Host, Inits, IsBegunByHost, IsCut}
-use Rattle.node_laws.proofs.Words.{IsDueAt, IsFew, IsOrderly, IsReplyNoted, IsSentByHost, Line, Link, LinkEnd, LinkState, Loses, Message, NextFrame, NoInput}
-use Rattle.node_laws.proofs.Words.{NodeHistory, NodeWorld, NumberedEnd, Occurrence, Orders, Port, Resets, Running, Sends, Site, Takes, TakesMessage, Ticks, Up}
-use Rattle.node_laws.proofs.Words.{Work, all_done, before_turn, beginning, begins_with, begun_at, by_option, by_test, count_of, due, end_h, end_of_number}
-use Rattle.node_laws.proofs.Words.{entries_in, entries_of_reply, exchanged, first_cause, first_verdict, frames_at, frames_noted, give_refusal, happenings}
-use Rattle.node_laws.proofs.Words.{host_does, host_work, if_not_sent, if_off, if_waiting, is_answer_of, is_command_message, is_cut_of, is_down, is_turn_of}
-use Rattle.node_laws.proofs.Words.{is_up, link_to, near_end_in, new_world, node_at, node_entries, node_of, noted_by_deeds, noted_of_deeds, number_now}
-use Rattle.node_laws.proofs.Words.{number_of, occurrences_in, refusal_in, same_number, sending, sent_in_session, session_now, session_of_port, site_at}
-use Rattle.node_laws.proofs.Words.{steps_from, taken_of, to_command, wires_for, world_behind, world_step}
+use Rattle.node_laws.proofs.Words.{Activates, AllByRecursion, AnswersSo, AreHosts, ArePlayable, AreSessionsRead, AreTaken, Arms, AsksReset, AtEachOccurrence}
+use Rattle.node_laws.proofs.Words.{Bool, Boots, CountsCommands, Deed, End, Entry, FollowsNodes, Gives, Happening, HasEnds, Header, Host, Inits, IsBegunByHost}
+use Rattle.node_laws.proofs.Words.{IsCut, IsDueAt, IsFew, IsOrderly, IsReplyNoted, IsSentByHost, IsTrue, Line, Link, LinkEnd, LinkState, List, Loses, Message}
+use Rattle.node_laws.proofs.Words.{NextFrame, NoInput, NodeHistory, NodeWorld, None, NumberedEnd, Occurrence, Option, Orders, Port, Resets, Running, Sends}
+use Rattle.node_laws.proofs.Words.{Site, Some, Takes, TakesMessage, Ticks, Up, Work, [], all_done, all_so, and_parts, ap, append-nil, before_turn, beginning}
+use Rattle.node_laws.proofs.Words.{begins_with, begun_at, by_option, by_test, cond, count_of, due, end_h, end_of_number, entries_in, entries_of_reply, eqb}
+use Rattle.node_laws.proofs.Words.{eqb-true, exchanged, false, filter, first_cause, first_verdict, frames_at, frames_noted, give_refusal, happenings, host_does}
+use Rattle.node_laws.proofs.Words.{host_work, if_not_sent, if_off, if_waiting, is_answer_of, is_command_message, is_cut_of, is_down, is_turn_of, is_up, link_to}
+use Rattle.node_laws.proofs.Words.{list_any, near_end_in, new_world, node_at, node_entries, node_of, noted_by_deeds, noted_of_deeds, number_now, number_of}
+use Rattle.node_laws.proofs.Words.{occurrences_in, option_and_then, option_map_or, refl, refusal_in, same_number, sending, sent_in_session, session_now}
+use Rattle.node_laws.proofs.Words.{session_of_port, site_at, steps_from, subst, sym, taken_of, to_command, true, unwrap_or, wires_for, world_behind, world_step}
+use Rattle.node_laws.proofs.Words.{ℕ, ◌&&◌, ◌++◌, ◌==◌, ◌∙◌, ◌∷◌, ◌≡◌}
 use Rattle.trace_model.specs.declared.entry.Entry.TheVariants as entry
 use Rattle.trace_model.specs.declared.line.Line.TheVariants as line
 use Rattle.node_laws.proofs.kept.Lines.{first_none, off_none}
@@ -29,7 +26,7 @@ use Rattle.node_laws.proofs.power.Events.{begins_part, sending_mine}
 use Rattle.node_laws.proofs.power.Parts.{own_not, part_own}
 use Rattle.node_laws.proofs.readings.Lines.{is_taken}
 use Rattle.node_laws.proofs.views.InitWorlds.{present}
-use Rattle.node_laws.proofs.views.Lines.{none_zero}
+use Rattle.node_laws.proofs.readings.NoticedWorlds.{numbers}
 use Rattle.node_laws.proofs.reply_passes.Begins.{port_begins}
 use Rattle.node_laws.proofs.worlds.Downs.{AreDownless, frames_downless}
 use Rattle.node_laws.proofs.worlds.Events.{all_two}
@@ -348,7 +345,6 @@ module _ (header : Header) (lines : List Line) (t : NodeHistory) (follows : Foll
   pub hosts_due : AtEachOccurrence t (AreDueAtHosts t.header.hosts.items)
   hosts_due past back o parts =
       subst (λ (h : Header). AreDueAtHosts h.hosts.items past o) (sym follows.header_is)
-      (each hosts (none_zero hosts are.all)) where
+      (each hosts (numbers hosts are.all)) where
         each : (hs : List ℕ) → AllByRecursion (λ h. (h == 0) ≡ false) hs → AllByRecursion (IsDueAt hosts past o) hs
-        each [] a = tt
-        each (h ∷ hs) a = (one_due_in past back o parts h a.0, each hs a.1)
+        each hs a = all_so (λ h. (h == 0) ≡ false) (IsDueAt hosts past o) (one_due_in past back o parts) hs a

@@ -1,20 +1,15 @@
 -- In each event all messages at the ends of nodes that run have had their turns, or all before one that is held.
-use Rattle.std.proofs.Common.{◌≡◌, ℕ, Bool, true, false, cond, eqb, List, [], ◌∷◌, ◌++◌, map, refl, sym, ap, subst, ◌∙◌, append_assoc, append-nil}
-use Rattle.std.specs.Prelude.{◌==◌, is_some, Option, Some, None}
-use Rattle.std.specs.List.{AllByRecursion, flat_map}
-use Rattle.std.proofs.lemmas.Bool.{true≢false, eqb-true}
-use Rattle.std.proofs.lemmas.List.Sums.{fold-append}
-use Rattle.registry.proofs.ValueLemmas.{AllByRecursion-append as all_append}
-use Rattle.node_laws.proofs.Words.{AreDifferent, AreNoTurns, AreNotOf, AtController, AtEnd, Broken, Comes, Controller, CutOff, Deed, End, Entry, HasEnds, Host}
-use Rattle.node_laws.proofs.Words.{IsOrderly, LinkEnd, LinkInput, Loss, Memory, NoInput, NodeWorld, NumberedEnd, Port, Running, Site, Step, Work, after_host}
-use Rattle.node_laws.proofs.Words.{after_planned, arrival, begins_with, boot_found, boot_writes, boot_written, boots, by_boot, by_coming, by_controller}
-use Rattle.node_laws.proofs.Words.{by_host, by_loss, by_memory, by_power, by_running, by_test, changed_if, comes_at, comes_to, controller_cut, controller_does}
-use Rattle.node_laws.proofs.Words.{controller_work, count_of, counts, end_c, end_h, ending_of, entries_for, exchanged, first_lost, frame_lost, frames_noted}
-use Rattle.node_laws.proofs.Words.{happens, holds_in, host_cut, host_does, host_work, hosts_in, input_of, is_done, is_held_at, link_after_controller, link_to}
-use Rattle.node_laws.proofs.Words.{links_of, loses_power_at, memory_at, near_end_in, node_of, noted_by_deeds, own_side, runs_on, same_number, site_at}
-use Rattle.node_laws.proofs.Words.{site_lost, steps, turns_at, unhandled_after, unhandled_in, waiting_at, wires_for, with_error, with_memory, with_site}
+use Rattle.node_laws.proofs.Words.{AllByRecursion, AreDifferent, AreNoTurns, AreNotOf, AtController, AtEnd, Bool, Broken, Comes, Controller, CutOff, Deed, End}
+use Rattle.node_laws.proofs.Words.{Entry, HasEnds, Host, IsOrderly, LinkEnd, LinkInput, List, Loss, Memory, NoInput, NodeWorld, None, Noted, NumberedEnd}
+use Rattle.node_laws.proofs.Words.{Option, Port, Running, Site, Some, Step, Work, [], after_host, after_planned, all_append, all_map, all_so, ap, append-nil}
+use Rattle.node_laws.proofs.Words.{append_assoc, arrival, begins_with, boot_found, boot_writes, boot_written, boots, by_boot, by_coming, by_controller, by_host}
+use Rattle.node_laws.proofs.Words.{by_loss, by_memory, by_power, by_running, by_test, changed_if, comes_at, comes_to, cond, controller_cut, controller_does}
+use Rattle.node_laws.proofs.Words.{controller_work, count_of, counts, end_c, end_h, ending_of, entries_for, eqb, eqb-true, exchanged, false, first_lost}
+use Rattle.node_laws.proofs.Words.{flat_map, fold-append, frame_lost, frames_noted, happens, holds_in, host_cut, host_does, host_work, hosts_in, input_of}
+use Rattle.node_laws.proofs.Words.{is_done, is_held_at, is_some, link_after_controller, link_to, links_of, loses_power_at, map, memory_at, near_end_in, node_of}
+use Rattle.node_laws.proofs.Words.{noted_by_deeds, own_side, refl, runs_on, same_number, site_at, site_lost, steps, subst, sym, true, true≢false, turns_at}
+use Rattle.node_laws.proofs.Words.{unhandled_after, unhandled_in, waiting_at, wires_for, with_error, with_memory, with_site, ℕ, ◌++◌, ◌==◌, ◌∙◌, ◌∷◌, ◌≡◌}
 use Rattle.trace_model.specs.declared.entry.Entry.TheVariants as entry
-use Rattle.link_laws.specs.entries.Entries.{Entry as Noted}
 use Rattle.node_laws.proofs.telling.Mute.{AreMute}
 use Rattle.node_laws.proofs.telling.Nodes.{link_is, site_host}
 use Rattle.node_laws.proofs.telling.Powers.{entries_uncut}
@@ -23,7 +18,7 @@ use Rattle.node_laws.proofs.passes.Before.{links_none}
 use Rattle.node_laws.proofs.links.Ends.{here_host}
 use Rattle.node_laws.proofs.passes.Ends.{SeesAt, deeds_see}
 use Rattle.node_laws.proofs.passes.Notes.{deeds_note}
-use Rattle.node_laws.proofs.passes.Turnless.{noted_none, NotesNoTurn}
+use Rattle.node_laws.proofs.passes.Turnless.{NotesNoTurn, noted_none}
 use Rattle.node_laws.proofs.power.Doing.{IsMine}
 use Rattle.node_laws.proofs.power.Links.{arrival_of_side, links_own}
 use Rattle.node_laws.proofs.power.Parts.{IsPart, own_not, part_own}
@@ -68,10 +63,6 @@ pub all_two : (P Q R : Site → Type 0) → ((s : Site) → P s → Q s → R s)
     → AllByRecursion R sites
 all_two P Q R one [] a b = tt
 all_two P Q R one (s ∷ sites) a b = (one s a.0 b.0, all_two P Q R one sites a.1 b.1)
-
-all_map : (P Q : Site → Type 0) (f : Site → Site) → ((s : Site) → P s → Q (f s)) → (sites : List Site) → AllByRecursion P sites → AllByRecursion Q (map f sites)
-all_map P Q f one [] a = tt
-all_map P Q f one (s ∷ sites) a = (one s a.0, all_map P Q f one sites a.1)
 
 -- one site becomes another one
 all_with : (P Q : Site → Type 0) (k : ℕ) (g : Site → Site) → ((s : Site) → (s.host == k) ≡ true → P s → Q (g s))
@@ -142,8 +133,7 @@ pub each_done : (t es : List Entry) (sites : List Site) → AreDifferent (hosts_
 each_done t es sites d one = go sites (each_there sites d) where
   go : (ys : List Site) → AllByRecursion (λ (s : Site). site_at sites s.host ≡ Some s) ys
       → AllByRecursion (λ (s : Site). is_done (t ++ es) (end_c s.host) ≡ true) ys
-  go [] a = tt
-  go (y ∷ ys) a = (one y.host y a.0, go ys a.1)
+  go ys a = all_so (λ (s : Site). site_at sites s.host ≡ Some s) (λ (s : Site). is_done (t ++ es) (end_c s.host) ≡ true) (λ y b. one y.host y b) ys a
 
 module _ (t : List Entry) (w : NodeWorld) (reads : WaitsRead t w) (before : AllWaiting t w.sites) where
   abbrev a : IsOrderly w

@@ -1,8 +1,6 @@
 -- What is so of messages at the controller, and of those at hosts, is so of each.
-use Rattle.std.proofs.Common.{◌≡◌, ℕ, false, cond, eqb, List, Some, None, refl, ap, subst}
-use Rattle.std.specs.Prelude.{◌==◌}
-use Rattle.std.proofs.lemmas.Bool.{eq-eqb, eqb-true}
-use Rattle.node_laws.proofs.Words.{End, Entry, IsHeldFor, IsReplied, Moment, by_test, node_of, turn_link}
+use Rattle.node_laws.proofs.Words.{End, Entry, IsHeldFor, IsReplied, List, Moment, None, Some, ap, by_test, cond, eq-eqb, eqb, eqb-true, false, node_of, refl}
+use Rattle.node_laws.proofs.Words.{subst, turn_link, ℕ, ◌==◌, ◌≡◌}
 use Rattle.trace_model.specs.declared.entry.Entry.TheVariants as entry
 
 abbrev pub IsAnswered : List ℕ → Moment → Entry → List Entry → Type 0

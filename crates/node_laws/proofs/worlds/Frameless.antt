@@ -1,12 +1,9 @@
 -- What a node notes in a step tells of no frame that goes out; the frames that go out of it stand behind that.
-use Rattle.std.proofs.Common.{◌≡◌, ℕ, Bool, true, false, List, [], ◌∷◌, ◌++◌, None, refl}
-use Rattle.std.specs.List.{AllByRecursion}
-use Rattle.registry.proofs.ValueLemmas.{AllByRecursion-append as all_append}
-use Rattle.node_laws.proofs.Words.{Comes, Cut, Deed, Emit, Entry, Link, Loss, Lost, Message, NodeInput, OnWire, Restarted, Work, aged_entries, all_done}
-use Rattle.node_laws.proofs.Words.{arrival, beginning, by_option, ending_entries, ending_of, entries_for, first_lost, frames_noted, port_at, sending, steps}
-use Rattle.node_laws.proofs.Words.{told, told_of_coming}
+use Rattle.node_laws.proofs.Words.{AllByRecursion, Bool, Comes, Cut, Deed, Emit, Entry, Link, List, Loss, Lost, Message, NodeInput, None, Noted, OnWire}
+use Rattle.node_laws.proofs.Words.{Restarted, Work, [], aged_entries, all_append, all_done, arrival, beginning, by_option, ending_entries, ending_of}
+use Rattle.node_laws.proofs.Words.{entries_for, false, first_lost, frames_noted, port_at, refl, sending, steps, told, told_of_coming, true, ℕ, ◌++◌, ◌∷◌, ◌≡◌}
 use Rattle.trace_model.specs.declared.entry.Entry.TheVariants as entry
-use Rattle.link_laws.specs.entries.Entries.{End as Side, Entry as Noted}
+use Rattle.link_laws.specs.entries.Entries.{End as Side}
 use Rattle.link_laws.specs.entries.Entries.Entry.{Tick}
 use Rattle.node_laws.proofs.passes.Coming.{coming_all}
 use Rattle.node_laws.proofs.passes.Kinds.{NotesOnly, sending_notes, beginning_notes}

@@ -1,20 +1,15 @@
 -- Over a step of a controller the ages of its notices are read.
-use Rattle.std.proofs.Common.{◌≡◌, inl, inr, ℕ, ◌≤◌, Bool, true, false, cond, List, [], ◌∷◌, ◌++◌, map, Option, Some, None, refl}
-use Rattle.std.proofs.Common.{sym, ap, ap₂, subst, ◌∙◌, ◌||◌, ◌&&◌, eqb, arith}
-use Rattle.std.specs.Prelude.{◌+◌, not, nat_le}
-use Rattle.std.specs.List.{flat_map}
-use Rattle.std.specs.Option.{option_map, option_map_or, option_and_then}
-use Rattle.std.proofs.lemmas.Bool.{true≢false, eq-eqb, or_parts}
-use mathlib.Core.Bool.{or-true}
-use Rattle.node_laws.proofs.Words.{AtEnd, Core, Creation, Deed, Entry, Hold, IsHost, LastsOverTurns, LinkInput, Message, NodeInput, Notice, Port, Report, Reset}
-use Rattle.node_laws.proofs.Words.{Tick, TimePasses, Work, after_input, after_sessions, all_come, all_done, all_owed_hold, all_synced_hold, asked_at, by_option}
-use Rattle.node_laws.proofs.Words.{by_test, comes_to_pass, controller_deeds, deeds_of, end_of_node, entries_for, forgets, forgotten, forgotten_hold, handles}
-use Rattle.node_laws.proofs.Words.{has_come, has_come_so, has_freed, has_synced, holds_back, hosts_of_ends, input_at, is_forgotten, is_late, is_over, lack}
-use Rattle.node_laws.proofs.Words.{needs, noted_of, noting, owed_in_step, own_side, passes, port_at, report, reset_late, steps, synced, syncs_in, told, told_at}
-use Rattle.node_laws.proofs.Words.{told_late, told_of_coming, told_of_late, turn_at, unless_cut, view_of, waiting_at, whole_acked, with_desk, with_older}
-use Rattle.node_laws.proofs.Words.{without_notice}
+use Rattle.node_laws.proofs.Words.{AtEnd, Bool, Core, Creation, Deed, Entry, Hold, IsHost, LastsOverTurns, LinkInput, List, Message, NodeInput, None, Noted}
+use Rattle.node_laws.proofs.Words.{Notice, Option, Port, Report, Reset, Some, Tick, TimePasses, Work, [], after_input, after_sessions, all_come, all_done}
+use Rattle.node_laws.proofs.Words.{all_owed_hold, all_synced_hold, ap, ap₂, arith, asked_at, by_option, by_test, comes_to_pass, cond, controller_deeds}
+use Rattle.node_laws.proofs.Words.{deeds_of, end_of_node, entries_for, eq-eqb, eqb, false, flat_map, forgets, forgotten, forgotten_hold, handles, has_come}
+use Rattle.node_laws.proofs.Words.{has_come_so, has_freed, has_synced, holds_back, hosts_of_ends, inl, input_at, inr, is_forgotten, is_late, is_over, lack, map}
+use Rattle.node_laws.proofs.Words.{nat_le, needs, not, noted_of, noting, option_and_then, option_map, option_map_or, or-true, or_parts, owed_in_step, own_side}
+use Rattle.node_laws.proofs.Words.{passes, port_at, refl, report, reset_late, steps, subst, sym, synced, syncs_in, told, told_at, told_late, told_of_coming}
+use Rattle.node_laws.proofs.Words.{told_of_late, true, true≢false, turn_at, unless_cut, view_of, waiting_at, whole_acked, with_desk, with_older, without_notice}
+use Rattle.node_laws.proofs.Words.{ℕ, ◌&&◌, ◌++◌, ◌+◌, ◌||◌, ◌∙◌, ◌∷◌, ◌≡◌, ◌≤◌}
 use Rattle.trace_model.specs.declared.entry.Entry.TheVariants as entry
-use Rattle.link_laws.specs.entries.Entries.{End as Side, Entry as Noted}
+use Rattle.link_laws.specs.entries.Entries.{End as Side}
 use Rattle.node_laws.proofs.steps.Ports.{at_port, forgets_host, without_host}
 use Rattle.node_laws.proofs.steps.StepWalks.{holds, lets, unless}
 use Rattle.node_laws.proofs.links.Noticing.{at_all, at_host}

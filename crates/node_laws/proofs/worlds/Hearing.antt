@@ -1,19 +1,17 @@
 -- In a step of a node what comes to it is noted before what it answers.
-use Rattle.std.proofs.Common.{◌≡◌, ℕ, Bool, true, false, List, [], ◌∷◌, ◌++◌, None, refl, ap, ◌∙◌, append_assoc}
-use Rattle.std.specs.List.{AllByRecursion}
-use Rattle.registry.proofs.ValueLemmas.{AllByRecursion-append as all_append}
-use Rattle.node_laws.proofs.Words.{Acked, Comes, Cut, Deed, Down, Emit, Entry, Got, Link, Lost, Message, NodeInput, Report, Restarted, Sent, Took, Work}
-use Rattle.node_laws.proofs.Words.{all_done, arrival, beginning, by_option, ending_entries, ending_of, entries_for, frames_noted, port_at, sending, steps, told}
-use Rattle.node_laws.proofs.Words.{told_of_coming}
+use Rattle.node_laws.proofs.Words.{Acked, AllByRecursion, Bool, Comes, Cut, Deed, Down, Emit, Entry, Got, Link, List, Lost, Message, NodeInput, None, Noted}
+use Rattle.node_laws.proofs.Words.{Report, Restarted, Sent, Took, Work, [], all_append, all_done, answerer, ap, append_assoc, arrival, beginning, by_option}
+use Rattle.node_laws.proofs.Words.{ending_entries, ending_of, entries_for, false, frames_noted, port_at, refl, sending, steps, told, told_of_coming, true, ℕ}
+use Rattle.node_laws.proofs.Words.{◌++◌, ◌∙◌, ◌∷◌, ◌≡◌}
 use Rattle.trace_model.specs.declared.entry.Entry.TheVariants as entry
-use Rattle.link_laws.specs.entries.Entries.{End as Side, Entry as Noted}
-use Rattle.link_laws.specs.entries.Entries.Entry.{Up, Tick}
-use Rattle.node_laws.proofs.readings.Silent.{told_rest, rest_quiet, IsQuiet}
-use Rattle.node_laws.proofs.telling.Frames.{ending_all, arrival_all}
+use Rattle.link_laws.specs.entries.Entries.{End as Side}
+use Rattle.link_laws.specs.entries.Entries.Entry.{Tick, Up}
+use Rattle.node_laws.proofs.readings.Silent.{IsQuiet, rest_quiet, told_rest}
+use Rattle.node_laws.proofs.telling.Frames.{arrival_all, ending_all}
 use Rattle.node_laws.proofs.passes.Coming.{coming_all}
-use Rattle.node_laws.proofs.passes.Kinds.{NotesOnly, sending_notes, beginning_notes}
-use Rattle.node_laws.proofs.passes.InSteps.{IsOfStep, of_deeds, IsBehind, step_notes, deeds_note}
-use Rattle.node_laws.specs.answers.Order.{answerer}
+use Rattle.node_laws.proofs.passes.Kinds.{NotesOnly, beginning_notes, sending_notes}
+use Rattle.node_laws.proofs.worlds.Halves.{AreHalves}
+use Rattle.node_laws.proofs.passes.InSteps.{IsBehind, IsOfStep, deeds_note, of_deeds, step_notes}
 
 -- an entry tells of something that comes to an end
 abbrev pub comes_there : Entry → Bool
@@ -110,34 +108,26 @@ coming_unanswered = coming_all IsUnanswered told_unanswered
 -- ## A step
 
 -- first nothing is answered, and then nothing comes
-pub record IsParted (es : List Entry) : Type 0 where
-  pub front : List Entry
-  pub back : List Entry
-  pub is : es ≡ front ++ back
-  pub unanswered : AreUnanswered front
-  pub unheard : AreUnheard back
+abbrev pub IsParted : List Entry → Type 0
+IsParted es = AreHalves IsUnanswered IsUnheard es
+
+parted_behind : (front es frames : List Entry) → AreUnanswered front → IsBehind IsUnheard front es → AreUnheard frames → IsParted (es ++ frames)
+parted_behind front es frames quiet b out = record {
+  front = front;
+  back = b.more ++ frames;
+  is = ap (λ l. l ++ frames) b.is ∙ append_assoc front b.more frames;
+  first = quiet;
+  second = all_append IsUnheard b.more frames b.all out;
+}
 
 pub step_parted : (input : NodeInput) (w : Work) (frames : List Entry) → AreUnanswered w.entries → AreUnheard frames
     → IsParted ((steps input w).entries ++ frames)
 step_parted input w frames quiet out =
     let front : List Entry = w.entries ++ told_of_coming input w in
-    let b : IsBehind IsUnheard front (steps input w).entries = step_notes IsUnheard of_step input w in
-    record {
-      front = front;
-      back = b.more ++ frames;
-      is = ap (λ l. l ++ frames) b.is ∙ append_assoc front b.more frames;
-      unanswered = all_append IsUnanswered w.entries (told_of_coming input w) quiet (coming_unanswered input w);
-      unheard = all_append IsUnheard b.more frames b.all out;
-    }
+    parted_behind front (steps input w).entries frames (all_append IsUnanswered w.entries (told_of_coming input w) quiet (coming_unanswered input w))
+    (step_notes IsUnheard of_step input w) out
 
 pub deeds_parted : (h : ℕ) (deeds : List Deed) (w : Work) (frames : List Entry) → AllByRecursion NotesUnheard deeds → AreUnanswered w.entries
     → AreUnheard frames → IsParted ((all_done h deeds w).entries ++ frames)
 deeds_parted h deeds w frames may quiet out =
-    let b : IsBehind IsUnheard w.entries (all_done h deeds w).entries = deeds_note IsUnheard of_step h deeds w may in
-    record {
-      front = w.entries;
-      back = b.more ++ frames;
-      is = ap (λ l. l ++ frames) b.is ∙ append_assoc w.entries b.more frames;
-      unanswered = quiet;
-      unheard = all_append IsUnheard b.more frames b.all out;
-    }
+    parted_behind w.entries (all_done h deeds w).entries frames quiet (deeds_note IsUnheard of_step h deeds w may) out

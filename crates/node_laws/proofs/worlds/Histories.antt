@@ -1,12 +1,10 @@
 -- Over histories sessions end by resets exactly where those are due.
-use Rattle.std.proofs.Common.{◌≡◌, ℕ, false, List, [], ◌∷◌, ◌++◌, Option, Some, None, refl, sym, ap, subst, ◌∙◌, eqb, append-nil}
-use Rattle.std.specs.List.{AllByRecursion, fold, list_any}
-use Rattle.std.proofs.lemmas.Bool.{eqb-true, eqb-false, eq-eqb}
-use Rattle.node_laws.proofs.Words.{AreDifferent, AreHosts, ArePlayable, AreReset, AtEachOccurrence, End, Entry, FollowsNodes, Happening, Header, Init}
-use Rattle.node_laws.proofs.Words.{IsBegunByHost, IsFew, IsGoodSite, IsHost, IsSentByHost, KeepsNotices, Line, MayBoot, NodeHistory, NodeWorld, Occurrence}
-use Rattle.node_laws.proofs.Words.{Site, by_test, end_c, end_h, ends_in, entries_in, hosts_in, init_behind, is_reset_down, is_reset_due, new_world}
-use Rattle.node_laws.proofs.Words.{node_entries, occurrences_in, site_at, world_behind, world_step}
-use Rattle.node_laws.proofs.telling.Lasting.{AreCaused, lines_caused, events_of_steps}
+use Rattle.node_laws.proofs.Words.{AllByRecursion, AreDifferent, AreHosts, ArePlayable, AreReset, AtEachOccurrence, End, Entry, FollowsNodes, Happening, Header}
+use Rattle.node_laws.proofs.Words.{Init, IsBegunByHost, IsFew, IsGoodSite, IsHost, IsSentByHost, KeepsNotices, Line, List, MayBoot, NodeHistory, NodeWorld}
+use Rattle.node_laws.proofs.Words.{None, Occurrence, Option, Site, Some, [], all_so, ap, append-nil, by_test, end_c, end_h, ends_in, entries_in, eq-eqb, eqb}
+use Rattle.node_laws.proofs.Words.{eqb-false, eqb-true, false, flat_map-append, fold, hosts_in, init_behind, is_reset_down, is_reset_due, list_any, new_world}
+use Rattle.node_laws.proofs.Words.{node_entries, occurrences_in, refl, site_at, subst, sym, world_behind, world_step, ℕ, ◌++◌, ◌∙◌, ◌∷◌, ◌≡◌}
+use Rattle.node_laws.proofs.telling.Lasting.{AreCaused, events_of_steps, lines_caused}
 use Rattle.node_laws.proofs.telling.Nodes.{site_host}
 use Rattle.node_laws.proofs.telling.Orderly.{new_orderly}
 use Rattle.node_laws.proofs.telling.Worlds.{site_is}
@@ -16,15 +14,14 @@ use Rattle.node_laws.proofs.order.Asked.{AreDone, done_back, history_done}
 use Rattle.node_laws.proofs.creations.Lines.{history_keeps}
 use Rattle.node_laws.proofs.views.InitWorlds.{AtSite, Keeps}
 use Rattle.node_laws.proofs.views.InitEvents.{MayKeep}
-use Rattle.node_laws.proofs.views.Lines.{none_zero}
-use Rattle.std.proofs.lemmas.List.Concat.{flat_map-append}
+use Rattle.node_laws.proofs.readings.NoticedWorlds.{numbers}
 use Rattle.node_laws.proofs.telling.Lasting.{AnyLine, EachHolds, all_lines, boots_may, front_each, lines_each, occurs}
 use Rattle.node_laws.proofs.notices.Events.{begins_read, event_read}
 use Rattle.node_laws.proofs.worlds.Aging.{aged_read}
-use Rattle.node_laws.proofs.worlds.Quiet.{front_keeps, new_keeps, keeps_none}
-use Rattle.node_laws.proofs.views.InitLines.{line_may}
-use Rattle.node_laws.proofs.worlds.Ticking.{NoNotices, IfNoNotices}
-use Rattle.node_laws.proofs.worlds.Resetting.{AgesAreRead, IsReadBefore, near_is, far_is}
+use Rattle.node_laws.proofs.worlds.Quiet.{keeps_none}
+use Rattle.node_laws.proofs.views.InitLines.{front_keeps, line_may, new_keeps}
+use Rattle.node_laws.proofs.worlds.Ticking.{IfNoNotices, NoNotices}
+use Rattle.node_laws.proofs.worlds.Resetting.{AgesAreRead, IsReadBefore, far_is, near_is}
 
 -- ## Sites
 
@@ -51,8 +48,7 @@ each_found : (sites : List Site) → AllByRecursion (IsFound sites) (hosts_in si
 each_found [] = tt
 each_found (s ∷ sites) = ((s, rw (eq-eqb s.host s.host refl) refl), more (hosts_in sites) (each_found sites)) where
   more : (hosts : List ℕ) → AllByRecursion (IsFound sites) hosts → AllByRecursion (IsFound (s ∷ sites)) hosts
-  more [] a = tt
-  more (h ∷ hosts) a = ((by_test (eqb s.host h) (λ q. (s, rw q refl)) (λ q. (a.0.0, rw q a.0.1))), more hosts a.1)
+  more hosts a = all_so (IsFound sites) (IsFound (s ∷ sites)) (λ h b. (by_test (eqb s.host h) (λ q. (s, rw q refl)) (λ q. (b.0, rw q b.1)))) hosts a
 
 -- both ends of each link
 all_ends : (P : End → Type 0) (hosts : List ℕ) → AllByRecursion (λ h. P (end_c h) × P (end_h h)) hosts → AllByRecursion P (ends_in hosts)
@@ -108,7 +104,7 @@ module _ (header : Header) (lines : List Line) (t : NodeHistory) (follows : Foll
           let host : IsHost h = subst IsHost (site_host w.sites h s found) (site_is IsGoodSite w.sites h s notices.sites found).host in
           let i : Option Init = fold (init_behind h) None past in
           let keeps : Keeps h host w i =
-          front_keeps h host past back (new_world hosts) None (new_orderly hosts are.different (none_zero hosts are.all)) (new_keeps h host hosts)
+          front_keeps h host past back (new_world hosts) None (new_orderly hosts are.different (numbers hosts are.all)) (new_keeps h host hosts)
           (subst (AreCaused MayKeep (new_world hosts)) (sym (ap events_of_steps follows.steps_are) ∙ parts)
           (lines_caused MayKeep IsBegunByHost line_may lines (new_world hosts) sides)) in
           keeps_none i s (subst (AtSite i) found keeps)

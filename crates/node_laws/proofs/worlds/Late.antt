@@ -1,29 +1,24 @@
 -- Unless a host begins something of its own, it answers nothing before its first turn in an event.
-use Rattle.std.proofs.Common.{◌≡◌, ℕ, ◌==◌, Bool, true, false, cond, ◌&&◌, List, [], ◌∷◌, ◌++◌, map, None, refl, sym, ap, subst, ◌∙◌, append_assoc}
-use Rattle.std.specs.Prelude.{not}
-use Rattle.std.specs.List.{AllByRecursion, filter}
-use Rattle.std.proofs.lemmas.Bool.{true≢false, eqb-true}
-use Rattle.std.proofs.lemmas.List.Sums.{take_while-cons}
-use Rattle.registry.proofs.ValueLemmas.{AllByRecursion-append as all_append}
-use Rattle.node_laws.proofs.Words.{AreDifferent, AreNotOf, ArePassed, AsksReset, AtEnd, BeginWithTurn, Comes, ComesTo, Controller, Desk, End, Entry, GoesOut}
-use Rattle.node_laws.proofs.Words.{Host, IsOrderly, IsTurnSo, IsUicc, LinkEnd, LinkInput, Loss, NodeInput, NodeWorld, NumberedEnd, Site, Starts, Step}
-use Rattle.node_laws.proofs.Words.{TimePasses, Work, aged, all_aged, before_turn, boots, by_boot, by_coming, by_controller, by_controller_tick, by_host}
-use Rattle.node_laws.proofs.Words.{by_host_tick, by_loss, by_test, comes_at, comes_to, comes_to_pass, controller_does, controller_ticks, controller_work, end_c}
-use Rattle.node_laws.proofs.Words.{end_h, ending_of, entries_for, exchanged, first_lost, frame_lost, frames_noted, host_does, host_tick, host_ticks, host_work}
-use Rattle.node_laws.proofs.Words.{hosts_in, hosts_of_ends, hosts_tick, is_answer_of, is_late_at, is_turn_of, is_waiting, link_after_controller, link_to}
-use Rattle.node_laws.proofs.Words.{near_end_in, near_tick, passes, same_number, site_ticked, site_unticked, steps, ticks_host, told_of_coming, turns_at}
-use Rattle.node_laws.proofs.Words.{wires_for, work_of, world_ticks}
+use Rattle.node_laws.proofs.Words.{AllByRecursion, AreDifferent, AreNotOf, ArePassed, AsksReset, AtEnd, BeginWithTurn, Bool, Comes, ComesTo, Controller, Desk}
+use Rattle.node_laws.proofs.Words.{End, Entry, GoesOut, Host, IsOrderly, IsTurnSo, IsUicc, LinkEnd, LinkInput, List, Loss, NodeInput, NodeWorld, None}
+use Rattle.node_laws.proofs.Words.{NumberedEnd, Site, Starts, Step, TimePasses, Work, [], aged, all_aged, all_append, ap, append_assoc, before_turn, boots}
+use Rattle.node_laws.proofs.Words.{by_boot, by_coming, by_controller, by_controller_tick, by_host, by_host_tick, by_loss, by_test, comes_at, comes_to}
+use Rattle.node_laws.proofs.Words.{comes_to_pass, cond, controller_does, controller_ticks, controller_work, end_c, end_h, ending_of, entries_for, eqb-true}
+use Rattle.node_laws.proofs.Words.{exchanged, false, filter, first_lost, frame_lost, frames_noted, host_does, host_tick, host_ticks, host_work, hosts_in}
+use Rattle.node_laws.proofs.Words.{hosts_of_ends, hosts_tick, is_answer_of, is_late_at, is_turn_of, is_waiting, link_after_controller, link_to, map}
+use Rattle.node_laws.proofs.Words.{near_end_in, near_tick, not, passes, refl, same_number, site_ticked, site_unticked, steps, subst, sym, take_while-cons}
+use Rattle.node_laws.proofs.Words.{ticks_host, told_of_coming, true, true≢false, turns_at, wires_for, work_of, world_ticks, ℕ, ◌&&◌, ◌++◌, ◌==◌, ◌∙◌, ◌∷◌, ◌≡◌}
 use Rattle.trace_model.specs.declared.entry.Entry.TheVariants as entry
-use Rattle.node_laws.proofs.telling.Events.{comes_goes, orderly_map}
+use Rattle.node_laws.proofs.telling.Events.{comes_goes}
 use Rattle.node_laws.proofs.telling.Frames.{lost_all}
 use Rattle.node_laws.proofs.telling.Nodes.{ports_for}
 use Rattle.node_laws.proofs.telling.Worlds.{site_is}
-use Rattle.node_laws.proofs.telling.WorldTicks.{near_orderly}
+use Rattle.node_laws.proofs.telling.WorldTicks.{aged_orderly, ticked_orderly}
 use Rattle.node_laws.specs.passes.Passing.ComesTo.{Begins}
 use Rattle.node_laws.proofs.links.Ends.{here_host}
 use Rattle.node_laws.proofs.passes.Before.{before_entries, steps_are}
 use Rattle.node_laws.proofs.passes.Passing.{comes_lasts, through}
-use Rattle.node_laws.proofs.power.Events.{AreNodes, both_nodes, controller_part, far_tick, host_part, near_ticks_part, others_tick}
+use Rattle.node_laws.proofs.power.Events.{AreNodes, controller_part, far_tick, host_part, near_ticks_part, others_tick, ticked_nodes}
 use Rattle.node_laws.proofs.power.Parts.{AreOwn, IsPart, own_not, part_own}
 use Rattle.node_laws.proofs.power.Steps.{steps_fine}
 use Rattle.node_laws.proofs.readings.Sites.{near_end_side}
@@ -254,19 +249,13 @@ module _ (n : ℕ) where
     pub ticks_late : (w : NodeWorld) → IsOrderly w → AreHostSites w.sites → IsLate (world_ticks w).1
     ticks_late w a sites =
         late_before (all_aged w).1 (near.1 ++ (hosts_tick near.0.sites).1) (unanswered_all n (all_aged w).1 (aged_unanswered w.sites))
-        (late_before near.1 (hosts_tick near.0.sites).1 (near_none near.1 (near_ticks_part old b))
-        (hosts_late near.0.sites kept.different (both_nodes near.0.sites kept.hosts kept.nodes) there)) where
+        (late_before near.1 (hosts_tick near.0.sites).1 (near_none near.1 (near_ticks_part old (aged_orderly w a)))
+        (hosts_late near.0.sites (ticked_orderly w a).different (ticked_nodes w a) there)) where
           old : NodeWorld
           old = (all_aged w).0
 
           near : NodeWorld × List Entry
           near = controller_ticks old
-
-          b : IsOrderly old
-          b = orderly_map w w.memory w.controller (λ (x : Site). record x { link = aged x.link }) (λ x. refl) a a.controller (λ x n. n)
-
-          kept : IsOrderly (record { memory = old.memory; controller = None; sites = near.0.sites })
-          kept = near_orderly old b
 
           before : AreHostSites old.sites
           before = sites_map (λ (x : Site). record x { link = aged x.link }) (λ s. refl) (λ s. refl) w.sites sites

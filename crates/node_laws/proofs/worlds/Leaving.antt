@@ -1,21 +1,14 @@
 -- Behind a step of the controller that runs on, the first message that is left at an end of it lacks room, as it leaves that end.
-use Rattle.std.proofs.Common.{◌≡◌, ◌⊎◌, inl, inr, ℕ, ◌≤◌, ◌<◌, Bool, true, false, cond, ◌&&◌, ◌||◌, List, [], ◌∷◌, ◌++◌, sym, refl, ap, ◌∙◌, subst}
-use Rattle.std.proofs.Common.{append_assoc, append-nil, arith}
-use Rattle.std.specs.Prelude.{◌==◌, Some, None, is_some, is_none, nat_lt, not}
-use Rattle.std.specs.List.{AllByRecursion, take_while}
-use Rattle.std.proofs.lemmas.Bool.{le-ltb, lt-ltb, eq-eqb, true≢false}
-use Rattle.std.proofs.lemmas.List.Sums.{take_while-cons}
-use mathlib.Core.Bool.{or-true}
-use Rattle.registry.proofs.ValueLemmas.{AllByRecursion-append as all_append}
-use Rattle.node_laws.proofs.Words.{AreAlong, AreHosts, AreNoTurns, BeginWithTurn, BeginsPass, Controller, End, Entry, Happening, IsAscending, IsNoTurn}
-use Rattle.node_laws.proofs.Words.{NodeInput, Occurrence, ReadsInStep, Work, by_list, by_test, comes_to_pass, end_c, entries_in, is_later, is_left_short}
-use Rattle.node_laws.proofs.Words.{lack_at, link_of_turn, links_of_turns, makes_step, node_of, noted_before_pass, oldest, passes, runs_in, steps, through}
-use Rattle.node_laws.proofs.Words.{turn_link, unhandled_in}
+use Rattle.node_laws.proofs.Words.{AllByRecursion, AreAlong, AreHosts, AreNoTurns, BeginWithTurn, BeginsPass, Bool, Controller, End, Entry, Happening}
+use Rattle.node_laws.proofs.Words.{IsAscending, IsNoTurn, List, NodeInput, None, Occurrence, ReadsInStep, Some, Work, [], all_append, ap, append-nil}
+use Rattle.node_laws.proofs.Words.{append_assoc, arith, as_left, by_list, by_test, comes_to_pass, cond, end_c, entries_in, eq-eqb, false, inl, inr, is_later}
+use Rattle.node_laws.proofs.Words.{is_left_short, is_none, is_some, lack_at, le-ltb, link_of_turn, links_of_turns, lt-ltb, makes_step, nat_lt, node_of, not}
+use Rattle.node_laws.proofs.Words.{noted_before_pass, oldest, or-true, passes, refl, runs_in, steps, subst, sym, take_while, take_while-cons, through, true}
+use Rattle.node_laws.proofs.Words.{true≢false, turn_link, unhandled_in, ℕ, ◌&&◌, ◌++◌, ◌<◌, ◌==◌, ◌||◌, ◌∙◌, ◌∷◌, ◌≡◌, ◌≤◌, ◌⊎◌}
 use Rattle.trace_model.specs.declared.entry.Entry.TheVariants as entry
 use Rattle.node_laws.proofs.passes.Before.{before_entries, before_none, steps_are}
 use Rattle.node_laws.proofs.power.Doing.{Fine, Lost, Runs}
 use Rattle.node_laws.proofs.power.Steps.{steps_fine}
-use Rattle.node_laws.specs.answers.Answered.{as_left}
 use Rattle.node_laws.proofs.replies.Calm.{AreCalm, calm_none}
 use Rattle.node_laws.proofs.replies.Left.{IsLeft, IsNear, LacksBehind, idle_left, is_left}
 use Rattle.node_laws.proofs.read_rooms.Lasting.{IsCarried}

@@ -1,29 +1,24 @@
 -- In each event each message that has its turn at the controller, or is noted as held there, is one of a pass that replies as is read.
-use Rattle.std.proofs.Common.{◌≡◌, ℕ, ◌≤◌, true, false, List, [], ◌∷◌, ◌++◌, Some, None, refl, sym, ap, subst, ◌∙◌, append_assoc, append-nil, length}
-use Rattle.std.specs.Prelude.{◌==◌}
-use Rattle.std.specs.List.{AllByRecursion, flat_map}
-use Rattle.std.proofs.lemmas.Bool.{true≢false}
-use Rattle.registry.proofs.ValueLemmas.{AllByRecursion-append as all_append}
-use Rattle.node_laws.proofs.Words.{Activates, AreHosts, AreNoTurns, AreNotOf, ArePassed, ArePlayable, AreRepliedIn, Arms, AsksReset, AtEachEntry, AtEnd, Boots}
-use Rattle.node_laws.proofs.Words.{Comes, ComesTo, Controller, End, Entry, FollowsNodes, Gives, Happening, Header, Inits, IsCut, IsFew, IsHeldFor, IsNoAnswer}
-use Rattle.node_laws.proofs.Words.{IsNoTurn, IsOrderly, IsReplied, IsSentByHost, Line, Link, LinkInput, Loses, Moment, NextFrame, NodeHistory, NodeInput}
-use Rattle.node_laws.proofs.Words.{NodeWorld, Occurrence, Resets, Running, Site, Starts, Takes, Ticks, TimePasses, Work, aged, all_aged, all_flat, arrival}
-use Rattle.node_laws.proofs.Words.{as_it_ticks, beginning, boots, by_coming, by_controller, by_controller_tick, by_host, by_test, comes_at, comes_to}
-use Rattle.node_laws.proofs.Words.{comes_to_pass, commands_by_events, controller_begins, controller_does, controller_ticks, controller_work, end_c, end_h}
-use Rattle.node_laws.proofs.Words.{entries_in, frame_lost, frames_noted, hosts_of_ends, hosts_tick, input_of, is_answer_of, is_cut_of, is_of_node, link_to}
-use Rattle.node_laws.proofs.Words.{near_tick, new_world, node_entries, node_of, noted_before_pass, occurrences_in, passes, sending, steps, turn_link, until}
-use Rattle.node_laws.proofs.Words.{wires_for, world_behind, world_step, world_ticks}
+use Rattle.node_laws.proofs.Words.{Activates, AllByRecursion, AreHosts, AreNoTurns, AreNotOf, ArePassed, ArePlayable, AreRepliedIn, Arms, AsksReset}
+use Rattle.node_laws.proofs.Words.{AtEachEntry, AtEnd, Boots, Comes, ComesTo, Controller, End, Entry, FollowsNodes, Gives, Happening, Header, Inits, IsCut}
+use Rattle.node_laws.proofs.Words.{IsFew, IsHeldFor, IsNoAnswer, IsNoTurn, IsOrderly, IsReplied, IsSentByHost, Line, Link, LinkInput, List, Loses, Moment}
+use Rattle.node_laws.proofs.Words.{NextFrame, NodeHistory, NodeInput, NodeWorld, None, Occurrence, Resets, Running, Site, Some, Starts, Takes, Ticks}
+use Rattle.node_laws.proofs.Words.{TimePasses, Work, [], all_aged, all_append, all_flat, ap, append-nil, append_assoc, arrival, as_it_ticks, beginning, boots}
+use Rattle.node_laws.proofs.Words.{by_coming, by_controller, by_controller_tick, by_host, by_test, comes_at, comes_to, comes_to_pass, commands_by_events}
+use Rattle.node_laws.proofs.Words.{controller_begins, controller_does, controller_ticks, controller_work, end_c, end_h, entries_in, false, flat_map, frame_lost}
+use Rattle.node_laws.proofs.Words.{frames_noted, hosts_of_ends, hosts_tick, input_of, is_answer_of, is_cut_of, is_of_node, length, link_to, near_tick}
+use Rattle.node_laws.proofs.Words.{new_world, node_entries, node_of, noted_before_pass, occurrences_in, passes, refl, sending, steps, subst, sym, true}
+use Rattle.node_laws.proofs.Words.{true≢false, turn_link, until, wires_for, world_behind, world_step, world_ticks, ℕ, ◌++◌, ◌==◌, ◌∙◌, ◌∷◌, ◌≡◌, ◌≤◌}
 use Rattle.trace_model.specs.declared.entry.Entry.TheVariants as entry
-use Rattle.node_laws.proofs.telling.Events.{comes_goes, orderly_map}
+use Rattle.node_laws.proofs.telling.Events.{comes_goes}
 use Rattle.node_laws.proofs.telling.Shapes.{frames_uncut}
 use Rattle.node_laws.proofs.telling.Walks.{AreUncut, IsUncut}
-use Rattle.node_laws.proofs.telling.WorldTicks.{near_orderly}
 use Rattle.node_laws.proofs.telling.Nodes.{site_host}
 use Rattle.node_laws.specs.passes.Passing.ComesTo.{Begins}
-use Rattle.node_laws.proofs.passes.Turnless.{sending_turnless, beginning_turnless}
+use Rattle.node_laws.proofs.passes.Turnless.{beginning_turnless, sending_turnless}
 use Rattle.node_laws.proofs.passes.Before.{before_entries, before_none, links_none, steps_are}
-use Rattle.node_laws.proofs.passes.Passing.{through, comes_lasts}
-use Rattle.node_laws.proofs.power.Parts.{own_not, part_own, IsPart}
+use Rattle.node_laws.proofs.passes.Passing.{comes_lasts, through}
+use Rattle.node_laws.proofs.power.Parts.{IsPart, own_not, part_own}
 use Rattle.node_laws.proofs.order.Lines.{IsSo, history_so}
 use Rattle.node_laws.proofs.order.Asked.{AreDone, done_back, history_done}
 use Rattle.node_laws.proofs.worlds.Everywhere.{IsAnsweredNear}
@@ -31,9 +26,9 @@ use Rattle.node_laws.proofs.reply_passes.Whole.{comes_are_replied, ticks_are_rep
 use Rattle.node_laws.proofs.worlds.Ascending.{frames_turnless}
 use Rattle.node_laws.proofs.worlds.Hearing.{out_unanswered}
 use Rattle.node_laws.proofs.worlds.Order.{other_answers, unanswered_all}
-use Rattle.node_laws.proofs.power.Events.{comes_part, both_nodes, none_zero, others_tick}
+use Rattle.node_laws.proofs.power.Events.{comes_part, ticked_others}
 use Rattle.node_laws.proofs.worlds.Steps.{far_number}
-use Rattle.node_laws.proofs.worlds.Turns.{turnless_there, other_turns, aged_turnless, begun_turnless, lost_turnless, boots_turnless}
+use Rattle.node_laws.proofs.worlds.Turns.{aged_turnless, begun_turnless, boots_turnless, lost_turnless, other_turns, turnless_there}
 
 -- ## Where an entry stands
 
@@ -224,14 +219,8 @@ module _ (hosts : List ℕ) (t : List Entry) (w : NodeWorld) (a : IsOrderly w)
       far : List Entry
       far = (hosts_tick near.0.sites).1
 
-      b : IsOrderly old
-      b = orderly_map w w.memory w.controller (λ (x : Site). record x { link = aged x.link }) (λ x. refl) a a.controller (λ x n. n)
-
-      kept : IsOrderly (record { memory = old.memory; controller = None; sites = near.0.sites })
-      kept = near_orderly old b
-
       others : AreNotOf 0 far
-      others = others_tick 0 near.0.sites (none_zero near.0.sites kept.hosts) (both_nodes near.0.sites kept.hosts kept.nodes)
+      others = ticked_others w a
 
       aged_none : NoneThere (all_aged w).1
       aged_none = turnless_there 0 (all_aged w).1 (aged_turnless w.sites)

@@ -1,22 +1,19 @@
 -- What is noted of an event tells of no frame that a line loses, but where a line loses one.
-use Rattle.std.proofs.Common.{◌≡◌, ℕ, false, List, [], ◌∷◌, ◌++◌, refl}
-use Rattle.std.specs.List.{AllByRecursion, flat_map}
-use Rattle.registry.proofs.ValueLemmas.{AllByRecursion-append as all_append}
-use Rattle.node_laws.proofs.Words.{Activates, Arms, AsksReset, AtEnd, Boots, Comes, Controller, Cut, Deed, End, Entry, Gives, Happening, Host, Inits, IsCut}
-use Rattle.node_laws.proofs.Words.{Link, LinkInput, Loses, Lost, NextFrame, NoInput, NodeInput, NodeWorld, Report, Resets, Restarted, Site, Starts, Takes}
-use Rattle.node_laws.proofs.Words.{Ticks, TimePasses, TooMany, TooOld, Work, activates, aged_entries, all_aged, all_done, all_flat, arrival, beginning}
-use Rattle.node_laws.proofs.Words.{begins_with, by_boot, by_coming, by_controller, by_controller_tick, by_host, by_host_tick, by_option, comes_at, comes_to}
-use Rattle.node_laws.proofs.Words.{controller_begins, controller_does, controller_tick_begins, controller_ticks, controller_work, end_c, end_h, ending_entries}
-use Rattle.node_laws.proofs.Words.{ending_of, entries_for, exchanged, frames_noted, host_does, host_tick, host_ticks, host_work, hosts_tick, link_to, near_tick}
-use Rattle.node_laws.proofs.Words.{port_at, sending, steps, told, told_of_coming, wires_for, work_of, world_step, world_ticks}
+use Rattle.node_laws.proofs.Words.{Activates, AllByRecursion, Arms, AsksReset, AtEnd, Boots, Comes, Controller, Cut, Deed, End, Entry, Gives, Happening, Host}
+use Rattle.node_laws.proofs.Words.{Inits, IsCut, Link, LinkInput, List, Loses, Lost, NextFrame, NoInput, NodeInput, NodeWorld, Noted, Report, Resets, Restarted}
+use Rattle.node_laws.proofs.Words.{Site, Starts, Takes, Ticks, TimePasses, TooMany, TooOld, Work, [], activates, aged_entries, all_aged, all_append, all_done}
+use Rattle.node_laws.proofs.Words.{all_flat, arrival, beginning, begins_with, by_boot, by_coming, by_controller, by_controller_tick, by_host, by_host_tick}
+use Rattle.node_laws.proofs.Words.{by_option, comes_at, comes_to, controller_begins, controller_does, controller_tick_begins, controller_ticks, controller_work}
+use Rattle.node_laws.proofs.Words.{end_c, end_h, ending_entries, ending_of, entries_for, exchanged, false, flat_map, frames_noted, host_does, host_tick}
+use Rattle.node_laws.proofs.Words.{host_ticks, host_work, hosts_tick, is_lost_by_line, link_to, near_tick, port_at, refl, sending, steps, told, told_of_coming}
+use Rattle.node_laws.proofs.Words.{wires_for, work_of, world_step, world_ticks, ℕ, ◌++◌, ◌∷◌, ◌≡◌}
 use Rattle.trace_model.specs.declared.entry.Entry.TheVariants as entry
-use Rattle.link_laws.specs.entries.Entries.{End as Side, Entry as Noted}
+use Rattle.link_laws.specs.entries.Entries.{End as Side}
 use Rattle.link_laws.specs.entries.Entries.Entry.{Tick}
 use Rattle.node_laws.proofs.passes.Coming.{coming_all}
 use Rattle.node_laws.proofs.passes.Kinds.{NotesOnly, sending_notes, beginning_notes}
 use Rattle.node_laws.proofs.passes.InSteps.{IsOfStep, step_keeps, deeds_keep, of_deeds}
 use Rattle.node_laws.proofs.worlds.Steps.{host_begins}
-use Rattle.node_laws.specs.order.Resets.{is_lost_by_line}
 use Rattle.node_laws.proofs.telling.Reported.{told_all}
 use Rattle.node_laws.proofs.telling.Frames.{arrival_all, ending_all, wires_all}
 

@@ -1,13 +1,9 @@
 -- Whether a node runs is read off a history.
-use Rattle.std.proofs.Common.{◌≡◌, ℕ, false, List, [], ◌∷◌, ◌++◌, sym, refl, ap, ◌∙◌, append_assoc, append-nil}
-use Rattle.std.specs.Prelude.{◌==◌, None, is_some, replicate}
-use Rattle.std.specs.List.{AllByRecursion, fold}
-use Rattle.std.proofs.lemmas.List.Sums.{fold-append}
-use Rattle.node_laws.proofs.Words.{AreHosts, Arms, Boots, Entry, FollowsNodes, Happening, Header, IsFew, IsNodeOf, IsSentByHost, Line, NodeHistory, Occurrence}
-use Rattle.node_laws.proofs.Words.{Reckoning, begun_by, by_test, entries_in, new_book, new_memory, new_world, node_at, node_entries, occurrences_in, reckoned}
-use Rattle.node_laws.proofs.Words.{reckoning_of, runs_in, world_behind}
+use Rattle.node_laws.proofs.Words.{AllByRecursion, AreHosts, Arms, Boots, Entry, FollowsNodes, Happening, Header, IsFew, IsNodeOf, IsSentByHost, Line, List}
+use Rattle.node_laws.proofs.Words.{NodeHistory, None, Occurrence, Reckoning, [], ap, append-nil, append_assoc, begun_by, by_test, entries_in, false, fold}
+use Rattle.node_laws.proofs.Words.{fold-append, is_some, new_book, new_memory, new_world, node_at, node_entries, occurrences_in, reckoned, reckoning_of, refl}
+use Rattle.node_laws.proofs.Words.{replicate, runs_in, sym, with_event, world_behind, ℕ, ◌++◌, ◌==◌, ◌∙◌, ◌∷◌, ◌≡◌}
 use Rattle.trace_model.specs.declared.entry.Entry.TheVariants as entry
-use Rattle.node_laws.specs.cuts.Histories.{with_event}
 use Rattle.node_laws.proofs.cuts.Histories.{known}
 
 module _ (n : ℕ) where

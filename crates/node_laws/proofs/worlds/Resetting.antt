@@ -1,18 +1,13 @@
 -- In each event sessions end by resets exactly where those are due.
-use Rattle.std.proofs.Common.{◌≡◌, ℕ, ◌≤◌, Bool, true, false, List, Option, Some, None, refl, sym, ap, ap₂, subst, ◌∙◌, ◌||◌, ◌&&◌, eqb, arith}
-use Rattle.std.specs.Prelude.{◌+◌, is_some, not, nat_le}
-use Rattle.std.specs.List.{list_any}
-use Rattle.std.specs.Option.{option_map_or, option_and_then}
-use Rattle.std.proofs.lemmas.Bool.{true≢false, eqb-true, eqb-false}
-use mathlib.Core.Bool.{and-false, and-true}
-use Rattle.node_laws.proofs.Words.{Activates, AreSessionsRead, Arms, AsksReset, AtEnd, Boots, Controller, Desk, End, Entry, Gives, Happening, Host, IfReads}
-use Rattle.node_laws.proofs.Words.{Inits, IsCut, IsOrderly, KeepsNotices, Link, LinkEnd, LinkInput, Loses, Loss, NextFrame, NodeWorld, Notice}
-use Rattle.node_laws.proofs.Words.{Occurrence, Port, Reset, Resets, Running, Site, Start, Starts, Take, Takes, Ticks, age_in, all_aged}
-use Rattle.node_laws.proofs.Words.{beginning, by_boot, by_list, by_loss, by_option, by_test, comes_at, end_c, end_h, ended_by, entries_in, first_lost}
-use Rattle.node_laws.proofs.Words.{host_does, if_off, input_of, is_late_in, is_own_reset, is_reset_down, is_reset_due, is_up, link_to, machine_in, node_at}
-use Rattle.node_laws.proofs.Words.{notice_at, notice_in, refusal_in, reset_refusal, sending, session_now, site_at, steps, world_step, world_ticks}
+use Rattle.node_laws.proofs.Words.{Activates, AreSessionsRead, Arms, AsksReset, AtEnd, Bool, Boots, Controller, Desk, End, Entry, Gives, Happening, Host}
+use Rattle.node_laws.proofs.Words.{IfReads, Inits, IsCut, IsOrderly, KeepsNotices, Link, LinkEnd, LinkInput, List, Loses, Loss, NextFrame, NodeWorld, None}
+use Rattle.node_laws.proofs.Words.{Notice, Occurrence, Option, Port, Reset, Resets, Running, Site, Some, Start, Starts, Take, Takes, Ticks, age_in, all_aged}
+use Rattle.node_laws.proofs.Words.{and-false, and-true, ap, ap₂, arith, as_noted, beginning, by_boot, by_list, by_loss, by_option, by_test, comes_at, end_c}
+use Rattle.node_laws.proofs.Words.{end_h, ended_by, entries_in, eqb, eqb-false, eqb-true, false, first_lost, host_does, if_off, input_of, is_late_in}
+use Rattle.node_laws.proofs.Words.{is_own_reset, is_reset_down, is_reset_due, is_some, is_up, link_to, list_any, machine_in, nat_le, node_at, not, notice_at}
+use Rattle.node_laws.proofs.Words.{notice_in, option_and_then, option_map_or, refl, refusal_in, reset_refusal, sending, session_now, site_at, steps, subst, sym}
+use Rattle.node_laws.proofs.Words.{true, true≢false, world_step, world_ticks, ℕ, ◌&&◌, ◌+◌, ◌||◌, ◌∙◌, ◌≡◌, ◌≤◌}
 use Rattle.trace_model.specs.declared.line.Line.TheVariants as line
-use Rattle.history.specs.Follows.{as_noted}
 use Rattle.node_laws.proofs.kept.Lines.{first_none, off_none}
 use Rattle.node_laws.proofs.order.Asked.{IsAskedIn}
 use Rattle.node_laws.proofs.readings.Sites.{lost_quiet}

@@ -1,16 +1,11 @@
 -- Behind a step of a node all messages at its ends have had their turns, or all before one that is held, as it is read.
-use Rattle.std.proofs.Common.{◌≡◌, inl, inr, ℕ, Bool, true, false, cond, eqb, List, [], ◌∷◌, ◌++◌, refl, sym, ap, subst, ◌∙◌, append_assoc, append-nil}
-use Rattle.std.specs.Prelude.{◌==◌, ◌||◌, not, is_none, Option, Some}
-use Rattle.std.specs.List.{AllByRecursion}
-use Rattle.std.proofs.lemmas.Bool.{true≢false, eqb-true}
-use Rattle.std.proofs.lemmas.List.Sums.{fold-append}
-use mathlib.Core.Bool.{or-true}
-use Rattle.node_laws.proofs.Words.{AreDifferent, AreNoTurns, AreNotOf, ComesTo, End, Entry, IsBehind, IsNoTurn, IsOutside, Message, NodeInput, Port, Work}
-use Rattle.node_laws.proofs.Words.{by_list, by_test, comes_to_pass, goes_through_ends, holds_in, hosts_of_ends, is_done, is_held_at, is_of_node, node_of}
-use Rattle.node_laws.proofs.Words.{oldest, own_side, passes, port_at, runs_in, same_end, same_number, steps, unhandled_after, unhandled_in, waiting_at}
+use Rattle.node_laws.proofs.Words.{AllByRecursion, AreDifferent, AreNoTurns, AreNotOf, Bool, ComesTo, End, Entry, IsBehind, IsNoTurn, IsOutside, List, Message}
+use Rattle.node_laws.proofs.Words.{NodeInput, Option, Port, Some, Stays, Work, [], ap, append-nil, append_assoc, by_list, by_test, comes_to_pass, cond, eqb}
+use Rattle.node_laws.proofs.Words.{eqb-true, false, fold-append, goes_through_ends, holds_in, hosts_of_ends, inl, inr, is_done, is_held_at, is_none, is_of_node}
+use Rattle.node_laws.proofs.Words.{node_of, not, oldest, or-true, own_side, passes, port_at, refl, runs_in, same_end, same_number, steps, subst, sym, true}
+use Rattle.node_laws.proofs.Words.{true≢false, unhandled_after, unhandled_in, waiting_at, ℕ, ◌++◌, ◌==◌, ◌||◌, ◌∙◌, ◌∷◌, ◌≡◌}
 use Rattle.trace_model.specs.declared.entry.Entry.TheVariants as entry
 use Rattle.link_laws.specs.entries.Entries.{End as Side}
-use Rattle.node_laws.specs.passes.Passing.{Stays}
 use Rattle.node_laws.specs.passes.Passing.ComesTo.{Begins}
 use Rattle.node_laws.proofs.passes.Before.{before_hosts, steps_are}
 use Rattle.node_laws.proofs.passes.Behind.{leaves_behind}

@@ -1,14 +1,12 @@
 -- A schedule whose header and lines are in their ranges meets what is asked for.
-use Rattle.std.proofs.Common.{◌≡◌, ℕ, ◌≤◌, true, List, [], ◌∷◌, ◌++◌, sym, append-nil, arith}
-use Rattle.std.specs.List.{AllByRecursion}
-use Rattle.node_laws.proofs.Words.{Answered, AreDue, AreNodeLinesOf, AreReset, AtEachEntry, AtEachOccurrence, CutsEndParts, FollowsNodes, Header, IsBegunByHost}
-use Rattle.node_laws.proofs.Words.{IsInitOfHost, IsNodeHeader, Line, NodeHistory, NodesHearFirst, Occurrence, TurnsAscend, commands_by_events, commands_noted}
-use Rattle.node_laws.proofs.Words.{end_c, end_h, ends_in, is_left_short, lines_asking, node_entries, occurrences_in}
+use Rattle.node_laws.proofs.Words.{AllByRecursion, Answered, AreDue, AreLeftShort, AreNodeLinesOf, AreReset, AtEachEntry, AtEachOccurrence, CutsEndParts}
+use Rattle.node_laws.proofs.Words.{FollowsNodes, Header, IsBegunByHost, IsInitOfHost, IsNodeHeader, Line, List, NodeHistory, NodesHearFirst, Occurrence}
+use Rattle.node_laws.proofs.Words.{TurnsAscend, [], all_so, append-nil, arith, commands_by_events, commands_noted, end_c, end_h, ends_in, is_left_short}
+use Rattle.node_laws.proofs.Words.{lines_asking, node_entries, occurrences_in, sym, true, ℕ, ◌++◌, ◌∷◌, ◌≡◌, ◌≤◌}
 use Rattle.trace_model.specs.declared.line.Line.TheVariants as line
-use Rattle.node_laws.proofs.views.Lines.{none_zero}
+use Rattle.node_laws.proofs.readings.NoticedWorlds.{numbers}
 use Rattle.node_laws.proofs.power.Histories.{cuts_end}
-use Rattle.node_laws.specs.answers.Answered.{AreLeftShort}
-use Rattle.node_laws.proofs.schedules.Ranges.{hosts_are, playable, sent_by_hosts, inits_of_hosts, hosts_few}
+use Rattle.node_laws.proofs.schedules.Ranges.{hosts_are, hosts_few, inits_of_hosts, playable, sent_by_hosts}
 use Rattle.node_laws.proofs.schedules.Few.{are_few}
 use Rattle.std.proofs.lemmas.Map.Keys.{sorted_from_strictly_increasing}
 use Rattle.node_laws.proofs.worlds.Ascending.{rising}
@@ -38,8 +36,7 @@ begun_one (line.Init e identity pipes) a = a.0
 begun_one l a = tt
 
 begun_all : (lines : List Line) → AllByRecursion IsInitOfHost lines → AllByRecursion IsBegunByHost lines
-begun_all [] a = tt
-begun_all (l ∷ lines) a = (begun_one l a.0, begun_all lines a.1)
+begun_all lines a = all_so IsInitOfHost IsBegunByHost begun_one lines a
 
 -- no more commands come of any first events than journals count
 asked_low : (header : Header) (lines : List Line) (t : NodeHistory) → FollowsNodes header lines t → AreNodeLinesOf header lines
@@ -61,11 +58,11 @@ schedule_resets header lines t follows nodes are most =
 
 pub schedule_ends : (header : Header) (lines : List Line) (t : NodeHistory) → FollowsNodes header lines t → IsNodeHeader header → CutsEndParts t
 schedule_ends header lines t follows nodes =
-    cuts_end header lines t follows (hosts_are header nodes).different (none_zero header.hosts.items (hosts_are header nodes).all)
+    cuts_end header lines t follows (hosts_are header nodes).different (numbers header.hosts.items (hosts_are header nodes).all)
 
 pub schedule_hears : (header : Header) (lines : List Line) (t : NodeHistory) → FollowsNodes header lines t → IsNodeHeader header → NodesHearFirst t
 schedule_hears header lines t follows nodes =
-    hear_first header lines t follows (hosts_are header nodes).different (none_zero header.hosts.items (hosts_are header nodes).all)
+    hear_first header lines t follows (hosts_are header nodes).different (numbers header.hosts.items (hosts_are header nodes).all)
 
 pub schedule_ascends : (header : Header) (lines : List Line) (t : NodeHistory) → FollowsNodes header lines t → IsNodeHeader header
     → AreNodeLinesOf header lines → TurnsAscend t
@@ -130,7 +127,7 @@ schedule_short header lines t follows nodes are most past back o parts =
 schedule_answers : (header : Header) (lines : List Line) (t : NodeHistory) → FollowsNodes header lines t → IsNodeHeader header
     → AreNodeLinesOf header lines → lines_asking lines ≤ 20000 → Answered t
 schedule_answers header lines t follows nodes are most = record {
-  in_turn = in_turn header lines t follows (hosts_are header nodes).different (none_zero header.hosts.items (hosts_are header nodes).all);
+  in_turn = in_turn header lines t follows (hosts_are header nodes).different (numbers header.hosts.items (hosts_are header nodes).all);
   done = histories_done header lines t follows (hosts_are header nodes) (playable header lines are);
   replied = λ past back o front behind x parts split.
       (schedule_answered header lines t follows nodes are most past back o front behind x parts split).0;

@@ -1,28 +1,25 @@
 -- At the end of each event in which the controller made a step and runs on, the first message that is left at an end of it lacked room.
-use Rattle.std.proofs.Common.{◌≡◌, ℕ, ◌≤◌, Bool, true, false, cond, List, [], ◌∷◌, ◌++◌, length, sym, refl, ap, ◌∙◌, subst, append_assoc, append-nil}
-use Rattle.std.specs.Prelude.{◌==◌, Some, None, is_some}
-use Rattle.std.specs.List.{AllByRecursion, flat_map}
-use Rattle.std.proofs.lemmas.Bool.{true≢false}
-use Rattle.registry.proofs.ValueLemmas.{AllByRecursion-append as all_append}
-use Rattle.node_laws.proofs.Words.{Activates, AreDifferent, AreHosts, AreNodeLinesOf, AreNotOf, ArePlayable, Arms, AsksReset, AtEachOccurrence, AtEnd}
-use Rattle.node_laws.proofs.Words.{BeginsPass, Boots, Comes, Controller, Cut, Emit, End, Entry, FollowsNodes, Gives, Happening, HasEnds, Header, Host, Inits}
-use Rattle.node_laws.proofs.Words.{IsAscending, IsCut, IsFew, IsNodeHeader, IsOrderly, IsSentByHost, KeepsBetween, Line, Link, LinkInput, Loses, Lost}
-use Rattle.node_laws.proofs.Words.{NextFrame, NodeHistory, NodeWorld, Occurrence, ReadsInStep, Reset, Resets, Running, Site, Start, Starts, Take, Takes, Ticks}
-use Rattle.node_laws.proofs.Words.{TimePasses, Took, Work, after_near_tick, aged, all_aged, all_flat, arrival, as_it_ticks, by_coming, by_host, by_option}
-use Rattle.node_laws.proofs.Words.{by_test, comes_at, comes_to, comes_to_pass, commands_by_events, controller_begins, controller_does, controller_ticks, end_c}
-use Rattle.node_laws.proofs.Words.{end_h, end_of, ending_entries, ending_of, entries_for, entries_in, exchanged, frames_noted, host_work, hosts_tick, input_of}
-use Rattle.node_laws.proofs.Words.{is_left_short, is_of_node, link_to, makes_step, near_end_in, near_tick, new_world, node_entries, node_of, occurrences_in}
-use Rattle.node_laws.proofs.Words.{port_at, runs_in, seen_from, steps, wires_for, world_behind, world_step}
+use Rattle.node_laws.proofs.Words.{Activates, AllByRecursion, AreDifferent, AreHosts, AreNodeLinesOf, AreNotOf, ArePlayable, Arms, AsksReset, AtEachOccurrence}
+use Rattle.node_laws.proofs.Words.{AtEnd, BeginsPass, Bool, Boots, Comes, Controller, Cut, Emit, End, Entry, FollowsNodes, Gives, Happening, HasEnds, Header}
+use Rattle.node_laws.proofs.Words.{Host, Inits, IsAscending, IsCut, IsFew, IsNodeHeader, IsOrderly, IsSentByHost, KeepsBetween, Line, Link, LinkInput, List}
+use Rattle.node_laws.proofs.Words.{Loses, Lost, NextFrame, NodeHistory, NodeWorld, None, Noted, Occurrence, ReadsInStep, Reset, Resets, Running, Site, Some}
+use Rattle.node_laws.proofs.Words.{Start, Starts, Take, Takes, Ticks, TimePasses, Took, Work, [], after_near_tick, all_aged, all_append, all_flat, ap}
+use Rattle.node_laws.proofs.Words.{append-nil, append_assoc, arrival, as_it_ticks, by_coming, by_host, by_option, by_test, comes_at, comes_to, comes_to_pass}
+use Rattle.node_laws.proofs.Words.{commands_by_events, cond, controller_begins, controller_does, controller_ticks, end_c, end_h, end_of, ending_entries}
+use Rattle.node_laws.proofs.Words.{ending_of, entries_for, entries_in, exchanged, false, flat_map, frames_noted, host_work, hosts_tick, input_of, is_left_short}
+use Rattle.node_laws.proofs.Words.{is_of_node, is_some, length, link_to, makes_step, near_end_in, near_tick, new_world, node_entries, node_of, occurrences_in}
+use Rattle.node_laws.proofs.Words.{port_at, refl, runs_in, seen_from, steps, subst, sym, true, true≢false, wires_for, world_behind, world_step, ℕ, ◌++◌, ◌==◌}
+use Rattle.node_laws.proofs.Words.{◌∙◌, ◌∷◌, ◌≡◌, ◌≤◌}
 use Rattle.trace_model.specs.declared.entry.Entry.TheVariants as entry
-use Rattle.link_laws.specs.entries.Entries.{End as Side, Entry as Noted}
-use Rattle.node_laws.proofs.telling.Events.{comes_goes, orderly_map}
+use Rattle.link_laws.specs.entries.Entries.{End as Side}
+use Rattle.node_laws.proofs.telling.Events.{comes_goes}
 use Rattle.node_laws.proofs.telling.Frames.{ending_all}
 use Rattle.node_laws.proofs.telling.Lasting.{AreCaused, events_of_steps, lines_caused}
 use Rattle.node_laws.proofs.telling.Powers.{entries_uncut}
-use Rattle.node_laws.proofs.telling.WorldTicks.{near_orderly}
+use Rattle.node_laws.proofs.telling.WorldTicks.{ticked_orderly}
 use Rattle.node_laws.proofs.order.Lines.{IsSo, history_so}
 use Rattle.node_laws.proofs.passes.Before.{links_none}
-use Rattle.node_laws.proofs.power.Events.{both_nodes, near_runs, none_zero, others_tick}
+use Rattle.node_laws.proofs.power.Events.{near_runs, ticked_others}
 use Rattle.node_laws.proofs.power.Links.{arrival_of_side, links_own}
 use Rattle.node_laws.proofs.creations.Events.{far_beside}
 use Rattle.node_laws.proofs.creations.Worlds.{aged_good, near_good}
@@ -253,21 +250,15 @@ module _ (header : Header) (lines : List Line) (t : NodeHistory) (follows : Foll
         far : List Entry
         far = (hosts_tick near.0.sites).1
 
-        b : IsOrderly old
-        b = orderly_map w w.memory w.controller (λ (x : Site). record x { link = aged x.link }) (λ x. refl) a a.controller (λ x n. n)
-
-        kept : IsOrderly (record { memory = old.memory; controller = None; sites = near.0.sites })
-        kept = near_orderly old b
-
         others : AreNotOf 0 far
-        others = others_tick 0 near.0.sites (none_zero near.0.sites kept.hosts) (both_nodes near.0.sites kept.hosts kept.nodes)
+        others = ticked_others w a
 
         calm : AreCalm far
         calm = record {
           far = (all_tick near.0.sites (near_good old (aged_good w keeps.creations.notices.sites))).1;
           unheard = others_unheard far others;
           leave = λ j. ticks_leave (end_c j) (λ (q : false ≡ true). absurd (true≢false (sym q))) near.0.sites
-              (orderly_fine (record { memory = old.memory; controller = None; sites = near.0.sites }) kept)
+              (orderly_fine (record { memory = old.memory; controller = None; sites = near.0.sites }) (ticked_orderly w a))
               (λ (q : false ≡ true). absurd (true≢false (sym q)));
         }
 

@@ -1,15 +1,11 @@
 -- Which sessions end in the steps of the nodes of a world.
-use Rattle.std.proofs.Common.{◌≡◌, ℕ, Bool, true, false, cond, List, [], ◌∷◌, ◌++◌, map, Option, Some, None, refl, sym, ap, subst, ◌∙◌, ◌&&◌, eqb}
-use Rattle.std.specs.Prelude.{◌==◌}
-use Rattle.std.specs.List.{AllByRecursion, flat_map}
-use Rattle.std.specs.Option.{option_map_or}
-use Rattle.std.proofs.lemmas.Bool.{eqb-true, eqb-false, ne_eqb, eq-eqb}
-use Rattle.swp_base.specs.declared.link_terms.Cause.{Cause as EndedBy}
-use Rattle.node_laws.proofs.Words.{AreDifferent, AsksReset, AtEnd, Comes, Controller, Deed, Desk, End, Entry, HasEnds, Host, IfItRuns, IsOrderly, Link, LinkEnd}
-use Rattle.node_laws.proofs.Words.{LinkInput, NoInput, NodeWorld, NumberedEnd, Port, Reset, Running, Site, Work, arrival, begins_with, by_coming, by_controller}
-use Rattle.node_laws.proofs.Words.{by_host, by_list, by_test, comes_at, comes_to, controller_begins, controller_does, controller_work, end_c, end_h, end_of}
-use Rattle.node_laws.proofs.Words.{ended_by, entries_for, exchanged, frames_noted, host_does, host_work, hosts_in, input_at, input_of, is_own_reset, is_up}
-use Rattle.node_laws.proofs.Words.{link_to, near_end_in, own_side, port_at, port_for, reset_refusal, same_end, site_at, steps, wires_for, work_of}
+use Rattle.node_laws.proofs.Words.{AllByRecursion, AreDifferent, AsksReset, AtEnd, Bool, Comes, Controller, Deed, Desk, End, EndedBy, Entry, HasEnds, Host}
+use Rattle.node_laws.proofs.Words.{IfItRuns, IsOrderly, Link, LinkEnd, LinkInput, List, NoInput, NodeWorld, None, NumberedEnd, Option, Port, Reset, Running}
+use Rattle.node_laws.proofs.Words.{Site, Some, Work, [], ap, arrival, begins_with, by_coming, by_controller, by_host, by_list, by_test, comes_at, comes_to}
+use Rattle.node_laws.proofs.Words.{cond, controller_begins, controller_does, controller_work, end_c, end_h, end_of, ended_by, entries_for, eq-eqb, eqb}
+use Rattle.node_laws.proofs.Words.{eqb-false, eqb-true, exchanged, false, flat_map, frames_noted, host_does, host_work, hosts_in, input_at, input_of}
+use Rattle.node_laws.proofs.Words.{is_own_reset, is_up, link_to, map, ne_eqb, near_end_in, option_map_or, own_side, port_at, port_for, refl, reset_refusal}
+use Rattle.node_laws.proofs.Words.{same_end, site_at, steps, subst, sym, true, wires_for, work_of, ℕ, ◌&&◌, ◌++◌, ◌==◌, ◌∙◌, ◌∷◌, ◌≡◌}
 use Rattle.node_laws.proofs.links.Noticing.{at_host}
 use Rattle.node_laws.proofs.readings.Sites.{near_end_side}
 use Rattle.node_laws.proofs.telling.Nodes.{ports_for, hosts_same, site_host, link_is, Stands, stands}

@@ -1,15 +1,12 @@
 -- Lines let the controller take no more frames than stand on its wire, and name ends of hosts of the world.
-use Rattle.std.proofs.Common.{◌≡◌, ℕ, zero, suc, ◌≤◌, Bool, true, false, cond, List, [], ◌∷◌, length, map, sym, refl, ap, ◌∙◌, subst, arith, eqb}
-use Rattle.std.specs.Prelude.{◌==◌, Option, Some, None, is_some, unwrap_or, replicate, Contains}
-use Rattle.std.specs.Option.{option_map_or}
-use Rattle.std.proofs.lemmas.Bool.{ne_eqb, true≢false}
-use Rattle.node_laws.proofs.Words.{AtEnd, Control, End, GoesOut, Happening, Header, IsHost, IsNodeHeader, IsNodeLineOf, Line, Link, LinkInput, LostFor}
-use Rattle.node_laws.proofs.Words.{NextFrame, NoInput, NodeWorld, OnWire, Resets, Same, Site, Take, Takes, Ticks, Turn, Undetected, Verdict, Work, after_input}
-use Rattle.node_laws.proofs.Words.{by_coming, by_controller, by_test, controller_does, controller_work, ended_by, ending_of, first_verdict, frames_at}
-use Rattle.node_laws.proofs.Words.{frames_out, happenings, happens_by, has_taken, is_rset, link_after_controller, link_to, lpdu_of, put, put_all, refusal_in}
-use Rattle.node_laws.proofs.Words.{runs_on, site_at, steps, steps_at_controller, taken_of, turned, turns_at, with_ended, world_step}
+use Rattle.node_laws.proofs.Words.{AtEnd, Bool, Contains, Control, End, GoesOut, Happening, Header, IsHost, IsNodeHeader, IsNodeLineOf, Line, Link, LinkInput}
+use Rattle.node_laws.proofs.Words.{List, LostFor, NextFrame, NoInput, NodeWorld, None, OnWire, Option, Resets, Same, Site, Some, Take, Takes, Ticks, Turn}
+use Rattle.node_laws.proofs.Words.{Undetected, Verdict, Work, [], after_input, ap, arith, by_coming, by_controller, by_test, cond, controller_does}
+use Rattle.node_laws.proofs.Words.{controller_work, ended_by, ending_of, eqb, false, first_verdict, frames_at, frames_out, happenings, happens_by, has_taken}
+use Rattle.node_laws.proofs.Words.{is_rset, is_some, length, link_after_controller, link_to, lpdu_of, map, ne_eqb, option_map_or, put, put_all, refl}
+use Rattle.node_laws.proofs.Words.{refusal_in, replicate, runs_on, site_at, steps, steps_at_controller, subst, suc, sym, taken_of, true, true≢false, turned}
+use Rattle.node_laws.proofs.Words.{turns_at, unwrap_or, verdict_on, with_ended, world_step, zero, ℕ, ◌==◌, ◌∙◌, ◌∷◌, ◌≡◌, ◌≤◌}
 use Rattle.trace_model.specs.declared.line.Line.TheVariants as line
-use Rattle.history.specs.Damage.{verdict_on}
 use Rattle.node_laws.proofs.telling.Lasting.{AllMay, repeated_may}
 
 -- the controller takes a frame only where one stands on its wire, while it runs; and a host whose end takes a frame, or is reset, is no

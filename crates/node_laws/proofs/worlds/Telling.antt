@@ -1,13 +1,9 @@
 -- Which sessions end in a step of a node, by its ends.
-use Rattle.std.proofs.Common.{◌≡◌, ℕ, Bool, true, false, List, [], ◌∷◌, map, Option, Some, None, refl, sym, ap, ap₂, subst, ◌∙◌, ◌||◌, ◌&&◌, eqb, append-nil}
-use Rattle.std.specs.List.{AllByRecursion, flat_map}
-use Rattle.std.specs.Option.{option_map_or, option_map}
-use Rattle.std.proofs.lemmas.Bool.{eqb-true, eqb-false, ne_eqb}
-use mathlib.Core.Bool.{and-false, and-true, or-false}
-use Rattle.swp_base.specs.declared.link_terms.Cause.{Cause as EndedBy}
-use Rattle.node_laws.proofs.Words.{AreDifferent, AtEnd, Controller, Core, End, Entry, Host, LinkInput, NodeInput, Port, Reset, Tick, TimePasses, Work, all_come}
-use Rattle.node_laws.proofs.Words.{by_option, by_test, end_c, end_h, end_of, has_come, hosts_of_ends, input_at, is_late, own_side, port_at, same_end, steps}
-use Rattle.node_laws.proofs.Words.{told_at, told_late, told_of_coming, told_of_late, with_older}
+use Rattle.node_laws.proofs.Words.{AllByRecursion, AreDifferent, AtEnd, Bool, Controller, Core, End, EndedBy, Entry, Host, LinkInput, List, NodeInput, None}
+use Rattle.node_laws.proofs.Words.{Option, Port, Reset, Some, Tick, TimePasses, Work, [], all_come, and-false, and-true, ap, append-nil, ap₂, by_option}
+use Rattle.node_laws.proofs.Words.{by_test, end_c, end_h, end_of, eqb, eqb-false, eqb-true, false, flat_map, has_come, hosts_of_ends, input_at, is_late, map}
+use Rattle.node_laws.proofs.Words.{ne_eqb, option_map, option_map_or, or-false, own_side, port_at, refl, same_end, steps, subst, sym, told_at, told_late}
+use Rattle.node_laws.proofs.Words.{told_of_coming, told_of_late, true, with_older, ℕ, ◌&&◌, ◌||◌, ◌∙◌, ◌∷◌, ◌≡◌}
 use Rattle.node_laws.proofs.kept.Plainly.{hosts_map}
 use Rattle.node_laws.proofs.links.Noticing.{at_all}
 use Rattle.node_laws.proofs.worlds.Downs.{AreDownless, ends_in_list, any_append, any_front, ends_by, at_any, step_tells}

@@ -1,33 +1,27 @@
 -- Which sessions end in a tick of a world: those of late notices by resets.
-use Rattle.std.proofs.Common.{◌≡◌, ℕ, Bool, true, false, cond, List, [], ◌∷◌, ◌++◌, map, Option, Some, None, refl, sym, ap, ap₂, subst, ◌∙◌, ◌||◌, ◌&&◌}
-use Rattle.std.proofs.Common.{append-nil}
-use Rattle.std.specs.Prelude.{◌==◌, is_some, not, nat_le}
-use Rattle.std.specs.List.{AllByRecursion, flat_map}
-use Rattle.std.specs.Option.{option_map_or, option_and_then}
-use Rattle.std.proofs.lemmas.Bool.{and_parts}
-use mathlib.Core.Bool.{and-false, or-false}
-use Rattle.swp_base.specs.declared.link_terms.Cause.{Cause as EndedBy}
-use Rattle.node_laws.proofs.Words.{AreDifferent, Controller, Core, Desk, End, Entry, HasEnds, Host, IfItRuns, IfNoticedUp, IfReads, IsComing, IsKeptNotice}
-use Rattle.node_laws.proofs.Words.{IsOrderly, KeepsNotices, LinkInput, NodeWorld, Notice, NumberedEnd, Port, Reset, Running, Site, Tick, TimePasses, Work}
-use Rattle.node_laws.proofs.Words.{after_near_tick, aged, aged_entries, all_aged, all_come, by_controller_tick, by_host_tick, by_option, controller_tick_begins}
-use Rattle.node_laws.proofs.Words.{controller_ticks, end_c, end_of, ended_by, entries_for, exchanged, frames_noted, has_come, host_tick, host_ticks, hosts_in}
-use Rattle.node_laws.proofs.Words.{hosts_tick, is_late, is_own_reset, link_to, near_tick, notice_in, own_side, port_for, same_end, site_at, site_ticked}
-use Rattle.node_laws.proofs.Words.{site_unticked, steps, told_at, told_late, told_of_coming, told_of_late, with_older, work_of, world_ticks}
+use Rattle.node_laws.proofs.Words.{AllByRecursion, AreDifferent, Bool, Controller, Core, Desk, End, EndedBy, Entry, HasEnds, Host, IfItRuns, IfNoticedUp}
+use Rattle.node_laws.proofs.Words.{IfReads, IsComing, IsKeptNotice, IsOrderly, KeepsNotices, LinkInput, List, NodeWorld, None, Notice, NumberedEnd, Option}
+use Rattle.node_laws.proofs.Words.{Port, Reset, Running, Site, Some, Tick, TimePasses, Work, [], after_near_tick, aged, aged_entries, all_aged, all_come}
+use Rattle.node_laws.proofs.Words.{and-false, and_parts, ap, append-nil, ap₂, by_controller_tick, by_host_tick, by_option, cond, controller_tick_begins}
+use Rattle.node_laws.proofs.Words.{controller_ticks, end_c, end_of, ended_by, entries_for, exchanged, false, flat_map, frames_noted, has_come, host_tick}
+use Rattle.node_laws.proofs.Words.{host_ticks, hosts_in, hosts_tick, is_late, is_own_reset, is_some, link_to, map, nat_le, near_tick, not, notice_in}
+use Rattle.node_laws.proofs.Words.{option_and_then, option_map_or, or-false, own_side, port_for, refl, same_end, site_at, site_ticked, site_unticked, steps}
+use Rattle.node_laws.proofs.Words.{subst, sym, told_at, told_late, told_of_coming, told_of_late, true, with_older, work_of, world_ticks, ℕ, ◌&&◌, ◌++◌, ◌==◌}
+use Rattle.node_laws.proofs.Words.{◌||◌, ◌∙◌, ◌∷◌, ◌≡◌}
 use Rattle.node_laws.proofs.readings.Silent.{IsQuiet}
 use Rattle.node_laws.proofs.telling.Frames.{wires_all}
-use Rattle.node_laws.proofs.telling.Nodes.{ports_for, hosts_same, Stands, stands}
-use Rattle.node_laws.proofs.telling.Events.{orderly_map}
-use Rattle.node_laws.proofs.telling.WorldTicks.{near_orderly}
+use Rattle.node_laws.proofs.telling.Nodes.{Stands, hosts_same, ports_for, stands}
+use Rattle.node_laws.proofs.telling.WorldTicks.{ticked_orderly}
 use Rattle.node_laws.proofs.notices.Doing.{IsOn, controller_side}
-use Rattle.node_laws.proofs.notices.Near.{begins, aged_side}
+use Rattle.node_laws.proofs.notices.Near.{aged_side, begins}
 use Rattle.node_laws.proofs.notices.Sites.{link_shut}
 use Rattle.node_laws.proofs.notices.Stepping.{IsCome, come_is, older_is, reset_ends}
 use Rattle.node_laws.proofs.links.Noticing.{UpAt}
-use Rattle.node_laws.proofs.worlds.Causes.{otherwise, ticked_asked, other_is, reset_only, reset_other}
-use Rattle.node_laws.proofs.worlds.Downs.{AreDownless, any_front, any_back, any_append, ends_by, at_any, frames_downless, flat_downless, step_tells}
+use Rattle.node_laws.proofs.worlds.Causes.{other_is, otherwise, reset_only, reset_other, ticked_asked}
+use Rattle.node_laws.proofs.worlds.Downs.{AreDownless, any_append, any_back, any_front, at_any, ends_by, flat_downless, frames_downless, step_tells}
 use Rattle.node_laws.proofs.worlds.Downs.{notes_downless}
-use Rattle.node_laws.proofs.worlds.Telling.{step_other, step_tick, near_same, far_near, flat_none, ticked}
-use Rattle.node_laws.proofs.worlds.Steps.{tells, host_side, near_node}
+use Rattle.node_laws.proofs.worlds.Telling.{far_near, flat_none, near_same, step_other, step_tick, ticked}
+use Rattle.node_laws.proofs.worlds.Steps.{host_side, near_node, tells}
 
 aged_downless : (w : NodeWorld) → AreDownless (all_aged w).1
 aged_downless w =
@@ -108,18 +102,12 @@ module _ (w : NodeWorld) (a : IsOrderly w) where
   abbrev pub old : NodeWorld
   old = (all_aged w).0
 
-  aged_orderly : IsOrderly old
-  aged_orderly = orderly_map w w.memory w.controller (λ (x : Site). record x { link = aged x.link }) (λ x. refl) a a.controller (λ x n. n)
-
-  kept : IsOrderly (record { memory = old.memory; controller = None; sites = (controller_ticks old).0.sites })
-  kept = near_orderly old aged_orderly
-
   -- at an end of the controller
   near_only : (test : EndedBy → Bool) (x : ℕ) → tells test (end_c x) (world_ticks w).1 ≡ tells test (end_c x) (controller_ticks old).1
   near_only test x =
       any_front test (end_c x) (all_aged w).1 ((controller_ticks old).1 ++ (hosts_tick (controller_ticks old).0.sites).1) (aged_downless w)
       ∙ (any_append test (end_c x) (controller_ticks old).1 (hosts_tick (controller_ticks old).0.sites).1
-      ∙ (ap (λ b. tells test (end_c x) (controller_ticks old).1 || b) (hosts_other test x (controller_ticks old).0.sites kept.hosts kept.nodes)
+      ∙ (ap (λ b. tells test (end_c x) (controller_ticks old).1 || b) (hosts_other test x (controller_ticks old).0.sites (ticked_orderly w a).hosts (ticked_orderly w a).nodes)
       ∙ or-false (tells test (end_c x) (controller_ticks old).1)))
 
   near_frames : (v : Work) → AreDownless (flat_map (λ (s : Site). frames_noted Controller s.host s.link v) old.sites)

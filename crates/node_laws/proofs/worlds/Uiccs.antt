@@ -1,12 +1,9 @@
 -- A host takes no identifier of activation, and owes nothing to anyone: before it passes it notes only what came.
-use Rattle.std.proofs.Common.{◌≡◌, Bool, true, false, cond, List, [], ◌∷◌, ◌++◌, map, Option, Some, None, refl, ap, ◌∙◌, append-nil}
-use Rattle.std.specs.Prelude.{◌+◌, nat_le}
-use Rattle.std.specs.List.{AllByRecursion, flat_map, filter}
-use Rattle.node_laws.proofs.Words.{ActEvent, AtEnd, Bare, Clf, Core, Inactive, IsUicc, LinkInput, NodeInput, Phase, Port, PowerMode, Ready, Response}
-use Rattle.node_laws.proofs.Words.{Role, SyncId, TimePasses, Uicc, UiccAct, Work, act_event, act_out, all_come, all_owed, asked_at, by_option, by_test, forgets}
-use Rattle.node_laws.proofs.Words.{has_come, has_come_so, has_freed, has_synced, input_at, is_late, noted_before_pass, noted_by_deeds}
-use Rattle.node_laws.proofs.Words.{owed, owed_in_step, report, reset_late, synced, told_of_coming, uicc_step, with_older}
-use Rattle.swp_act.specs.declared.ActEvent.TheVariants.{Start as ActStart, Take as ActTake, Tick as ActTick, Stop as ActStop}
+use Rattle.node_laws.proofs.Words.{ActEvent, ActStart, ActStop, ActTake, ActTick, AllByRecursion, AtEnd, Bare, Bool, Clf, Core, Inactive, IsUicc, LinkInput}
+use Rattle.node_laws.proofs.Words.{List, NodeInput, None, Option, Phase, Port, PowerMode, Ready, Response, Role, Some, SyncId, TimePasses, Uicc, UiccAct, Work}
+use Rattle.node_laws.proofs.Words.{[], act_event, act_out, all_come, all_owed, ap, append-nil, asked_at, by_option, by_test, cond, false, filter, flat_map}
+use Rattle.node_laws.proofs.Words.{forgets, has_come, has_come_so, has_freed, has_synced, input_at, is_late, map, nat_le, noted_before_pass, noted_by_deeds}
+use Rattle.node_laws.proofs.Words.{owed, owed_in_step, refl, report, reset_late, synced, told_of_coming, true, uicc_step, with_older, ◌++◌, ◌+◌, ◌∙◌, ◌∷◌, ◌≡◌}
 use Rattle.gate_answers.specs.declared.response.Response.TheVariants as response
 use Rattle.node_laws.proofs.readings.Stepping.{forgets_same}
 use Rattle.node_laws.proofs.kept.Stepping.{ticked_sync}

@@ -1,6 +1,4 @@
-use Rattle.node_machine.specs.world.World.{new_world}
-use Rattle.node_machine.specs.world.NodeHistories.{entries_in}
-use Rattle.node_laws.specs.telling.Telling.{world_behind}
+use Rattle.node_laws.proofs.Words.{entries_in, new_world, world_behind}
 use Rattle.node_laws.proofs.order.Lines.{history_so}
 use Rattle.node_laws.proofs.creations.Knowing.{asides_are}
 use Rattle.node_laws.proofs.creations.Lines.{history_keeps}

@@ -1,4 +1,4 @@
-use Rattle.link_laws.specs.messages.Links.{exchanged}
+use Rattle.node_laws.proofs.Words.{exchanged}
 use Rattle.node_laws.proofs.bounds.SessionsNoted.{run_within}
 use Rattle.node_laws.proofs.rsets.InWorlds.{few_exchanged, near_low}
 use Rattle.node_laws.proofs.bounds_of_resets.sessions_of_a_link_have_few_numbers.Goals as goal

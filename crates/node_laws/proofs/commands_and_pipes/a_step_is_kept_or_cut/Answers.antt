@@ -1,5 +1,4 @@
-use Rattle.std.specs.Prelude.{Some}
-use Rattle.std.proofs.Common.{refl}
+use Rattle.node_laws.proofs.Words.{Some, refl}
 use Rattle.node_laws.proofs.kept.Asking.{same_new}
 use Rattle.node_laws.proofs.kept.Doing.{all_fine}
 use Rattle.node_laws.proofs.kept.Stepping.{steps_fine}

@@ -1,4 +1,4 @@
-use Rattle.std.proofs.Common.{refl}
+use Rattle.node_laws.proofs.Words.{refl}
 use Rattle.node_laws.proofs.order.Lines.{history_so}
 use Rattle.node_laws.proofs.histories_in_order.ends_are_read_off_histories_of_nodes.Goals as goal
 

@@ -1,6 +1,4 @@
-use Rattle.node_machine.specs.world.World.{new_world}
-use Rattle.node_machine.specs.world.NodeHistories.{entries_in}
-use Rattle.node_laws.specs.telling.Telling.{world_behind}
+use Rattle.node_laws.proofs.Words.{entries_in, new_world, world_behind}
 use Rattle.node_laws.proofs.order.Lines.{watches, of_none, IsSo, history_so, behind_history}
 use Rattle.node_laws.proofs.order.Ticking.{timely}
 use Rattle.node_laws.proofs.histories_in_order.worlds_stay_timely.Goals as goal

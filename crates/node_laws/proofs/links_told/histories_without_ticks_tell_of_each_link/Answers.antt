@@ -1,8 +1,4 @@
-use Rattle.std.proofs.Common.{List, sym, subst}
-use Rattle.std.specs.List.{flat_map}
-use Rattle.node_machine.specs.world.World.{new_world}
-use Rattle.node_machine.specs.world.NodeHistories.{LineStep, world_after, occurrences_of, entries_in}
-use Rattle.node_laws.specs.telling.Telling.{EachGoesSo}
+use Rattle.node_laws.proofs.Words.{EachGoesSo, LineStep, List, entries_in, flat_map, new_world, occurrences_of, subst, sym, world_after}
 use Rattle.node_laws.proofs.telling.Orderly.{new_orderly}
 use Rattle.node_laws.proofs.telling.Histories.{lines_go}
 use Rattle.node_laws.proofs.links_told.histories_without_ticks_tell_of_each_link.Goals as goal

@@ -1,4 +1,4 @@
-use Rattle.node_laws.specs.telling.Telling.{hosts_in}
+use Rattle.node_laws.proofs.Words.{hosts_in}
 use Rattle.node_laws.proofs.telling.Nodes.{controller_tells}
 use Rattle.node_laws.proofs.telling.Worlds.{node_is}
 use Rattle.node_laws.proofs.links_told.steps_of_the_controller_tell_of_each_link.Goals as goal

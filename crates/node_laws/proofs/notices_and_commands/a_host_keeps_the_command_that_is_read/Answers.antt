@@ -1,4 +1,4 @@
-use Rattle.node_machine.specs.world.World.{sending, beginning}
+use Rattle.node_laws.proofs.Words.{beginning, sending}
 use Rattle.node_laws.proofs.readings.Sites.{comes_reads, acts_reads, sending_may, beginning_may, ticks_read, cut_reads, boot_reads, others_read}
 use Rattle.node_laws.proofs.notices_and_commands.a_host_keeps_the_command_that_is_read.Goals as goal
 

@@ -1,5 +1,4 @@
-use Rattle.std.proofs.Common.{refl}
-use Rattle.node_machine.specs.Carrying.{own_side}
+use Rattle.node_laws.proofs.Words.{own_side, refl}
 use Rattle.node_laws.proofs.readings.Elsewhere.{steps_away}
 use Rattle.node_laws.proofs.notices_and_commands.steps_of_others_tell_nothing_of_it.Goals as goal
 

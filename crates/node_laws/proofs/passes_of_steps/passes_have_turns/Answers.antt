@@ -1,7 +1,4 @@
-use Rattle.std.proofs.Common.{◌≡◌, false, sym, subst}
-use Rattle.node_machine.specs.Turns.{goes_through_ends}
-use Rattle.node_laws.specs.kept.Books.{hosts_of_ends}
-use Rattle.node_laws.specs.passes.Passing.{ComesTo, IsBehind}
+use Rattle.node_laws.proofs.Words.{ComesTo, IsBehind, false, goes_through_ends, hosts_of_ends, subst, sym, ◌≡◌}
 use Rattle.node_laws.specs.passes.Passing.ComesTo.{Begins}
 use Rattle.node_laws.proofs.passes.Passing.{through, comes_lasts}
 use Rattle.node_laws.proofs.passes.Behind.{leaves_behind}

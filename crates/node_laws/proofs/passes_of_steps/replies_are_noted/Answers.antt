@@ -1,5 +1,4 @@
-use Rattle.node_laws.specs.passes.Noting.{session_of_port}
-use Rattle.std.proofs.Common.{refl}
+use Rattle.node_laws.proofs.Words.{refl, session_of_port}
 use Rattle.node_laws.proofs.passes.Replying.{noted_so}
 use Rattle.node_laws.proofs.passes.Counts.{counts_one, taken_at_once, reply_noted}
 use Rattle.node_laws.proofs.passes_of_steps.replies_are_noted.Goals as goal

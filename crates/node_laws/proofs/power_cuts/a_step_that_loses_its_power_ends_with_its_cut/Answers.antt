@@ -1,4 +1,4 @@
-use Rattle.node_machine.specs.Node.{steps}
+use Rattle.node_laws.proofs.Words.{steps}
 use Rattle.node_laws.proofs.kept.Stepping.{steps_fine}
 use Rattle.node_laws.proofs.cuts.Ending.{lost_ends}
 use Rattle.node_laws.proofs.telling.Shapes.{frames_none as no_frames}

@@ -1,6 +1,4 @@
-use Rattle.node_machine.specs.Turns.{passes}
-use Rattle.node_laws.specs.kept.Books.{hosts_of_ends}
-use Rattle.node_laws.specs.passes.Passing.{ComesTo}
+use Rattle.node_laws.proofs.Words.{ComesTo, hosts_of_ends, passes}
 use Rattle.node_laws.specs.passes.Passing.ComesTo.{Begins}
 use Rattle.node_laws.proofs.passes.Passing.{comes_lasts}
 use Rattle.node_laws.proofs.replies.Passes.{held_for, held_lacks, split_of, turn_replied, walked}

@@ -1,4 +1,4 @@
-use Rattle.std.proofs.Common.{◌++◌}
+use Rattle.node_laws.proofs.Words.{◌++◌}
 use Rattle.node_laws.proofs.replies.Knowing.{known_so, reply_so, up_by_links}
 use Rattle.node_laws.proofs.replies_of_histories.what_is_read_is_known.Goals as goal
 

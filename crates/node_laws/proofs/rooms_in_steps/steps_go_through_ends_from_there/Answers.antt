@@ -1,4 +1,4 @@
-use Rattle.std.proofs.Common.{refl}
+use Rattle.node_laws.proofs.Words.{refl}
 use Rattle.node_laws.proofs.rooms_in_steps.steps_go_through_ends_from_there.Goals as goal
 
 pub returns : goal.returns

@@ -1,5 +1,4 @@
-use Rattle.std.proofs.Common.{subst}
-use Rattle.node_machine.specs.world.World.{NodeWorld}
+use Rattle.node_laws.proofs.Words.{NodeWorld, subst}
 use Rattle.node_laws.proofs.order.Lines.{IsSo, history_so}
 use Rattle.node_laws.proofs.read_rooms.HostLines.{activated_read}
 use Rattle.node_laws.proofs.rooms_in_steps.the_end_of_a_host_is_read_at_each_turn_of_its_activation.Goals as goal

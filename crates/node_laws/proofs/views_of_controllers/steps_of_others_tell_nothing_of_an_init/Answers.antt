@@ -1,5 +1,4 @@
-use Rattle.std.proofs.Common.{refl, cond, eqb}
-use Rattle.link_laws.specs.entries.Entries.End.{Controller, Host}
+use Rattle.node_laws.proofs.Words.{Controller, Host, cond, eqb, refl}
 use Rattle.node_laws.proofs.views.Elsewhere.{others_step}
 use Rattle.node_laws.proofs.views_of_controllers.steps_of_others_tell_nothing_of_an_init.Goals as goal
 

@@ -1,5 +1,4 @@
-use Rattle.node_machine.specs.world.World.{new_world}
-use Rattle.node_machine.specs.world.NodeHistories.{node_entries, world_after}
+use Rattle.node_laws.proofs.Words.{new_world, node_entries, world_after}
 use Rattle.node_laws.proofs.creations.Knowing.{asides_are, finds_room}
 use Rattle.node_laws.proofs.creations.Lines.{schedule_keeps}
 use Rattle.node_laws.proofs.waiting_creations.blocks_set_aside_are_read.Goals as goal
