@@ -1,30 +1,30 @@
 -- What is read of creations over whatever happens.
 use Rattle.node_laws.proofs.Words.{AllByRecursion, AllKeep, AreAwaited, AreHosts, AreProper, AsksReset, AtController, AtEnd, Bare, Bool, Broken, Comes}
 use Rattle.node_laws.proofs.Words.{Controller, CutOff, Deed, Desk, End, Entry, GoesOut, HasEnds, HasSetAside, HciTables, Host, IfAwaited, IfHostNode}
-use Rattle.node_laws.proofs.Words.{IfNoticedUp, IfRuns, IsGoodSite, IsHost, IsProperBook, IsReadSo, IsShut, KeepsNotices, Link, LinkInput, List, Loss, Memory}
-use Rattle.node_laws.proofs.Words.{NextFrame, NoInput, NodeWorld, None, NumberedEnd, Option, Port, Reset, Role, Running, RunsSo, Site, Some, Starts, Step}
-use Rattle.node_laws.proofs.Words.{Stops, Take, Tick, TimePasses, Turn, Work, [], after_controller, after_host, after_input, after_planned, aged, all_aged, ap}
-use Rattle.node_laws.proofs.Words.{append-nil, arrival, asking_in, begins_with, book_in, boot_found, boot_writes, boot_written, boots, by_boot, by_list}
-use Rattle.node_laws.proofs.Words.{by_loss, by_memory, by_option, by_power, by_running, by_test, comes_at, comes_to, cond, cons_option, controller_cut}
-use Rattle.node_laws.proofs.Words.{controller_ticks, controller_work, count_of, counts, creation_in, creations_at, creations_of, deactivated, ending_of}
-use Rattle.node_laws.proofs.Words.{entries_for, eqb, eqb-true, exchanged, false, filter_map, find, first_lost, flat_map, found, frame_lost, frames_noted}
-use Rattle.node_laws.proofs.Words.{happens, has_come, has_taken, host_cut, host_does, host_work, hosts_in, input_at, input_of, is_late_at, is_waiting}
-use Rattle.node_laws.proofs.Words.{link_after_controller, link_to, links_of, loses_power_at, map, memory_at, near_end_in, new_desk, new_link_end, node_at, not}
-use Rattle.node_laws.proofs.Words.{option_map_or, port_at, port_for, refl, renewed, runs_on, seen_from, sent_all, site_at, site_lost, started, steps}
-use Rattle.node_laws.proofs.Words.{steps_at_controller, subst, sym, ticked_so, true, turned, turns_at, wires_for, with_error, with_memory, with_node, with_site}
-use Rattle.node_laws.proofs.Words.{work_of, written_off, ℕ, ◌&&◌, ◌++◌, ◌∙◌, ◌∷◌, ◌≡◌}
+use Rattle.node_laws.proofs.Words.{IfNoticedUp, IfRuns, IsHost, IsProperBook, IsReadSo, IsShut, KeepsNotices, Link, LinkInput, List, Loss, Memory, NextFrame}
+use Rattle.node_laws.proofs.Words.{NoInput, NodeWorld, None, NumberedEnd, Option, Port, Reset, Role, Running, RunsSo, Site, Some, Starts, Step, Stops, Take}
+use Rattle.node_laws.proofs.Words.{Tick, TimePasses, Turn, Work, [], after_controller, after_host, after_input, after_planned, aged, all_aged, ap, append-nil}
+use Rattle.node_laws.proofs.Words.{arrival, asking_in, begins_with, book_in, boot_found, boot_writes, boot_written, boots, by_boot, by_host, by_list, by_loss}
+use Rattle.node_laws.proofs.Words.{by_memory, by_option, by_power, by_running, by_test, comes_at, comes_to, cond, cons_option, controller_cut, controller_ticks}
+use Rattle.node_laws.proofs.Words.{controller_work, count_of, counts, creation_in, creations_at, creations_of, deactivated, ending_of, entries_for, eqb}
+use Rattle.node_laws.proofs.Words.{eqb-true, exchanged, false, filter_map, find, first_lost, flat_map, found, frame_lost, frames_noted, happens, has_come}
+use Rattle.node_laws.proofs.Words.{has_taken, host_cut, host_does, host_work, hosts_in, input_at, input_of, is_late_at, is_waiting, link_after_controller}
+use Rattle.node_laws.proofs.Words.{link_to, links_of, loses_power_at, map, memory_at, near_end_in, new_desk, new_link_end, node_at, not, option_map_or, port_at}
+use Rattle.node_laws.proofs.Words.{port_for, refl, renewed, runs_on, seen_from, sent_all, site_at, site_lost, started, steps, steps_at_controller, subst, sym}
+use Rattle.node_laws.proofs.Words.{ticked_so, true, turned, turns_at, wires_for, with_error, with_memory, with_node, with_site, work_of, written_off, ℕ, ◌&&◌}
+use Rattle.node_laws.proofs.Words.{◌++◌, ◌∙◌, ◌∷◌, ◌≡◌}
 use Rattle.trace_model.specs.declared.entry.Entry.TheVariants as entry
 use Rattle.node_laws.proofs.telling.Events.{site_map}
-use Rattle.node_laws.proofs.telling.Nodes.{site_host, link_is}
-use Rattle.node_laws.proofs.readings.NoticedWorlds.{side_map, side_with, far_side, lost_side, ending_is}
-use Rattle.node_laws.proofs.readings.Sites.{near_end_side, comes_outside, lost_quiet}
+use Rattle.node_laws.proofs.telling.Nodes.{link_is, site_host}
+use Rattle.node_laws.proofs.readings.NoticedWorlds.{ending_is, far_side, lost_side, side_map, side_with}
+use Rattle.node_laws.proofs.readings.Sites.{comes_outside, lost_quiet, near_end_side}
 use Rattle.node_laws.proofs.notices.Own.{AreOwn}
-use Rattle.node_laws.proofs.notices.Far.{AreFar, far-append, far_flat, quiet_far, IsFarWork, all_do, steps_far, asking_more}
-use Rattle.node_laws.proofs.notices.Sites.{AreGood, good_at, link_shut, frames_quiet, arrival_quiet}
+use Rattle.node_laws.proofs.notices.Far.{AreFar, IsFarWork, all_do, asking_more, far-append, far_flat, quiet_far, steps_far}
+use Rattle.node_laws.proofs.notices.Sites.{AreGood, arrival_quiet, frames_quiet, good_at, link_shut}
 use Rattle.node_laws.specs.creations.Creations.{of_asker}
 use Rattle.node_laws.proofs.creations.Rows.{proper_found}
-use Rattle.node_laws.proofs.creations.Near.{Reads, far_book, far_reading, new_ready, none_side, IsBegun, begun_at, step_reads}
-use Rattle.node_laws.proofs.creations.Sides.{near_made, tick_made, after_tick, near_side, tick_side}
+use Rattle.node_laws.proofs.creations.Near.{IsBegun, Reads, begun_at, far_book, far_reading, new_ready, none_side, step_reads}
+use Rattle.node_laws.proofs.creations.Sides.{after_tick, near_made, near_side, tick_made, tick_side}
 use Rattle.node_laws.proofs.kept.Books.{book_more}
 use Rattle.node_laws.proofs.turns.Works.{site_none}
 
@@ -62,26 +62,17 @@ sites_beside w h f es far host side =
 -- a host acts
 host_beside : (w : NodeWorld) (h : ℕ) (comes : Comes) (f : Work → Work) → AreGood w.sites → ((k : Work) → IsFarWork k → IsFarWork (f k))
     → BesideBy w (host_does w h comes f)
-host_beside w h comes f good keeps = by_option (site_at w.sites h)
-    (λ e. rw e (stays w))
-    (λ s e. by_node s e (good_at w.sites h s good e) s.node refl) where
-      by_node : (s : Site) → site_at w.sites h ≡ Some s → IsGoodSite s → (o : Option Running) → s.node ≡ o → BesideBy w (host_does w h comes f)
-      by_node s here fine None e = subst (BesideBy w) (sym (rw here (rw e refl))) (stays w)
-      by_node s here fine (Some r) e =
-          subst (BesideBy w) (sym (rw here (rw e refl)))
-          (sites_beside w h (after_host comes k) (k.entries ++ frames) (far-append k.entries frames far.far (frames_quiet Host h
-          (wires_for (exchanged s.link) comes) k)) (λ z. refl) (λ z. far_side z.link (Step comes (turns_at k z.host) (ending_of k))))
-        where
-          k : Work
-          k = host_work s r comes f
-
-          frames : List Entry
-          frames = frames_noted Host h (wires_for (exchanged s.link) comes) k
-
-          far : IsFarWork k
-          far =
-              keeps (work_of r s.memory.plan (λ n. near_end_in (exchanged s.link) comes) (entries_for s.host (arrival Host (exchanged s.link) comes)))
-              (record { number = subst IfHostNode e fine.node; far = arrival_quiet Host s.host (exchanged s.link) comes })
+host_beside w h comes f good keeps =
+    by_host (BesideBy w) w h comes f (stays w)
+    (λ s r here e.
+    let k : Work = host_work s r comes f in
+    let frames : List Entry = frames_noted Host h (wires_for (exchanged s.link) comes) k in
+    let far : IsFarWork k =
+    keeps (work_of r s.memory.plan (λ n. near_end_in (exchanged s.link) comes) (entries_for s.host (arrival Host (exchanged s.link) comes)))
+    (record { number = subst IfHostNode e (good_at w.sites h s good here).node; far = arrival_quiet Host s.host (exchanged s.link) comes }) in
+    sites_beside w h (after_host comes k) (k.entries ++ frames)
+    (far-append k.entries frames far.far (frames_quiet Host h (wires_for (exchanged s.link) comes) k)) (λ z. refl)
+    (λ z. far_side z.link (Step comes (turns_at k z.host) (ending_of k))))
 
 pub far_beside : (w : NodeWorld) (e : End) (comes : Comes) → AreGood w.sites → e.at_host ≡ true → BesideBy w (comes_at w e comes)
 far_beside w e comes good far = by_option (input_of (seen_from e (link_to w.sites e.link)) comes)

@@ -1,20 +1,19 @@
 -- Whatever happens, no end of a host has a block set aside.
 use Rattle.node_laws.proofs.Words.{Activates, AllByRecursion, Arms, AsksReset, AtController, AtEnd, Bool, Boots, Comes, CutOff, Deed, Desk, End, EndEvent}
-use Rattle.node_laws.proofs.Words.{Ending, Entry, Gives, GoesOut, Happening, HasNoneAside, Host, IfHostNode, Inits, IsCut, IsGoodSite, KeepsNotices, Link}
-use Rattle.node_laws.proofs.Words.{LinkInput, List, Lose, Loses, Loss, Memory, NextFrame, NoInput, NodeWorld, None, NumberedEnd, Option, Port, Reset, Resets}
-use Rattle.node_laws.proofs.Words.{Running, Site, Some, Starts, Step, Takes, Ticks, TimePasses, Turn, Work, [], after_controller, after_host, after_planned}
-use Rattle.node_laws.proofs.Words.{aged, all_aged, ap, arrival, at, beginning, begins_with, boot_found, boot_writes, boot_written, boots, by_boot, by_memory}
-use Rattle.node_laws.proofs.Words.{by_option, by_power, by_running, by_test, cases_Bool, changed_if, comes_at, comes_to, cond_both, controller_does}
-use Rattle.node_laws.proofs.Words.{controller_ticks, controller_work, counts, end_c, end_h, ending_of, entries_for, eqb, exchanged, false, frame_lost, happens}
-use Rattle.node_laws.proofs.Words.{has_input, host_cut, host_does, host_ticks, host_work, hosts_tick, inl, input_of, inr, is_late_at, is_waiting}
-use Rattle.node_laws.proofs.Words.{link_after_controller, link_to, loses_power_at, map, memory_at, near_end_in, new_site, not, port_for, refl, seen_from}
-use Rattle.node_laws.proofs.Words.{sending, site_at, steps, subst, sym, tick_host, ticked_so, ticks_at_controller, true, turns_at, with_memory, with_site}
-use Rattle.node_laws.proofs.Words.{work_of, world_step, ℕ, ◌&&◌, ◌∙◌, ◌∷◌, ◌≡◌, ◌⊎◌}
+use Rattle.node_laws.proofs.Words.{Ending, Entry, Gives, GoesOut, Happening, HasNoneAside, Host, IfHostNode, Inits, IsCut, IsGoodSite, KeepsNotices, Link, List}
+use Rattle.node_laws.proofs.Words.{Lose, Loses, Loss, Memory, NextFrame, NoInput, NodeWorld, None, NumberedEnd, Port, Reset, Resets, Site, Some, Starts, Step}
+use Rattle.node_laws.proofs.Words.{Takes, Ticks, TimePasses, Turn, Work, [], after_host, after_planned, aged, all_aged, ap, arrival, at, beginning, begins_with}
+use Rattle.node_laws.proofs.Words.{boot_found, boot_writes, boot_written, boots, by_boot, by_coming, by_controller, by_controller_tick, by_host, by_host_tick}
+use Rattle.node_laws.proofs.Words.{by_memory, by_power, by_running, by_test, changed_if, comes_at, comes_to, cond_both, controller_ticks, controller_work}
+use Rattle.node_laws.proofs.Words.{counts, end_c, end_h, ending_of, entries_for, eqb, exchanged, frame_lost, happens, has_input, host_cut, host_does, host_tick}
+use Rattle.node_laws.proofs.Words.{host_ticks, host_work, hosts_tick, is_late_at, is_waiting, link_after_controller, loses_power_at, map, memory_at}
+use Rattle.node_laws.proofs.Words.{near_end_in, near_tick, new_site, not, port_for, refl, sending, site_ticked, site_unticked, steps, subst, sym, tick_host}
+use Rattle.node_laws.proofs.Words.{ticked_so, ticks_at_controller, true, turns_at, with_memory, with_site, work_of, world_step, ℕ, ◌&&◌, ◌∙◌, ◌∷◌, ◌≡◌}
 use Rattle.node_laws.proofs.links.Ends.{here_host}
 use Rattle.node_laws.proofs.notices.Own.{AreOwn}
-use Rattle.node_laws.proofs.notices.Sites.{AreGood, good_at, sending_own, beginning_own}
+use Rattle.node_laws.proofs.notices.Sites.{AreGood, beginning_own, good_at, sending_own}
 use Rattle.node_laws.proofs.notices.Near.{comes_reads as notices_come}
-use Rattle.node_laws.proofs.creations.HostSides.{SetsNoneAside, SetNone, step_none, tick_none, all_do, steps_none, none_at}
+use Rattle.node_laws.proofs.creations.HostSides.{SetNone, SetsNoneAside, all_do, none_at, step_none, steps_none, tick_none}
 
 abbrev pub HaveNoneAside : List Site → Type 0
 HaveNoneAside sites = AllByRecursion HasNoneAside sites
@@ -41,76 +40,33 @@ ticked_same l late ts ending a =
 
 -- ## Hosts act
 
+start_none : (near_ends : ℕ → NumberedEnd) (desks : List Desk) → AllByRecursion (λ (p : Port). SetNone p.turns)
+    (map (λ (d : Desk). port_for (near_ends d.host) d) desks)
+start_none near_ends [] = tt
+start_none near_ends (d ∷ desks) = (tt, start_none near_ends desks)
+
 host_none : (w : NodeWorld) (h : ℕ) (comes : Comes) (f : Work → Work) → AreGood w.sites → ((k : Work) → SetsNoneAside k → SetsNoneAside (f k))
     → HaveNoneAside w.sites → HaveNoneAside (host_does w h comes f).0.sites
-host_none w h comes f good keeps a = by_option (site_at w.sites h)
-    (λ e. rw e a)
-    (λ s e. by_node s e (good_at w.sites h s good e) s.node refl) where
-      off_is : (s : Site) → site_at w.sites h ≡ Some s → s.node ≡ None → (host_does w h comes f).0 ≡ w
-      off_is s here e = rw here (rw e refl)
-
-      on_is : (s : Site) (r : Running) → site_at w.sites h ≡ Some s → s.node ≡ Some r
-          → (host_does w h comes f).0 ≡ record w { sites = with_site h (after_host comes (host_work s r comes f)) w.sites }
-      on_is s r here e = rw here (rw e refl)
-
-      Fine : NodeWorld → Type 0
-      Fine v = HaveNoneAside v.sites
-
-      start_none : (r : Running) (near_ends : ℕ → NumberedEnd) → AllByRecursion (λ (p : Port). SetNone p.turns)
-          (map (λ (d : Desk). port_for (near_ends d.host) d) r.desks)
-      start_none r near_ends = go r.desks where
-        go : (desks : List Desk) → AllByRecursion (λ (p : Port). SetNone p.turns)
-            (map (λ (d : Desk). port_for (near_ends d.host) d) desks)
-        go [] = tt
-        go (d ∷ desks) = (tt, go desks)
-
-      by_node : (s : Site) → site_at w.sites h ≡ Some s → IsGoodSite s → (o : Option Running) → s.node ≡ o → Fine (host_does w h comes f).0
-      by_node s here fine None e = subst Fine (sym (off_is s here e)) a
-      by_node s here fine (Some r) e =
-          subst Fine (sym (on_is s r here e))
-          (none_with h (after_host comes k) (λ z b. step_none (exchanged z.link) comes (turns_at k z.host) (ending_of k) (none_at k z.host none) b) w.sites a)
-        where
-          k : Work
-          k = host_work s r comes f
-
-          none : SetsNoneAside k
-          none =
-              keeps (work_of r s.memory.plan (λ n. near_end_in (exchanged s.link) comes) (entries_for s.host
-              (arrival Host (exchanged s.link) comes)))
-              (record { number = subst IfHostNode e fine.node; ends = start_none r (λ n. near_end_in (exchanged s.link) comes) })
+host_none w h comes f good keeps a =
+    by_host (λ p. HaveNoneAside p.0.sites) w h comes f a
+    (λ s r here e.
+    let k : Work = host_work s r comes f in
+    let none : SetsNoneAside k =
+    keeps (work_of r s.memory.plan (λ n. near_end_in (exchanged s.link) comes) (entries_for s.host (arrival Host (exchanged s.link) comes)))
+    (record {
+      number = subst IfHostNode e (good_at w.sites h s good here).node;
+      ends = start_none (λ n. near_end_in (exchanged s.link) comes) r.desks;
+    }) in
+    none_with h (after_host comes k) (λ z b. step_none (exchanged z.link) comes (turns_at k z.host) (ending_of k) (none_at k z.host none) b) w.sites a)
 
 comes_none : (w : NodeWorld) (e : End) (comes : Comes) → AreGood w.sites → HaveNoneAside w.sites → HaveNoneAside (comes_at w e comes).0.sites
-comes_none w e comes good a = go (input_of (seen_from e (link_to w.sites e.link)) comes) refl (cases_Bool e.at_host) where
-  Fine : NodeWorld → Type 0
-  Fine v = HaveNoneAside v.sites
-
-  near_is : (i : LinkInput) → input_of (seen_from e (link_to w.sites e.link)) comes ≡ Some i → e.at_host ≡ false
-      → (comes_at w e comes).0 ≡ (controller_does w e.link comes (steps (AtEnd e.link i))).0
-  near_is i q b = rw q (rw b refl)
-
-  far_is : (i : LinkInput) → input_of (seen_from e (link_to w.sites e.link)) comes ≡ Some i → e.at_host ≡ true
-      → (comes_at w e comes).0 ≡ (host_does w e.link comes (steps (AtEnd e.link i))).0
-  far_is i q b = rw q (rw b refl)
-
-  near : (i : LinkInput) → Fine (controller_does w e.link comes (steps (AtEnd e.link i))).0
-  near i = by_option w.controller
-      (λ z. subst Fine (sym (off_is z)) a)
-      (λ r z. let k : Work = controller_work w r e.link comes (steps (AtEnd e.link i)) in
-      subst Fine (sym (on_is r z)) (none_map (link_after_controller e.link comes k)
-      (λ s b. near_same s.link (Step (comes_to e.link comes s.host) (turns_at k s.host) (ending_of k)) b) w.sites a)) where
-        off_is : w.controller ≡ None → (controller_does w e.link comes (steps (AtEnd e.link i))).0 ≡ w
-        off_is z = rw z refl
-
-        on_is : (r : Running) → w.controller ≡ Some r → (controller_does w e.link comes (steps (AtEnd e.link i))).0
-            ≡ (after_controller w e.link comes (controller_work w r e.link comes (steps (AtEnd e.link i)))).0
-        on_is r z = rw z refl
-
-  go : (o : Option LinkInput) → input_of (seen_from e (link_to w.sites e.link)) comes ≡ o → (e.at_host ≡ true) ⊎ (e.at_host ≡ false)
-      → Fine (comes_at w e comes).0
-  go None q side = rw q a
-  go (Some i) q (inl far) =
-      subst Fine (sym (far_is i q far)) (host_none w e.link comes (steps (AtEnd e.link i)) good (λ k b. steps_none (AtEnd e.link i) k b) a)
-  go (Some i) q (inr off) = subst Fine (sym (near_is i q off)) (near i)
+comes_none w e comes good a =
+    by_coming (λ p. HaveNoneAside p.0.sites) w e comes a
+    (λ i at q. host_none w e.link comes (steps (AtEnd e.link i)) good (λ k b. steps_none (AtEnd e.link i) k b) a)
+    (λ i at q. by_controller (λ p. HaveNoneAside p.0.sites) w e.link comes (steps (AtEnd e.link i)) a
+    (λ r z. let k : Work = controller_work w r e.link comes (steps (AtEnd e.link i)) in
+    none_map (link_after_controller e.link comes k)
+    (λ s b. near_same s.link (Step (comes_to e.link comes s.host) (turns_at k s.host) (ending_of k)) b) w.sites a))
 
 begins_none : (w : NodeWorld) (h : ℕ) (deeds : List Deed) → AreGood w.sites → AreOwn deeds → HaveNoneAside w.sites
     → HaveNoneAside (host_does w h NoInput (begins_with h deeds)).0.sites
@@ -158,45 +114,23 @@ lost_none w e why a = by_test e.at_host
 -- ## Time
 
 host_tick_none : (s : Site) → IsGoodSite s → HasNoneAside s → HasNoneAside (host_ticks s).0
-host_tick_none s good a = by_node s.node refl good.node where
-  k : Running → Work
-  k r = steps TimePasses (work_of r s.memory.plan (λ h. s.link.host) [])
-
-  off_is : s.node ≡ None → (host_ticks s).0.link ≡ exchanged (ticks_at_controller (exchanged s.link) [] GoesOut)
-  off_is e = rw e refl
-
-  on_is : (r : Running) → s.node ≡ Some r
-      → (host_ticks s).0.link ≡ exchanged (ticks_at_controller (exchanged s.link) (turns_at (k r) s.host) (ending_of (k r)))
-  on_is r e = rw e refl
-
-  start_none : (r : Running) → AllByRecursion (λ (p : Port). SetNone p.turns)
-      (map (λ (d : Desk). port_for s.link.host d) r.desks)
-  start_none r = go r.desks where
-    go : (desks : List Desk) → AllByRecursion (λ (p : Port). SetNone p.turns)
-        (map (λ (d : Desk). port_for s.link.host d) desks)
-    go [] = tt
-    go (d ∷ desks) = (tt, go desks)
-
-  by_node : (o : Option Running) → s.node ≡ o → IfHostNode o → HasNoneAside (host_ticks s).0
-  by_node None e node = ap (λ (l : Link). l.host.side.aside) (off_is e) ∙ tick_none (exchanged s.link) [] GoesOut tt a
-  by_node (Some r) e node =
-      ap (λ (l : Link). l.host.side.aside) (on_is r e)
-      ∙ tick_none (exchanged s.link) (turns_at (k r) s.host) (ending_of (k r))
-      (none_at (k r) s.host (steps_none TimePasses (work_of r s.memory.plan (λ h. s.link.host) []) (record { number = node; ends = start_none r }))) a
+host_tick_none s good a =
+    by_host_tick (λ p. HasNoneAside p.0) s (λ e. tick_none (exchanged s.link) [] GoesOut tt a)
+    (λ r e. let k : Work = host_tick s r in
+    tick_none (exchanged s.link) (turns_at k s.host) (ending_of k)
+    (none_at k s.host (steps_none TimePasses (work_of r s.memory.plan (λ h. s.link.host) [])
+    (record { number = subst IfHostNode e good.node; ends = start_none (λ h. s.link.host) r.desks }))) a)
 
 all_ticked : (sites : List Site) → AreGood sites → HaveNoneAside sites → HaveNoneAside (hosts_tick sites).0
 all_ticked [] good a = tt
 all_ticked (s ∷ sites) good a = (host_tick_none s good.0 a.0, all_ticked sites good.1 a.1)
 
 near_none : (w : NodeWorld) → HaveNoneAside w.sites → HaveNoneAside (controller_ticks w).0.sites
-near_none w a = by_option w.controller
-    (λ e. rw e (none_map (λ (s : Site). record s { link = ticks_at_controller s.link [] GoesOut })
-    (λ s b. ap (λ (h : NumberedEnd). h.side.aside) (tick_host s.link [] GoesOut) ∙ b) w.sites a))
-    (λ r e. rw e (none_map
-    (λ (s : Site). record s { link = ticked_so s.link (is_late_at (k r) s.host) (turns_at (k r) s.host) (ending_of (k r)) })
-    (λ s b. ticked_same s.link (is_late_at (k r) s.host) (turns_at (k r) s.host) (ending_of (k r)) b) w.sites a)) where
-      k : Running → Work
-      k r = steps TimePasses (work_of r w.memory.plan (λ h. (link_to w.sites h).controller) [])
+near_none w a =
+    by_controller_tick (λ p. HaveNoneAside p.0.sites) w
+    (λ e. none_map site_unticked (λ s b. ap (λ (h : NumberedEnd). h.side.aside) (tick_host s.link [] GoesOut) ∙ b) w.sites a)
+    (λ r e. let k : Work = near_tick w r in
+    none_map (site_ticked k) (λ s b. ticked_same s.link (is_late_at k s.host) (turns_at k s.host) (ending_of k) b) w.sites a)
 
 pub aged_none : (w : NodeWorld) → HaveNoneAside w.sites → HaveNoneAside (all_aged w).0.sites
 aged_none w a = none_map (λ (s : Site). record s { link = aged s.link }) (λ s b. b) w.sites a

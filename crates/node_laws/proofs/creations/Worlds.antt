@@ -2,28 +2,28 @@
 use Rattle.node_laws.proofs.Words.{Activates, AllKeep, AreHosts, Arms, AsksReset, AtEnd, Bare, Bool, Boots, Clf, Comes, Controller, End, Ending, Entry, Gives}
 use Rattle.node_laws.proofs.Words.{GoesOut, Happening, HasSetAside, Host, IfItRuns, IfNoticedUp, Inits, IsCut, IsShut, KeepsCreations, KeepsNotices, Link}
 use Rattle.node_laws.proofs.Words.{LinkEnd, LinkInput, List, Loses, MayBoot, MayHappen, NextFrame, NodeWorld, None, Option, Reset, Resets, Running, Site, Some}
-use Rattle.node_laws.proofs.Words.{Starts, Step, Takes, Tick, Ticks, TimePasses, Turn, Work, [], activates, after_controller, after_input, aged, aged_entries}
-use Rattle.node_laws.proofs.Words.{all_aged, ap, append-nil, append_assoc, beginning, by_option, by_test, comes_at, commands_in, cond_both, controller_does}
-use Rattle.node_laws.proofs.Words.{controller_ticks, controller_work, creations_of, end_c, end_h, ending_of, entries_for, eqb, false, has_input, hosts_in}
-use Rattle.node_laws.proofs.Words.{hosts_tick, input_of, is_late_at, is_waiting, length, link_to, map, memory_at, new_clf, new_site, new_world, not, refl}
-use Rattle.node_laws.proofs.Words.{replicate, seen_from, sending, sent_all, steps, subst, sym, ticked_so, ticks_at_controller, turns_at, work_of, world_step}
-use Rattle.node_laws.proofs.Words.{world_ticks, ℕ, ◌&&◌, ◌++◌, ◌-◌, ◌^◌, ◌∙◌, ◌∷◌, ◌≡◌, ◌≤◌}
+use Rattle.node_laws.proofs.Words.{Starts, Step, Takes, Tick, Ticks, TimePasses, Turn, Work, [], activates, after_input, aged, aged_entries, all_aged, ap}
+use Rattle.node_laws.proofs.Words.{append-nil, append_assoc, beginning, by_coming, by_controller, by_option, by_test, comes_at, commands_in, cond_both}
+use Rattle.node_laws.proofs.Words.{controller_does, controller_ticks, creations_of, end_c, end_h, ending_of, entries_for, eqb, has_input, hosts_in, hosts_tick}
+use Rattle.node_laws.proofs.Words.{input_of, is_late_at, is_waiting, length, link_to, map, memory_at, new_clf, new_site, new_world, not, refl, replicate}
+use Rattle.node_laws.proofs.Words.{sending, sent_all, steps, subst, sym, ticked_so, ticks_at_controller, true≢false, turns_at, work_of, world_step, world_ticks}
+use Rattle.node_laws.proofs.Words.{ℕ, ◌&&◌, ◌++◌, ◌-◌, ◌^◌, ◌∙◌, ◌∷◌, ◌≡◌, ◌≤◌}
 use Rattle.node_laws.proofs.links.Blocks.{IsWithin, input_within, sent_within}
 use Rattle.node_laws.proofs.kept.Kept.{all_begin}
 use Rattle.node_laws.proofs.kept.Lines.{world_goes}
 use Rattle.node_laws.proofs.telling.Frames.{wires_all}
-use Rattle.node_laws.proofs.readings.NoticedWorlds.{side_map, hosts_tick_side}
+use Rattle.node_laws.proofs.readings.NoticedWorlds.{hosts_tick_side, side_map}
 use Rattle.node_laws.proofs.readings.Silent.{IsQuiet}
 use Rattle.node_laws.proofs.notices.Far.{AreFar, far_flat, quiet_far}
 use Rattle.node_laws.proofs.notices.Shut.{here_shut, ticks_shut}
-use Rattle.node_laws.proofs.notices.Sites.{AreGood, good_map, sending_own, beginning_own, all_tick}
+use Rattle.node_laws.proofs.notices.Sites.{AreGood, all_tick, beginning_own, good_map, sending_own}
 use Rattle.node_laws.proofs.notices.Near.{comes_reads as notices_come}
-use Rattle.node_laws.proofs.notices.Events.{event_read, begins_read}
+use Rattle.node_laws.proofs.notices.Events.{begins_read, event_read}
 use Rattle.node_laws.proofs.creations.Rows.{new_proper}
 use Rattle.node_laws.proofs.creations.Asides.{input_aside}
 use Rattle.node_laws.proofs.creations.HostWorlds.{event_none, new_none}
 use Rattle.node_laws.proofs.creations.Near.{Reads, new_ready}
-use Rattle.node_laws.proofs.creations.Events.{Beside, beside_reads, far_beside, begins_beside, memory_beside, lost_beside, cut_reads, boots_reads, near_step}
+use Rattle.node_laws.proofs.creations.Events.{Beside, begins_beside, beside_reads, boots_reads, cut_reads, far_beside, lost_beside, memory_beside, near_step}
 use Rattle.node_laws.proofs.creations.Events.{near_tick}
 
 nothing : (t : List Entry) (w : NodeWorld) → Reads t w → Reads (t ++ []) w
@@ -120,33 +120,16 @@ module _ (hosts : List ℕ) (are : AreHosts hosts) (t : List Entry) (w : NodeWor
 
   near_reads : (h : ℕ) (comes : Comes) (i : LinkInput) → input_of (link_to w.sites h) comes ≡ Some i
       → Reads (t ++ (controller_does w h comes (steps (AtEnd h i))).1) (controller_does w h comes (steps (AtEnd h i))).0
-  near_reads h comes i input = by_node w.controller refl notices.orderly.controller notices.up where
-    Fine : NodeWorld × List Entry → Type 0
-    Fine p = Reads (t ++ p.1) p.0
-
-    off_is : w.controller ≡ None → controller_does w h comes (steps (AtEnd h i)) ≡ (w, [])
-    off_is e = rw e refl
-
-    on_is : (r : Running) → w.controller ≡ Some r
-        → controller_does w h comes (steps (AtEnd h i)) ≡ after_controller w h comes (controller_work w r h comes (steps (AtEnd h i)))
-    on_is r e = rw e refl
-
-    by_node : (o : Option Running) → w.controller ≡ o → IfItRuns 0 (hosts_in w.sites) o → IfNoticedUp w.sites o
-        → Fine (controller_does w h comes (steps (AtEnd h i)))
-    by_node None e has up = subst Fine (sym (off_is e)) (nothing t w a)
-    by_node (Some r) e has up = subst Fine (sym (on_is r e)) (near_step hosts are t w kept notices a r e has up h comes i input)
+  near_reads h comes i input =
+      by_controller (λ p. Reads (t ++ p.1) p.0) w h comes (steps (AtEnd h i)) (nothing t w a)
+      (λ r e. near_step hosts are t w kept notices a r e (subst (IfItRuns 0 (hosts_in w.sites)) e notices.orderly.controller)
+      (subst (IfNoticedUp w.sites) e notices.up) h comes i input)
 
   comes_reads : (e : End) (comes : Comes) → Reads (t ++ (comes_at w e comes).1) (comes_at w e comes).0
   comes_reads e comes = by_test e.at_host
       (λ b. beside_reads t w (comes_at w e comes).0 (comes_at w e comes).1 a (far_beside w e comes notices.sites b))
-      (λ b. by_option (input_of (seen_from e (link_to w.sites e.link)) comes)
-      (λ q. rw q (nothing t w a))
-      (λ i q. subst Fine (sym (rw q (rw b refl))) (near_reads e.link comes i (ap (λ l. input_of l comes) (sym (seen b)) ∙ q)))) where
-        Fine : NodeWorld × List Entry → Type 0
-        Fine p = Reads (t ++ p.1) p.0
-
-        seen : e.at_host ≡ false → seen_from e (link_to w.sites e.link) ≡ link_to w.sites e.link
-        seen b = rw b refl
+      (λ b. by_coming (λ p. Reads (t ++ p.1) p.0) w e comes (nothing t w a) (λ i at q. absurd (true≢false (sym at ∙ b)))
+      (λ i at q. near_reads e.link comes i q))
 
   activates_reads : (h sync power : ℕ) → Reads (t ++ (activates w h sync power).1) (activates w h sync power).0
   activates_reads h sync power =

@@ -1,26 +1,26 @@
 -- What whatever happens leaves of what is known of each node, and how its entries come.
 use Rattle.node_laws.proofs.Words.{Activates, AllByRecursion, AllKeep, AreHosts, Arms, AsksReset, AtEnd, Bool, Boots, Comes, Controller, Core, EachIsAsRead}
-use Rattle.node_laws.proofs.Words.{End, Entry, FindsExactly, Gives, Happening, Host, Inits, IsAllowedStill, IsCut, IsCutAsPlanned, IsHost, IsOnOrder, LinkInput}
-use Rattle.node_laws.proofs.Words.{List, Lose, Loses, Loss, MayBeDone, MayHappen, Memory, Message, NextFrame, NoInput, NodeWorld, None, Option, Orders, Plan}
+use Rattle.node_laws.proofs.Words.{End, Entry, FindsExactly, Gives, Happening, Host, Inits, IsAllowedStill, IsCut, IsCutAsPlanned, IsHost, IsOnOrder, List}
+use Rattle.node_laws.proofs.Words.{Lose, Loses, Loss, MayBeDone, MayHappen, Memory, Message, NextFrame, NoInput, NodeWorld, None, Option, Orders, Plan}
 use Rattle.node_laws.proofs.Words.{Reckoning, Resets, Running, Sends, Site, SiteKeeps, Some, Starts, Takes, Ticks, [], activates, after_planned, ap, arith, at}
-use Rattle.node_laws.proofs.Words.{beginning, begins_with, begun_by, boot_writes, boots, by_list, by_test, cases_Bool, changed_if, comes_at, commands_in, cond}
+use Rattle.node_laws.proofs.Words.{beginning, begins_with, begun_by, boot_writes, boots, by_coming, by_list, by_test, changed_if, comes_at, commands_in, cond}
 use Rattle.node_laws.proofs.Words.{cond_both, count_of, counts, end_c, end_h, entries_for, eq-eqb, eqb, eqb-false, eqb-true, fails_within, false, first_lost}
-use Rattle.node_laws.proofs.Words.{fold, found, frame_lost, happens, host_does, inl, input_of, inr, is_command_message, is_some, length, link_to, links_of}
-use Rattle.node_laws.proofs.Words.{loses_power_at, memory_at, ne_eqb, node_at, reckoned, reckoned_within, refl, seen_from, sending, site_at, steps, subst, sym}
-use Rattle.node_laws.proofs.Words.{true, with_memory, with_node, with_site, world_step, ℕ, ◌&&◌, ◌++◌, ◌-◌, ◌^◌, ◌∙◌, ◌∷◌, ◌≡◌, ◌≤◌, ◌⊎◌}
+use Rattle.node_laws.proofs.Words.{fold, found, frame_lost, happens, host_does, inl, inr, is_command_message, is_some, length, link_to, links_of}
+use Rattle.node_laws.proofs.Words.{loses_power_at, memory_at, ne_eqb, node_at, reckoned, reckoned_within, refl, sending, site_at, steps, subst, sym, true}
+use Rattle.node_laws.proofs.Words.{with_memory, with_node, with_site, world_step, ℕ, ◌&&◌, ◌++◌, ◌-◌, ◌^◌, ◌∙◌, ◌∷◌, ◌≡◌, ◌≤◌}
 use Rattle.trace_model.specs.declared.entry.Entry.TheVariants as entry
 use Rattle.node_laws.proofs.kept.Asking.{same_new}
 use Rattle.node_laws.proofs.kept.Plainly.{plain_entries}
 use Rattle.node_laws.proofs.kept.Doing.{all_fine}
 use Rattle.node_laws.proofs.kept.Stepping.{steps_fine}
 use Rattle.node_laws.proofs.kept.Sites.{site_found}
-use Rattle.node_laws.proofs.kept.Events.{no_order, comes_goes}
+use Rattle.node_laws.proofs.kept.Events.{comes_goes, no_order}
 use Rattle.node_laws.proofs.kept.Reckoned.{IsNothingFor, other_idles}
 use Rattle.node_laws.specs.cuts.Histories.{IsBootedBy}
 use Rattle.node_laws.proofs.cuts.Standing.{Stands, exact_idle, stands_same}
-use Rattle.node_laws.proofs.cuts.Worlds.{IsThere, StandsAt, ExactAt, plain_exact, none_exact, controller_exact, host_exact}
-use Rattle.node_laws.proofs.cuts.Powers.{booting, boot_cut, boot_found, boot_run, cut_stands, armed_stands}
-use Rattle.node_laws.proofs.cuts.Places.{IsSameAt, same_then, same_memory, same_node, same_loses, IsNowAt, now_memory, now_node, now_loses, runs_of}
+use Rattle.node_laws.proofs.cuts.Worlds.{ExactAt, IsThere, StandsAt, controller_exact, host_exact, none_exact, plain_exact}
+use Rattle.node_laws.proofs.cuts.Powers.{armed_stands, boot_cut, boot_found, boot_run, booting, cut_stands}
+use Rattle.node_laws.proofs.cuts.Places.{IsNowAt, IsSameAt, now_loses, now_memory, now_node, runs_of, same_loses, same_memory, same_node, same_then}
 use Rattle.node_laws.proofs.cuts.Ticking.{exact_both, ticks_exact}
 use Rattle.node_laws.proofs.turns.Worlds.{counts_power}
 
@@ -71,20 +71,13 @@ module _ (hosts : List ℕ) (are : AreHosts hosts) (n : ℕ) where
   comes_exact : (t : List Entry) (r : Reckoning) (w : NodeWorld) (e : End) (comes : Comes) → AllKeep hosts t w → IsThere w n → StandsAt n t r w
       → ExactAt n t r (comes_at w e comes)
   comes_exact t r w e comes all there stands =
-      by_input (input_of (seen_from e (link_to w.sites e.link)) comes) refl (cases_Bool e.at_host) where
-        by_input : (o : Option LinkInput) → input_of (seen_from e (link_to w.sites e.link)) comes ≡ o → (e.at_host ≡ true) ⊎ (e.at_host ≡ false)
-            → ExactAt n t r (comes_at w e comes)
-        by_input None is side =
-            let none_is : comes_at w e comes ≡ (w, []) = rw is refl in
-            subst (ExactAt n t r) (sym none_is) (none_exact n t r w there stands)
-        by_input (Some i) is (inl side) = rw is (rw side (
-            host_exact hosts are n t r w e.link comes (steps (AtEnd e.link i)) all
-            (λ x q here running host on before work same k.
-            steps_fine x.host (x.host ∷ []) x.memory before (inr host) (record { all = (host, tt); different = (tt, tt) }) (AtEnd e.link i) work k
-            (subst (λ (c : Core). IsOnOrder c.command c.init) (sym same) on)) there stands))
-        by_input (Some i) is (inr side) = rw is (rw side (
-            controller_exact hosts are n t r w e.link comes (steps (AtEnd e.link i)) all
-            (λ old before work k on. steps_fine 0 hosts old before (inl refl) are (AtEnd e.link i) work k on) there stands))
+      by_coming (ExactAt n t r) w e comes (none_exact n t r w there stands)
+      (λ i at seen. host_exact hosts are n t r w e.link comes (steps (AtEnd e.link i)) all
+      (λ x q here running host on before work same k.
+      steps_fine x.host (x.host ∷ []) x.memory before (inr host) (record { all = (host, tt); different = (tt, tt) }) (AtEnd e.link i) work k
+      (subst (λ (c : Core). IsOnOrder c.command c.init) (sym same) on)) there stands)
+      (λ i at seen. controller_exact hosts are n t r w e.link comes (steps (AtEnd e.link i)) all
+      (λ old before work k on. steps_fine 0 hosts old before (inl refl) are (AtEnd e.link i) work k on) there stands)
 
   activates_exact : (t : List Entry) (r : Reckoning) (w : NodeWorld) (h sync power : ℕ) → AllKeep hosts t w → IsThere w n → StandsAt n t r w
       → ExactAt n t r (activates w h sync power)

@@ -1,20 +1,19 @@
 -- What a tick leaves of what is known of each node.
-use Rattle.node_laws.proofs.Words.{AllByRecursion, AllKeep, AreDifferent, AreHosts, Controller, Entry, GoesOut, Host, IsHost, IsOf, List, NodeKeeps, NodeWorld}
-use Rattle.node_laws.proofs.Words.{None, Option, Reckoning, Running, Site, SiteKeeps, Some, TimePasses, Work, [], after_planned, aged, aged_entries, all_aged}
-use Rattle.node_laws.proofs.Words.{all_append, ap, cases_Bool, cond-false, cond-true, controller_ticks, ending_of, entries_for, eqb, eqb-false, eqb-true}
-use Rattle.node_laws.proofs.Words.{exchanged, false, flat_map, fold, frames_noted, host_ticks, hosts_tick, inl, inr, is_late_at, link_to, map, reckoned, refl}
-use Rattle.node_laws.proofs.Words.{runs_on, site_at, steps, subst, sym, ticked_so, ticks_at_controller, true, turns_at, work_of, world_ticks, ℕ, ◌++◌, ◌∙◌, ◌∷◌}
-use Rattle.node_laws.proofs.Words.{◌≡◌, ◌⊎◌}
+use Rattle.node_laws.proofs.Words.{AllByRecursion, AllKeep, AreDifferent, AreHosts, Controller, Entry, Host, IsHost, IsOf, List, NodeKeeps, NodeWorld}
+use Rattle.node_laws.proofs.Words.{Reckoning, Site, SiteKeeps, Some, TimePasses, Work, [], after_near_tick, aged, aged_entries, all_aged, all_append, ap}
+use Rattle.node_laws.proofs.Words.{by_controller_tick, by_host_tick, cases_Bool, cond-false, cond-true, controller_ticks, entries_for, eqb, eqb-false, eqb-true}
+use Rattle.node_laws.proofs.Words.{exchanged, false, flat_map, fold, frames_noted, host_tick, host_ticks, hosts_tick, inl, inr, link_to, map, near_tick}
+use Rattle.node_laws.proofs.Words.{reckoned, refl, site_at, site_ticked, site_unticked, subst, sym, true, work_of, world_ticks, ℕ, ◌++◌, ◌∙◌, ◌∷◌, ◌≡◌, ◌⊎◌}
 use Rattle.node_laws.proofs.kept.Plainly.{plain_entries, plain_flat}
 use Rattle.node_laws.proofs.kept.Doing.{GoesOn_or_lost}
 use Rattle.node_laws.proofs.kept.Stepping.{steps_fine}
 use Rattle.node_laws.proofs.kept.Standing.{runs_begun}
 use Rattle.node_laws.proofs.kept.Sites.{hosts_in}
-use Rattle.node_laws.proofs.kept.Worlds.{step_keeps, plain_frames}
-use Rattle.node_laws.proofs.kept.Ticking.{moved, aged_goes, near_ticks}
-use Rattle.node_laws.proofs.kept.Reckoned.{IsNothingFor, plain_idles, other_idles}
-use Rattle.node_laws.proofs.cuts.Standing.{Stands, Exact, exact_idle, exact_then, exact_step}
-use Rattle.node_laws.proofs.cuts.Worlds.{IsThere, StandsAt, ExactAt, stands_far, exact_far, exact_near, plain_exact, run_exact}
+use Rattle.node_laws.proofs.kept.Worlds.{plain_frames, step_keeps}
+use Rattle.node_laws.proofs.kept.Ticking.{aged_goes, moved, near_ticks}
+use Rattle.node_laws.proofs.kept.Reckoned.{IsNothingFor, other_idles, plain_idles}
+use Rattle.node_laws.proofs.cuts.Standing.{Exact, Stands, exact_idle, exact_step, exact_then}
+use Rattle.node_laws.proofs.cuts.Worlds.{ExactAt, IsThere, StandsAt, exact_far, exact_near, plain_exact, run_exact, stands_far}
 use Rattle.node_laws.proofs.readings.NoticedWorlds.{numbers}
 
 -- one part of an event, and another
@@ -31,34 +30,21 @@ record HostTicks (t : List Entry) (s : Site) (p : Site × List Entry) : Type 0 w
   exact : (r : Reckoning) → Stands s.host t r s.memory s.node → Exact s.host t r p.1 p.0.memory p.0.node
 
 host_ticked : (t : List Entry) (s : Site) → IsHost s.host → SiteKeeps t s → HostTicks t s (host_ticks s)
-host_ticked t s is k = by_node s.node refl k where
-  by_node : (o : Option Running) → s.node ≡ o → NodeKeeps s.host (s.host ∷ []) t s.memory o → HostTicks t s (host_ticks s)
-  by_node None e k =
-      let off_is : host_ticks s ≡ (record s { link = exchanged (ticks_at_controller (exchanged s.link) [] GoesOut) }, []) = rw e refl in
-      subst (HostTicks t s) (sym off_is) (record {
-        own = tt;
-        host = refl;
-        exact = λ r a. exact_idle s.host t r [] s.memory s.node a tt;
-      })
-  by_node (Some q) e k =
-      let begun : Work = work_of q s.memory.plan (λ h. s.link.host) [] in
-      let work : Work = steps TimePasses begun in
-      let more : List Entry = frames_noted Host s.host (exchanged s.link) work in
-      let fine : GoesOn_or_lost s.host (s.host ∷ []) s.memory t work =
-      steps_fine s.host (s.host ∷ []) s.memory t (inr is) (record { all = (is, tt); different = (tt, tt) }) TimePasses begun
-      (runs_begun s.host (s.host ∷ []) t s.memory q (λ h. s.link.host) [] tt k.runs) k.runs.on in
-      let after_it : Site = record s {
-        link = exchanged (ticks_at_controller (exchanged s.link) (turns_at work s.host) (ending_of work));
-        memory = after_planned work.writes s.memory;
-        node = runs_on work;
-      } in
-      let on_is : host_ticks s ≡ (after_it, work.entries ++ more) = rw e refl in
-      subst (HostTicks t s) (sym on_is) (record {
-        own = (step_keeps s.host (s.host ∷ []) t s.memory work more fine (plain_frames Host s.host (exchanged s.link) work)).2;
-        host = refl;
-        exact = λ r a. exact_step s.host (s.host ∷ []) t s.memory q r (subst (Stands s.host t r s.memory) e a) work more fine
-            (plain_idles s.host more (plain_frames Host s.host (exchanged s.link) work));
-      })
+host_ticked t s is k =
+    by_host_tick (HostTicks t s) s (λ e. record { own = tt; host = refl; exact = λ r a. exact_idle s.host t r [] s.memory s.node a tt })
+    (λ q e.
+    let runs : NodeKeeps s.host (s.host ∷ []) t s.memory (Some q) = subst (NodeKeeps s.host (s.host ∷ []) t s.memory) e k in
+    let work : Work = host_tick s q in
+    let more : List Entry = frames_noted Host s.host (exchanged s.link) work in
+    let fine : GoesOn_or_lost s.host (s.host ∷ []) s.memory t work =
+    steps_fine s.host (s.host ∷ []) s.memory t (inr is) (record { all = (is, tt); different = (tt, tt) }) TimePasses
+    (work_of q s.memory.plan (λ h. s.link.host) []) (runs_begun s.host (s.host ∷ []) t s.memory q (λ h. s.link.host) [] tt runs.runs) runs.runs.on in
+    record {
+      own = (step_keeps s.host (s.host ∷ []) t s.memory work more fine (plain_frames Host s.host (exchanged s.link) work)).2;
+      host = refl;
+      exact = λ r a. exact_step s.host (s.host ∷ []) t s.memory q r (subst (Stands s.host t r s.memory) e a) work more fine
+          (plain_idles s.host more (plain_frames Host s.host (exchanged s.link) work));
+    })
 
 -- the ticks of hosts are nothing for a node that isn't one of them
 others_tick : (n : ℕ) (t : List Entry) (sites : List Site) → AreDifferent (hosts_in sites) → AllByRecursion IsHost (hosts_in sites)
@@ -139,46 +125,38 @@ module _ (hosts : List ℕ) (are : AreHosts hosts) (n : ℕ) where
   }) there stands
 
   near_exact : (t : List Entry) (r : Reckoning) (w : NodeWorld) → AllKeep hosts t w → IsThere w n → StandsAt n t r w → ExactAt n t r (controller_ticks w)
-  near_exact t r w all there stands = by_node w.controller refl all.controller where
-    by_node : (o : Option Running) → w.controller ≡ o → NodeKeeps 0 hosts t w.memory o → ExactAt n t r (controller_ticks w)
-    by_node None e k =
-        let off : NodeWorld × List Entry = (record w { sites = map (λ (s : Site). record s { link = ticks_at_controller s.link [] GoesOut }) w.sites }, []) in
-        let off_is : controller_ticks w ≡ off = rw e refl in
-        subst (ExactAt n t r) (sym off_is) (plain_exact n t r w off (record {
-          plain = tt;
-          memory_is = refl;
-          controller = refl;
-          change = λ (s : Site). record s { link = ticks_at_controller s.link [] GoesOut };
-          sites = refl;
-          host = λ s. refl;
-          memory = λ s. refl;
-          node = λ s. refl;
-        }) there stands)
-    by_node (Some q) e k =
-        let begun : Work = work_of q w.memory.plan (λ h. (link_to w.sites h).controller) [] in
-        let work : Work = steps TimePasses begun in
-        let more : List Entry = flat_map (λ (s : Site). frames_noted Controller s.host s.link work) w.sites in
-        let change : Site → Site = λ (s : Site). record s { link = ticked_so s.link (is_late_at work s.host) (turns_at work s.host) (ending_of work) } in
-        let on : NodeWorld × List Entry =
-        (record { memory = after_planned work.writes w.memory; controller = runs_on work; sites = map change w.sites }, work.entries ++ more) in
-        let on_is : controller_ticks w ≡ on = rw e refl in
-        subst (ExactAt n t r) (sym on_is) (run_exact hosts n t r w on (record {
-          running = q;
-          was = e;
-          work = work;
-          more = more;
-          plain = plain_flat (λ (s : Site). frames_noted Controller s.host s.link work) (λ s. plain_frames Controller s.host s.link work) w.sites;
-          fine = steps_fine 0 hosts w.memory t (inl refl) are TimePasses begun
-              (runs_begun 0 hosts t w.memory q (λ h. (link_to w.sites h).controller) [] tt k.runs) k.runs.on;
-          memory_is = refl;
-          controller_is = refl;
-          entries_are = refl;
-          change = change;
-          sites = refl;
-          host = λ s. refl;
-          memory = λ s. refl;
-          node = λ s. refl;
-        }) there stands)
+  near_exact t r w all there stands =
+      by_controller_tick (ExactAt n t r) w
+      (λ e. plain_exact n t r w (record w { sites = map site_unticked w.sites }, []) (record {
+        plain = tt;
+        memory_is = refl;
+        controller = refl;
+        change = site_unticked;
+        sites = refl;
+        host = λ s. refl;
+        memory = λ s. refl;
+        node = λ s. refl;
+      }) there stands)
+      (λ q e.
+      let k : NodeKeeps 0 hosts t w.memory (Some q) = subst (NodeKeeps 0 hosts t w.memory) e all.controller in
+      let work : Work = near_tick w q in
+      run_exact hosts n t r w (after_near_tick w work) (record {
+        running = q;
+        was = e;
+        work = work;
+        more = flat_map (λ (s : Site). frames_noted Controller s.host s.link work) w.sites;
+        plain = plain_flat (λ (s : Site). frames_noted Controller s.host s.link work) (λ s. plain_frames Controller s.host s.link work) w.sites;
+        fine = steps_fine 0 hosts w.memory t (inl refl) are TimePasses (work_of q w.memory.plan (λ h. (link_to w.sites h).controller) [])
+            (runs_begun 0 hosts t w.memory q (λ h. (link_to w.sites h).controller) [] tt k.runs) k.runs.on;
+        memory_is = refl;
+        controller_is = refl;
+        entries_are = refl;
+        change = site_ticked work;
+        sites = refl;
+        host = λ s. refl;
+        memory = λ s. refl;
+        node = λ s. refl;
+      }) there stands)
 
   far_exact : (t : List Entry) (r : Reckoning) (w : NodeWorld) → AllKeep hosts t w → IsThere w n → StandsAt n t r w
       → ExactAt n t r (record w { sites = (hosts_tick w.sites).0 }, (hosts_tick w.sites).1)

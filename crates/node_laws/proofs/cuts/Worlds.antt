@@ -1,19 +1,19 @@
 -- What a step of the controller or of a host leaves of what is known of each node.
 use Rattle.node_laws.proofs.Words.{AllByRecursion, AllKeep, AreHosts, Comes, Controller, Entry, Host, IsHost, IsOnOrder, IsPlain, List, Memory, NodeKeeps}
-use Rattle.node_laws.proofs.Words.{NodeWorld, None, Option, Reckoning, Running, Site, SiteKeeps, Some, StillRuns, Work, [], after_controller, after_host}
-use Rattle.node_laws.proofs.Words.{after_planned, all_append, ap, arith, arrival, by_option, by_test, changed_if, comes_to, controller_does, controller_work}
-use Rattle.node_laws.proofs.Words.{entries_for, eq-eqb, eqb, eqb-false, eqb-true, exchanged, false, flat_map, frames_noted, host_does, host_work, inl, inr}
-use Rattle.node_laws.proofs.Words.{is_some, link_after_controller, link_to, map, memory_at, ne_eqb, near_end_in, node_at, refl, runs_on, site_at, subst, sym}
-use Rattle.node_laws.proofs.Words.{wires_for, with_site, work_of, ℕ, ◌++◌, ◌∙◌, ◌∷◌, ◌≡◌, ◌⊎◌}
+use Rattle.node_laws.proofs.Words.{NodeWorld, Reckoning, Running, Site, SiteKeeps, Some, StillRuns, Work, [], after_controller, after_host, after_host_step}
+use Rattle.node_laws.proofs.Words.{after_planned, all_append, ap, arith, arrival, by_controller, by_host, by_test, changed_if, comes_to, controller_does}
+use Rattle.node_laws.proofs.Words.{controller_work, entries_for, eq-eqb, eqb, eqb-false, eqb-true, exchanged, false, flat_map, frames_noted, host_does}
+use Rattle.node_laws.proofs.Words.{host_work, inl, inr, is_some, link_after_controller, link_to, map, memory_at, ne_eqb, near_end_in, node_at, refl, runs_on}
+use Rattle.node_laws.proofs.Words.{site_at, subst, sym, wires_for, with_site, work_of, ℕ, ◌++◌, ◌∙◌, ◌∷◌, ◌≡◌, ◌⊎◌}
 use Rattle.node_laws.proofs.kept.Plainly.{plain_entries, plain_flat}
 use Rattle.node_laws.proofs.kept.Doing.{GoesOn_or_lost}
 use Rattle.node_laws.proofs.kept.Standing.{runs_begun, told_ended}
 use Rattle.node_laws.proofs.kept.Sites.{site_found}
 use Rattle.node_laws.proofs.kept.Worlds.{IsStep, plain_frames}
-use Rattle.node_laws.proofs.kept.Reckoned.{IsNothingFor, plain_idles, other_idles}
+use Rattle.node_laws.proofs.kept.Reckoned.{IsNothingFor, other_idles, plain_idles}
 use Rattle.node_laws.proofs.telling.Events.{site_map}
 use Rattle.node_laws.proofs.telling.Nodes.{site_host}
-use Rattle.node_laws.proofs.cuts.Standing.{Stands, Exact, exact_idle, stands_same, exact_step}
+use Rattle.node_laws.proofs.cuts.Standing.{Exact, Stands, exact_idle, exact_step, stands_same}
 
 -- ## Nodes of a world
 
@@ -195,35 +195,31 @@ module _ (hosts : List ℕ) (are : AreHosts hosts) where
   -- what is there does something in a step of the controller
   pub controller_exact : (n : ℕ) (t : List Entry) (r : Reckoning) (w : NodeWorld) (h : ℕ) (comes : Comes) (f : Work → Work) → AllKeep hosts t w
       → IsStep hosts are 0 hosts f → IsThere w n → StandsAt n t r w → ExactAt n t r (controller_does w h comes f)
-  controller_exact n t r w h comes f all step there stands = by_node w.controller refl all.controller where
-    by_node : (o : Option Running) → w.controller ≡ o → NodeKeeps 0 hosts t w.memory o → ExactAt n t r (controller_does w h comes f)
-    by_node None e k =
-        let off_is : controller_does w h comes f ≡ (w, []) = rw e refl in
-        subst (ExactAt n t r) (sym off_is) (none_exact n t r w there stands)
-    by_node (Some q) e k =
-        let work : Work = controller_work w q h comes f in
-        let begun : List Entry = entries_for h (arrival Controller (link_to w.sites h) comes) in
-        let on_is : controller_does w h comes f ≡ after_controller w h comes work = rw e refl in
-        subst (ExactAt n t r) (sym on_is)
-        (run_exact hosts n t r w (after_controller w h comes work) (record {
-          running = q;
-          was = e;
-          work = work;
-          more = flat_map (λ (s : Site). frames_noted Controller s.host (wires_for s.link (comes_to h comes s.host)) work) w.sites;
-          plain = plain_flat (λ (s : Site). frames_noted Controller s.host (wires_for s.link (comes_to h comes s.host)) work)
-              (λ s. plain_frames Controller s.host (wires_for s.link (comes_to h comes s.host)) work) w.sites;
-          fine = step w.memory t (work_of q w.memory.plan (λ k. near_end_in (link_to w.sites k) (comes_to h comes k)) begun)
-              (runs_begun 0 hosts t w.memory q (λ k. near_end_in (link_to w.sites k) (comes_to h comes k)) begun
-              (plain_entries h (arrival Controller (link_to w.sites h) comes)) k.runs) k.runs.on;
-          memory_is = refl;
-          controller_is = refl;
-          entries_are = refl;
-          change = link_after_controller h comes work;
-          sites = refl;
-          host = λ s. refl;
-          memory = λ s. refl;
-          node = λ s. refl;
-        }) there stands)
+  controller_exact n t r w h comes f all step there stands =
+      by_controller (ExactAt n t r) w h comes f (none_exact n t r w there stands)
+      (λ q e.
+      let k : NodeKeeps 0 hosts t w.memory (Some q) = subst (NodeKeeps 0 hosts t w.memory) e all.controller in
+      let work : Work = controller_work w q h comes f in
+      let begun : List Entry = entries_for h (arrival Controller (link_to w.sites h) comes) in
+      run_exact hosts n t r w (after_controller w h comes work) (record {
+        running = q;
+        was = e;
+        work = work;
+        more = flat_map (λ (s : Site). frames_noted Controller s.host (wires_for s.link (comes_to h comes s.host)) work) w.sites;
+        plain = plain_flat (λ (s : Site). frames_noted Controller s.host (wires_for s.link (comes_to h comes s.host)) work)
+            (λ s. plain_frames Controller s.host (wires_for s.link (comes_to h comes s.host)) work) w.sites;
+        fine = step w.memory t (work_of q w.memory.plan (λ k. near_end_in (link_to w.sites k) (comes_to h comes k)) begun)
+            (runs_begun 0 hosts t w.memory q (λ k. near_end_in (link_to w.sites k) (comes_to h comes k)) begun
+            (plain_entries h (arrival Controller (link_to w.sites h) comes)) k.runs) k.runs.on;
+        memory_is = refl;
+        controller_is = refl;
+        entries_are = refl;
+        change = link_after_controller h comes work;
+        sites = refl;
+        host = λ s. refl;
+        memory = λ s. refl;
+        node = λ s. refl;
+      }) there stands)
 
   -- and in one of a host
   pub host_exact : (n : ℕ) (t : List Entry) (r : Reckoning) (w : NodeWorld) (h : ℕ) (comes : Comes) (f : Work → Work) → AllKeep hosts t w
@@ -231,39 +227,33 @@ module _ (hosts : List ℕ) (are : AreHosts hosts) where
       → (before : List Entry) (work : Work) → work.core ≡ q.core → StillRuns x.host (x.host ∷ []) x.memory before work
       → GoesOn_or_lost x.host (x.host ∷ []) x.memory before (f work))
       → IsThere w n → StandsAt n t r w → ExactAt n t r (host_does w h comes f)
-  host_exact n t r w h comes f all step there stands = by_option (site_at w.sites h)
-      (λ here. let off_is : host_does w h comes f ≡ (w, []) = rw here refl in
-      subst (ExactAt n t r) (sym off_is) (none_exact n t r w there stands))
-      (λ x here. let known = site_found (SiteKeeps t) IsHost w.sites h x all.sites (subst (AllByRecursion IsHost) (sym all.hosts_are) are.all) here in
-      by_node x here x.node refl known.0 known.1 known.2) where
-        by_node : (x : Site) → site_at w.sites h ≡ Some x → (o : Option Running) → x.node ≡ o → NodeKeeps x.host (x.host ∷ []) t x.memory o
-            → IsHost x.host → x.host ≡ h → ExactAt n t r (host_does w h comes f)
-        by_node x here None e k host same =
-            let off_is : host_does w h comes f ≡ (w, []) = rw here (rw e refl) in
-            subst (ExactAt n t r) (sym off_is) (none_exact n t r w there stands)
-        by_node x here (Some q) e k host same =
-            let work : Work = host_work x q comes f in
-            let begun : List Entry = entries_for x.host (arrival Host (exchanged x.link) comes) in
-            let more : List Entry = frames_noted Host h (wires_for (exchanged x.link) comes) work in
-            let on_is : host_does w h comes f ≡ (record w { sites = with_site h (after_host comes work) w.sites }, work.entries ++ more) = rw here (rw e refl)
-            in
-            let fine : GoesOn_or_lost x.host (x.host ∷ []) x.memory t work =
-            step x q here e host k.runs.on t (work_of q x.memory.plan (λ k. near_end_in (exchanged x.link) comes) begun) refl
-            (runs_begun x.host (x.host ∷ []) t x.memory q (λ k. near_end_in (exchanged x.link) comes) begun
-            (plain_entries x.host (arrival Host (exchanged x.link) comes)) k.runs) in
-            host_run_exact n t r w h (host_does w h comes f) (record {
-              site = x;
-              there = here;
-              is_host = subst IsHost same host;
-              running = q;
-              was = e;
-              work = work;
-              more = more;
-              plain = plain_frames Host h (wires_for (exchanged x.link) comes) work;
-              fine = subst (λ k. GoesOn_or_lost k (k ∷ []) x.memory t work) same fine;
-              change = after_host comes work;
-              host = λ s. refl;
-              memory_is = refl;
-              node_is = refl;
-              is = on_is;
-            }) there stands
+  host_exact n t r w h comes f all step there stands =
+      by_host (ExactAt n t r) w h comes f (none_exact n t r w there stands)
+      (λ x q here e.
+      let known = site_found (SiteKeeps t) IsHost w.sites h x all.sites (subst (AllByRecursion IsHost) (sym all.hosts_are) are.all) here in
+      let k : NodeKeeps x.host (x.host ∷ []) t x.memory (Some q) = subst (NodeKeeps x.host (x.host ∷ []) t x.memory) e known.0 in
+      let host : IsHost x.host = known.1 in
+      let same : x.host ≡ h = known.2 in
+      let work : Work = host_work x q comes f in
+      let begun : List Entry = entries_for x.host (arrival Host (exchanged x.link) comes) in
+      let more : List Entry = frames_noted Host h (wires_for (exchanged x.link) comes) work in
+      let fine : GoesOn_or_lost x.host (x.host ∷ []) x.memory t work =
+      step x q here e host k.runs.on t (work_of q x.memory.plan (λ k. near_end_in (exchanged x.link) comes) begun) refl
+      (runs_begun x.host (x.host ∷ []) t x.memory q (λ k. near_end_in (exchanged x.link) comes) begun
+      (plain_entries x.host (arrival Host (exchanged x.link) comes)) k.runs) in
+      host_run_exact n t r w h (after_host_step w h comes x work) (record {
+        site = x;
+        there = here;
+        is_host = subst IsHost same host;
+        running = q;
+        was = e;
+        work = work;
+        more = more;
+        plain = plain_frames Host h (wires_for (exchanged x.link) comes) work;
+        fine = subst (λ k. GoesOn_or_lost k (k ∷ []) x.memory t work) same fine;
+        change = after_host comes work;
+        host = λ s. refl;
+        memory_is = refl;
+        node_is = refl;
+        is = refl;
+      }) there stands)

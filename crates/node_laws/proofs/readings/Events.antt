@@ -1,19 +1,20 @@
 -- What is read of all hosts of a world as one of them acts, and over a tick.
 use Rattle.node_laws.proofs.Words.{AllByRecursion, AllRead, AreDifferent, AreHosts, AreInitsShort, Controller, Deed, Entry, GoesOut, Host, IfHostRuns, IfZero}
-use Rattle.node_laws.proofs.Words.{IsHost, Link, List, MayDo, Message, NoInput, NodeWorld, None, NumberedEnd, Option, Orders, Running, Sends, Site, SiteReads}
-use Rattle.node_laws.proofs.Words.{Some, TimePasses, Work, [], after_host, after_planned, aged, aged_entries, all_aged, ap, append-nil, append_assoc, ap₂}
-use Rattle.node_laws.proofs.Words.{arith, beginning, begins_with, by_option, cond_both, controller_ticks, ending_of, entries_for, eqb, exchanged, false}
-use Rattle.node_laws.proofs.Words.{flat_map, frames_noted, give_refusal, host_does, host_ticks, host_work, hosts_tick, init_of, is_command_message, is_late_at}
-use Rattle.node_laws.proofs.Words.{link_to, map, ne_eqb, new_site, new_world, refl, replicate, runs_on, sending, site_at, steps, subst, sym, tick_host}
-use Rattle.node_laws.proofs.Words.{ticked_so, ticks_at_controller, turns_at, wires_for, with_site, work_of, world_ticks, ℕ, ◌&&◌, ◌++◌, ◌∙◌, ◌∷◌, ◌≡◌}
+use Rattle.node_laws.proofs.Words.{IsHost, Link, List, MayDo, Message, NoInput, NodeWorld, None, NumberedEnd, Orders, Running, Sends, Site, SiteReads, Some}
+use Rattle.node_laws.proofs.Words.{TimePasses, Work, [], after_host, after_host_step, after_near_tick, aged, aged_entries, all_aged, ap, append-nil}
+use Rattle.node_laws.proofs.Words.{append_assoc, ap₂, arith, beginning, begins_with, by_controller_tick, by_host, by_host_tick, by_option, cond_both}
+use Rattle.node_laws.proofs.Words.{controller_ticks, ending_of, entries_for, eqb, exchanged, false, flat_map, frames_noted, give_refusal, host_does, host_tick}
+use Rattle.node_laws.proofs.Words.{host_ticks, host_work, hosts_tick, init_of, is_command_message, is_late_at, link_to, map, ne_eqb, near_tick, new_site}
+use Rattle.node_laws.proofs.Words.{new_world, refl, replicate, sending, site_at, site_ticked, site_unticked, steps, subst, sym, tick_host, turns_at, wires_for}
+use Rattle.node_laws.proofs.Words.{work_of, world_ticks, ℕ, ◌&&◌, ◌++◌, ◌∙◌, ◌∷◌, ◌≡◌}
 use Rattle.std.proofs.lemmas.Bool.{eqb-false}
-use Rattle.node_laws.proofs.kept.Sites.{site_found, hosts_same, hosts_with}
+use Rattle.node_laws.proofs.kept.Sites.{hosts_same, hosts_with, site_found}
 use Rattle.node_laws.proofs.telling.Frames.{wires_all}
 use Rattle.node_laws.proofs.readings.Silent.{IsQuiet}
-use Rattle.node_laws.proofs.readings.Sites.{acts_reads, sending_may, beginning_may, ticks_read, others_read}
+use Rattle.node_laws.proofs.readings.Sites.{acts_reads, beginning_may, others_read, sending_may, ticks_read}
 use Rattle.node_laws.proofs.readings.Hushed.{AreHushed}
-use Rattle.node_laws.proofs.readings.Elsewhere.{AreSilent, silent-append, silent_flat, quiet_silent, IsAway, all_do, steps_away}
-use Rattle.node_laws.proofs.readings.Worlds.{hosts_in, frames_silent, none_zero, map_reads, with_reads, controller_away, host_away, runs_zero}
+use Rattle.node_laws.proofs.readings.Elsewhere.{AreSilent, IsAway, all_do, quiet_silent, silent-append, silent_flat, steps_away}
+use Rattle.node_laws.proofs.readings.Worlds.{controller_away, frames_silent, host_away, hosts_in, map_reads, none_zero, runs_zero, with_reads}
 use Rattle.node_laws.proofs.links.Worlds.{so_host}
 
 -- ## The beginning
@@ -36,44 +37,23 @@ module _ (hosts : List ℕ) (are : AreHosts hosts) where
   pub far_acts : (t : List Entry) (w : NodeWorld) (h : ℕ) (deeds : List Deed) → AllRead hosts t w → ((k : ℕ) → AreHushed k deeds)
       → ((x : Site) → site_at w.sites h ≡ Some x → MayDo h (λ order. give_refusal x.link.host.side (1, order) ≡ None) deeds)
       → AllRead hosts (t ++ (host_does w h NoInput (begins_with h deeds)).1) (host_does w h NoInput (begins_with h deeds)).0
-  far_acts t w h deeds all hushed may = by_option (site_at w.sites h)
-      (λ e. subst Fine (sym (none_is e)) nothing)
-      (λ x e. let known = site_found (SiteReads t) IsHost w.sites h x all.sites (subst (AllByRecursion IsHost) (sym all.hosts_are) are.all) e in
-      by_node x e known.0 known.1 known.2 x.node refl) where
-        f : Work → Work
-        f = begins_with h deeds
-
-        Fine : NodeWorld × List Entry → Type 0
-        Fine p = AllRead hosts (t ++ p.1) p.0
-
-        nothing : Fine (w, [])
-        nothing = subst (λ l. AllRead hosts l w) (sym (append-nil t)) all
-
-        none_is : site_at w.sites h ≡ None → host_does w h NoInput f ≡ (w, [])
-        none_is e = rw e refl
-
-        off_is : (x : Site) → site_at w.sites h ≡ Some x → x.node ≡ None → host_does w h NoInput f ≡ (w, [])
-        off_is x here e = rw here (rw e refl)
-
-        on_is : (x : Site) (r : Running) → site_at w.sites h ≡ Some x → x.node ≡ Some r → host_does w h NoInput f
-            ≡ (
-              record w { sites = with_site h (after_host NoInput (host_work x r NoInput f)) w.sites },
-              (host_work x r NoInput f).entries ++ frames_noted Host h (wires_for (exchanged x.link) NoInput) (host_work x r NoInput f),
-            )
-        on_is x r here e = rw here (rw e refl)
-
-        by_node : (x : Site) → site_at w.sites h ≡ Some x → SiteReads t x → IsHost x.host → x.host ≡ h → (o : Option Running) → x.node ≡ o
-            → Fine (host_does w h NoInput f)
-        by_node x here keeps host same None e = subst Fine (sym (off_is x here e)) nothing
-        by_node x here keeps host same (Some r) e = subst Fine (sym (on_is x r here e)) (record {
+  far_acts t w h deeds all hushed may =
+      by_host (λ p. AllRead hosts (t ++ p.1) p.0) w h NoInput (begins_with h deeds) (subst (λ l. AllRead hosts l w) (sym (append-nil t)) all)
+      (λ x r here e.
+      let known = site_found (SiteReads t) IsHost w.sites h x all.sites (subst (AllByRecursion IsHost) (sym all.hosts_are) are.all) here in
+      on x r here e known.0 known.1 known.2) where
+        on : (x : Site) (r : Running) → site_at w.sites h ≡ Some x → x.node ≡ Some r → SiteReads t x → IsHost x.host → x.host ≡ h
+            → AllRead hosts (t ++ (after_host_step w h NoInput x (host_work x r NoInput (begins_with h deeds))).1)
+            (after_host_step w h NoInput x (host_work x r NoInput (begins_with h deeds))).0
+        on x r here e keeps host same = record {
           controller = all.controller;
           hosts_are = hosts_with h (after_host NoInput k) (λ s. refl) w.sites ∙ all.hosts_are;
           sites = with_reads t (k.entries ++ frames) h (after_host NoInput k)
               (λ n off. silent-append n k.entries frames (away n off).so (frames_silent n Host h (wires_for (exchanged x.link) NoInput) k)) w.sites x
               (subst AreDifferent (sym all.hosts_are) are.different) here changed all.sites;
-        }) where
+        } where
           k : Work
-          k = host_work x r NoInput f
+          k = host_work x r NoInput (begins_with h deeds)
 
           frames : List Entry
           frames = frames_noted Host h (wires_for (exchanged x.link) NoInput) k
@@ -124,48 +104,36 @@ module _ (hosts : List ℕ) (are : AreHosts hosts) where
   }
 
   near_ticks : (t : List Entry) (w : NodeWorld) → AllRead hosts t w → AllRead hosts (t ++ (controller_ticks w).1) (controller_ticks w).0
-  near_ticks t w all = by_node w.controller refl all.controller where
-    Fine : NodeWorld × List Entry → Type 0
-    Fine p = AllRead hosts (t ++ p.1) p.0
-
+  near_ticks t w all =
+      by_controller_tick (λ p. AllRead hosts (t ++ p.1) p.0) w
+      (λ e. record {
+        controller = subst IfZero (sym e) tt;
+        hosts_are = hosts_same site_unticked (λ s. refl) w.sites ∙ all.hosts_are;
+        sites = map_reads t [] site_unticked (λ s. refl) (λ s. refl) (λ s. ap (λ (x : NumberedEnd). x.side) (tick_host s.link [] GoesOut))
+            (λ k host. tt) w.sites known all.sites;
+      })
+      (λ r e. on r (subst IfZero e all.controller))
+    where
     known : AllByRecursion IsHost (hosts_in w.sites)
     known = subst (AllByRecursion IsHost) (sym all.hosts_are) are.all
 
-    by_node : (o : Option Running) → w.controller ≡ o → IfZero o → Fine (controller_ticks w)
-    by_node None e zero = subst Fine (sym (off_is e)) (record {
-      controller = subst IfZero (sym e) tt;
-      hosts_are = hosts_same alone (λ s. refl) w.sites ∙ all.hosts_are;
-      sites = map_reads t [] alone (λ s. refl) (λ s. refl) (λ s. ap (λ (x : NumberedEnd). x.side) (tick_host s.link [] GoesOut))
-          (λ k host. tt) w.sites known all.sites;
-    }) where
-      alone : Site → Site
-      alone s = record s { link = ticks_at_controller s.link [] GoesOut }
-
-      off_is : w.controller ≡ None → controller_ticks w ≡ (record w { sites = map alone w.sites }, [])
-      off_is e = rw e refl
-    by_node (Some r) e zero = subst Fine (sym (on_is e)) (record {
+    on : (r : Running) → IfZero (Some r) → AllRead hosts (t ++ (after_near_tick w (near_tick w r)).1) (after_near_tick w (near_tick w r)).0
+    on r zero = record {
       controller = runs_zero k (away 1 (omega arith, omega arith)).number;
-      hosts_are = hosts_same ticked (λ s. refl) w.sites ∙ all.hosts_are;
-      sites = map_reads t (k.entries ++ frames) ticked (λ s. refl) (λ s. refl)
+      hosts_are = hosts_same (site_ticked k) (λ s. refl) w.sites ∙ all.hosts_are;
+      sites = map_reads t (k.entries ++ frames) (site_ticked k) (λ s. refl) (λ s. refl)
           (λ s. ap (λ (x : NumberedEnd). x.side) (so_host s.link (is_late_at k s.host) (turns_at k s.host) (ending_of k)))
           (λ n host. silent-append n k.entries frames (away n host).so (silent_flat n (λ (s : Site). frames_noted Controller s.host s.link k)
           (λ s. frames_silent n Controller s.host s.link k) w.sites)) w.sites known all.sites;
-    }) where
+    } where
       begun : Work
       begun = work_of r w.memory.plan (λ h. (link_to w.sites h).controller) []
 
       k : Work
       k = steps TimePasses begun
 
-      ticked : Site → Site
-      ticked s = record s { link = ticked_so s.link (is_late_at k s.host) (turns_at k s.host) (ending_of k) }
-
       frames : List Entry
       frames = flat_map (λ (s : Site). frames_noted Controller s.host s.link k) w.sites
-
-      on_is : w.controller ≡ Some r → controller_ticks w
-          ≡ (record { memory = after_planned k.writes w.memory; controller = runs_on k; sites = map ticked w.sites }, k.entries ++ frames)
-      on_is e = rw e refl
 
       away : (n : ℕ) (host : IsHost n) → IsAway n 0 (none_zero n host) Controller k
       away n host =
@@ -174,18 +142,13 @@ module _ (hosts : List ℕ) (are : AreHosts hosts) where
 
   -- what a host notes in a tick tells nothing of another one
   tick_silent : (t : List Entry) (s : Site) (k : ℕ) → IsHost s.host → eqb s.host k ≡ false → SiteReads t s → AreSilent k (host_ticks s).1
-  tick_silent t s k host off keeps = by_node s.node refl where
-    by_node : (o : Option Running) → s.node ≡ o → AreSilent k (host_ticks s).1
-    by_node None e = rw e tt
-    by_node (Some r) e = rw e (silent-append k work.entries (frames_noted Host s.host (exchanged s.link) work)
-        (steps_away k s.host off Host TimePasses begun
-        (host_away s r host (subst (IfHostRuns s.host s.link) e keeps.runs) k off s.link.host [] tt)).so
-        (frames_silent k Host s.host (exchanged s.link) work)) where
-          begun : Work
-          begun = work_of r s.memory.plan (λ n. s.link.host) []
-
-          work : Work
-          work = steps TimePasses begun
+  tick_silent t s k host off keeps =
+      by_host_tick (λ p. AreSilent k p.1) s (λ e. tt)
+      (λ r e. let work : Work = host_tick s r in
+      silent-append k work.entries (frames_noted Host s.host (exchanged s.link) work)
+      (steps_away k s.host off Host TimePasses (work_of r s.memory.plan (λ n. s.link.host) [])
+      (host_away s r host (subst (IfHostRuns s.host s.link) e keeps.runs) k off s.link.host [] tt)).so
+      (frames_silent k Host s.host (exchanged s.link) work))
 
   all_tick_silent : (t : List Entry) (k : ℕ) (sites : List Site) → AllByRecursion IsHost (hosts_in sites) → AllByRecursion (λ h. eqb h k ≡ false)
       (hosts_in sites)

@@ -4,14 +4,14 @@ use Rattle.node_laws.proofs.Words.{End, EndEvent, Ending, Entry, Gives, GoesOut,
 use Rattle.node_laws.proofs.Words.{IsOrderly, Line, Link, LinkEnd, LinkInput, LinkState, List, Lose, Loses, Loss, Memory, NextFrame, NoInput, NodeWorld, None}
 use Rattle.node_laws.proofs.Words.{NoticesAreUp, NumberedEnd, OnFirst, Option, Port, Reset, Resets, Running, Site, Some, Starts, Step, Takes, Ticks, TimePasses}
 use Rattle.node_laws.proofs.Words.{Turn, Up, Work, [], after_controller, after_host, after_input, after_planned, aged, all_aged, all_so, ap, arith, arrival, at}
-use Rattle.node_laws.proofs.Words.{beginning, begins_with, boot_found, boot_writes, boot_written, boots, by_boot, by_memory, by_option, by_power, by_running}
-use Rattle.node_laws.proofs.Words.{by_test, cases_Bool, changed_if, comes_at, comes_to, cond, controller_does, controller_ticks, controller_work, counts, end_c}
-use Rattle.node_laws.proofs.Words.{end_h, ending_of, entries_for, eqb, eqb-true, exchanged, false, frame_lost, happenings, happens, has_input, host_cut}
-use Rattle.node_laws.proofs.Words.{host_does, host_ticks, host_work, hosts_in, hosts_tick, inl, input_of, inr, is_late_at, is_some, link_after_controller}
-use Rattle.node_laws.proofs.Words.{link_to, links_of, loses_power_at, map, memory_at, min, ne_eqb, near_end_in, new_desk, new_world, not, port_at, port_for}
-use Rattle.node_laws.proofs.Words.{refl, runs_on, seen_from, sending, site_at, steps, steps_at_controller, subst, sym, tick_host, ticked_so}
-use Rattle.node_laws.proofs.Words.{ticks_at_controller, true, true≢false, turns_at, with_error, with_memory, with_site, work_of, world_after, world_step}
-use Rattle.node_laws.proofs.Words.{world_ticks, ℕ, ◌+◌, ◌∙◌, ◌∷◌, ◌≡◌, ◌⊎◌}
+use Rattle.node_laws.proofs.Words.{beginning, begins_with, boot_found, boot_writes, boot_written, boots, by_boot, by_coming, by_controller, by_controller_tick}
+use Rattle.node_laws.proofs.Words.{by_host, by_memory, by_option, by_power, by_running, by_test, cases_Bool, changed_if, comes_at, comes_to, cond}
+use Rattle.node_laws.proofs.Words.{controller_does, controller_ticks, controller_work, counts, end_c, end_h, ending_of, entries_for, eqb, eqb-true, exchanged}
+use Rattle.node_laws.proofs.Words.{false, frame_lost, happenings, happens, has_input, host_cut, host_does, host_ticks, host_work, hosts_in, hosts_tick, inl}
+use Rattle.node_laws.proofs.Words.{input_of, inr, is_late_at, is_some, link_after_controller, link_to, links_of, loses_power_at, map, memory_at, min, ne_eqb}
+use Rattle.node_laws.proofs.Words.{near_end_in, new_desk, new_world, not, port_at, port_for, refl, runs_on, sending, site_at, site_unticked, steps}
+use Rattle.node_laws.proofs.Words.{steps_at_controller, subst, sym, tick_host, ticked_so, ticks_at_controller, true, true≢false, turns_at, with_error}
+use Rattle.node_laws.proofs.Words.{with_memory, with_site, work_of, world_after, world_step, world_ticks, ℕ, ◌+◌, ◌∙◌, ◌∷◌, ◌≡◌, ◌⊎◌}
 use Rattle.node_laws.proofs.links.Ends.{here_host}
 use Rattle.node_laws.proofs.links.Noticing.{at_all, at_host}
 use Rattle.node_laws.proofs.telling.Events.{comes_goes, site_map}
@@ -204,54 +204,21 @@ module _ (w : NodeWorld) (r : Running) (runs : w.controller ≡ Some r) (has : H
 
 controller_up : (w : NodeWorld) (h : ℕ) (comes : Comes) (i : LinkInput) → IsOrderly w → NoticesAreUp w → input_of (link_to w.sites h) comes ≡ Some i
     → NoticesAreUp (controller_does w h comes (steps (AtEnd h i))).0
-controller_up w h comes i orderly a input = go w.controller refl orderly.controller a where
-  off_is : w.controller ≡ None → (controller_does w h comes (steps (AtEnd h i))).0 ≡ w
-  off_is e = rw e refl
-
-  on_is : (r : Running) → w.controller ≡ Some r
-      → (controller_does w h comes (steps (AtEnd h i))).0 ≡ (after_controller w h comes (controller_work w r h comes (steps (AtEnd h i)))).0
-  on_is r e = rw e refl
-
-  go : (o : Option Running) → w.controller ≡ o → IfItRuns 0 (hosts_in w.sites) o → IfNoticedUp w.sites o
-      → NoticesAreUp (controller_does w h comes (steps (AtEnd h i))).0
-  go None e has b = subst NoticesAreUp (sym (off_is e)) a
-  go (Some r) e has b = subst NoticesAreUp (sym (on_is r e)) (near_step w r e has b h comes i input)
+controller_up w h comes i orderly a input =
+    by_controller (λ p. NoticesAreUp p.0) w h comes (steps (AtEnd h i)) a
+    (λ r e. near_step w r e (subst (IfItRuns 0 (hosts_in w.sites)) e orderly.controller) (subst (IfNoticedUp w.sites) e a) h comes i input)
 
 host_up : (w : NodeWorld) (h : ℕ) (comes : Comes) (f : Work → Work) → NoticesAreUp w → NoticesAreUp (host_does w h comes f).0
-host_up w h comes f a = by_option (site_at w.sites h) (λ e. rw e a) (λ x e. by_node x e x.node refl) where
-  off_is : (x : Site) → site_at w.sites h ≡ Some x → x.node ≡ None → (host_does w h comes f).0 ≡ w
-  off_is x here e = rw here (rw e refl)
-
-  on_is : (x : Site) (r : Running) → site_at w.sites h ≡ Some x → x.node ≡ Some r
-      → (host_does w h comes f).0 ≡ record w { sites = with_site h (after_host comes (host_work x r comes f)) w.sites }
-  on_is x r here e = rw here (rw e refl)
-
-  by_node : (x : Site) → site_at w.sites h ≡ Some x → (o : Option Running) → x.node ≡ o → NoticesAreUp (host_does w h comes f).0
-  by_node x here None e = subst NoticesAreUp (sym (off_is x here e)) a
-  by_node x here (Some r) e =
-      subst NoticesAreUp (sym (on_is x r here e))
-      (kept (with_site h (after_host comes (host_work x r comes f)) w.sites) w.sites w.controller
-      (side_with h (after_host comes (host_work x r comes f)) (λ s. refl) (λ s. far_side s.link (Step comes (turns_at (host_work x r comes f) s.host) (ending_of
-      (host_work x r comes f)))) w.sites) a)
+host_up w h comes f a =
+    by_host (λ p. NoticesAreUp p.0) w h comes f a
+    (λ x r here e. let k : Work = host_work x r comes f in
+    kept (with_site h (after_host comes k) w.sites) w.sites w.controller
+    (side_with h (after_host comes k) (λ s. refl) (λ s. far_side s.link (Step comes (turns_at k s.host) (ending_of k))) w.sites) a)
 
 comes_up : (w : NodeWorld) (e : End) (comes : Comes) → IsOrderly w → NoticesAreUp w → NoticesAreUp (comes_at w e comes).0
-comes_up w e comes orderly a = go (input_of (seen_from e (link_to w.sites e.link)) comes) refl e.at_host refl where
-  near_is : (i : LinkInput) → input_of (seen_from e (link_to w.sites e.link)) comes ≡ Some i → e.at_host ≡ false
-      → (comes_at w e comes).0 ≡ (controller_does w e.link comes (steps (AtEnd e.link i))).0
-  near_is i q b = rw q (rw b refl)
-
-  far_is : (i : LinkInput) → input_of (seen_from e (link_to w.sites e.link)) comes ≡ Some i → e.at_host ≡ true
-      → (comes_at w e comes).0 ≡ (host_does w e.link comes (steps (AtEnd e.link i))).0
-  far_is i q b = rw q (rw b refl)
-
-  seen : e.at_host ≡ false → seen_from e (link_to w.sites e.link) ≡ link_to w.sites e.link
-  seen b = rw b refl
-
-  go : (o : Option LinkInput) → input_of (seen_from e (link_to w.sites e.link)) comes ≡ o → (b : Bool) → e.at_host ≡ b → NoticesAreUp (comes_at w e comes).0
-  go None q b z = rw q a
-  go (Some i) q false z =
-      subst NoticesAreUp (sym (near_is i q z)) (controller_up w e.link comes i orderly a (ap (λ l. input_of l comes) (sym (seen z)) ∙ q))
-  go (Some i) q true z = subst NoticesAreUp (sym (far_is i q z)) (host_up w e.link comes (steps (AtEnd e.link i)) a)
+comes_up w e comes orderly a =
+    by_coming (λ p. NoticesAreUp p.0) w e comes a (λ i at q. host_up w e.link comes (steps (AtEnd e.link i)) a)
+    (λ i at q. controller_up w e.link comes i orderly a q)
 
 memory_up : (n : ℕ) (m : Memory) (w : NodeWorld) → NoticesAreUp w → NoticesAreUp (with_memory n m w)
 memory_up n m w a =
@@ -314,20 +281,9 @@ lost_up w e why a = by_test e.at_host
 -- ## Ticks
 
 controller_tick_up : (w : NodeWorld) → IsOrderly w → NoticesAreUp w → NoticesAreUp (controller_ticks w).0
-controller_tick_up w orderly a = go w.controller refl orderly.controller a where
-  k : Running → Work
-  k r = steps TimePasses (work_of r w.memory.plan (λ h. (link_to w.sites h).controller) [])
-
-  on_is : (r : Running) → w.controller ≡ Some r → (controller_ticks w).0 ≡ record {
-    memory = after_planned (k r).writes w.memory;
-    controller = runs_on (k r);
-    sites = map (λ (s : Site). record s { link = ticked_so s.link (is_late_at (k r) s.host) (turns_at (k r) s.host) (ending_of (k r)) }) w.sites;
-  }
-  on_is r e = rw e refl
-
-  go : (o : Option Running) → w.controller ≡ o → IfItRuns 0 (hosts_in w.sites) o → IfNoticedUp w.sites o → NoticesAreUp (controller_ticks w).0
-  go None e has b = rw e tt
-  go (Some r) e has b = subst NoticesAreUp (sym (on_is r e)) (near_tick w r e has b)
+controller_tick_up w orderly a =
+    by_controller_tick (λ p. NoticesAreUp p.0) w (λ e. subst (IfNoticedUp (map site_unticked w.sites)) (sym e) tt)
+    (λ r e. near_tick w r e (subst (IfItRuns 0 (hosts_in w.sites)) e orderly.controller) (subst (IfNoticedUp w.sites) e a))
 
 pub host_tick_side : (s : Site) → (host_ticks s).0.link.controller.side ≡ s.link.controller.side
 host_tick_side s = by_option s.node (λ e. rw e (far_tick s.link [] GoesOut)) (λ r e. rw e (far_tick s.link (turns_at (k r) s.host) (ending_of (k r)))) where

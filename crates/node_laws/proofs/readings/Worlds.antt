@@ -1,16 +1,17 @@
 -- What is read of all hosts of a world over an event.
-use Rattle.node_laws.proofs.Words.{AllByRecursion, AllRead, AreDifferent, AreHosts, AtEnd, Bool, Comes, Controller, Desk, End, Entry, Host, HostRuns}
-use Rattle.node_laws.proofs.Words.{IfHostRuns, IfZero, IsHost, Link, LinkInput, List, NodeWorld, None, NumberedEnd, Option, Plan, Port, Running, Site}
-use Rattle.node_laws.proofs.Words.{SiteReads, Some, Starts, Step, Work, [], activates, after_host, and-false, ap, append-nil, append_assoc, arith, arrival}
-use Rattle.node_laws.proofs.Words.{by_option, by_test, cases_Bool, changed_if, comes_at, comes_to, cond, cond-false, cond-true, controller_does}
-use Rattle.node_laws.proofs.Words.{controller_work, end_c, end_h, ending_of, entries_for, eqb, eqb-false, eqb-true, exchanged, false, flat_map, frames_noted}
-use Rattle.node_laws.proofs.Words.{host_does, host_work, inl, input_of, inr, link_after_controller, link_to, map, ne_eqb, near_end_in, port_at, port_for, refl}
-use Rattle.node_laws.proofs.Words.{runs_on, seen_from, site_at, steps, subst, sym, true, turns_at, wires_for, with_site, work_of, ℕ, ◌++◌, ◌∙◌, ◌∷◌, ◌≡◌, ◌⊎◌}
+use Rattle.node_laws.proofs.Words.{AllByRecursion, AllRead, AreDifferent, AreHosts, AtEnd, Comes, Controller, Desk, End, Entry, Host, HostRuns, IfHostRuns}
+use Rattle.node_laws.proofs.Words.{IfZero, IsHost, Link, LinkInput, List, NodeWorld, NumberedEnd, Option, Plan, Port, Running, Site, SiteReads, Some, Starts}
+use Rattle.node_laws.proofs.Words.{Step, Work, [], activates, after_controller, after_host, after_host_step, and-false, ap, append-nil, append_assoc, arith}
+use Rattle.node_laws.proofs.Words.{arrival, by_coming, by_controller, by_host, by_option, by_test, cases_Bool, changed_if, comes_at, comes_to, cond, cond-false}
+use Rattle.node_laws.proofs.Words.{cond-true, controller_does, controller_work, end_c, end_h, ending_of, entries_for, eqb, eqb-false, eqb-true, exchanged}
+use Rattle.node_laws.proofs.Words.{false, flat_map, frames_noted, host_does, host_work, inl, input_of, inr, link_after_controller, link_to, map, ne_eqb}
+use Rattle.node_laws.proofs.Words.{near_end_in, port_at, port_for, refl, runs_on, site_at, steps, subst, sym, true, turns_at, wires_for, with_site, work_of, ℕ}
+use Rattle.node_laws.proofs.Words.{◌++◌, ◌∙◌, ◌∷◌, ◌≡◌, ◌⊎◌}
 use Rattle.link_laws.specs.entries.Entries.{End as Side}
 use Rattle.node_laws.proofs.links.Ends.{here_host}
-use Rattle.node_laws.proofs.kept.Sites.{site_found, hosts_same, hosts_with}
-use Rattle.node_laws.proofs.readings.Sites.{ending_quiet, arrival_quiet, comes_reads, others_read}
-use Rattle.node_laws.proofs.readings.Elsewhere.{AreSilent, silent-append, silent_flat, quiet_silent, Away, IsAway, steps_away}
+use Rattle.node_laws.proofs.kept.Sites.{hosts_same, hosts_with, site_found}
+use Rattle.node_laws.proofs.readings.Sites.{arrival_quiet, comes_reads, ending_quiet, others_read}
+use Rattle.node_laws.proofs.readings.Elsewhere.{AreSilent, Away, IsAway, quiet_silent, silent-append, silent_flat, steps_away}
 
 -- the hosts
 abbrev pub hosts_in : List Site → List ℕ
@@ -119,16 +120,12 @@ module _ (hosts : List ℕ) (are : AreHosts hosts) where
   -- something comes to an end of the controller
   near_comes : (t : List Entry) (w : NodeWorld) (h : ℕ) (comes : Comes) (i : LinkInput) → AllRead hosts t w
       → AllRead hosts (t ++ (controller_does w h comes (steps (AtEnd h i))).1) (controller_does w h comes (steps (AtEnd h i))).0
-  near_comes t w h comes i all = by_node w.controller refl all.controller where
-    f : Work → Work
-    f = steps (AtEnd h i)
-
-    off_is : w.controller ≡ None → controller_does w h comes f ≡ (w, [])
-    off_is e = rw e refl
-
-    by_node : (o : Option Running) → w.controller ≡ o → IfZero o → AllRead hosts (t ++ (controller_does w h comes f).1) (controller_does w h comes f).0
-    by_node None e zero = subst (λ (p : NodeWorld × List Entry). AllRead hosts (t ++ p.1) p.0) (sym (off_is e)) (nothing t w all)
-    by_node (Some r) e zero = subst (λ (p : NodeWorld × List Entry). AllRead hosts (t ++ p.1) p.0) (sym (on_is e)) (record {
+  near_comes t w h comes i all =
+      by_controller (λ p. AllRead hosts (t ++ p.1) p.0) w h comes (steps (AtEnd h i)) (nothing t w all) (λ r e. on r (subst IfZero e all.controller))
+    where
+    on : (r : Running) → IfZero (Some r) → AllRead hosts (t ++ (after_controller w h comes (controller_work w r h comes (steps (AtEnd h i)))).1)
+        (after_controller w h comes (controller_work w r h comes (steps (AtEnd h i)))).0
+    on r zero = record {
       controller = runs_zero k (away 1 (omega arith, omega arith)).number;
       hosts_are = hosts_same (link_after_controller h comes k) (λ s. refl) w.sites ∙ all.hosts_are;
       sites = map_reads t (k.entries ++ frames) (link_after_controller h comes k) (λ s. refl) (λ s. refl)
@@ -136,15 +133,12 @@ module _ (hosts : List ℕ) (are : AreHosts hosts) where
           (λ n host. silent-append n k.entries frames (away n host).so (silent_flat n (λ (s : Site). frames_noted Controller s.host
           (wires_for s.link (comes_to h comes s.host)) k) (λ s. frames_silent n Controller s.host (wires_for s.link (comes_to h comes s.host)) k) w.sites))
           w.sites (all_hosts t w all) all.sites;
-    }) where
+    } where
       k : Work
-      k = controller_work w r h comes f
+      k = controller_work w r h comes (steps (AtEnd h i))
 
       frames : List Entry
       frames = flat_map (λ (s : Site). frames_noted Controller s.host (wires_for s.link (comes_to h comes s.host)) k) w.sites
-
-      on_is : w.controller ≡ Some r → controller_does w h comes f ≡ Rattle.node_machine.specs.world.World.after_controller w h comes k
-      on_is e = rw e refl
 
       begun : Work
       begun = work_of r w.memory.plan (λ n. near_end_in (link_to w.sites n) (comes_to h comes n)) (entries_for h (arrival Controller (link_to w.sites h) comes))
@@ -159,37 +153,22 @@ module _ (hosts : List ℕ) (are : AreHosts hosts) where
   far_comes : (t : List Entry) (w : NodeWorld) (h : ℕ) (comes : Comes) (i : LinkInput) → AllRead hosts t w
       → input_of (exchanged (link_to w.sites h)) comes ≡ Some i
       → AllRead hosts (t ++ (host_does w h comes (steps (AtEnd h i))).1) (host_does w h comes (steps (AtEnd h i))).0
-  far_comes t w h comes i all input = by_option (site_at w.sites h)
-      (λ e. rw e (nothing t w all))
-      (λ x e. let known = site_found (SiteReads t) IsHost w.sites h x all.sites (all_hosts t w all) e in by_node x e known.0 known.1 known.2 x.node refl) where
-        f : Work → Work
-        f = steps (AtEnd h i)
-
-        Fine : NodeWorld × List Entry → Type 0
-        Fine p = AllRead hosts (t ++ p.1) p.0
-
-        off_is : (x : Site) → site_at w.sites h ≡ Some x → x.node ≡ None → host_does w h comes f ≡ (w, [])
-        off_is x here e = rw here (rw e refl)
-
-        on_is : (x : Site) (r : Running) → site_at w.sites h ≡ Some x → x.node ≡ Some r → host_does w h comes f
-            ≡ (
-              record w { sites = with_site h (after_host comes (host_work x r comes f)) w.sites },
-              (host_work x r comes f).entries ++ frames_noted Host h (wires_for (exchanged x.link) comes) (host_work x r comes f),
-            )
-        on_is x r here e = rw here (rw e refl)
-
-        by_node : (x : Site) → site_at w.sites h ≡ Some x → SiteReads t x → IsHost x.host → x.host ≡ h → (o : Option Running) → x.node ≡ o
-            → Fine (host_does w h comes f)
-        by_node x here keeps host same None e = subst Fine (sym (off_is x here e)) (nothing t w all)
-        by_node x here keeps host same (Some r) e = subst Fine (sym (on_is x r here e)) (record {
+  far_comes t w h comes i all input =
+      by_host (λ p. AllRead hosts (t ++ p.1) p.0) w h comes (steps (AtEnd h i)) (nothing t w all)
+      (λ x r here e. let known = site_found (SiteReads t) IsHost w.sites h x all.sites (all_hosts t w all) here in
+      on x r here e known.0 known.1 known.2) where
+        on : (x : Site) (r : Running) → site_at w.sites h ≡ Some x → x.node ≡ Some r → SiteReads t x → IsHost x.host → x.host ≡ h
+            → AllRead hosts (t ++ (after_host_step w h comes x (host_work x r comes (steps (AtEnd h i)))).1)
+            (after_host_step w h comes x (host_work x r comes (steps (AtEnd h i)))).0
+        on x r here e keeps host same = record {
           controller = all.controller;
           hosts_are = hosts_with h (after_host comes k) (λ s. refl) w.sites ∙ all.hosts_are;
           sites = with_reads t (k.entries ++ frames) h (after_host comes k)
               (λ n off. silent-append n k.entries frames (away n off).so (frames_silent n Host h (wires_for (exchanged x.link) comes) k)) w.sites x
               (subst AreDifferent (sym all.hosts_are) are.different) here changed all.sites;
-        }) where
+        } where
           k : Work
-          k = host_work x r comes f
+          k = host_work x r comes (steps (AtEnd h i))
 
           frames : List Entry
           frames = frames_noted Host h (wires_for (exchanged x.link) comes) k
@@ -213,17 +192,9 @@ module _ (hosts : List ℕ) (are : AreHosts hosts) where
 
   pub comes_read : (t : List Entry) (w : NodeWorld) (e : End) (comes : Comes) → AllRead hosts t w
       → AllRead hosts (t ++ (comes_at w e comes).1) (comes_at w e comes).0
-  comes_read t w e comes all = go (input_of (seen_from e (link_to w.sites e.link)) comes) refl e.at_host refl where
-    Fine : NodeWorld × List Entry → Type 0
-    Fine p = AllRead hosts (t ++ p.1) p.0
-
-    seen : e.at_host ≡ true → seen_from e (link_to w.sites e.link) ≡ exchanged (link_to w.sites e.link)
-    seen b = rw b refl
-
-    go : (o : Option LinkInput) → input_of (seen_from e (link_to w.sites e.link)) comes ≡ o → (b : Bool) → e.at_host ≡ b → Fine (comes_at w e comes)
-    go None q b z = rw q (nothing t w all)
-    go (Some i) q false z = subst Fine (sym (rw q (rw z refl))) (near_comes t w e.link comes i all)
-    go (Some i) q true z = subst Fine (sym (rw q (rw z refl))) (far_comes t w e.link comes i all (ap (λ l. input_of l comes) (sym (seen z)) ∙ q))
+  comes_read t w e comes all =
+      by_coming (λ p. AllRead hosts (t ++ p.1) p.0) w e comes (nothing t w all) (λ i at q. far_comes t w e.link comes i all q)
+      (λ i at q. near_comes t w e.link comes i all)
 
   pub activates_read : (t : List Entry) (w : NodeWorld) (h sync power : ℕ) → AllRead hosts t w
       → AllRead hosts (t ++ (activates w h sync power).1) (activates w h sync power).0
