@@ -11,7 +11,6 @@ use Rattle.node_laws.proofs.Words.{range_with_len, refl, response_deeds, slice_g
 use Rattle.node_laws.proofs.Words.{view_of, ℕ, ◌++◌, ◌+◌, ◌∙◌, ◌∷◌, ◌≡◌, ◌≤◌}
 use Rattle.std.proofs.lemmas.Option.{slice_get_within}
 use Rattle.hcp_packet.specs.declared.MessageKind.TheVariants.{Command as IsCommand, Event as IsEvent}
-use Rattle.trace_model.specs.declared.entry.Entry.TheVariants as entry
 use Rattle.gate_answers.specs.declared.response.Response.TheVariants as response
 use Rattle.gate_admin.specs.View.{hosts_where}
 use Rattle.gate_link.specs.Link.{link_unless_refused}

@@ -1,14 +1,15 @@
 -- Whatever happens, no end of a host has a block set aside.
 use Rattle.node_laws.proofs.Words.{Activates, AllByRecursion, Arms, AsksReset, AtController, AtEnd, Bool, Boots, Comes, CutOff, Deed, Desk, End, EndEvent}
 use Rattle.node_laws.proofs.Words.{Ending, Entry, Gives, GoesOut, Happening, HasNoneAside, Host, IfHostNode, Inits, IsCut, IsGoodSite, KeepsNotices, Link, List}
-use Rattle.node_laws.proofs.Words.{Lose, Loses, Loss, Memory, NextFrame, NoInput, NodeWorld, None, NumberedEnd, Port, Reset, Resets, Site, Some, Starts, Step}
-use Rattle.node_laws.proofs.Words.{Takes, Ticks, TimePasses, Turn, Work, [], after_host, after_planned, aged, all_aged, ap, arrival, at, beginning, begins_with}
+use Rattle.node_laws.proofs.Words.{Loses, Loss, Memory, NextFrame, NoInput, NodeWorld, None, NumberedEnd, Port, Reset, Resets, Site, Some, Starts, Step, Takes}
+use Rattle.node_laws.proofs.Words.{Ticks, TimePasses, Turn, Work, [], after_host, after_planned, aged, all_aged, ap, arrival, at, beginning, begins_with}
 use Rattle.node_laws.proofs.Words.{boot_found, boot_writes, boot_written, boots, by_boot, by_coming, by_controller, by_controller_tick, by_host, by_host_tick}
-use Rattle.node_laws.proofs.Words.{by_memory, by_power, by_running, by_test, changed_if, comes_at, comes_to, cond_both, controller_ticks, controller_work}
-use Rattle.node_laws.proofs.Words.{counts, end_c, end_h, ending_of, entries_for, eqb, exchanged, frame_lost, happens, has_input, host_cut, host_does, host_tick}
-use Rattle.node_laws.proofs.Words.{host_ticks, host_work, hosts_tick, is_late_at, is_waiting, link_after_controller, loses_power_at, map, memory_at}
-use Rattle.node_laws.proofs.Words.{near_end_in, near_tick, new_site, not, port_for, refl, sending, site_ticked, site_unticked, steps, subst, sym, tick_host}
-use Rattle.node_laws.proofs.Words.{ticked_so, ticks_at_controller, true, turns_at, with_memory, with_site, work_of, world_step, ℕ, ◌&&◌, ◌∙◌, ◌∷◌, ◌≡◌}
+use Rattle.node_laws.proofs.Words.{by_loss, by_memory, by_power, by_running, by_test, changed_if, comes_at, comes_to, cond_both, controller_ticks}
+use Rattle.node_laws.proofs.Words.{controller_work, counts, end_c, end_h, ending_of, entries_for, eqb, exchanged, frame_lost, happens, has_input, host_cut}
+use Rattle.node_laws.proofs.Words.{host_does, host_tick, host_ticks, host_work, hosts_tick, is_late_at, is_waiting, link_after_controller, loses_power_at, map}
+use Rattle.node_laws.proofs.Words.{memory_at, near_end_in, near_tick, new_site, not, port_for, refl, sending, site_lost, site_ticked, site_unticked, steps}
+use Rattle.node_laws.proofs.Words.{subst, tick_host, ticked_so, ticks_at_controller, turns_at, with_memory, with_site, work_of, world_step, ℕ, ◌&&◌, ◌∙◌, ◌∷◌}
+use Rattle.node_laws.proofs.Words.{◌≡◌}
 use Rattle.node_laws.proofs.links.Ends.{here_host}
 use Rattle.node_laws.proofs.notices.Own.{AreOwn}
 use Rattle.node_laws.proofs.notices.Sites.{AreGood, beginning_own, good_at, sending_own}
@@ -98,18 +99,12 @@ boots_none w n a =
     (λ _. none_with n (λ (s : Site). record s { node = Some (boot_found w n) }) (λ s b. b) v.sites still))
 
 lost_none : (w : NodeWorld) (e : End) (why : Loss) → HaveNoneAside w.sites → HaveNoneAside (frame_lost w e why).0.sites
-lost_none w e why a = by_test e.at_host
-    (λ b. subst HaveNoneAside (sym (far_is b)) (none_with e.link (λ (s : Site). record (lost s) { node = counts why e.link s.node }) one w.sites a))
-    (λ b. rw b (none_with e.link lost one w.sites a)) where
-      lost : Site → Site
-      lost s = record s { link = happens s.link (at e (Lose why)) }
-
-      one : (s : Site) → HasNoneAside s → HasNoneAside (lost s)
+lost_none w e why a =
+    by_loss (λ p. HaveNoneAside p.0.sites) w e why
+    (λ b. none_with e.link (λ (s : Site). record (site_lost e why s) { node = counts why e.link s.node }) one w.sites a)
+    (λ b. none_with e.link (site_lost e why) one w.sites a) where
+      one : (s : Site) → HasNoneAside s → HasNoneAside (site_lost e why s)
       one s b = by_test e.at_host (λ q. rw q b) (λ q. rw q b)
-
-      far_is : e.at_host ≡ true
-          → (frame_lost w e why).0.sites ≡ with_site e.link (λ (s : Site). record (lost s) { node = counts why e.link s.node }) w.sites
-      far_is b = rw b refl
 
 -- ## Time
 

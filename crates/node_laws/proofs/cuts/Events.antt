@@ -1,13 +1,13 @@
 -- What whatever happens leaves of what is known of each node, and how its entries come.
 use Rattle.node_laws.proofs.Words.{Activates, AllByRecursion, AllKeep, AreHosts, Arms, AsksReset, AtEnd, Bool, Boots, Comes, Controller, Core, EachIsAsRead}
 use Rattle.node_laws.proofs.Words.{End, Entry, FindsExactly, Gives, Happening, Host, Inits, IsAllowedStill, IsCut, IsCutAsPlanned, IsHost, IsOnOrder, List}
-use Rattle.node_laws.proofs.Words.{Lose, Loses, Loss, MayBeDone, MayHappen, Memory, Message, NextFrame, NoInput, NodeWorld, None, Option, Orders, Plan}
-use Rattle.node_laws.proofs.Words.{Reckoning, Resets, Running, Sends, Site, SiteKeeps, Some, Starts, Takes, Ticks, [], activates, after_planned, ap, arith, at}
-use Rattle.node_laws.proofs.Words.{beginning, begins_with, begun_by, boot_writes, boots, by_coming, by_list, by_test, changed_if, comes_at, commands_in, cond}
-use Rattle.node_laws.proofs.Words.{cond_both, count_of, counts, end_c, end_h, entries_for, eq-eqb, eqb, eqb-false, eqb-true, fails_within, false, first_lost}
-use Rattle.node_laws.proofs.Words.{fold, found, frame_lost, happens, host_does, inl, inr, is_command_message, is_some, length, link_to, links_of}
-use Rattle.node_laws.proofs.Words.{loses_power_at, memory_at, ne_eqb, node_at, reckoned, reckoned_within, refl, sending, site_at, steps, subst, sym, true}
-use Rattle.node_laws.proofs.Words.{with_memory, with_node, with_site, world_step, ℕ, ◌&&◌, ◌++◌, ◌-◌, ◌^◌, ◌∙◌, ◌∷◌, ◌≡◌, ◌≤◌}
+use Rattle.node_laws.proofs.Words.{Loses, Loss, MayBeDone, MayHappen, Memory, Message, NextFrame, NoInput, NodeWorld, None, Option, Orders, Plan, Reckoning}
+use Rattle.node_laws.proofs.Words.{Resets, Running, Sends, Site, SiteKeeps, Some, Starts, Takes, Ticks, [], activates, after_planned, ap, arith, at, beginning}
+use Rattle.node_laws.proofs.Words.{begins_with, begun_by, boot_writes, boots, by_coming, by_list, by_loss, by_test, changed_if, comes_at, commands_in, cond}
+use Rattle.node_laws.proofs.Words.{cond_both, count_of, counts, end_c, end_h, eq-eqb, eqb, eqb-false, eqb-true, fails_within, false, first_lost, fold, found}
+use Rattle.node_laws.proofs.Words.{frame_lost, host_does, inl, inr, is_command_message, is_some, length, link_to, links_of, loses_power_at, memory_at, ne_eqb}
+use Rattle.node_laws.proofs.Words.{node_at, reckoned, reckoned_within, refl, sending, site_at, site_lost, steps, subst, sym, true, with_memory, with_node}
+use Rattle.node_laws.proofs.Words.{world_step, ℕ, ◌&&◌, ◌++◌, ◌-◌, ◌^◌, ◌∙◌, ◌∷◌, ◌≡◌, ◌≤◌}
 use Rattle.trace_model.specs.declared.entry.Entry.TheVariants as entry
 use Rattle.node_laws.proofs.kept.Asking.{same_new}
 use Rattle.node_laws.proofs.kept.Plainly.{plain_entries}
@@ -114,9 +114,9 @@ module _ (hosts : List ℕ) (are : AreHosts hosts) (n : ℕ) where
   -- ## Losses
 
   lost_exact : (t : List Entry) (r : Reckoning) (w : NodeWorld) (e : End) (why : Loss) → IsThere w n → StandsAt n t r w → ExactAt n t r (frame_lost w e why)
-  lost_exact t r w e why there stands = by_test e.at_host
-      (λ side. let is : frame_lost w e why ≡ far_is = rw side refl in
-      subst (ExactAt n t r) (sym is) (plain_exact n t r w far_is (record {
+  lost_exact t r w e why there stands =
+      by_loss (ExactAt n t r) w e why
+      (λ side. plain_exact n t r w _ (record {
         plain = plain_entries e.link (first_lost Host why (link_to w.sites e.link).to_host);
         memory_is = refl;
         controller = refl;
@@ -124,34 +124,20 @@ module _ (hosts : List ℕ) (are : AreHosts hosts) (n : ℕ) where
         sites = refl;
         host = λ s. so_or_so (λ b. (changed_if b far s).host ≡ s.host) refl refl (eqb s.host e.link);
         memory = λ s. so_or_so (λ b. (changed_if b far s).memory ≡ s.memory) refl refl (eqb s.host e.link);
-        node = λ s. so_or_so (λ b. is_some (changed_if b far s).node ≡ is_some s.node) (counts_power why e.link s.node) refl
-            (eqb s.host e.link);
-      }) there stands))
-      (λ side. let is : frame_lost w e why ≡ near_is = rw side refl in
-      subst (ExactAt n t r) (sym is) (plain_exact n t r w near_is (record {
+        node = λ s. so_or_so (λ b. is_some (changed_if b far s).node ≡ is_some s.node) (counts_power why e.link s.node) refl (eqb s.host e.link);
+      }) there stands)
+      (λ side. plain_exact n t r w _ (record {
         plain = plain_entries e.link (first_lost Controller why (link_to w.sites e.link).to_controller);
         memory_is = refl;
         controller = counts_power why e.link w.controller;
-        change = λ (s : Site). changed_if (eqb s.host e.link) near s;
+        change = λ (s : Site). changed_if (eqb s.host e.link) (site_lost e why) s;
         sites = refl;
-        host = λ s. so_or_so (λ b. (changed_if b near s).host ≡ s.host) refl refl (eqb s.host e.link);
-        memory = λ s. so_or_so (λ b. (changed_if b near s).memory ≡ s.memory) refl refl (eqb s.host e.link);
-        node = λ s. so_or_so (λ b. is_some (changed_if b near s).node ≡ is_some s.node) refl refl (eqb s.host e.link);
-      }) there stands)) where
-        near : Site → Site
-        near s = record s { link = happens s.link (at e (Lose why)) }
-
+        host = λ s. so_or_so (λ b. (changed_if b (site_lost e why) s).host ≡ s.host) refl refl (eqb s.host e.link);
+        memory = λ s. so_or_so (λ b. (changed_if b (site_lost e why) s).memory ≡ s.memory) refl refl (eqb s.host e.link);
+        node = λ s. so_or_so (λ b. is_some (changed_if b (site_lost e why) s).node ≡ is_some s.node) refl refl (eqb s.host e.link);
+      }) there stands) where
         far : Site → Site
-        far s = record s { link = happens s.link (at e (Lose why)); node = counts why e.link s.node }
-
-        far_is : NodeWorld × List Entry
-        far_is = (record w { sites = with_site e.link far w.sites }, entries_for e.link (first_lost Host why (link_to w.sites e.link).to_host))
-
-        near_is : NodeWorld × List Entry
-        near_is = (
-          record w { controller = counts why e.link w.controller; sites = with_site e.link near w.sites },
-          entries_for e.link (first_lost Controller why (link_to w.sites e.link).to_controller),
-        )
+        far s = record (site_lost e why s) { node = counts why e.link s.node }
 
   -- ## Power
 

@@ -1,5 +1,5 @@
 -- What is known of each node at each event of a history.
-use Rattle.node_laws.proofs.Words.{AllByRecursion, AllKeep, AreHosts, Arms, Book, Bool, Boots, Command, CutBehindCommand, EachIsAsRead, Entry, FindsBy}
+use Rattle.node_laws.proofs.Words.{AllByRecursion, AllKeep, AreHosts, Arms, Book, Bool, Boots, CutBehindCommand, EachIsAsRead, Entry, FindsBy}
 use Rattle.node_laws.proofs.Words.{FindsCommands, FindsExactly, FollowsNodes, Happening, Header, IsAsRead, IsCut, IsCutAsPlanned, IsFew, IsNodeOf, IsSentByHost}
 use Rattle.node_laws.proofs.Words.{IsSome, Line, LineStep, List, MayHappen, Memory, NodeHistory, NodeWorld, None, Occurrence, Option, Reckoning, Side, Site}
 use Rattle.node_laws.proofs.Words.{Some, [], after_planned, ap, append-nil, append_assoc, arith, begun_by, body_of, book_in, boot_writes, by_test, commands_in}

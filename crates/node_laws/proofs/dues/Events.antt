@@ -14,7 +14,6 @@ use Rattle.trace_model.specs.declared.entry.Entry.TheVariants as entry
 use Rattle.trace_model.specs.declared.line.Line.TheVariants as line
 use Rattle.link_laws.specs.entries.Entries.{End as Side}
 use Rattle.node_laws.proofs.telling.Events.{comes_goes}
-use Rattle.node_laws.proofs.telling.Frames.{lost_all}
 use Rattle.node_laws.proofs.telling.Lasting.{AllMay, AreCaused, damaged_may, events_of_steps, lines_caused, repeated_may}
 use Rattle.node_laws.proofs.telling.Worlds.{site_is}
 use Rattle.node_laws.proofs.links.Worlds.{IsFineSite}
@@ -31,7 +30,7 @@ use Rattle.node_laws.proofs.reply_passes.Whole.{comes_roomy}
 use Rattle.node_laws.proofs.read_steps.Reading.{history_reads}
 use Rattle.node_laws.proofs.worlds.Downs.{any_none, notes_downless}
 use Rattle.node_laws.proofs.worlds.Due.{AreDueAtHosts, hosts_due}
-use Rattle.node_laws.proofs.worlds.Hearing.{IsFrame, frames_unheard}
+use Rattle.node_laws.proofs.worlds.Hearing.{lost_unanswered}
 use Rattle.node_laws.proofs.worlds.Histories.{ages_read, read_before}
 use Rattle.node_laws.proofs.worlds.Lifting.{far_not}
 use Rattle.node_laws.proofs.worlds.Order.{unanswered_all}
@@ -143,8 +142,7 @@ module _ (header : Header) (lines : List Line) (t : NodeHistory) (follows : Foll
             let es : List Entry = entries_for e.link (first_lost who why xs) in
             let o : Occurrence = record { cause = Loses e why; entries = es } in
             nothing_due hosts past o refl
-            (unanswered_all 0 es (frames_unheard e.link (first_lost who why xs)
-            (lost_all IsFrame (λ w c why. tt) who why xs)).1)
+            (unanswered_all 0 es (lost_unanswered e.link who why xs))
             (tookless_all (tables_in (entries_in past) 0) es (first_tookless e.link who why xs))
             (owed_calm hosts past o (λ k. any_none any_cause (end_c k) es (notes_downless e.link (first_lost who why xs) (lost_quiet who why xs)))
             (λ k. refl))

@@ -1,8 +1,8 @@
 -- What a node keeps between its steps.
 use Rattle.node_laws.proofs.Words.{AllByRecursion, AreToldBehind, Book, Desk, Entry, IfRuns, IsOf, IsPlain, Knows, Last, List, Memory, NodeKeeps, None}
 use Rattle.node_laws.proofs.Words.{NumberedEnd, Option, Port, Running, RunsSo, Some, StillRuns, WaitsAt, WaitsFor, Work, WouldFind, [], after_planned, ap}
-use Rattle.node_laws.proofs.Words.{append-nil, book_after, book_in, close, cond, count_of, eqb, false, fold, hosts_of_ends, inl, inr, last_after, last_in}
-use Rattle.node_laws.proofs.Words.{length, map, min, ne_eqb, port_for, reckoning_of, refl, runs_on, subst, sym, true, with_command, with_found, work_of, ℕ}
+use Rattle.node_laws.proofs.Words.{append-nil, book_after, book_in, close, cond, count_of, fold, hosts_of_ends, inl, inr, last_after, last_in}
+use Rattle.node_laws.proofs.Words.{length, map, min, port_for, reckoning_of, refl, runs_on, subst, sym, true, with_command, with_found, work_of, ℕ}
 use Rattle.node_laws.proofs.Words.{◌++◌, ◌-◌, ◌^◌, ◌∙◌, ◌∷◌, ◌≡◌}
 use Rattle.trace_model.specs.declared.entry.Entry.TheVariants as entry
 use Rattle.node_laws.proofs.kept.Reckoned.{idle_make, other_test, plain_idles}

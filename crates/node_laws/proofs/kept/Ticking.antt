@@ -1,7 +1,7 @@
 -- What all nodes keep over a tick.
 use Rattle.node_laws.proofs.Words.{AllByRecursion, AllKeep, AreDifferent, AreHosts, AreToldBehind, Controller, Entry, Host, IsHost, IsOf, List, NodeKeeps}
 use Rattle.node_laws.proofs.Words.{NodeWorld, Site, SiteKeeps, TimePasses, Work, [], after_planned, aged, aged_entries, all_aged, ap, append-nil, append_assoc}
-use Rattle.node_laws.proofs.Words.{ap₂, arith, book_in, by_controller_tick, by_host_tick, controller_ticks, entries_for, eqb, exchanged, false, flat_map}
+use Rattle.node_laws.proofs.Words.{ap₂, book_in, by_controller_tick, by_host_tick, controller_ticks, entries_for, eqb, exchanged, false, flat_map}
 use Rattle.node_laws.proofs.Words.{frames_noted, host_tick, host_ticks, hosts_tick, inl, inr, last_in, link_to, map, near_tick, refl, runs_on, site_ticked}
 use Rattle.node_laws.proofs.Words.{site_unticked, subst, sym, work_of, world_ticks, ℕ, ◌++◌, ◌∙◌, ◌∷◌, ◌≡◌}
 use Rattle.std.proofs.lemmas.Bool.{eqb-false}

@@ -5,11 +5,11 @@ use Rattle.node_laws.proofs.Words.{IsOrderly, Line, Link, LinkEnd, LinkInput, Li
 use Rattle.node_laws.proofs.Words.{NoticesAreUp, NumberedEnd, OnFirst, Option, Port, Reset, Resets, Running, Site, Some, Starts, Step, Takes, Ticks, TimePasses}
 use Rattle.node_laws.proofs.Words.{Turn, Up, Work, [], after_controller, after_host, after_input, after_planned, aged, all_aged, all_so, ap, arith, arrival, at}
 use Rattle.node_laws.proofs.Words.{beginning, begins_with, boot_found, boot_writes, boot_written, boots, by_boot, by_coming, by_controller, by_controller_tick}
-use Rattle.node_laws.proofs.Words.{by_host, by_memory, by_option, by_power, by_running, by_test, cases_Bool, changed_if, comes_at, comes_to, cond}
+use Rattle.node_laws.proofs.Words.{by_host, by_loss, by_memory, by_option, by_power, by_running, by_test, cases_Bool, changed_if, comes_at, comes_to, cond}
 use Rattle.node_laws.proofs.Words.{controller_does, controller_ticks, controller_work, counts, end_c, end_h, ending_of, entries_for, eqb, eqb-true, exchanged}
 use Rattle.node_laws.proofs.Words.{false, frame_lost, happenings, happens, has_input, host_cut, host_does, host_ticks, host_work, hosts_in, hosts_tick, inl}
 use Rattle.node_laws.proofs.Words.{input_of, inr, is_late_at, is_some, link_after_controller, link_to, links_of, loses_power_at, map, memory_at, min, ne_eqb}
-use Rattle.node_laws.proofs.Words.{near_end_in, new_desk, new_world, not, port_at, port_for, refl, runs_on, sending, site_at, site_unticked, steps}
+use Rattle.node_laws.proofs.Words.{near_end_in, new_desk, new_world, not, port_at, port_for, refl, runs_on, sending, site_at, site_lost, site_unticked, steps}
 use Rattle.node_laws.proofs.Words.{steps_at_controller, subst, sym, tick_host, ticked_so, ticks_at_controller, true, true≢false, turns_at, with_error}
 use Rattle.node_laws.proofs.Words.{with_memory, with_site, work_of, world_after, world_step, world_ticks, ℕ, ◌+◌, ◌∙◌, ◌∷◌, ◌≡◌, ◌⊎◌}
 use Rattle.node_laws.proofs.links.Ends.{here_host}
@@ -265,18 +265,12 @@ counts_up sites (Broken fault) h (Some r) a = λ x. counted (λ n. (link_to site
 counts_up sites _ h o a = a
 
 lost_up : (w : NodeWorld) (e : End) (why : Loss) → NoticesAreUp w → NoticesAreUp (frame_lost w e why).0
-lost_up w e why a = by_test e.at_host
-    (λ b. subst NoticesAreUp (sym (far_is b))
-    (kept (with_site e.link (λ (s : Site). record (lost s) { node = counts why e.link s.node }) w.sites) w.sites w.controller
-    (side_with e.link (λ (s : Site). record (lost s) { node = counts why e.link s.node }) (λ s. refl) (λ s. lost_side e why s.link) w.sites) a))
-    (λ b. rw b (kept (with_site e.link lost w.sites) w.sites (counts why e.link w.controller)
-    (side_with e.link lost (λ s. refl) (λ s. lost_side e why s.link) w.sites) (counts_up w.sites why e.link w.controller a))) where
-      lost : Site → Site
-      lost s = record s { link = happens s.link (at e (Lose why)) }
-
-      far_is : e.at_host ≡ true
-          → (frame_lost w e why).0 ≡ record w { sites = with_site e.link (λ (s : Site). record (lost s) { node = counts why e.link s.node }) w.sites }
-      far_is b = rw b refl
+lost_up w e why a =
+    by_loss (λ p. NoticesAreUp p.0) w e why
+    (λ b. kept (with_site e.link (λ (s : Site). record (site_lost e why s) { node = counts why e.link s.node }) w.sites) w.sites w.controller
+    (side_with e.link (λ (s : Site). record (site_lost e why s) { node = counts why e.link s.node }) (λ s. refl) (λ s. lost_side e why s.link) w.sites) a)
+    (λ b. kept (with_site e.link (site_lost e why) w.sites) w.sites (counts why e.link w.controller)
+    (side_with e.link (site_lost e why) (λ s. refl) (λ s. lost_side e why s.link) w.sites) (counts_up w.sites why e.link w.controller a))
 
 -- ## Ticks
 

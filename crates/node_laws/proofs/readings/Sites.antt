@@ -2,18 +2,19 @@
 use Rattle.node_laws.proofs.Words.{AllByRecursion, AreInitsShort, AsksReset, AtEnd, Comes, CutOff, Deed, Desk, Ending, Entry, Fits, GoesOut, Host, HostRuns}
 use Rattle.node_laws.proofs.Words.{IfHostRuns, IsComing, IsHost, IsSilent, Link, LinkEnd, LinkInput, LinkState, List, Loss, MayDo, Memory, Message, NextFrame}
 use Rattle.node_laws.proofs.Words.{NoInput, None, NumberedEnd, OnWire, Option, Port, Reset, Running, Site, SiteReads, Some, Start, Starts, Stop, Stops, Take}
-use Rattle.node_laws.proofs.Words.{Tick, TimePasses, Turn, Work, [], after_host, after_input, after_planned, and_parts, ap, append-nil, append_assoc, arrival}
-use Rattle.node_laws.proofs.Words.{beginning, begins_with, by_list, by_option, by_test, cond, cond-true, ended_by, ending_entries, ending_of, entries_for}
-use Rattle.node_laws.proofs.Words.{eq-eqb, eqb, eqb-true, exchanged, false, finished, first_lost, found, frames_noted, give_refusal, has_come, host_cut}
-use Rattle.node_laws.proofs.Words.{host_ticks, host_work, inl, input_at, input_of, inr, is_command_message, is_some, map, most_frames, near_end_in, new_desk}
-use Rattle.node_laws.proofs.Words.{order_in, order_of, port_at, port_for, refl, runs_on, sending, sent_all, steps, steps_at_controller, subst, sym}
-use Rattle.node_laws.proofs.Words.{ticks_at_controller, true, true≢false, turn, turned, turns_at, wires_for, with_ended, work_of, ℕ, ◌&&◌, ◌++◌, ◌∙◌, ◌∷◌, ◌≡◌}
+use Rattle.node_laws.proofs.Words.{Tick, TimePasses, Turn, Work, [], after_host, after_input, after_tick, and_parts, ap, append-nil, append_assoc, arrival}
+use Rattle.node_laws.proofs.Words.{beginning, begins_with, by_host_tick, by_list, by_option, by_test, cond, cond-true, ended_by, ending_entries, ending_of}
+use Rattle.node_laws.proofs.Words.{entries_for, eq-eqb, eqb, eqb-true, exchanged, false, finished, first_lost, found, frames_noted, give_refusal, has_come}
+use Rattle.node_laws.proofs.Words.{host_cut, host_tick, host_ticks, host_work, inl, input_at, input_of, inr, is_command_message, is_some, map, most_frames}
+use Rattle.node_laws.proofs.Words.{near_end_in, new_desk, order_in, order_of, port_at, port_for, refl, runs_on, sending, sent_all, steps, steps_at_controller}
+use Rattle.node_laws.proofs.Words.{subst, sym, ticks_at_controller, true, true≢false, turn, turned, turns_at, wires_for, with_ended, work_of, ℕ, ◌&&◌, ◌++◌}
+use Rattle.node_laws.proofs.Words.{◌∙◌, ◌∷◌, ◌≡◌}
 use Rattle.link_laws.proofs.sessions.Ties.{after_frames-phase}
 use Rattle.link_laws.specs.entries.Entries.{End as Side}
 use Rattle.trace_model.specs.declared.entry.Entry.TheVariants as entry
 use Rattle.node_laws.proofs.links.Noticing.{turn-phase}
-use Rattle.node_laws.proofs.telling.Frames.{lost_all, ending_all, arrival_all}
-use Rattle.node_laws.proofs.readings.Silent.{IsQuiet, reads, order_more, quiet_reads}
+use Rattle.node_laws.proofs.telling.Frames.{arrival_all, ending_all, lost_all}
+use Rattle.node_laws.proofs.readings.Silent.{IsQuiet, order_more, quiet_reads, reads}
 use Rattle.node_laws.proofs.readings.Doing.{Runs, Stands, all_stand}
 use Rattle.node_laws.proofs.readings.Stepping.{steps_stand}
 
@@ -233,32 +234,20 @@ beginning_may h e identity pipes taken short = (short, (taken, refl, tt))
 
 -- a tick of a host
 pub ticks_read : (t : List Entry) (s : Site) → IsHost s.host → SiteReads t s → SiteReads (t ++ (host_ticks s).1) (host_ticks s).0
-ticks_read t s host reads_so = by_node s.node refl where
-  by_node : (o : Option Running) → s.node ≡ o → SiteReads (t ++ (host_ticks s).1) (host_ticks s).0
-  by_node None e = subst (λ (p : Site × List Entry). SiteReads (t ++ p.1) p.0) (sym (off_is e)) (record {
-    order = ap (λ l. order_in l s.host) (append-nil t) ∙ reads_so.order;
-    runs = subst (IfHostRuns s.host (exchanged (ticks_at_controller (exchanged s.link) [] GoesOut))) (sym e) tt;
-  }) where
-    off_is : s.node ≡ None → host_ticks s ≡ (record s { link = exchanged (ticks_at_controller (exchanged s.link) [] GoesOut) }, [])
-    off_is e = rw e refl
-  by_node (Some r) e = subst (λ (p : Site × List Entry). SiteReads (t ++ p.1) p.0) (sym (on_is e))
-      (done_reads t s host now k (exchanged s.link) v.link v.memory phase stands)
-    where
+ticks_read t s host reads_so =
+    by_host_tick (λ p. SiteReads (t ++ p.1) p.0) s
+    (λ e. record {
+      order = ap (λ l. order_in l s.host) (append-nil t) ∙ reads_so.order;
+      runs = subst (IfHostRuns s.host (exchanged (ticks_at_controller (exchanged s.link) [] GoesOut))) (sym e) tt;
+    }) on
+  where
+    on : (r : Running) → s.node ≡ Some r → SiteReads (t ++ (after_tick s (host_tick s r)).1) (after_tick s (host_tick s r)).0
+    on r e = done_reads t s host now k (exchanged s.link) (after_tick s k).0.link (after_tick s k).0.memory phase stands where
       begun : Work
       begun = work_of r s.memory.plan (λ n. s.link.host) []
 
       k : Work
-      k = steps TimePasses begun
-
-      v : Site
-      v = record s {
-        link = exchanged (ticks_at_controller (exchanged s.link) (turns_at k s.host) (ending_of k));
-        memory = after_planned k.writes s.memory;
-        node = runs_on k;
-      }
-
-      on_is : s.node ≡ Some r → host_ticks s ≡ (v, k.entries ++ frames_noted Host s.host (exchanged s.link) k)
-      on_is e = rw e refl
+      k = host_tick s r
 
       so : HostRuns s.host s.link r
       so = subst (IfHostRuns s.host s.link) e reads_so.runs
@@ -279,7 +268,7 @@ ticks_read t s host reads_so = by_node s.node refl where
           (steps_stand s.host host t s.link.host.side.shdlc.phase TimePasses begun tt first (subst (λ (p : Port). (p.ended ≡ false) × (p.late ≡ false)) only
           (refl, refl)))
 
-      phase : k.cut ≡ false → v.link.host.side.shdlc.phase ≡ now
+      phase : k.cut ≡ false → (after_tick s k).0.link.host.side.shdlc.phase ≡ now
       phase on =
           ap (λ b. (ticks_at_controller (exchanged s.link) (turns_at k s.host) (cond b CutOff GoesOut)).controller.side.shdlc.phase) on
           ∙ (finished_phase (with_ended (exchanged s.link) (is_some (ended_by s.link.host.side Tick))) (after_input s.link.host.side Tick) (turns_at k s.host))

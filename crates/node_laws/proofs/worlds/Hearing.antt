@@ -1,13 +1,13 @@
 -- In a step of a node what comes to it is noted before what it answers.
-use Rattle.node_laws.proofs.Words.{Acked, AllByRecursion, Bool, Comes, Cut, Deed, Down, Emit, Entry, Got, Link, List, Lost, Message, NodeInput, None, Noted}
-use Rattle.node_laws.proofs.Words.{Report, Restarted, Sent, Took, Work, [], all_append, all_done, answerer, ap, append_assoc, arrival, beginning, by_option}
-use Rattle.node_laws.proofs.Words.{ending_entries, ending_of, entries_for, false, frames_noted, port_at, refl, sending, steps, told, told_of_coming, true, ℕ}
-use Rattle.node_laws.proofs.Words.{◌++◌, ◌∙◌, ◌∷◌, ◌≡◌}
+use Rattle.node_laws.proofs.Words.{AllByRecursion, Bool, Comes, Cut, Deed, Down, Emit, Entry, Link, List, Loss, Lost, Message, NodeInput, None}
+use Rattle.node_laws.proofs.Words.{Noted, OnWire, Report, Restarted, Sent, Took, Work, [], all_append, all_done, answerer, ap, append_assoc, arrival, beginning}
+use Rattle.node_laws.proofs.Words.{by_option, ending_entries, ending_of, entries_for, false, first_lost, frames_noted, port_at, refl, sending, steps, told}
+use Rattle.node_laws.proofs.Words.{told_of_coming, true, ℕ, ◌++◌, ◌∙◌, ◌∷◌, ◌≡◌}
 use Rattle.trace_model.specs.declared.entry.Entry.TheVariants as entry
 use Rattle.link_laws.specs.entries.Entries.{End as Side}
-use Rattle.link_laws.specs.entries.Entries.Entry.{Tick, Up}
+use Rattle.link_laws.specs.entries.Entries.Entry.{Tick}
 use Rattle.node_laws.proofs.readings.Silent.{IsQuiet, rest_quiet, told_rest}
-use Rattle.node_laws.proofs.telling.Frames.{arrival_all, ending_all}
+use Rattle.node_laws.proofs.telling.Frames.{arrival_all, ending_all, lost_all}
 use Rattle.node_laws.proofs.passes.Coming.{coming_all}
 use Rattle.node_laws.proofs.passes.Kinds.{NotesOnly, beginning_notes, sending_notes}
 use Rattle.node_laws.proofs.worlds.Halves.{AreHalves}
@@ -83,6 +83,9 @@ out_unanswered who h l k = (out_frames who h l k).1
 pub arrival_unanswered : (who : Side) (h : ℕ) (l : Link) (comes : Comes) → AreUnanswered (entries_for h (arrival who l comes))
 arrival_unanswered who h l comes =
     (frames_unheard h (arrival who l comes) (arrival_all IsFrame (λ w c. tt) who l comes)).1
+
+pub lost_unanswered : (h : ℕ) (who : Side) (why : Loss) (xs : List OnWire) → AreUnanswered (entries_for h (first_lost who why xs))
+lost_unanswered h who why xs = (frames_unheard h (first_lost who why xs) (lost_all IsFrame (λ w c why. tt) who why xs)).1
 
 -- ## What comes
 

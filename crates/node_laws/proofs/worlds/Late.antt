@@ -3,14 +3,13 @@ use Rattle.node_laws.proofs.Words.{AllByRecursion, AreDifferent, AreNotOf, ArePa
 use Rattle.node_laws.proofs.Words.{End, Entry, GoesOut, Host, IsOrderly, IsTurnSo, IsUicc, LinkEnd, LinkInput, List, Loss, NodeInput, NodeWorld, None}
 use Rattle.node_laws.proofs.Words.{NumberedEnd, Site, Starts, Step, TimePasses, Work, [], aged, all_aged, all_append, ap, append_assoc, before_turn, boots}
 use Rattle.node_laws.proofs.Words.{by_boot, by_coming, by_controller, by_controller_tick, by_host, by_host_tick, by_loss, by_test, comes_at, comes_to}
-use Rattle.node_laws.proofs.Words.{comes_to_pass, cond, controller_does, controller_ticks, controller_work, end_c, end_h, ending_of, entries_for, eqb-true}
-use Rattle.node_laws.proofs.Words.{exchanged, false, filter, first_lost, frame_lost, frames_noted, host_does, host_tick, host_ticks, host_work, hosts_in}
-use Rattle.node_laws.proofs.Words.{hosts_of_ends, hosts_tick, is_answer_of, is_late_at, is_turn_of, is_waiting, link_after_controller, link_to, map}
-use Rattle.node_laws.proofs.Words.{near_end_in, near_tick, not, passes, refl, same_number, site_ticked, site_unticked, steps, subst, sym, take_while-cons}
-use Rattle.node_laws.proofs.Words.{ticks_host, told_of_coming, true, true≢false, turns_at, wires_for, work_of, world_ticks, ℕ, ◌&&◌, ◌++◌, ◌==◌, ◌∙◌, ◌∷◌, ◌≡◌}
+use Rattle.node_laws.proofs.Words.{comes_to_pass, cond, controller_does, controller_ticks, controller_work, end_c, end_h, ending_of, eqb-true, exchanged, false}
+use Rattle.node_laws.proofs.Words.{filter, frame_lost, frames_noted, host_does, host_tick, host_ticks, host_work, hosts_in, hosts_of_ends, hosts_tick}
+use Rattle.node_laws.proofs.Words.{is_answer_of, is_late_at, is_turn_of, is_waiting, link_after_controller, link_to, map, near_end_in, near_tick, not, passes}
+use Rattle.node_laws.proofs.Words.{refl, same_number, site_ticked, site_unticked, steps, subst, sym, take_while-cons, ticks_host, told_of_coming, true}
+use Rattle.node_laws.proofs.Words.{true≢false, turns_at, wires_for, work_of, world_ticks, ℕ, ◌&&◌, ◌++◌, ◌==◌, ◌∙◌, ◌∷◌, ◌≡◌}
 use Rattle.trace_model.specs.declared.entry.Entry.TheVariants as entry
 use Rattle.node_laws.proofs.telling.Events.{comes_goes}
-use Rattle.node_laws.proofs.telling.Frames.{lost_all}
 use Rattle.node_laws.proofs.telling.Nodes.{ports_for}
 use Rattle.node_laws.proofs.telling.Worlds.{site_is}
 use Rattle.node_laws.proofs.telling.WorldTicks.{aged_orderly, ticked_orderly}
@@ -23,7 +22,7 @@ use Rattle.node_laws.proofs.power.Parts.{AreOwn, IsPart, own_not, part_own}
 use Rattle.node_laws.proofs.power.Steps.{steps_fine}
 use Rattle.node_laws.proofs.readings.Sites.{near_end_side}
 use Rattle.node_laws.proofs.worlds.Events.{same_sym}
-use Rattle.node_laws.proofs.worlds.Hearing.{AreUnanswered, IsFrame, IsUnanswered, arrival_unanswered, coming_unanswered, frames_unheard, out_unanswered}
+use Rattle.node_laws.proofs.worlds.Hearing.{AreUnanswered, IsUnanswered, arrival_unanswered, coming_unanswered, lost_unanswered, out_unanswered}
 use Rattle.node_laws.proofs.worlds.Order.{others_answer, unanswered_all}
 use Rattle.node_laws.proofs.worlds.Orders.{aged_unanswered}
 use Rattle.node_laws.proofs.worlds.Steps.{host_begins}
@@ -269,14 +268,8 @@ module _ (n : ℕ) where
     pub lost_late : (w : NodeWorld) (e : End) (why : Loss) → IsLate (frame_lost w e why).1
     lost_late w e why =
         by_loss (λ p. IsLate p.1) w e why
-        (λ z. late_all (entries_for e.link (first_lost Host why (link_to w.sites e.link).to_host))
-        (unanswered_all n (entries_for e.link (first_lost Host why (link_to w.sites e.link).to_host))
-        (frames_unheard e.link (first_lost Host why (link_to w.sites e.link).to_host)
-        (lost_all IsFrame (λ w c why. tt) Host why (link_to w.sites e.link).to_host)).1))
-        (λ z. late_all (entries_for e.link (first_lost Controller why (link_to w.sites e.link).to_controller))
-        (unanswered_all n (entries_for e.link (first_lost Controller why (link_to w.sites e.link).to_controller))
-        (frames_unheard e.link (first_lost Controller why (link_to w.sites e.link).to_controller)
-        (lost_all IsFrame (λ w c why. tt) Controller why (link_to w.sites e.link).to_controller)).1))
+        (λ z. late_all _ (unanswered_all n _ (lost_unanswered e.link Host why (link_to w.sites e.link).to_host)))
+        (λ z. late_all _ (unanswered_all n _ (lost_unanswered e.link Controller why (link_to w.sites e.link).to_controller)))
 
     pub boots_late : (w : NodeWorld) (k : ℕ) → IsLate (boots w k).1
     boots_late w k = by_boot (λ p. IsLate p.1) w k refl refl

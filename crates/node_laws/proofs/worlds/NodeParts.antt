@@ -1,7 +1,7 @@
 -- What entries of one node have, as a world goes on: a controller activates a link, or time passes.
 use Rattle.node_laws.proofs.Words.{Activates, AllByRecursion, AreDifferent, AreNotOf, Arms, AsksReset, AtEnd, Boots, Comes, Controller, Deed, End, Entry, Gives}
 use Rattle.node_laws.proofs.Words.{Happening, HasEnds, Host, IfItRuns, Inits, IsCut, IsOrderly, Link, LinkInput, List, Loses, Loss, Message, NextFrame, NoInput}
-use Rattle.node_laws.proofs.Words.{NodeInput, NodeWorld, OnWire, Resets, Site, Starts, Takes, Ticks, TimePasses, Work, [], activates, aged, aged_entries}
+use Rattle.node_laws.proofs.Words.{NodeInput, NodeWorld, OnWire, Resets, Site, Starts, Takes, Ticks, TimePasses, Work, [], activates, aged_entries}
 use Rattle.node_laws.proofs.Words.{all_aged, all_done, all_flat, arrival, beginning, begins_with, by_boot, by_coming, by_controller, by_controller_tick}
 use Rattle.node_laws.proofs.Words.{by_host, by_host_tick, by_loss, by_test, comes_at, comes_to, controller_begins, controller_does, controller_tick_begins}
 use Rattle.node_laws.proofs.Words.{controller_ticks, controller_work, end_c, end_h, entries_for, eqb-true, exchanged, false, first_lost, flat_map, frames_noted}

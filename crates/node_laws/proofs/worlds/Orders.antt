@@ -1,10 +1,10 @@
 -- In each event of a world what comes to a node is noted before what it answers.
 use Rattle.node_laws.proofs.Words.{AllByRecursion, AreDifferent, Controller, FollowsNodes, Header, Host, Line, List, NodeHistory, NodesHearFirst, Site, []}
-use Rattle.node_laws.proofs.Words.{aged_entries, append-nil, entries_for, false, first_lost, flat_map, refl, sym, ◌++◌, ◌==◌, ◌≡◌}
+use Rattle.node_laws.proofs.Words.{aged_entries, append-nil, entries_for, false, flat_map, refl, sym, ◌++◌, ◌==◌, ◌≡◌}
 use Rattle.node_laws.proofs.telling.Orderly.{history_event}
-use Rattle.node_laws.proofs.telling.Frames.{lost_all, wires_all}
+use Rattle.node_laws.proofs.telling.Frames.{wires_all}
 use Rattle.node_laws.proofs.worlds.Hearing.{AreUnanswered, IsFrame, IsParted, IsUnheard, NotesUnheard, frames_unheard, out_unheard}
-use Rattle.node_laws.proofs.worlds.Hearing.{IsUnanswered, arrival_unanswered, beginning_unheard, deeds_parted, sending_unheard, step_parted}
+use Rattle.node_laws.proofs.worlds.Hearing.{IsUnanswered, arrival_unanswered, beginning_unheard, deeds_parted, lost_unanswered, sending_unheard, step_parted}
 use Rattle.node_laws.proofs.worlds.Order.{IsPartedFor, first_heard, not_of_before, others_behind, parted_for, unanswered_before}
 use Rattle.node_laws.proofs.worlds.NodeParts.{PartsHave, aged_calm, event_has}
 
@@ -13,7 +13,7 @@ parts = record {
   alone = λ es a. record { front = es; back = []; is = sym (append-nil es); first = a; second = tt };
   boot = λ k many. refl;
   cut = λ k. refl;
-  lost = λ h who why xs. (frames_unheard h (first_lost who why xs) (lost_all IsFrame (λ w c why. tt) who why xs)).1;
+  lost = lost_unanswered;
   aged = λ h one other xs ys.
       (frames_unheard h (aged_entries one xs ++ aged_entries other ys) (wires_all IsFrame (λ w c. tt) one other xs ys)).1;
   arrives = arrival_unanswered;

@@ -1,6 +1,6 @@
 -- Behind a step of a node all messages at its ends have had their turns, or all before one that is held, as it is read.
 use Rattle.node_laws.proofs.Words.{AllByRecursion, AreDifferent, AreNoTurns, AreNotOf, Bool, ComesTo, End, Entry, IsBehind, IsNoTurn, IsOutside, List, Message}
-use Rattle.node_laws.proofs.Words.{NodeInput, Option, Port, Some, Stays, Work, [], ap, append-nil, append_assoc, by_list, by_test, comes_to_pass, cond, eqb}
+use Rattle.node_laws.proofs.Words.{NodeInput, Port, Some, Stays, Work, [], ap, append-nil, append_assoc, by_list, by_test, comes_to_pass, cond, eqb}
 use Rattle.node_laws.proofs.Words.{eqb-true, false, fold-append, goes_through_ends, holds_in, hosts_of_ends, inl, inr, is_done, is_held_at, is_none, is_of_node}
 use Rattle.node_laws.proofs.Words.{node_of, not, oldest, or-true, own_side, passes, port_at, refl, runs_in, same_end, same_number, steps, subst, sym, true}
 use Rattle.node_laws.proofs.Words.{true≢false, unhandled_after, unhandled_in, waiting_at, ℕ, ◌++◌, ◌==◌, ◌||◌, ◌∙◌, ◌∷◌, ◌≡◌}

@@ -3,7 +3,7 @@ use Rattle.node_laws.proofs.Words.{ActEvent, ActStart, ActStop, ActTake, ActTick
 use Rattle.node_laws.proofs.Words.{List, NodeInput, None, Option, Phase, Port, PowerMode, Ready, Response, Role, Some, SyncId, TimePasses, Uicc, UiccAct, Work}
 use Rattle.node_laws.proofs.Words.{[], act_event, act_out, all_come, all_owed, ap, append-nil, asked_at, by_option, by_test, cond, false, filter, flat_map}
 use Rattle.node_laws.proofs.Words.{forgets, has_come, has_come_so, has_freed, has_synced, input_at, is_late, map, nat_le, noted_before_pass, noted_by_deeds}
-use Rattle.node_laws.proofs.Words.{owed, owed_in_step, refl, report, reset_late, synced, told_of_coming, true, uicc_step, with_older, ◌++◌, ◌+◌, ◌∙◌, ◌∷◌, ◌≡◌}
+use Rattle.node_laws.proofs.Words.{owed, owed_in_step, refl, report, reset_late, synced, told_of_coming, true, uicc_step, with_older, ◌++◌, ◌∙◌, ◌∷◌, ◌≡◌}
 use Rattle.gate_answers.specs.declared.response.Response.TheVariants as response
 use Rattle.node_laws.proofs.readings.Stepping.{forgets_same}
 use Rattle.node_laws.proofs.kept.Stepping.{ticked_sync}
