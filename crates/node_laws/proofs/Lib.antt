@@ -1,6 +1,7 @@
 pub mod All
 pub mod Cases
 pub mod Cut
+pub mod Counted
 pub mod Each
 pub mod Words
 pub mod steps

@@ -254,5 +254,6 @@ pub use Rattle.trace_model.specs.declared.line.Line.{Line}
 pub use mathlib.Core.Bool.{and-false, and-true, or-false, or-true}
 pub use Rattle.node_laws.proofs.All.{all_flat}
 pub use Rattle.node_laws.proofs.Cases.{by_list, by_option, by_some, by_test}
-pub use Rattle.node_laws.proofs.Cut.{by_cut}
+pub use Rattle.node_laws.proofs.Counted.{by_counts, errors_all}
+pub use Rattle.node_laws.proofs.Cut.{by_cut, left_running, runs_left, runs_none, unless_off, unless_on}
 pub use Rattle.node_laws.proofs.Each.{all_changed, all_map, all_so, changed_same}

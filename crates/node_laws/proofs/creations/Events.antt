@@ -4,15 +4,15 @@ use Rattle.node_laws.proofs.Words.{Controller, CutOff, Deed, Desk, End, Entry, G
 use Rattle.node_laws.proofs.Words.{IfNoticedUp, IfRuns, IsHost, IsProperBook, IsReadSo, IsShut, KeepsNotices, Link, LinkInput, List, Loss, Memory, NextFrame}
 use Rattle.node_laws.proofs.Words.{NoInput, NodeWorld, None, NumberedEnd, Option, Port, Reset, Role, Running, RunsSo, Site, Some, Starts, Step, Stops, Take}
 use Rattle.node_laws.proofs.Words.{Tick, TimePasses, Turn, Work, [], after_controller, after_host, after_input, after_planned, aged, all_aged, ap, append-nil}
-use Rattle.node_laws.proofs.Words.{arrival, asking_in, begins_with, book_in, boot_found, boot_writes, boot_written, boots, by_boot, by_host, by_list, by_loss}
-use Rattle.node_laws.proofs.Words.{by_memory, by_option, by_power, by_running, by_test, comes_at, comes_to, cond, cons_option, controller_cut, controller_ticks}
-use Rattle.node_laws.proofs.Words.{controller_work, count_of, counts, creation_in, creations_at, creations_of, deactivated, ending_of, entries_for, eqb}
-use Rattle.node_laws.proofs.Words.{eqb-true, exchanged, false, filter_map, find, first_lost, flat_map, found, frame_lost, frames_noted, happens, has_come}
-use Rattle.node_laws.proofs.Words.{has_taken, host_cut, host_does, host_work, hosts_in, input_at, input_of, is_late_at, is_waiting, link_after_controller}
-use Rattle.node_laws.proofs.Words.{link_to, links_of, loses_power_at, map, memory_at, near_end_in, new_desk, new_link_end, node_at, not, option_map_or, port_at}
-use Rattle.node_laws.proofs.Words.{port_for, refl, renewed, runs_on, seen_from, sent_all, site_at, site_lost, started, steps, steps_at_controller, subst, sym}
-use Rattle.node_laws.proofs.Words.{ticked_so, true, turned, turns_at, wires_for, with_error, with_memory, with_node, with_site, work_of, written_off, ℕ, ◌&&◌}
-use Rattle.node_laws.proofs.Words.{◌++◌, ◌∙◌, ◌∷◌, ◌≡◌}
+use Rattle.node_laws.proofs.Words.{arrival, asking_in, begins_with, book_in, boot_found, boot_writes, boot_written, boots, by_boot, by_counts, by_host, by_list}
+use Rattle.node_laws.proofs.Words.{by_loss, by_memory, by_option, by_power, by_running, by_test, comes_at, comes_to, cond, cons_option, controller_cut}
+use Rattle.node_laws.proofs.Words.{controller_ticks, controller_work, count_of, counts, creation_in, creations_at, creations_of, deactivated, ending_of}
+use Rattle.node_laws.proofs.Words.{entries_for, eqb, eqb-true, errors_all, exchanged, false, filter_map, find, first_lost, flat_map, found, frame_lost}
+use Rattle.node_laws.proofs.Words.{frames_noted, happens, has_come, has_taken, host_cut, host_does, host_work, hosts_in, input_at, input_of, is_late_at}
+use Rattle.node_laws.proofs.Words.{is_waiting, link_after_controller, link_to, links_of, loses_power_at, map, memory_at, near_end_in, new_desk, new_link_end}
+use Rattle.node_laws.proofs.Words.{node_at, not, option_map_or, port_at, port_for, refl, renewed, runs_on, seen_from, sent_all, site_at, site_lost, started}
+use Rattle.node_laws.proofs.Words.{steps, steps_at_controller, subst, sym, ticked_so, true, turned, turns_at, wires_for, with_error, with_memory, with_node}
+use Rattle.node_laws.proofs.Words.{with_site, work_of, written_off, ℕ, ◌&&◌, ◌++◌, ◌∙◌, ◌∷◌, ◌≡◌}
 use Rattle.trace_model.specs.declared.entry.Entry.TheVariants as entry
 use Rattle.node_laws.proofs.telling.Events.{site_map}
 use Rattle.node_laws.proofs.telling.Nodes.{link_is, site_host}
@@ -99,20 +99,14 @@ creations_counted h desks x = ap (λ l. of_asker x l) (go desks) where
       (λ q. rw q (ap (λ l. cons_option (creation_in d.notice) l) (go desks)))
       (λ q. rw q (ap (λ l. cons_option (creation_in d.notice) l) (go desks)))
 
-due_counted : (h : ℕ) (desks : List Desk) → AllByRecursion (λ (d : Desk). IfAwaited (creation_in d.notice)) desks
-    → AllByRecursion (λ (d : Desk). IfAwaited (creation_in d.notice)) (with_error h desks)
-due_counted h [] a = tt
-due_counted h (d ∷ desks) a = (by_test (eqb d.host h) (λ q. rw q a.0) (λ q. rw q a.0), due_counted h desks a.1)
-
 counted_creations : (why : Loss) (h : ℕ) (o : Option Running) (x : ℕ) → creations_of (counts why h o) x ≡ creations_of o x
 counted_creations (Broken fault) h None x = refl
 counted_creations (Broken fault) h (Some r) x = creations_counted h r.desks x
 counted_creations _ h o x = refl
 
 counted_due : (why : Loss) (h : ℕ) (o : Option Running) → AreAwaited o → AreAwaited (counts why h o)
-counted_due (Broken fault) h None a = tt
-counted_due (Broken fault) h (Some r) a = due_counted h r.desks a
-counted_due _ h o a = a
+counted_due why h o a =
+    by_counts AreAwaited why h o a (λ r q. errors_all (λ d. IfAwaited (creation_in d.notice)) (λ d n b. b) h r.desks (subst AreAwaited q a))
 
 pub lost_beside : (w : NodeWorld) (e : End) (why : Loss) → BesideBy w (frame_lost w e why)
 lost_beside w e why =

@@ -3,19 +3,20 @@ use Rattle.node_laws.proofs.Words.{AllByRecursion, AreAwaited, AreDifferent, Are
 use Rattle.node_laws.proofs.Words.{IfNoticedUp, IsFresh, IsHost, IsNoticedUp, IsOutside, IsProperBook, IsReadSo, IsShut, LinkEnd, List, NodeInput, NodeWorld}
 use Rattle.node_laws.proofs.Words.{None, NumberedEnd, OnFirst, Option, Plan, Port, Role, Running, Site, Some, Work, [], ap, append-nil, append_assoc, arith}
 use Rattle.node_laws.proofs.Words.{asking_in, book_after, book_in, by_list, by_option, by_test, creation_in, creations_at, creations_of, eqb, eqb-true, false}
-use Rattle.node_laws.proofs.Words.{find, fold, hosts_in, inl, inr, is_up, length, link_to, map, new_link, new_link_end, option_map, option_map_or, port_at}
-use Rattle.node_laws.proofs.Words.{port_for, refl, renewed, runs_on, sent_all, site_at, steps, subst, sym, true, true≢false, work_of, ℕ, ◌++◌, ◌∙◌, ◌∷◌, ◌≡◌}
+use Rattle.node_laws.proofs.Words.{find, fold, hosts_in, inl, inr, is_up, left_running, length, link_to, map, new_link, new_link_end, option_map, option_map_or}
+use Rattle.node_laws.proofs.Words.{port_at, port_for, refl, renewed, runs_left, runs_none, runs_on, sent_all, site_at, steps, subst, sym, true, true≢false}
+use Rattle.node_laws.proofs.Words.{work_of, ℕ, ◌++◌, ◌∙◌, ◌∷◌, ◌≡◌}
 use Rattle.trace_model.specs.declared.entry.Entry.TheVariants as entry
 use Rattle.node_laws.proofs.links.Noticing.{UpAt, at_host}
 use Rattle.node_laws.proofs.links.Blocks.{IsWithin, sent_within}
 use Rattle.node_laws.proofs.kept.Books.{book_more}
-use Rattle.node_laws.proofs.telling.Nodes.{ports_for, hosts_same}
+use Rattle.node_laws.proofs.telling.Nodes.{hosts_same, ports_for}
 use Rattle.node_laws.proofs.readings.Sites.{sent_phase}
 use Rattle.node_laws.proofs.notices.Own.{IsFar}
 use Rattle.node_laws.proofs.notices.Far.{AreFar, asking_more, far_asks}
-use Rattle.node_laws.proofs.creations.Asks.{Asked, asked_of, waits, desks_wait}
-use Rattle.node_laws.proofs.creations.Doing.{EndHas, EndAt, IsOff, Good, many}
-use Rattle.node_laws.proofs.creations.Deeds.{Still, Fine}
+use Rattle.node_laws.proofs.creations.Asks.{Asked, asked_of, desks_wait, waits}
+use Rattle.node_laws.proofs.creations.Doing.{EndAt, EndHas, Good, IsOff, many}
+use Rattle.node_laws.proofs.creations.Deeds.{Fine, Still}
 use Rattle.node_laws.proofs.creations.Steps.{steps_good}
 use Rattle.node_laws.proofs.notices.Near.{all_ports}
 
@@ -227,12 +228,10 @@ module _ (t : List Entry) (w : NodeWorld) (r : Running) (runs : w.controller ≡
       now = t ++ (after_it.entries ++ frames)
 
       off_is : after_it.cut ≡ true → v.controller ≡ None
-      off_is e = runs_so ∙ (let z : runs_on after_it ≡ None = rw e refl in z)
+      off_is e = runs_so ∙ runs_none after_it e
 
-      on_is : after_it.cut ≡ false → v.controller ≡ Some (record { core = after_it.core; desks = map (λ (p : Port). p.desk) after_it.ports })
-      on_is e =
-          runs_so
-          ∙ (let z : runs_on after_it ≡ Some (record { core = after_it.core; desks = map (λ (p : Port). p.desk) after_it.ports }) = rw e refl in z)
+      on_is : after_it.cut ≡ false → v.controller ≡ Some (left_running after_it)
+      on_is e = runs_so ∙ runs_left after_it e
 
       reading_now : (x : ℕ) → asking_in now x ≡ asking_in (t ++ after_it.entries) x
       reading_now x = ap (λ l. asking_in l x) (sym (append_assoc t after_it.entries frames)) ∙ far_reading x (t ++ after_it.entries) frames far

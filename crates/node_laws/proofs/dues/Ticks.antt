@@ -228,7 +228,8 @@ module _ (hosts : List ℕ) (are : AreHosts hosts) (past : List Occurrence) (w :
     owned : AreOwn 0 last.entries
     owned =
         front_own last.entries frames
-        (subst (λ (p : NodeWorld × List Entry). AreOwn 0 p.1) ticks_are (part_own 0 (controller_ticks old).1 (near_ticks_part old (aged_orderly w before.orderly))))
+        (subst (λ (p : NodeWorld × List Entry). AreOwn 0 p.1) ticks_are
+        (part_own 0 (controller_ticks old).1 (near_ticks_part old (aged_orderly w before.orderly))))
 
     pub on_due : Due es
     on_due =

@@ -4,23 +4,23 @@ use Rattle.node_laws.proofs.Words.{Desk, End, Entry, Host, IfRuns, Init, IsAllow
 use Rattle.node_laws.proofs.Words.{MayBeDone, Memory, Message, NoInput, NodeKeeps, NodeWorld, None, NumberedEnd, Option, Orders, Plan, Running, Sends, Site}
 use Rattle.node_laws.proofs.Words.{SiteKeeps, Some, Starts, Step, WaitsFor, [], activates, after_planned, ap, append-nil, ap₂, asked_at, beginning, begins_with}
 use Rattle.node_laws.proofs.Words.{book_in, boot_writes, boots, by_coming, by_loss, by_test, cases_Bool, changed_if, comes_at, commands_in, cond, cond_both}
-use Rattle.node_laws.proofs.Words.{controller_cut, count_of, counts, creation_in, end_c, end_h, entries_for, eqb, eqb-false, eqb-true, fails_within, false}
-use Rattle.node_laws.proofs.Words.{first_lost, found, frame_lost, happens, host_cut, host_does, inl, inr, is_command_message, is_some, length, link_to}
+use Rattle.node_laws.proofs.Words.{controller_cut, count_of, counts, creation_in, end_c, end_h, entries_for, eqb, eqb-false, eqb-true, errors_all, fails_within}
+use Rattle.node_laws.proofs.Words.{false, first_lost, found, frame_lost, happens, host_cut, host_does, inl, inr, is_command_message, is_some, length, link_to}
 use Rattle.node_laws.proofs.Words.{loses_power_at, map, memory_at, min, new_book, new_memory, node_at, option_map_or, port_at, port_for, refl, sending, site_at}
 use Rattle.node_laws.proofs.Words.{site_lost, steps, subst, sym, true, true≢false, with_error, with_found, with_memory, with_site, ℕ, ◌&&◌, ◌++◌, ◌+◌, ◌-◌, ◌^◌}
 use Rattle.node_laws.proofs.Words.{◌∙◌, ◌∷◌, ◌≡◌, ◌≤◌, ◌⊎◌}
 use Rattle.trace_model.specs.declared.entry.Entry.TheVariants as entry
-use Rattle.node_laws.proofs.kept.Asking.{NoneNew, same_new, may_still, map_found, map_two}
+use Rattle.node_laws.proofs.kept.Asking.{NoneNew, map_found, map_two, may_still, same_new}
 use Rattle.node_laws.specs.kept.Worlds.{IsStranger}
 use Rattle.node_laws.proofs.kept.Books.{book_more, plain_told}
 use Rattle.node_laws.proofs.kept.Plainly.{plain_entries}
 use Rattle.node_laws.proofs.kept.Doing.{all_fine}
 use Rattle.node_laws.proofs.kept.Stepping.{steps_fine}
-use Rattle.node_laws.proofs.kept.Standing.{IsSame, plain_same, other_same, keeps_same}
-use Rattle.node_laws.proofs.kept.Booting.{boot_told, boot_runs, boot_lost, cut_keeps}
-use Rattle.node_laws.proofs.kept.Sites.{hosts_in, site_found, hosts_same, map_sites, with_site_twice}
+use Rattle.node_laws.proofs.kept.Standing.{IsSame, keeps_same, other_same, plain_same}
+use Rattle.node_laws.proofs.kept.Booting.{boot_lost, boot_runs, boot_told, cut_keeps}
+use Rattle.node_laws.proofs.kept.Sites.{hosts_in, hosts_same, map_sites, site_found, with_site_twice}
 use Rattle.node_laws.proofs.kept.Sites.{none_found}
-use Rattle.node_laws.proofs.kept.Worlds.{Goes, goes_not, goes_then, controller_goes, host_goes, controller_steps, host_steps}
+use Rattle.node_laws.proofs.kept.Worlds.{Goes, controller_goes, controller_steps, goes_not, goes_then, host_goes, host_steps}
 
 pub no_order : (command order : Option (List ℕ)) (init : Option Init) → is_some command ≡ false → IsOnOrder command init → IsOnOrder order init
 no_order None None None off on = tt
@@ -32,11 +32,6 @@ no_order (Some c) order init off on = absurd (true≢false off)
 pub error_hosts : (h : ℕ) (desks : List Desk) → map (λ (d : Desk). d.host) (with_error h desks) ≡ map (λ (d : Desk). d.host) desks
 error_hosts h [] = refl
 error_hosts h (d ∷ desks) = ap₂ (λ x l. x ∷ l) (by_test (eqb d.host h) (λ q. rw q refl) (λ q. rw q refl)) (error_hosts h desks)
-
-error_waits : (h : ℕ) (desks : List Desk) → AllByRecursion (λ (d : Desk). WaitsFor d.notice) desks
-    → AllByRecursion (λ (d : Desk). WaitsFor d.notice) (with_error h desks)
-error_waits h [] all = tt
-error_waits h (d ∷ desks) all = (by_test (eqb d.host h) (λ q. rw q all.0) (λ q. rw q all.0), error_waits h desks all.1)
 
 more_errors : ℕ → Desk → Desk
 more_errors h d = changed_if (eqb d.host h) (λ (d : Desk). record d { errors = min 65535 (d.errors + 1) }) d
@@ -74,7 +69,7 @@ runs_counting n hosts content t (Broken fault) h (Some x) r = record {
   tables_are = r.tables_are;
   count_is = r.count_is;
   on = r.on;
-  waits = error_waits h x.desks r.waits;
+  waits = errors_all (λ (d : Desk). WaitsFor d.notice) (λ d n b. b) h x.desks r.waits;
   allowed =
       λ z near_ends. may_still x.core.tables (map (λ (d : Desk). port_for (near_ends d.host) d) x.desks) (map (λ (d : Desk). port_for (near_ends d.host) d)
       (with_error h x.desks))

@@ -1,19 +1,19 @@
 -- Each link of a world of nodes is a run of the law of one link.
-use Rattle.node_laws.proofs.Words.{AllByRecursion, AreSendableTurns, AsksReset, AtController, Bool, Broken, CanCome, Comes, CutOff, Desk, End, Ending, GoesOut}
-use Rattle.node_laws.proofs.Words.{Link, List, Lose, Loss, Memory, NextFrame, NoInput, Node, NodeWorld, None, NumberedEnd, Option, Port, Running, Site, Some}
-use Rattle.node_laws.proofs.Words.{Step, TimePasses, Turn, Work, [], after_controller, after_host, after_planned, aged, all_aged, all_map, ap, at, boot_found}
-use Rattle.node_laws.proofs.Words.{boot_writes, boot_written, boots, by_boot, by_controller, by_controller_tick, by_host, by_host_tick, by_list, by_loss}
-use Rattle.node_laws.proofs.Words.{by_memory, by_option, by_power, by_running, by_test, changed_if, comes_to, controller_cut, controller_does, controller_ticks}
-use Rattle.node_laws.proofs.Words.{controller_work, counts, ending_of, exchanged, false, frame_lost, happens, host_cut, host_does, host_tick, host_ticks}
-use Rattle.node_laws.proofs.Words.{host_work, hosts_tick, is_late_at, is_waiting, link_after_controller, link_to, links_of, loses_power_at, map, memory_at}
-use Rattle.node_laws.proofs.Words.{near_end_in, near_tick, new_desk, not, port_at, port_for, refl, runs_on, site_at, site_lost, subst, sym, tick_host}
-use Rattle.node_laws.proofs.Words.{ticked_so, ticks_at_controller, true, turns_at, with_error, with_memory, with_node, with_site, work_of, world_ticks, ℕ, ◌&&◌}
-use Rattle.node_laws.proofs.Words.{◌==◌, ◌∷◌, ◌≡◌}
+use Rattle.node_laws.proofs.Words.{AllByRecursion, AreSendableTurns, AsksReset, AtController, Bool, CanCome, Comes, CutOff, Desk, End, Ending, GoesOut, Link}
+use Rattle.node_laws.proofs.Words.{List, Lose, Loss, Memory, NextFrame, NoInput, Node, NodeWorld, None, NumberedEnd, Option, Port, Running, Site, Some, Step}
+use Rattle.node_laws.proofs.Words.{TimePasses, Turn, Work, [], after_controller, after_host, after_planned, aged, all_aged, all_map, ap, at, boot_found}
+use Rattle.node_laws.proofs.Words.{boot_writes, boot_written, boots, by_boot, by_controller, by_controller_tick, by_counts, by_host, by_host_tick, by_list}
+use Rattle.node_laws.proofs.Words.{by_loss, by_memory, by_option, by_power, by_running, by_test, changed_if, comes_to, controller_cut, controller_does}
+use Rattle.node_laws.proofs.Words.{controller_ticks, controller_work, counts, ending_of, errors_all, exchanged, false, frame_lost, happens, host_cut, host_does}
+use Rattle.node_laws.proofs.Words.{host_tick, host_ticks, host_work, hosts_tick, is_late_at, is_waiting, link_after_controller, link_to, links_of}
+use Rattle.node_laws.proofs.Words.{loses_power_at, map, memory_at, near_end_in, near_tick, new_desk, not, port_at, port_for, refl, runs_on, site_at, site_lost}
+use Rattle.node_laws.proofs.Words.{subst, sym, tick_host, ticked_so, ticks_at_controller, true, turns_at, with_memory, with_node, with_site, work_of}
+use Rattle.node_laws.proofs.Words.{world_ticks, ℕ, ◌&&◌, ◌==◌, ◌∷◌, ◌≡◌}
 use Rattle.node_laws.proofs.links.Got.{Clean}
 use Rattle.node_laws.proofs.links.Deeds.{IsTrueDesk}
 use Rattle.node_laws.proofs.links.Works.{AreFinePorts, IsFineWork, fine_at, steps_fine}
 use Rattle.node_laws.proofs.links.Ends.{here_host}
-use Rattle.node_laws.proofs.links.Sites.{IsFineLink, MayCome, controller_steps, host_steps, controller_loses, host_loses, ticks_fine}
+use Rattle.node_laws.proofs.links.Sites.{IsFineLink, MayCome, controller_loses, controller_steps, host_loses, host_steps, ticks_fine}
 
 -- ## What is kept
 
@@ -221,14 +221,8 @@ boots_fine w n fine =
 
 -- ## Losses
 
-errors_fine : (h : ℕ) (desks : List Desk) → AreTrueDesks desks → AreTrueDesks (with_error h desks)
-errors_fine h [] a = tt
-errors_fine h (d ∷ desks) a = (by_test (d.host == h) (λ q. rw q a.0) (λ q. rw q a.0), errors_fine h desks a.1)
-
 counts_fine : (why : Loss) (h : ℕ) (o : Option Running) → IsFineNode o → IsFineNode (counts why h o)
-counts_fine (Broken fault) h None a = tt
-counts_fine (Broken fault) h (Some r) a = errors_fine h r.desks a
-counts_fine _ h o a = a
+counts_fine why h o a = by_counts IsFineNode why h o a (λ r q. errors_all IsTrueDesk (λ d n b. b) h r.desks (subst IsFineNode q a))
 
 pub lost_fine : (w : NodeWorld) (e : End) (why : Loss) → IsFineWorld w → IsFineWorld (frame_lost w e why).0
 lost_fine w e why fine =

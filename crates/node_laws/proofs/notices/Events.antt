@@ -4,11 +4,11 @@ use Rattle.node_laws.proofs.Words.{AtController, AtHost, Boots, Broken, Command,
 use Rattle.node_laws.proofs.Words.{HciTables, Host, IfHostNode, IfReads, Inits, IsCommand, IsCut, IsHost, IsKeptNotice, IsRightNotice, JoinTwo, KeepsNotices}
 use Rattle.node_laws.proofs.Words.{Link, List, Lose, Loses, Loss, MayBoot, Memory, NextFrame, NoInput, NodeWorld, None, OnWire, Option, Resets, Running, Site}
 use Rattle.node_laws.proofs.Words.{Some, Step, Takes, Ticks, [], after_planned, append-nil, applied, apply, beginning, boot_found, boot_writes, boot_written}
-use Rattle.node_laws.proofs.Words.{boots, by_boot, by_memory, by_power, by_running, by_test, close, command_of, controller_cut, count_of, counts, entries_for}
-use Rattle.node_laws.proofs.Words.{eqb, eqb-true, false, first_lost, fold, found, frame_lost, happens, host_cut, link_to, links_of, loses_power_at, map}
-use Rattle.node_laws.proofs.Words.{memory_at, new_desk, new_site, new_world, no_tables, node_at, notice_at, notice_in, option_map_or, records, refl, replicate}
-use Rattle.node_laws.proofs.Words.{sending, spelled_by, subst, sym, tables_of, true, with_error, with_memory, with_node, with_site, world_step, written_off, ℕ}
-use Rattle.node_laws.proofs.Words.{◌++◌, ◌∷◌, ◌≡◌}
+use Rattle.node_laws.proofs.Words.{boots, by_boot, by_counts, by_memory, by_power, by_running, by_test, close, command_of, controller_cut, count_of, counts}
+use Rattle.node_laws.proofs.Words.{entries_for, eqb, eqb-true, errors_all, false, first_lost, fold, found, frame_lost, happens, host_cut, link_to, links_of}
+use Rattle.node_laws.proofs.Words.{loses_power_at, map, memory_at, new_desk, new_site, new_world, no_tables, node_at, notice_at, notice_in, option_map_or}
+use Rattle.node_laws.proofs.Words.{records, refl, replicate, sending, spelled_by, subst, sym, tables_of, true, with_error, with_memory, with_node, with_site}
+use Rattle.node_laws.proofs.Words.{world_step, written_off, ℕ, ◌++◌, ◌∷◌, ◌≡◌}
 use Rattle.trace_model.specs.declared.entry.Entry.TheVariants as entry
 use Rattle.tables_laws.proofs.tables.TwoHosts.{JoinTwo-after, JoinTwo-closed}
 use Rattle.node_laws.proofs.telling.Orderly.{new_orderly, step_orderly}
@@ -16,10 +16,10 @@ use Rattle.node_laws.proofs.readings.NoticedWorlds.{event_up, numbers}
 use Rattle.node_laws.proofs.readings.Sites.{lost_quiet}
 use Rattle.node_laws.proofs.notices.Reading.{notice_more}
 use Rattle.node_laws.proofs.notices.Shut.{here_shut}
-use Rattle.node_laws.proofs.notices.Far.{quiet_far, asking_more}
-use Rattle.node_laws.proofs.notices.Sites.{AreGood, Reads, AreHushed, still_reads, far_hushed, good_map, good_with, far_shut, begins_reads, sending_own}
+use Rattle.node_laws.proofs.notices.Far.{asking_more, quiet_far}
+use Rattle.node_laws.proofs.notices.Sites.{AreGood, AreHushed, Reads, begins_reads, far_hushed, far_shut, good_map, good_with, sending_own, still_reads}
 use Rattle.node_laws.proofs.notices.Sites.{beginning_own}
-use Rattle.node_laws.proofs.notices.Near.{comes_reads, ticks_reads, activates_reads}
+use Rattle.node_laws.proofs.notices.Near.{activates_reads, comes_reads, ticks_reads}
 use Rattle.node_laws.proofs.kept.Booting.{command_read}
 use Rattle.link_laws.specs.entries.Entries.{End as Side}
 
@@ -131,25 +131,18 @@ noticed_counted h (d ∷ desks) x = by_test (eqb d.host h)
     (λ q. rw q (by_test (eqb d.host x) (λ is. rw is refl) (λ off. rw off (noticed_counted h desks x))))
     (λ q. rw q (by_test (eqb d.host x) (λ is. rw is refl) (λ off. rw off (noticed_counted h desks x))))
 
-right_counted : (h : ℕ) (desks : List Desk) → AllByRecursion (λ (d : Desk). IsRightNotice d.notice) desks
-    → AllByRecursion (λ (d : Desk). IsRightNotice d.notice) (with_error h desks)
-right_counted h [] a = tt
-right_counted h (d ∷ desks) a = (by_test (eqb d.host h) (λ q. rw q a.0) (λ q. rw q a.0), right_counted h desks a.1)
-
 counted_reads : (t : List Entry) (why : Loss) (h : ℕ) (o : Option Running) → IfReads t o → IfReads t (counts why h o)
 counted_reads t (Broken fault) h None a = a
 counted_reads t (Broken fault) h (Some r) a = record {
   sorted = a.sorted;
   two = a.two;
-  right = right_counted h r.desks a.right;
+  right = errors_all (λ (d : Desk). IsRightNotice d.notice) (λ d n b. b) h r.desks a.right;
   kept = λ x. subst (IsKeptNotice (notice_in t x)) (sym (noticed_counted h r.desks x)) (a.kept x);
 }
 counted_reads t _ h o a = a
 
 counted_node : (why : Loss) (h : ℕ) (o : Option Running) → IfHostNode o → IfHostNode (counts why h o)
-counted_node (Broken fault) h None a = tt
-counted_node (Broken fault) h (Some r) a = a
-counted_node _ h o a = a
+counted_node why h o a = by_counts IfHostNode why h o a (λ r q. subst IfHostNode q a)
 
 lost_reads : (t : List Entry) (w : NodeWorld) (e : End) (why : Loss) → Reads t w → Reads (t ++ (frame_lost w e why).1) (frame_lost w e why).0
 lost_reads t w e why a = by_test e.at_host

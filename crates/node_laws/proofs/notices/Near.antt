@@ -6,25 +6,25 @@ use Rattle.node_laws.proofs.Words.{Option, Plan, Port, Reset, Running, Site, Som
 use Rattle.node_laws.proofs.Words.{all_aged, ap, append_assoc, arrival, asking_in, by_coming, by_controller, by_controller_tick, by_test, comes_at, comes_to}
 use Rattle.node_laws.proofs.Words.{cond_both, controller_does, controller_ticks, controller_work, end_c, end_h, ending_of, entries_for, eqb, false, flat_map}
 use Rattle.node_laws.proofs.Words.{frames_noted, has_input, hosts_in, hosts_tick, inl, input_of, inr, is_late_at, is_up, is_waiting, link_after_controller}
-use Rattle.node_laws.proofs.Words.{link_to, map, near_end_in, near_tick, not, notice_at, notice_in, port_at, port_for, refl, runs_on, site_ticked}
-use Rattle.node_laws.proofs.Words.{site_unticked, steps, subst, sym, ticked_so, ticks_at_controller, true, true≢false, turns_at, wires_for, work_of}
-use Rattle.node_laws.proofs.Words.{world_ticks, ℕ, ◌&&◌, ◌++◌, ◌∙◌, ◌∷◌, ◌≡◌}
+use Rattle.node_laws.proofs.Words.{link_to, map, near_end_in, near_tick, not, notice_at, notice_in, port_at, port_for, refl, runs_left, runs_none, runs_on}
+use Rattle.node_laws.proofs.Words.{site_ticked, site_unticked, steps, subst, sym, ticked_so, ticks_at_controller, true, true≢false, turns_at, wires_for}
+use Rattle.node_laws.proofs.Words.{work_of, world_ticks, ℕ, ◌&&◌, ◌++◌, ◌∙◌, ◌∷◌, ◌≡◌}
 use Rattle.trace_model.specs.declared.entry.Entry.TheVariants as entry
 use Rattle.node_laws.proofs.links.Noticing.{UpAt}
 use Rattle.node_laws.proofs.telling.Frames.{wires_all}
 use Rattle.node_laws.proofs.readings.Silent.{IsQuiet}
-use Rattle.node_laws.proofs.readings.Sites.{near_end_side, comes_outside}
+use Rattle.node_laws.proofs.readings.Sites.{comes_outside, near_end_side}
 use Rattle.node_laws.proofs.notices.Reading.{notice_more}
 use Rattle.node_laws.proofs.notices.Telling.{AreRight, noticed}
 use Rattle.node_laws.proofs.notices.Doing.{AreHostEnds, IsOn, Stands}
 use Rattle.node_laws.proofs.notices.Shut.{here_shut, ticks_shut}
 use Rattle.node_laws.proofs.notices.Steps.{steps_stand}
-use Rattle.node_laws.proofs.notices.Far.{AreFar, far-append, far_flat, far_reads, far_asks, asking_more, quiet_far}
+use Rattle.node_laws.proofs.notices.Far.{AreFar, asking_more, far-append, far_asks, far_flat, far_reads, quiet_far}
 use Rattle.node_laws.proofs.notices.Far.{steps_far}
-use Rattle.node_laws.proofs.notices.Sites.{AreGood, Reads, still_reads, far_hushed, good_map, link_shut, frames_quiet, arrival_quiet, nothing, host_reads}
+use Rattle.node_laws.proofs.notices.Sites.{AreGood, Reads, arrival_quiet, far_hushed, frames_quiet, good_map, host_reads, link_shut, nothing, still_reads}
 use Rattle.node_laws.proofs.notices.Sites.{far_reads_so}
 use Rattle.node_laws.proofs.notices.Sites.{all_tick}
-use Rattle.node_laws.proofs.telling.Nodes.{ports_for, hosts_same}
+use Rattle.node_laws.proofs.telling.Nodes.{hosts_same, ports_for}
 
 -- ## Ends as a step begins
 
@@ -105,9 +105,9 @@ module _ (t : List Entry) (w : NodeWorld) (r : Running) (has : HasEnds 0 (hosts_
   -- and frames go out
   pub step_reads : (frames : List Entry) → AreFar frames → IfReads (t ++ (after_it.entries ++ frames)) (runs_on after_it)
   step_reads frames far = by_test after_it.cut
-      (λ e. subst (IfReads (t ++ (after_it.entries ++ frames))) (sym (off_is e))
+      (λ e. subst (IfReads (t ++ (after_it.entries ++ frames))) (sym (runs_none after_it e))
       (λ x. let gone = none e x (stands x) in (parts x ∙ gone.0, parts_asking x ∙ gone.1)))
-      (λ e. subst (IfReads (t ++ (after_it.entries ++ frames))) (sym (on_is e)) (record {
+      (λ e. subst (IfReads (t ++ (after_it.entries ++ frames))) (sym (runs_left after_it e)) (record {
         sorted = (on e 0 (stands 0)).sorted;
         two = (on e 0 (stands 0)).two;
         right = right_desks after_it.ports (on e 0 (stands 0)).right;
@@ -118,12 +118,6 @@ module _ (t : List Entry) (w : NodeWorld) (r : Running) (has : HasEnds 0 (hosts_
         parts x =
             ap (λ l. notice_in l x) (sym (append_assoc t after_it.entries frames))
             ∙ (notice_more x (t ++ after_it.entries) frames ∙ far_reads x frames far (notice_in (t ++ after_it.entries) x))
-
-        off_is : after_it.cut ≡ true → runs_on after_it ≡ None
-        off_is e = rw e refl
-
-        on_is : after_it.cut ≡ false → runs_on after_it ≡ Some (record { core = after_it.core; desks = map (λ (p : Port). p.desk) after_it.ports })
-        on_is e = rw e refl
 
         parts_asking : (x : ℕ) → asking_in (t ++ (after_it.entries ++ frames)) x ≡ asking_in (t ++ after_it.entries) x
         parts_asking x =

@@ -3,35 +3,34 @@ use Rattle.node_laws.proofs.Words.{AllByRecursion, AtController, AtEnd, AtHost, 
 use Rattle.node_laws.proofs.Words.{HasEnds, Host, IfItRuns, IfOff, IsClf, IsOrderly, Link, LinkEnd, LinkEvent, LinkInput, List, Lose, Loss, Memory, NoInput}
 use Rattle.node_laws.proofs.Words.{NodeWorld, None, NumberedEnd, OnWire, Option, Running, Site, Some, StandsOf, Step, TellOf, Uicc, Work, [], after_controller}
 use Rattle.node_laws.proofs.Words.{after_host, after_planned, ap, arrival, begins_with, boot_found, boot_writes, boot_written, boots, by_boot, by_coming}
-use Rattle.node_laws.proofs.Words.{by_controller, by_memory, by_option, by_power, by_running, by_test, comes_at, comes_to, cond, controller_does}
-use Rattle.node_laws.proofs.Words.{controller_work, count_of, counts, ending_of, entries_for, eqb-true, exchanged, false, first_lost, frame_lost, happens}
-use Rattle.node_laws.proofs.Words.{happens_at_controller, host_cut, host_does, host_work, hosts_in, input_of, link_after_controller, link_to, links_of}
+use Rattle.node_laws.proofs.Words.{by_controller, by_counts, by_memory, by_option, by_power, by_running, by_test, comes_at, comes_to, cond, controller_does}
+use Rattle.node_laws.proofs.Words.{controller_work, count_of, counts, ending_of, entries_for, eqb-true, errors_all, exchanged, false, first_lost, frame_lost}
+use Rattle.node_laws.proofs.Words.{happens, happens_at_controller, host_cut, host_does, host_work, hosts_in, input_of, link_after_controller, link_to, links_of}
 use Rattle.node_laws.proofs.Words.{loses_power_at, map, memory_at, near_end_in, new_clf, new_desk, new_link_end, new_uicc, of_link, refl, runs_on, same_number}
-use Rattle.node_laws.proofs.Words.{site_at, steps, subst, sym, true, turns_at, with_error, with_memory, with_node, with_site, work_of, ℕ, ◌++◌, ◌==◌, ◌∙◌, ◌∷◌}
-use Rattle.node_laws.proofs.Words.{◌≡◌}
+use Rattle.node_laws.proofs.Words.{site_at, steps, subst, sym, true, turns_at, with_memory, with_node, with_site, work_of, ℕ, ◌++◌, ◌==◌, ◌∙◌, ◌∷◌, ◌≡◌}
 use Rattle.trace_model.specs.declared.entry.Entry.TheVariants as entry
 use Rattle.link_laws.specs.entries.Entries.{End as Side}
 use Rattle.node_laws.proofs.links.Ends.{here_host}
 use Rattle.node_laws.proofs.links.Works.{IsFineWork, all_done_fine, steps_fine}
 use Rattle.node_laws.proofs.links.Deeds.{AreFine}
-use Rattle.node_laws.proofs.links.Sites.{MayCome, clf_line, uicc_line, can_come, can_end}
-use Rattle.node_laws.proofs.links.Worlds.{AreTrueDesks, IsFineNode, IsFineSite, IsFineWorld, AtHostOnly, CanReach, near_end_clean, near_clean, fine_clean}
-use Rattle.node_laws.proofs.links.Worlds.{ports_fine, turns_fine, may_here, memory_fine}
+use Rattle.node_laws.proofs.links.Sites.{MayCome, can_come, can_end, clf_line, uicc_line}
+use Rattle.node_laws.proofs.links.Worlds.{AreTrueDesks, AtHostOnly, CanReach, IsFineNode, IsFineSite, IsFineWorld, fine_clean, near_clean, near_end_clean}
+use Rattle.node_laws.proofs.links.Worlds.{may_here, memory_fine, ports_fine, turns_fine}
 use Rattle.node_laws.proofs.links.Playing.{plain_reach}
 use Rattle.node_laws.proofs.telling.Mute.{AreMute}
-use Rattle.node_laws.proofs.telling.Powers.{entries_uncut, clear_stands, away_stands}
+use Rattle.node_laws.proofs.telling.Powers.{away_stands, clear_stands, entries_uncut}
 use Rattle.node_laws.proofs.telling.Shapes.{clear_lost, shaped_step}
 use Rattle.node_laws.proofs.telling.Accounts.{of_other}
 use Rattle.node_laws.proofs.telling.Parts.{IsStep}
-use Rattle.node_laws.proofs.telling.Nodes.{site_host, link_is, ports_for, own_power, other_power, is_step, controller_tells, controller_stands}
-use Rattle.node_laws.proofs.telling.Worlds.{site_is, node_is, HostDoes, host_does_step, host_does_begin}
+use Rattle.node_laws.proofs.telling.Nodes.{controller_stands, controller_tells, is_step, link_is, other_power, own_power, ports_for, site_host}
+use Rattle.node_laws.proofs.telling.Worlds.{HostDoes, host_does_begin, host_does_step, node_is, site_is}
 use Rattle.node_laws.proofs.telling.Events.{memory_goes}
 use Rattle.node_laws.proofs.readings.NoticedWorlds.{far_side}
-use Rattle.node_laws.proofs.order.Unnoticed.{IfNone, HasNoNotices, AreUnnoticed, all_done_none, steps_none, runs_none}
-use Rattle.node_laws.proofs.order.Watches.{IsStepOf, WatchedLink, watched, opened}
-use Rattle.node_laws.proofs.order.Knowing.{told_more, LeaveLink, told_same, cut_clf, cut_uicc, Knows, Each, later, each_empty, each_back, each_alike}
+use Rattle.node_laws.proofs.order.Unnoticed.{AreUnnoticed, HasNoNotices, IfNone, all_done_none, runs_none, steps_none}
+use Rattle.node_laws.proofs.order.Watches.{IsStepOf, WatchedLink, opened, watched}
+use Rattle.node_laws.proofs.order.Knowing.{Each, Knows, LeaveLink, cut_clf, cut_uicc, each_alike, each_back, each_empty, later, told_more, told_same}
 use Rattle.node_laws.proofs.order.Knowing.{each_map, each_site}
-use Rattle.node_laws.proofs.order.Wires.{Shown, shown_same, clear_unstarted, shown_more, step_shown}
+use Rattle.node_laws.proofs.order.Wires.{Shown, clear_unstarted, shown_more, shown_same, step_shown}
 
 -- a world that is orderly, and whose nodes send what may be sent
 pub record IsWell (w : NodeWorld) : Type 0 where
@@ -400,15 +399,8 @@ boots_each w t X n a each =
 
 -- ## Losses
 
-errors_none : (h : ℕ) (desks : List Desk) → AllByRecursion (λ (d : Desk). d.notice ≡ None) desks
-    → AllByRecursion (λ (d : Desk). d.notice ≡ None) (with_error h desks)
-errors_none h [] a = tt
-errors_none h (d ∷ desks) a = (by_test (d.host == h) (λ q. rw q a.0) (λ q. rw q a.0), errors_none h desks a.1)
-
 counts_none : (why : Loss) (h : ℕ) (o : Option Running) → IfNone o → IfNone (counts why h o)
-counts_none (Broken fault) h None a = a
-counts_none (Broken fault) h (Some r) a = errors_none h r.desks a
-counts_none _ h o a = a
+counts_none why h o a = by_counts IfNone why h o a (λ r q. errors_all (λ d. d.notice ≡ None) (λ d n b. b) h r.desks (subst IfNone q a))
 
 counts_off : (why : Loss) (h : ℕ) (o : Option Running) (new e : LinkEnd) → IfOff o new e → IfOff (counts why h o) new e
 counts_off (Broken fault) h None new e a = a

@@ -189,7 +189,8 @@ ticks_none h w orderly strange =
     ∙ (ap (λ t. t ++ of_link h ((controller_ticks old).1 ++ far)) aged_none
     ∙ (of-append h (controller_ticks old).1 far
     ∙ (ap (λ t. t ++ of_link h far) (near_none h old (aged_orderly w orderly) (old_strange))
-    ∙ other_hosts h (controller_ticks old).0.sites (ticked_orderly w orderly).hosts (ticked_orderly w orderly).nodes (subst (IsStrange h) (sym (near_kept old)) old_strange))))
+    ∙ other_hosts h (controller_ticks old).0.sites (ticked_orderly w orderly).hosts (ticked_orderly w orderly).nodes
+    (subst (IsStrange h) (sym (near_kept old)) old_strange))))
   where
     older : Site → Site
     older x = record x { link = aged x.link }

@@ -3,12 +3,12 @@ use Rattle.node_laws.proofs.Words.{AreInitsShort, Bool, Command, Commits, Core, 
 use Rattle.node_laws.proofs.Words.{KeepsOrder, LinkState, List, MayDo, Message, None, NotUp, Option, Orders, Port, Release, Releases, SaysOk, Sends, SetsErrors}
 use Rattle.node_laws.proofs.Words.{Some, Turn, Up, Waiting, Work, [], after_turn, all_done, ap, append_assoc, body_of, by_test, cases_Bool, changed_if, commit}
 use Rattle.node_laws.proofs.Words.{commit_writes, cond-true, done, entries_for, eq-eqb, eqb, fails_within, false, give_refusal, inl, inr, is_command_message}
-use Rattle.node_laws.proofs.Words.{length, noted_of, noting, option_map_or, order_in, own_side, port_at, refl, sent_unless, subst, sym, true, turn_at}
-use Rattle.node_laws.proofs.Words.{unless_cut, with_desk, with_port, ℕ, ◌&&◌, ◌++◌, ◌∙◌, ◌∷◌, ◌≡◌, ◌⊎◌}
+use Rattle.node_laws.proofs.Words.{length, noted_of, noting, option_map_or, order_in, order_of, own_side, port_at, refl, runs_left, runs_none, sent_unless}
+use Rattle.node_laws.proofs.Words.{subst, sym, true, turn_at, unless_cut, unless_off, unless_on, with_desk, with_port, ℕ, ◌&&◌, ◌++◌, ◌∙◌, ◌∷◌, ◌≡◌, ◌⊎◌}
 use Rattle.trace_model.specs.declared.entry.Entry.TheVariants as entry
 use Rattle.shdlc_core.specs.declared.answers.LinkState.TheVariants.{Down}
 use Rattle.node_laws.proofs.links.Noticing.{turn-phase}
-use Rattle.node_laws.proofs.readings.Silent.{reads, order_more, host_side, sent_reads, order_reads}
+use Rattle.node_laws.proofs.readings.Silent.{host_side, order_more, order_reads, reads, sent_reads}
 
 module _ (h : ℕ) (host : IsHost h) (before : List Entry) (now : LinkState) where
   -- the host runs, its end is in this phase, and what is read is its unanswered command
@@ -42,20 +42,16 @@ module _ (h : ℕ) (host : IsHost h) (before : List Entry) (now : LinkState) whe
     ports_are = r.is;
     its_end = r.its;
     short = r.short;
-    order = r.order ∙ sym (kept r.on);
-  } where
-    kept : w.cut ≡ false → Rattle.node_laws.specs.readings.Orders.order_of (Rattle.node_machine.specs.world.World.runs_on w) ≡ w.core.command
-    kept e = rw e refl
+    order = r.order ∙ sym (ap order_of (runs_left w r.on));
+  }
   stands_keep w (inr r) = record {
     node = r.node;
     port = r.port;
     ports_are = r.is;
     its_end = r.its;
     short = r.short;
-    order = r.order ∙ sym (kept r.off);
-  } where
-    kept : w.cut ≡ true → Rattle.node_laws.specs.readings.Orders.order_of (Rattle.node_machine.specs.world.World.runs_on w) ≡ None
-    kept e = rw e refl
+    order = r.order ∙ sym (ap order_of (runs_none w r.off));
+  }
 
   pub keeps_stand : (w : Work) → w.cut ≡ false → (k : KeepsOrder h before w) → k.port.side.shdlc.phase ≡ now → Runs w
   keeps_stand w on k phase = record {
@@ -66,19 +62,13 @@ module _ (h : ℕ) (host : IsHost h) (before : List Entry) (now : LinkState) whe
     its = k.its_end;
     phase = phase;
     short = k.short;
-    order = k.order ∙ kept on;
-  } where
-    kept : w.cut ≡ false → Rattle.node_laws.specs.readings.Orders.order_of (Rattle.node_machine.specs.world.World.runs_on w) ≡ w.core.command
-    kept e = rw e refl
+    order = k.order ∙ ap order_of (runs_left w on);
+  }
 
   -- one thing after another, unless the power is cut
   pub then : (f : Work → Work) (w : Work) → Stands w → (Runs w → Stands (f w)) → Stands (unless_cut f w)
-  then f w (inl r) next = subst Stands (sym (on_is r.on)) (next r) where
-    on_is : w.cut ≡ false → unless_cut f w ≡ f w
-    on_is e = rw e refl
-  then f w (inr r) next = subst Stands (sym (off_is r.off)) (inr r) where
-    off_is : w.cut ≡ true → unless_cut f w ≡ w
-    off_is e = rw e refl
+  then f w (inl r) next = subst Stands (sym (unless_on f w r.on)) (next r)
+  then f w (inr r) next = subst Stands (sym (unless_off f w r.off)) (inr r)
 
   pub read_more : (w : Work) (es : List Entry) (c d : Option (List ℕ)) → order_in (before ++ w.entries) h ≡ c → reads h es c ≡ d
       → order_in (before ++ (w.entries ++ es)) h ≡ d

@@ -114,31 +114,31 @@ module _ (hosts : List ℕ) (are : AreHosts hosts) where
       })
       (λ r e. on r (subst IfZero e all.controller))
     where
-    known : AllByRecursion IsHost (hosts_in w.sites)
-    known = subst (AllByRecursion IsHost) (sym all.hosts_are) are.all
+      known : AllByRecursion IsHost (hosts_in w.sites)
+      known = subst (AllByRecursion IsHost) (sym all.hosts_are) are.all
 
-    on : (r : Running) → IfZero (Some r) → AllRead hosts (t ++ (after_near_tick w (near_tick w r)).1) (after_near_tick w (near_tick w r)).0
-    on r zero = record {
-      controller = runs_zero k (away 1 (omega arith, omega arith)).number;
-      hosts_are = hosts_same (site_ticked k) (λ s. refl) w.sites ∙ all.hosts_are;
-      sites = map_reads t (k.entries ++ frames) (site_ticked k) (λ s. refl) (λ s. refl)
-          (λ s. ap (λ (x : NumberedEnd). x.side) (so_host s.link (is_late_at k s.host) (turns_at k s.host) (ending_of k)))
-          (λ n host. silent-append n k.entries frames (away n host).so (silent_flat n (λ (s : Site). frames_noted Controller s.host s.link k)
-          (λ s. frames_silent n Controller s.host s.link k) w.sites)) w.sites known all.sites;
-    } where
-      begun : Work
-      begun = work_of r w.memory.plan (λ h. (link_to w.sites h).controller) []
+      on : (r : Running) → IfZero (Some r) → AllRead hosts (t ++ (after_near_tick w (near_tick w r)).1) (after_near_tick w (near_tick w r)).0
+      on r zero = record {
+        controller = runs_zero k (away 1 (omega arith, omega arith)).number;
+        hosts_are = hosts_same (site_ticked k) (λ s. refl) w.sites ∙ all.hosts_are;
+        sites = map_reads t (k.entries ++ frames) (site_ticked k) (λ s. refl) (λ s. refl)
+            (λ s. ap (λ (x : NumberedEnd). x.side) (so_host s.link (is_late_at k s.host) (turns_at k s.host) (ending_of k)))
+            (λ n host. silent-append n k.entries frames (away n host).so (silent_flat n (λ (s : Site). frames_noted Controller s.host s.link k)
+            (λ s. frames_silent n Controller s.host s.link k) w.sites)) w.sites known all.sites;
+      } where
+        begun : Work
+        begun = work_of r w.memory.plan (λ h. (link_to w.sites h).controller) []
 
-      k : Work
-      k = steps TimePasses begun
+        k : Work
+        k = steps TimePasses begun
 
-      frames : List Entry
-      frames = flat_map (λ (s : Site). frames_noted Controller s.host s.link k) w.sites
+        frames : List Entry
+        frames = flat_map (λ (s : Site). frames_noted Controller s.host s.link k) w.sites
 
-      away : (n : ℕ) (host : IsHost n) → IsAway n 0 (none_zero n host) Controller k
-      away n host =
-          steps_away n 0 (none_zero n host) Controller TimePasses begun (controller_away r zero n host w.memory.plan (λ h.
-          (link_to w.sites h).controller) [] tt)
+        away : (n : ℕ) (host : IsHost n) → IsAway n 0 (none_zero n host) Controller k
+        away n host =
+            steps_away n 0 (none_zero n host) Controller TimePasses begun (controller_away r zero n host w.memory.plan (λ h.
+            (link_to w.sites h).controller) [] tt)
 
   -- what a host notes in a tick tells nothing of another one
   tick_silent : (t : List Entry) (s : Site) (k : ℕ) → IsHost s.host → eqb s.host k ≡ false → SiteReads t s → AreSilent k (host_ticks s).1

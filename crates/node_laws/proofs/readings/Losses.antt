@@ -1,15 +1,14 @@
 -- What is read of all hosts as a frame is lost on its way.
 use Rattle.node_laws.proofs.Words.{AllByRecursion, AllRead, AtController, AtHost, Bool, Broken, Controller, Desk, End, Entry, Host, IfHostRuns, IfZero, Link}
-use Rattle.node_laws.proofs.Words.{List, Lose, Loss, NodeWorld, None, Option, Running, Site, SiteReads, Some, [], ap, by_test, changed_if, counts, entries_for}
-use Rattle.node_laws.proofs.Words.{eqb, false, first_lost, frame_lost, happens, link_to, map, order_of, refl, sym, true, with_site, ℕ, ◌++◌, ◌+◌, ◌∙◌, ◌∷◌, ◌≡◌}
+use Rattle.node_laws.proofs.Words.{List, Lose, Loss, NodeWorld, None, Option, Running, Site, SiteReads, Some, [], ap, by_counts, by_test, changed_if, counts}
+use Rattle.node_laws.proofs.Words.{entries_for, eqb, false, first_lost, frame_lost, happens, link_to, map, order_of, refl, subst, sym, true, with_site, ℕ, ◌++◌}
+use Rattle.node_laws.proofs.Words.{◌+◌, ◌∙◌, ◌∷◌, ◌≡◌}
 use Rattle.node_laws.proofs.kept.Sites.{hosts_with}
 use Rattle.node_laws.proofs.readings.Sites.{lost_quiet, others_read}
 use Rattle.node_laws.proofs.readings.Elsewhere.{AreSilent, quiet_silent}
 
 zero_counts : (why : Loss) (h : ℕ) (o : Option Running) → IfZero o → IfZero (counts why h o)
-zero_counts (Broken fault) h None z = tt
-zero_counts (Broken fault) h (Some r) z = z
-zero_counts _ h o z = z
+zero_counts why h o z = by_counts IfZero why h o z (λ r q. subst IfZero q z)
 
 changed_desk : (b : Bool) (f : Desk → Desk) (d : Desk) (P : Desk → Type 0) → P d → P (f d) → P (changed_if b f d)
 changed_desk true f d P x y = y
@@ -17,9 +16,7 @@ changed_desk false f d P x y = x
 
 -- a frame that is counted leaves the command
 order_counts : (why : Loss) (h : ℕ) (o : Option Running) → order_of (counts why h o) ≡ order_of o
-order_counts (Broken fault) h None = refl
-order_counts (Broken fault) h (Some r) = refl
-order_counts _ h o = refl
+order_counts why h o = by_counts (λ x. order_of x ≡ order_of o) why h o refl (λ r q. ap order_of (sym q))
 
 runs_counts : (why : Loss) (h n : ℕ) (l : Link) (o : Option Running) → IfHostRuns n l o → IfHostRuns n l (counts why h o)
 runs_counts (Broken fault) h n l None so = tt
@@ -65,7 +62,8 @@ module _ (hosts : List ℕ) (t : List Entry) (w : NodeWorld) (all : AllRead host
     by_side : (b : Bool) → e.at_host ≡ b → (AllRead hosts (t ++ (frame_lost w e why).1) (frame_lost w e why).0)
     by_side false b =
         let es : List Entry = entries_for e.link (first_lost Controller why l.to_controller) in
-        let silent : (k : ℕ) → AreSilent k es = λ k. quiet_silent k e.link (first_lost Controller why l.to_controller) (lost_quiet Controller why l.to_controller) in
+        let silent : (k : ℕ) → AreSilent k es =
+        λ k. quiet_silent k e.link (first_lost Controller why l.to_controller) (lost_quiet Controller why l.to_controller) in
         rw b (record {
           controller = zero_counts why e.link w.controller all.controller;
           hosts_are = hosts_with e.link near (λ s. refl) w.sites ∙ all.hosts_are;

@@ -5,10 +5,10 @@ use Rattle.node_laws.proofs.Words.{NoInput, None, NumberedEnd, OnWire, Option, P
 use Rattle.node_laws.proofs.Words.{Tick, TimePasses, Turn, Work, [], after_host, after_input, after_tick, and_parts, ap, append-nil, append_assoc, arrival}
 use Rattle.node_laws.proofs.Words.{beginning, begins_with, by_host_tick, by_list, by_option, by_test, cond, cond-true, ended_by, ending_entries, ending_of}
 use Rattle.node_laws.proofs.Words.{entries_for, eq-eqb, eqb, eqb-true, exchanged, false, finished, first_lost, found, frames_noted, give_refusal, has_come}
-use Rattle.node_laws.proofs.Words.{host_cut, host_tick, host_ticks, host_work, inl, input_at, input_of, inr, is_command_message, is_some, map, most_frames}
-use Rattle.node_laws.proofs.Words.{near_end_in, new_desk, order_in, order_of, port_at, port_for, refl, runs_on, sending, sent_all, steps, steps_at_controller}
-use Rattle.node_laws.proofs.Words.{subst, sym, ticks_at_controller, true, true≢false, turn, turned, turns_at, wires_for, with_ended, work_of, ℕ, ◌&&◌, ◌++◌}
-use Rattle.node_laws.proofs.Words.{◌∙◌, ◌∷◌, ◌≡◌}
+use Rattle.node_laws.proofs.Words.{host_cut, host_tick, host_ticks, host_work, inl, input_at, input_of, inr, is_command_message, is_some, left_running, map}
+use Rattle.node_laws.proofs.Words.{most_frames, near_end_in, new_desk, order_in, order_of, port_at, port_for, refl, runs_left, runs_none, runs_on, sending}
+use Rattle.node_laws.proofs.Words.{sent_all, steps, steps_at_controller, subst, sym, ticks_at_controller, true≢false, turn, turned, turns_at, wires_for}
+use Rattle.node_laws.proofs.Words.{with_ended, work_of, ℕ, ◌&&◌, ◌++◌, ◌∙◌, ◌∷◌, ◌≡◌}
 use Rattle.link_laws.proofs.sessions.Ties.{after_frames-phase}
 use Rattle.link_laws.specs.entries.Entries.{End as Side}
 use Rattle.trace_model.specs.declared.entry.Entry.TheVariants as entry
@@ -117,16 +117,10 @@ done_reads t s host now k l link memory phase stands = by stands where
       ap (λ l. order_in l s.host) (sym (append_assoc t k.entries frames))
       ∙ (order_more (t ++ k.entries) frames s.host ∙ (frames_read s.host Host s.host l k (order_in (t ++ k.entries) s.host) ∙ (order ∙ sym (ap order_of is))))
 
-  on_is : k.cut ≡ false → runs_on k ≡ Some (record { core = k.core; desks = map (λ (p : Port). p.desk) k.ports })
-  on_is e = rw e refl
-
-  off_is : k.cut ≡ true → runs_on k ≡ None
-  off_is e = rw e refl
-
   by : Stands s.host host t now k → SiteReads (t ++ (k.entries ++ frames)) (record s { link = link; memory = memory; node = runs_on k })
   by (inl r) = record {
-    order = order_is (Some (record { core = k.core; desks = map (λ (p : Port). p.desk) k.ports })) (on_is r.on) r.order;
-    runs = subst (IfHostRuns s.host link) (sym (on_is r.on)) (record {
+    order = order_is (Some (left_running k)) (runs_left k r.on) r.order;
+    runs = subst (IfHostRuns s.host link) (sym (runs_left k r.on)) (record {
       number = r.node;
       desk = r.port.desk;
       desks_are = ap (map (λ (p : Port). p.desk)) r.is;
@@ -136,7 +130,7 @@ done_reads t s host now k l link memory phase stands = by stands where
       up = λ some. phase r.on ∙ (sym r.phase ∙ r.its.up some);
     });
   }
-  by (inr r) = record { order = order_is None (off_is r.off) r.order; runs = subst (IfHostRuns s.host link) (sym (off_is r.off)) tt }
+  by (inr r) = record { order = order_is None (runs_none k r.off) r.order; runs = subst (IfHostRuns s.host link) (sym (runs_none k r.off)) tt }
 
 -- something comes to the end of a host that runs
 pub comes_reads : (t : List Entry) (s : Site) (r : Running) (comes : Comes) (i : LinkInput) → IsHost s.host → SiteReads t s → s.node ≡ Some r

@@ -123,31 +123,33 @@ module _ (hosts : List ℕ) (are : AreHosts hosts) where
   near_comes t w h comes i all =
       by_controller (λ p. AllRead hosts (t ++ p.1) p.0) w h comes (steps (AtEnd h i)) (nothing t w all) (λ r e. on r (subst IfZero e all.controller))
     where
-    on : (r : Running) → IfZero (Some r) → AllRead hosts (t ++ (after_controller w h comes (controller_work w r h comes (steps (AtEnd h i)))).1)
-        (after_controller w h comes (controller_work w r h comes (steps (AtEnd h i)))).0
-    on r zero = record {
-      controller = runs_zero k (away 1 (omega arith, omega arith)).number;
-      hosts_are = hosts_same (link_after_controller h comes k) (λ s. refl) w.sites ∙ all.hosts_are;
-      sites = map_reads t (k.entries ++ frames) (link_after_controller h comes k) (λ s. refl) (λ s. refl)
-          (λ s. ap (λ (x : NumberedEnd). x.side) (here_host s.link (Step (comes_to h comes s.host) (turns_at k s.host) (ending_of k))))
-          (λ n host. silent-append n k.entries frames (away n host).so (silent_flat n (λ (s : Site). frames_noted Controller s.host
-          (wires_for s.link (comes_to h comes s.host)) k) (λ s. frames_silent n Controller s.host (wires_for s.link (comes_to h comes s.host)) k) w.sites))
-          w.sites (all_hosts t w all) all.sites;
-    } where
-      k : Work
-      k = controller_work w r h comes (steps (AtEnd h i))
+      on : (r : Running) → IfZero (Some r) → AllRead hosts (t ++ (after_controller w h comes (controller_work w r h comes (steps (AtEnd h i)))).1)
+          (after_controller w h comes (controller_work w r h comes (steps (AtEnd h i)))).0
+      on r zero = record {
+        controller = runs_zero k (away 1 (omega arith, omega arith)).number;
+        hosts_are = hosts_same (link_after_controller h comes k) (λ s. refl) w.sites ∙ all.hosts_are;
+        sites = map_reads t (k.entries ++ frames) (link_after_controller h comes k) (λ s. refl) (λ s. refl)
+            (λ s. ap (λ (x : NumberedEnd). x.side) (here_host s.link (Step (comes_to h comes s.host) (turns_at k s.host) (ending_of k))))
+            (λ n host. silent-append n k.entries frames (away n host).so (silent_flat n (λ (s : Site). frames_noted Controller s.host
+            (wires_for s.link (comes_to h comes s.host)) k) (λ s. frames_silent n Controller s.host (wires_for s.link (comes_to h comes s.host)) k) w.sites))
+            w.sites (all_hosts t w all) all.sites;
+      } where
+        k : Work
+        k = controller_work w r h comes (steps (AtEnd h i))
 
-      frames : List Entry
-      frames = flat_map (λ (s : Site). frames_noted Controller s.host (wires_for s.link (comes_to h comes s.host)) k) w.sites
+        frames : List Entry
+        frames = flat_map (λ (s : Site). frames_noted Controller s.host (wires_for s.link (comes_to h comes s.host)) k) w.sites
 
-      begun : Work
-      begun = work_of r w.memory.plan (λ n. near_end_in (link_to w.sites n) (comes_to h comes n)) (entries_for h (arrival Controller (link_to w.sites h) comes))
+        begun : Work
+        begun =
+            work_of r w.memory.plan (λ n. near_end_in (link_to w.sites n) (comes_to h comes n))
+            (entries_for h (arrival Controller (link_to w.sites h) comes))
 
-      away : (n : ℕ) (host : IsHost n) → IsAway n 0 (none_zero n host) Controller k
-      away n host =
-          steps_away n 0 (none_zero n host) Controller (AtEnd h i) begun
-          (controller_away r zero n host w.memory.plan (λ n. near_end_in (link_to w.sites n) (comes_to h comes n)) (entries_for h (arrival Controller
-          (link_to w.sites h) comes)) (arrival_silent n Controller h (link_to w.sites h) comes))
+        away : (n : ℕ) (host : IsHost n) → IsAway n 0 (none_zero n host) Controller k
+        away n host =
+            steps_away n 0 (none_zero n host) Controller (AtEnd h i) begun
+            (controller_away r zero n host w.memory.plan (λ n. near_end_in (link_to w.sites n) (comes_to h comes n)) (entries_for h (arrival Controller
+            (link_to w.sites h) comes)) (arrival_silent n Controller h (link_to w.sites h) comes))
 
   -- something comes to the end of a host
   far_comes : (t : List Entry) (w : NodeWorld) (h : ℕ) (comes : Comes) (i : LinkInput) → AllRead hosts t w

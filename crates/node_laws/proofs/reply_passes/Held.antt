@@ -8,17 +8,17 @@ use Rattle.node_laws.proofs.Words.{by_boot, by_coming, by_controller, by_control
 use Rattle.node_laws.proofs.Words.{by_running, by_test, comes_at, comes_to, cond, controller_cut, controller_does, controller_ticks, controller_work, count_of}
 use Rattle.node_laws.proofs.Words.{counts, end_c, end_h, ending_entries, ending_of, entries_for, eqb, exchanged, false, find, first_lost, flat_map, fold-append}
 use Rattle.node_laws.proofs.Words.{frame_lost, frames_noted, holds_in, host_cut, host_does, host_tick, host_ticks, host_work, hosts_in, hosts_tick}
-use Rattle.node_laws.proofs.Words.{is_command_message, is_held_at, link_after_controller, link_to, links_of, loses_power_at, map, memory_at, near_end_in}
-use Rattle.node_laws.proofs.Words.{near_tick, new_desk, noted_by_deed, noted_of, option_map_or, own_side, port_at, port_for, refl, runs_on, sending, site_at}
-use Rattle.node_laws.proofs.Words.{site_ticked, site_unticked, steps, subst, sym, true, true≢false, turn_entry, wires_for, with_error, with_memory, with_node}
-use Rattle.node_laws.proofs.Words.{with_site, work_of, world_step, world_ticks, ℕ, ◌&&◌, ◌++◌, ◌∙◌, ◌∷◌, ◌≡◌}
+use Rattle.node_laws.proofs.Words.{is_command_message, is_held_at, left_running, link_after_controller, link_to, links_of, loses_power_at, map, memory_at}
+use Rattle.node_laws.proofs.Words.{near_end_in, near_tick, new_desk, noted_by_deed, noted_of, option_map_or, own_side, port_at, port_for, refl, runs_left}
+use Rattle.node_laws.proofs.Words.{runs_none, runs_on, sending, site_at, site_ticked, site_unticked, steps, subst, sym, true, true≢false, turn_entry, wires_for}
+use Rattle.node_laws.proofs.Words.{with_error, with_memory, with_node, with_site, work_of, world_step, world_ticks, ℕ, ◌&&◌, ◌++◌, ◌∙◌, ◌∷◌, ◌≡◌}
 use Rattle.trace_model.specs.declared.entry.Entry.TheVariants as entry
 use Rattle.link_laws.specs.entries.Entries.{End as Side}
 use Rattle.node_laws.proofs.telling.Mute.{AreMute}
-use Rattle.node_laws.proofs.telling.Worlds.{site_is, node_is}
+use Rattle.node_laws.proofs.telling.Worlds.{node_is, site_is}
 use Rattle.node_laws.proofs.telling.Events.{sending_mute}
 use Rattle.node_laws.proofs.passes.Turnless.{noted_none}
-use Rattle.node_laws.proofs.views.Worlds.{AreFine, orderly_fine, map_fine}
+use Rattle.node_laws.proofs.views.Worlds.{AreFine, map_fine, orderly_fine}
 use Rattle.node_laws.proofs.passes.Before.{links_none}
 use Rattle.node_laws.proofs.passes.Notes.{deeds_note}
 use Rattle.node_laws.proofs.reply_passes.Sides.{AreNoBoots, AreOnSide, begins_unbooted, far_all, notes_unbooted, quiet_all}
@@ -156,17 +156,12 @@ module _ (t : List Entry) (w : NodeWorld) (before : HoldsRead t w) where
     c = steps input begun
 
     by : (b : Bool) → c.cut ≡ b → ThenRead t (v, c.entries ++ frames)
-    by true lost = off v (c.entries ++ frames) (node ∙ off_is) where
-      off_is : runs_on c ≡ None
-      off_is = rw lost refl
+    by true lost = off v (c.entries ++ frames) (node ∙ runs_none c lost)
     by false still = on where
-      on_is : runs_on c ≡ Some (record { core = c.core; desks = map (λ (p : Port). p.desk) c.ports })
-      on_is = rw still refl
-
       on : ThenRead t (v, c.entries ++ frames)
       on x q k =
-          let same : Some x ≡ Some (record { core = c.core; desks = map (λ (p : Port). p.desk) c.ports }) = sym q ∙ (node ∙ on_is) in
-          let is : x ≡ record { core = c.core; desks = map (λ (p : Port). p.desk) c.ports } = cc in
+          let same : Some x ≡ Some (left_running c) = sym q ∙ (node ∙ runs_left c still) in
+          let is : x ≡ left_running c = cc in
           let read : holds_in (t ++ c.entries) (end_c k) ≡ is_held_at c.ports k =
           ended_read 0 Controller t input begun number (ap (λ m. cond (eqb m 0) Controller Host) number) none un still
           (λ j. before r runs j ∙ sym (ports_held near_ends r.desks j)) k in

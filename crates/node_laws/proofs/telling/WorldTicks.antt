@@ -451,7 +451,8 @@ module _ (w : NodeWorld) (h : ℕ) (s : Site) (orderly : IsOrderly w) (found : s
   far_told : of_link h (hosts_tick (controller_ticks old).0.sites).1 ≡ of_link h (entries_for h far_notes)
   far_told =
       let P : ℕ → Type 0 = λ m. of_link m (host_ticks mine).1 ≡ of_link m (entries_for m far_notes) in
-      hosts_only h (controller_ticks old).0.sites mine (ticked_orderly w orderly).different (ticked_orderly w orderly).hosts (ticked_orderly w orderly).nodes first.there ∙ subst P number second.told
+      hosts_only h (controller_ticks old).0.sites mine (ticked_orderly w orderly).different (ticked_orderly w orderly).hosts (ticked_orderly w orderly).nodes
+      first.there ∙ subst P number second.told
 
   told_all : of_link h (world_ticks w).1 ≡ of_link h (entries_for h (aged_notes s ++ (near_notes first.late (aged s.link) first.had ++ far_notes)))
   told_all =
@@ -477,7 +478,8 @@ module _ (w : NodeWorld) (h : ℕ) (s : Site) (orderly : IsOrderly w) (found : s
 
   far_stands : (x : Standing) → standing h x (hosts_tick (controller_ticks old).0.sites).1 ≡ standing_by_law h x far_notes
   far_stands x =
-      stands_only h (controller_ticks old).0.sites mine (ticked_orderly w orderly).different (ticked_orderly w orderly).hosts (ticked_orderly w orderly).nodes first.there x
+      stands_only h (controller_ticks old).0.sites mine (ticked_orderly w orderly).different (ticked_orderly w orderly).hosts (ticked_orderly w orderly).nodes
+      first.there x
       ∙ subst (λ (m : ℕ). (y : Standing) → standing m y (host_ticks mine).1 ≡ standing_by_law m y far_notes) number second.stands x
 
   stands_all : (x : Standing) → standing h x (world_ticks w).1

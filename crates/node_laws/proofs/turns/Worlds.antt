@@ -1,15 +1,15 @@
 -- What waits at each end of a world over whatever happens there.
-use Rattle.node_laws.proofs.Words.{Activates, AllByRecursion, AreDifferent, Arms, AsksReset, AtController, AtEnd, AtHost, Bool, Boots, Broken, Comes}
-use Rattle.node_laws.proofs.Words.{Controller, CutOff, Deed, End, Entry, Gives, GoesOut, Happening, HasEnds, Host, IfItRuns, Inits, IsCut, IsOrderly, Link}
-use Rattle.node_laws.proofs.Words.{LinkInput, List, Lose, Loses, Loss, MayBoot, Memory, Message, NextFrame, NoInput, NodeWorld, None, NumberedEnd, OnWire}
-use Rattle.node_laws.proofs.Words.{Option, Resets, Running, Site, Some, Starts, Step, Takes, Ticks, Work, [], activates, after_host, after_host_step}
-use Rattle.node_laws.proofs.Words.{after_planned, aged, aged_entries, all_aged, ap, beginning, begins_with, boot_found, boot_writes, boot_written, boots}
-use Rattle.node_laws.proofs.Words.{by_boot, by_coming, by_controller, by_controller_tick, by_host, by_host_tick, by_loss, by_memory, by_option, by_power}
-use Rattle.node_laws.proofs.Words.{by_test, comes_at, cond, controller_does, controller_ticks, count_of, counts, end_c, end_h, entries_for, eq-eqb, eqb-true}
-use Rattle.node_laws.proofs.Words.{exchanged, false, first_lost, frame_lost, frames_noted, happens, host_cut, host_does, host_ticks, host_work, hosts_in}
-use Rattle.node_laws.proofs.Words.{hosts_tick, input_of, is_some, link_to, loses_power_at, map, memory_at, node_at, node_number, refl, same_end, sending}
-use Rattle.node_laws.proofs.Words.{site_at, site_lost, site_unticked, steps, subst, sym, tick_host, ticks_at_controller, true, true≢false, wires_for}
-use Rattle.node_laws.proofs.Words.{with_memory, with_node, with_site, world_step, world_ticks, ℕ, ◌&&◌, ◌++◌, ◌==◌, ◌∙◌, ◌∷◌, ◌≡◌}
+use Rattle.node_laws.proofs.Words.{Activates, AllByRecursion, AreDifferent, Arms, AsksReset, AtController, AtEnd, AtHost, Bool, Boots, Comes, Controller}
+use Rattle.node_laws.proofs.Words.{CutOff, Deed, End, Entry, Gives, GoesOut, Happening, HasEnds, Host, IfItRuns, Inits, IsCut, IsOrderly, Link, LinkInput, List}
+use Rattle.node_laws.proofs.Words.{Lose, Loses, Loss, MayBoot, Memory, Message, NextFrame, NoInput, NodeWorld, None, NumberedEnd, OnWire, Option, Resets}
+use Rattle.node_laws.proofs.Words.{Running, Site, Some, Starts, Step, Takes, Ticks, Work, [], activates, after_host, after_host_step, after_planned, aged}
+use Rattle.node_laws.proofs.Words.{aged_entries, all_aged, ap, beginning, begins_with, boot_found, boot_writes, boot_written, boots, by_boot, by_coming}
+use Rattle.node_laws.proofs.Words.{by_controller, by_controller_tick, by_counts, by_host, by_host_tick, by_loss, by_memory, by_option, by_power, by_test}
+use Rattle.node_laws.proofs.Words.{comes_at, cond, controller_does, controller_ticks, count_of, counts, end_c, end_h, entries_for, eq-eqb, eqb-true, exchanged}
+use Rattle.node_laws.proofs.Words.{false, first_lost, frame_lost, frames_noted, happens, host_cut, host_does, host_ticks, host_work, hosts_in, hosts_tick}
+use Rattle.node_laws.proofs.Words.{input_of, is_some, link_to, loses_power_at, map, memory_at, node_at, node_number, refl, same_end, sending, site_at}
+use Rattle.node_laws.proofs.Words.{site_lost, site_unticked, steps, subst, sym, tick_host, ticks_at_controller, true, true≢false, wires_for, with_memory}
+use Rattle.node_laws.proofs.Words.{with_node, with_site, world_step, world_ticks, ℕ, ◌&&◌, ◌++◌, ◌==◌, ◌∙◌, ◌∷◌, ◌≡◌}
 use Rattle.std.proofs.Math.Bool.{and-false}
 use Rattle.trace_model.specs.declared.entry.Entry.TheVariants as entry
 use Rattle.link_laws.specs.entries.Entries.{End as Side}
@@ -249,9 +249,7 @@ boots_move w n a off =
 -- ## Losses
 
 pub counts_power : (why : Loss) (h : ℕ) (o : Option Running) → is_some (counts why h o) ≡ is_some o
-counts_power (Broken fault) h None = refl
-counts_power (Broken fault) h (Some r) = refl
-counts_power _ h o = refl
+counts_power why h o = by_counts (λ (x : Option Running). is_some x ≡ is_some o) why h o refl (λ r q. ap (λ (x : Option Running). is_some x) (sym q))
 
 lost_moves : (w : NodeWorld) (e : End) (why : Loss) → AllMove w (frame_lost w e why).0 (frame_lost w e why).1
 lost_moves w e why =

@@ -2,14 +2,14 @@
 use Rattle.node_laws.proofs.Words.{AllByRecursion, Core, Deed, Entry, Init, IsComing, IsFresh, IsHost, IsOutside, LinkInput, LinkState, List, Message}
 use Rattle.node_laws.proofs.Words.{NodeInput, None, Option, Orders, Port, Sends, Some, Up, Work, [], after_sessions, all_done, all_synced_hold, ap, beginning}
 use Rattle.node_laws.proofs.Words.{begins_with, cases_Bool, comes_to_pass, cond, cond_both, eqb, false, flat_map, has_come, init_of, init_of_running, inl}
-use Rattle.node_laws.proofs.Words.{input_at, inr, is_command_message, passes, refl, runs_on, sending, steps, subst, sym, synced, told_at, true, true≢false}
-use Rattle.node_laws.proofs.Words.{unless_cut, ℕ, ◌&&◌, ◌++◌, ◌∙◌, ◌∷◌, ◌≡◌, ◌⊎◌}
+use Rattle.node_laws.proofs.Words.{input_at, inr, is_command_message, passes, refl, runs_left, runs_none, runs_on, sending, steps, subst, sym, synced, told_at}
+use Rattle.node_laws.proofs.Words.{true, true≢false, unless_cut, ℕ, ◌&&◌, ◌++◌, ◌∙◌, ◌∷◌, ◌≡◌, ◌⊎◌}
 use Rattle.node_laws.proofs.links.Noticing.{outside}
 use Rattle.node_laws.proofs.links.Staying.{stays_up}
 use Rattle.node_laws.proofs.readings.Silent.{host_side}
 use Rattle.node_laws.specs.views.Inits.{KeepsInit}
-use Rattle.node_laws.proofs.views.Answering.{reads_init, init_append, IsNeutral, AreNeutral, MayGo, neutral_stays}
-use Rattle.node_laws.proofs.views.Going.{Base, Stands, then, all_go, passes_stand, told_init}
+use Rattle.node_laws.proofs.views.Answering.{AreNeutral, IsNeutral, MayGo, init_append, neutral_stays, reads_init}
+use Rattle.node_laws.proofs.views.Going.{Base, Stands, all_go, passes_stand, then, told_init}
 use Rattle.node_laws.proofs.readings.Stepping.{behind, behind_is, came_is, on_is, over_is}
 
 module _ (h : ℕ) (host : IsHost h) (i0 : Option Init) where
@@ -119,16 +119,10 @@ module _ (h : ℕ) (host : IsHost h) (i0 : Option Init) where
 
   -- ## What a host keeps
 
-  kept_on : (w : Work) → w.cut ≡ false → init_of_running (runs_on w) ≡ w.core.init
-  kept_on w e = rw e refl
-
-  kept_off : (w : Work) → w.cut ≡ true → init_of_running (runs_on w) ≡ None
-  kept_off w e = rw e refl
-
   pub keeps_stand : (w : Work) → w.cut ≡ false → (k : KeepsInit h i0 w) → Stands h host i0 k.port.side.shdlc.phase w
   keeps_stand w on k = record {
     base = record { number = k.node; port = k.port; is = k.ports_are; at = k.host; quiet = k.no_notice; phase = refl };
-    on = λ e. (k.read ∙ kept_on w e, k.waits e);
+    on = λ e. (k.read ∙ ap init_of_running (runs_left w e), k.waits e);
     off = λ e. absurd (true≢false (sym e ∙ on));
   }
 
@@ -143,8 +137,8 @@ module _ (h : ℕ) (host : IsHost h) (i0 : Option Init) where
     read = by (cases_Bool w.cut);
   } where
     by : (w.cut ≡ true) ⊎ (w.cut ≡ false) → reads_init h w.entries i0 ≡ init_of_running (runs_on w)
-    by (inl e) = s.off e ∙ sym (kept_off w e)
-    by (inr e) = (s.on e).0 ∙ sym (kept_on w e)
+    by (inl e) = s.off e ∙ sym (ap init_of_running (runs_none w e))
+    by (inr e) = (s.on e).0 ∙ sym (ap init_of_running (runs_left w e))
 
 pub steps_keep : (h : ℕ) (begun : Option Init) (input : NodeInput) (w : Work) → IsHost h → IsOutside input → KeepsInit h begun w → w.cut ≡ false
     → AllByRecursion IsFresh w.ports → KeepsInit h begun (steps input w)

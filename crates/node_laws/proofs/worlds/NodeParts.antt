@@ -80,7 +80,8 @@ pub record PartsHave (Calm Frame : Entry → Type 0) (May : Deed → Type 0) (Th
 
 module _ (Calm Frame : Entry → Type 0) (May : Deed → Type 0) (Through : List ℕ → Type 0) (one : (k : ℕ) → Through (k ∷ [])) (Q : List Entry → Type 0)
     (have : PartsHave Calm Frame May Through Q) where
-  controller_frames : (f : Site → Link) (v : Work) (sites : List Site) → AllByRecursion Frame (flat_map (λ (s : Site). frames_noted Controller s.host (f s) v) sites)
+  controller_frames : (f : Site → Link) (v : Work) (sites : List Site)
+      → AllByRecursion Frame (flat_map (λ (s : Site). frames_noted Controller s.host (f s) v) sites)
   controller_frames f v = all_flat Frame (λ (s : Site). frames_noted Controller s.host (f s) v) (λ s. have.frames Controller s.host (f s) v)
 
   near_has : (w : NodeWorld) → IsOrderly w → Through (hosts_in w.sites) → (k : ℕ) (comes : Comes) (i : LinkInput)
@@ -134,7 +135,8 @@ module _ (Calm Frame : Entry → Type 0) (May : Deed → Type 0) (Through : List
         old = (all_aged w).0
 
   pub aged_calm : (sites : List Site)
-      → AllByRecursion Calm (flat_map (λ (s : Site). entries_for s.host (aged_entries Controller s.link.to_controller ++ aged_entries Host s.link.to_host)) sites)
+      → AllByRecursion Calm (flat_map (λ (s : Site). entries_for s.host
+      (aged_entries Controller s.link.to_controller ++ aged_entries Host s.link.to_host)) sites)
   aged_calm =
       all_flat Calm (λ (s : Site). entries_for s.host (aged_entries Controller s.link.to_controller ++ aged_entries Host s.link.to_host))
       (λ s. have.aged s.host Controller Host s.link.to_controller s.link.to_host)

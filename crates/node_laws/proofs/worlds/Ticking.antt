@@ -107,7 +107,8 @@ module _ (w : NodeWorld) (a : IsOrderly w) where
   near_only test x =
       any_front test (end_c x) (all_aged w).1 ((controller_ticks old).1 ++ (hosts_tick (controller_ticks old).0.sites).1) (aged_downless w)
       ∙ (any_append test (end_c x) (controller_ticks old).1 (hosts_tick (controller_ticks old).0.sites).1
-      ∙ (ap (λ b. tells test (end_c x) (controller_ticks old).1 || b) (hosts_other test x (controller_ticks old).0.sites (ticked_orderly w a).hosts (ticked_orderly w a).nodes)
+      ∙ (ap (λ b. tells test (end_c x) (controller_ticks old).1 || b)
+      (hosts_other test x (controller_ticks old).0.sites (ticked_orderly w a).hosts (ticked_orderly w a).nodes)
       ∙ or-false (tells test (end_c x) (controller_ticks old).1)))
 
   near_frames : (v : Work) → AreDownless (flat_map (λ (s : Site). frames_noted Controller s.host s.link v) old.sites)
