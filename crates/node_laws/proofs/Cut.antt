@@ -1,5 +1,5 @@
 -- What is done unless a node has lost its power: what holds where it has, and where it hasn't, holds of both. What it is then.
-use Rattle.std.proofs.Common.{◌≡◌, Bool, true, false, map, Option, Some, None, refl}
+use Rattle.std.proofs.Common.{◌≡◌, Bool, true, false, map, Some, None, refl}
 use Rattle.node_machine.specs.Parts.{Port, Running, Work}
 use Rattle.node_machine.specs.Carrying.{unless_cut}
 use Rattle.node_machine.specs.world.World.{runs_on}

@@ -2,7 +2,7 @@
 use Rattle.node_laws.proofs.Words.{Activates, AllByRecursion, Arms, AsksReset, AtController, AtEnd, Bool, Boots, Comes, CutOff, Deed, Desk, End, EndEvent}
 use Rattle.node_laws.proofs.Words.{Ending, Entry, Gives, GoesOut, Happening, HasNoneAside, Host, IfHostNode, Inits, IsCut, IsGoodSite, KeepsNotices, Link, List}
 use Rattle.node_laws.proofs.Words.{Loses, Loss, Memory, NextFrame, NoInput, NodeWorld, None, NumberedEnd, Port, Reset, Resets, Site, Some, Starts, Step, Takes}
-use Rattle.node_laws.proofs.Words.{Ticks, TimePasses, Turn, Work, [], after_host, after_planned, aged, all_aged, ap, arrival, at, beginning, begins_with}
+use Rattle.node_laws.proofs.Words.{Ticks, TimePasses, Turn, Work, [], after_host, after_planned, aged, all_aged, ap, arrival, beginning, begins_with}
 use Rattle.node_laws.proofs.Words.{boot_found, boot_writes, boot_written, boots, by_boot, by_coming, by_controller, by_controller_tick, by_host, by_host_tick}
 use Rattle.node_laws.proofs.Words.{by_loss, by_memory, by_power, by_running, by_test, changed_if, comes_at, comes_to, cond_both, controller_ticks}
 use Rattle.node_laws.proofs.Words.{controller_work, counts, end_c, end_h, ending_of, entries_for, eqb, exchanged, frame_lost, happens, has_input, host_cut}

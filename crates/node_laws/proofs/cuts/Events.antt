@@ -2,7 +2,7 @@
 use Rattle.node_laws.proofs.Words.{Activates, AllByRecursion, AllKeep, AreHosts, Arms, AsksReset, AtEnd, Bool, Boots, Comes, Controller, Core, EachIsAsRead}
 use Rattle.node_laws.proofs.Words.{End, Entry, FindsExactly, Gives, Happening, Host, Inits, IsAllowedStill, IsCut, IsCutAsPlanned, IsHost, IsOnOrder, List}
 use Rattle.node_laws.proofs.Words.{Loses, Loss, MayBeDone, MayHappen, Memory, Message, NextFrame, NoInput, NodeWorld, None, Option, Orders, Plan, Reckoning}
-use Rattle.node_laws.proofs.Words.{Resets, Running, Sends, Site, SiteKeeps, Some, Starts, Takes, Ticks, [], activates, after_planned, ap, arith, at, beginning}
+use Rattle.node_laws.proofs.Words.{Resets, Running, Sends, Site, SiteKeeps, Some, Starts, Takes, Ticks, [], activates, after_planned, ap, arith, beginning}
 use Rattle.node_laws.proofs.Words.{begins_with, begun_by, boot_writes, boots, by_coming, by_list, by_loss, by_test, changed_if, comes_at, commands_in, cond}
 use Rattle.node_laws.proofs.Words.{cond_both, count_of, counts, end_c, end_h, eq-eqb, eqb, eqb-false, eqb-true, fails_within, false, first_lost, fold, found}
 use Rattle.node_laws.proofs.Words.{frame_lost, host_does, inl, inr, is_command_message, is_some, length, link_to, links_of, loses_power_at, memory_at, ne_eqb}
