@@ -1,18 +1,8 @@
 -- The worked examples compute: what the definition notes of each line is the transcript.
-use Rattle.std.proofs.Common.{◌≡◌, refl, ℕ, List, [], ◌∷◌, Some, None}
-use Rattle.swp_base.specs.declared.link_terms.Cause.TheVariants.{Asked, NoAnswer}
-use Rattle.trace_model.specs.declared.entry.LostCause.TheVariants.{Asked as OnDemand, Age}
-use Rattle.trace_model.specs.declared.entry.Entry.{Entry}
-use Rattle.trace_model.specs.declared.entry.Entry.TheVariants.{Took, Lost, Down, Up, GaveUp, Acked, Got, Sent, Emit, No}
-use Rattle.trace_model.specs.declared.entry.NoCause.TheVariants.{NotUp}
-use Rattle.trace_model.specs.declared.line.End.{End}
-use Rattle.trace_model.specs.declared.line.Line.{Line}
-use Rattle.trace_model.specs.declared.line.Line.TheVariants.{Send, Deliver, Lose, Tick, Reset, Busy, Ready}
-use Rattle.link_laws.specs.messages.Links.{Link}
-use Rattle.link_laws.specs.entries.Entries.End.{Controller, Host}
-use Rattle.history.specs.Histories.{Outcome, noted}
-use Rattle.history.specs.Steps.{end_of, bare_link}
-use Rattle.history.specs.Follows.{outcome_of, link_after_line}
+use Rattle.history.proofs.Words.{Age, Asked, Busy, Controller, Deliver, End, Entry, Host, Line, Link, List, Lose, No, NoAnswer, None, NotUp, OnDemand, Outcome}
+use Rattle.history.proofs.Words.{Ready, Reset, Send, Some, [], bare_link, end_of, link_after_line, noted, outcome_of, refl, ℕ, ◌∷◌, ◌≡◌}
+use Rattle.trace_model.specs.declared.entry.Entry.TheVariants.{Took, Lost, Down, Up, GaveUp, Acked, Got, Sent, Emit}
+use Rattle.trace_model.specs.declared.line.Line.TheVariants.{Tick}
 
 abbrev pub end_c : ℕ → End
 end_c h = end_of h Controller

@@ -1,8 +1,6 @@
 -- What holds of the filters of a history.
-use Rattle.std.proofs.Common.{◌≡◌, Bool, true, false, refl}
-use Rattle.std.proofs.lemmas.Bool.{eq-eqb}
-use Rattle.trace_model.specs.declared.line.End.{End}
-use Rattle.history.specs.Filters.{same_end, same_side}
+use Rattle.history.proofs.Words.{Bool, End, eq-eqb, false, refl, same_end, true, ◌≡◌}
+use Rattle.history.specs.Filters.{same_side}
 
 -- an end is itself
 pub same_end_itself : (e : End) → same_end e e ≡ true

@@ -1,12 +1,6 @@
 -- Where events, steps and lines lead a link.
-use Rattle.std.proofs.Common.{◌≡◌, ℕ, List, [], ◌∷◌, ◌++◌, refl, ap, ◌∙◌}
-use Rattle.std.specs.List.{flat_map}
-use Rattle.trace_model.specs.declared.line.Header.{Header}
-use Rattle.trace_model.specs.declared.line.Line.{Line}
-use Rattle.link_laws.specs.messages.Links.{Link}
-use Rattle.history.specs.Histories.{Cause, Event, Outcome, Step, History, events_of, causes_of}
-use Rattle.history.specs.Steps.{bare_link, link_after, link_after_all}
-use Rattle.history.specs.Follows.{Follows, StepsFollow, host_of, link_at, link_after_line, link_after_lines}
+use Rattle.history.proofs.Words.{Cause, Event, Follows, Header, History, Line, Link, List, Outcome, Step, StepsFollow, [], ap, bare_link, causes_of, events_of}
+use Rattle.history.proofs.Words.{flat_map, host_of, link_after, link_after_all, link_after_line, link_after_lines, link_at, refl, ℕ, ◌++◌, ◌∙◌, ◌∷◌, ◌≡◌}
 
 -- the events of steps
 abbrev pub events_in : List Step → List Event

@@ -1,20 +1,10 @@
 -- More worked examples compute, with damage, a reset while the end waits, and a frame that a full wire pushes out.
-use Rattle.std.proofs.Common.{◌≡◌, refl, List, [], ◌∷◌, Some, None}
-use Rattle.std.specs.Prelude.{true, is_some, replicate}
+use Rattle.std.specs.Prelude.{true, replicate}
+use Rattle.history.proofs.Words.{Asked, Beyond, Broken, Damage, Deliver, Empty, Full, Given, Line, Link, List, Lose, No, None, OnDemand, OnWire, Peer, Reset}
+use Rattle.history.proofs.Words.{Rr, Rset, S, Send, Some, Waiting, [], bare_link, event_at, is_some, link_after, misread, refl, refusal, ◌∷◌, ◌≡◌}
 use Rattle.swp_base.specs.Bits.{bits_of_byte}
-use Rattle.swp_base.specs.declared.control_frames.Control.TheVariants.{S, Rset}
-use Rattle.swp_base.specs.declared.control_frames.Kind.TheVariants.{Rr}
-use Rattle.swp_base.specs.declared.link_terms.Cause.TheVariants.{Asked, Peer}
-use Rattle.trace_model.specs.declared.entry.LostCause.TheVariants.{Asked as OnDemand, Broken, Full}
-use Rattle.trace_model.specs.declared.entry.Entry.TheVariants.{Took, Lost, Down, Up, Acked, Got, Sent, Emit, No}
-use Rattle.trace_model.specs.declared.entry.NoCause.TheVariants.{Empty, Beyond, Waiting}
-use Rattle.trace_model.specs.declared.line.Line.{Line}
-use Rattle.trace_model.specs.declared.line.Line.TheVariants.{Send, Deliver, Lose, Damage, Tick, Reset}
-use Rattle.link_laws.specs.sessions.Sessions.{OnWire}
-use Rattle.link_laws.specs.messages.Links.{Link}
-use Rattle.history.specs.Histories.Cause.{Given}
-use Rattle.history.specs.Steps.{bare_link, link_after, event_at}
-use Rattle.history.specs.Follows.{refusal, misread}
+use Rattle.trace_model.specs.declared.entry.Entry.TheVariants.{Took, Lost, Down, Up, Acked, Got, Sent, Emit}
+use Rattle.trace_model.specs.declared.line.Line.TheVariants.{Tick}
 use Rattle.history.proofs.Examples.{end_c, end_h, noted_by_line}
 
 -- reset and its resend

@@ -1,15 +1,7 @@
 -- Few RSETs are put on the link of a bare world.
-use Rattle.std.proofs.Common.{◌≡◌, ℕ, ◌+◌, Bool, true, false, cond, List, [], ◌∷◌, refl, arith}
-use Rattle.trace_model.specs.declared.line.End.{End}
-use Rattle.link_laws.specs.messages.Links.{Link, EndEvent}
-use Rattle.link_laws.specs.messages.Links.IsStart.{IsBare}
-use Rattle.link_laws.specs.messages.Links.Ending.{GoesOut}
-use Rattle.link_laws.specs.messages.Links.Comes.{AsksReset}
+use Rattle.history.proofs.Words.{AsksReset, AtController, AtHost, Bool, Cause, End, EndEvent, Given, GoesOut, IsBare, Link, List, Readied, Taken, Ticked}
+use Rattle.history.proofs.Words.{WasLost, WasReset, [], arith, at, bare_link, cond, event_of, false, link_after, link_after_all, refl, true, ℕ, ◌+◌, ◌∷◌, ◌≡◌}
 use Rattle.link_laws.specs.messages.Links.EndEvent.{Step}
-use Rattle.link_laws.specs.messages.Links.LinkEvent.{AtController, AtHost}
-use Rattle.history.specs.Histories.{Cause}
-use Rattle.history.specs.Histories.Cause.{Given, Taken, WasLost, Ticked, WasReset, Readied}
-use Rattle.history.specs.Steps.{at, event_of, bare_link, link_after, link_after_all}
 use Rattle.link_laws.specs.messages.Rsets.{FewRsets, NumbersWithin, rset_causes, resets_in_event}
 use Rattle.history.specs.BareRsets.{rsets_by_bare, rsets_by_all_bare}
 use Rattle.link_laws.proofs.messages.RsetsOnLinks.{made_by_event}
@@ -40,11 +32,7 @@ few_after n l c f =
 
 by_one_more : (c : Cause) (causes : List Cause) → rsets_by_all_bare (c ∷ causes) ≡ rsets_by_bare c + rsets_by_all_bare causes
 by_one_more (Given e m) causes = omega arith
-by_one_more (Taken e) causes = omega arith
-by_one_more (WasLost e why) causes = omega arith
-by_one_more Ticked causes = omega arith
-by_one_more (WasReset e window) causes = omega arith
-by_one_more (Readied e ready) causes = omega arith
+by_one_more _ causes = omega arith
 
 few_after_all : (causes : List Cause) (n : ℕ) (l : Link) → FewRsets n l → FewRsets (n + rsets_by_all_bare causes) (link_after_all l causes)
 few_after_all [] n l f = record { made = let z = f.made in omega (arith, z); numbered = f.numbered }

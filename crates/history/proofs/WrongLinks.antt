@@ -1,16 +1,11 @@
 -- Small wrong histories of one bare link aren't legal: one for each fact, and each is refused by that fact alone.
-use Rattle.std.proofs.Common.{◌≡◌, ◌≤◌, arith, refl, ap, sym, ℕ, Bool, true, false, true≢false, List, [], ◌∷◌, ◌++◌, None}
-use Rattle.std.specs.Prelude.{is_some}
+use Rattle.std.proofs.Common.{true≢false}
+use Rattle.history.proofs.Words.{Bool, Cause, Caused, Entry, Event, Given, History, IsReadQuiet, IsReadSettled, Legal, List, None, Taken, WasReset, []}
+use Rattle.history.proofs.Words.{all_entries, ap, arith, entries_of, false, is_some, opening_of, refl, sym, true, ℕ, ◌++◌, ◌∷◌, ◌≡◌, ◌≤◌}
 use Rattle.swp_base.specs.declared.link_terms.Cause.TheVariants as cause
-use Rattle.trace_model.specs.declared.entry.Entry.{Entry}
 use Rattle.trace_model.specs.declared.entry.Entry.TheVariants.{Down, Emit, Took, Sent, Got, Acked}
-use Rattle.trace_model.specs.declared.line.Line.TheVariants as line
-use Rattle.history.specs.Histories.{Cause, Event, History, all_entries, entries_of}
-use Rattle.history.specs.Histories.Cause.{Given, Taken, WasReset}
-use Rattle.history.specs.Histories.Outcome.{Caused}
-use Rattle.history.specs.Follows.{opening_of}
-use Rattle.history.specs.Legal.{Legal, IsReadQuiet, IsReadSettled}
 use Rattle.history.proofs.Examples.{end_c, end_h}
+use Rattle.trace_model.specs.declared.line.Line.TheVariants as line
 
 abbrev is_empty : {X : Type 0} → List X → Bool
 is_empty [] = true

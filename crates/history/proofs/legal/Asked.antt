@@ -1,24 +1,10 @@
 -- In a history that follows a schedule a reset is at an end of its link that doesn't refuse it.
-use Rattle.std.proofs.Common.{◌≡◌, ℕ, zero, suc, ◌<◌, List, [], ◌∷◌, ◌++◌, length, Option, Some, None, replicate, refl, sym, subst, arith}
-use Rattle.std.specs.Prelude.{unwrap_or, slice_index, slice_index_or, Contains}
-use Rattle.std.specs.List.{AllByRecursion}
-use Rattle.trace_model.specs.declared.entry.NoCause.{NoCause}
-use Rattle.trace_model.specs.declared.line.End.{End}
-use Rattle.trace_model.specs.declared.line.Header.{Header}
-use Rattle.trace_model.specs.declared.line.Line.{Line}
-use Rattle.trace_model.specs.declared.line.Line.TheVariants.{Send, Deliver, Lose, Damage, Tick, Reset, Busy, Ready, Boot, Cut, Activate, Arm, Init, Tables}
-use Rattle.trace_model.specs.declared.line.Line.TheVariants.{Settle}
-use Rattle.trace_model.specs.Lines.{IsLineOf, IsEndOf, IsHeader}
-use Rattle.link_laws.specs.machine.Machine.{Refused as EndRefused, reset_refusal}
-use Rattle.link_laws.specs.messages.Links.{Link}
-use Rattle.history.specs.Histories.{Cause, Event, Outcome, Step, events_of, causes_of}
-use Rattle.history.specs.Histories.Cause.{Given, Taken, WasLost, Ticked, WasReset, Readied}
-use Rattle.history.specs.Histories.Outcome.{Refused, Caused}
-use Rattle.history.specs.Damage.{Verdict}
-use Rattle.history.specs.Damage.Verdict.{Same, LostFor, Undetected}
-use Rattle.history.specs.Steps.{link_after, link_after_all, events_at}
-use Rattle.history.specs.Follows.{machine_of, as_noted, refusal, causes_in, damage_causes, first_verdict, frames_to, taken_of, outcome_of, StepsFollow}
-use Rattle.history.specs.Follows.{link_after_line, host_of}
+use Rattle.history.proofs.Words.{AllByRecursion, Busy, Cause, Caused, Contains, Damage, Deliver, End, EndRefused, Event, Header, IsEndOf, IsHeader, IsLineOf}
+use Rattle.history.proofs.Words.{Line, Link, List, Lose, LostFor, NoCause, None, Option, Outcome, Ready, Refused, Reset, Same, Send, Some, Step, StepsFollow}
+use Rattle.history.proofs.Words.{Taken, Ticked, Undetected, Verdict, WasReset, [], arith, as_noted, causes_in, causes_of, damage_causes, events_at, events_of}
+use Rattle.history.proofs.Words.{first_verdict, frames_to, host_of, length, link_after, link_after_all, link_after_line, machine_of, outcome_of, refl, refusal}
+use Rattle.history.proofs.Words.{replicate, reset_refusal, slice_index, slice_index_or, subst, suc, sym, taken_of, unwrap_or, zero, ℕ, ◌++◌, ◌<◌, ◌∷◌, ◌≡◌}
+use Rattle.trace_model.specs.declared.line.Line.TheVariants.{Tick}
 use Rattle.history.proofs.legal.Runs.{events_in}
 
 -- ## Resets
@@ -50,12 +36,8 @@ abbrev NoResets : List Cause → Type 0
 NoResets cs = AllByRecursion IsNoReset cs
 
 no_reset_asked : (h : ℕ) (l : Link) (c : Cause) → IsNoReset c → IsAsked h l c
-no_reset_asked h l (Given e m) n = tt
-no_reset_asked h l (Taken e) n = tt
-no_reset_asked h l (WasLost e why) n = tt
-no_reset_asked h l Ticked n = tt
 no_reset_asked h l (WasReset e window) n = absurd n
-no_reset_asked h l (Readied e ready) n = tt
+no_reset_asked h l _ n = tt
 
 no_resets_asked : (h : ℕ) (l : Link) (cs : List Cause) → NoResets cs → AreAsked h l (events_at h l cs)
 no_resets_asked h l [] n = tt
@@ -102,13 +84,7 @@ asked_line header h l (Tick times) is ends =
 asked_line header h l (Reset e window) is ends = reset_line h l e window (ends e is.0)
 asked_line header h l (Busy e) is ends = unasked h l (causes_in l (Busy e)) (refusal l (Busy e)) (tt, tt)
 asked_line header h l (Ready e) is ends = unasked h l (causes_in l (Ready e)) (refusal l (Ready e)) (tt, tt)
-asked_line header h l (Boot node) is ends = absurd is
-asked_line header h l (Cut node) is ends = absurd is
-asked_line header h l (Activate host sync power) is ends = absurd is
-asked_line header h l (Arm node nth fill) is ends = absurd is
-asked_line header h l (Init e identity pipes) is ends = absurd is
-asked_line header h l (Tables node) is ends = absurd is
-asked_line header h l (Settle rounds) is ends = absurd is
+asked_line header h l _ is ends = absurd is
 
 asked_steps : (header : Header) (h : ℕ) (l : Link) (lines : List Line) (steps : List Step) → AllByRecursion (IsLineOf header) lines
     → ((e : End) → IsEndOf header e → e.link ≡ h) → StepsFollow h l lines steps → AreAsked h l (events_in steps)

@@ -1,30 +1,14 @@
 -- A quiet link has delivered all, at the end of each event of a history.
-use Rattle.std.proofs.Common.{◌≡◌, ℕ, Bool, true, false, List, [], length, Some, None, refl, ap, sym, subst, ◌∙◌}
-use Rattle.std.specs.Prelude.{◌==◌}
-use Rattle.std.specs.List.{list_any, AllByRecursion}
-use Rattle.hcp_packet.specs.Packets.{good_of}
-use Rattle.trace_model.specs.declared.entry.Entry.{Entry}
-use Rattle.trace_model.specs.declared.line.Header.{Header}
-use Rattle.trace_model.specs.declared.line.Line.{Line}
-use Rattle.trace_model.specs.Lines.{IsLineOf, IsHeader}
-use Rattle.link_laws.specs.machine.Machine.{Message}
-use Rattle.link_laws.specs.messages.Links.{Link, number_of, after_link_events}
-use Rattle.link_laws.specs.messages.Links.IsStart.{IsBare}
-use Rattle.link_laws.specs.entries.Entries.{Entry as Noted}
-use Rattle.link_laws.specs.entries.Entries.End.{Controller, Host}
-use Rattle.link_laws.specs.entries.Reading.{Seen, see_all, nothing_seen}
-use Rattle.link_laws.specs.entries.Quiet.{disturbs, since, IsQuietSince, IsDeliveredOnLink as LinkDelivered}
+use Rattle.history.proofs.Words.{AllByRecursion, Bool, Complete, Controller, Entry, Event, Follows, Header, History, Host, IsBare, IsComplete, IsDelivered}
+use Rattle.history.proofs.Words.{IsHeader, IsLineOf, IsQuietSince, IsReadQuiet, Line, Link, LinkDelivered, List, Message, None, Noted, Seen, Some, []}
+use Rattle.history.proofs.Words.{after_link_events, ap, bare_link, causes_of, disturbs, end_of, entries_for, false, good_of, has_lost, has_rnr, host_of, length}
+use Rattle.history.proofs.Words.{list_any, nothing_seen, number_of, refl, see_all, session_number, session_up, since, since_up, subst, sym, true, wire_to, ℕ}
+use Rattle.history.proofs.Words.{◌==◌, ◌∙◌, ◌≡◌}
 use Rattle.link_laws.proofs.entries.Ages.{read_off}
 use Rattle.link_laws.proofs.entries.Delivering.{quiet_here, quiet_there}
-use Rattle.history.specs.Histories.{Event, History, causes_of}
-use Rattle.history.specs.Filters.{session_number, wire_to}
-use Rattle.history.specs.Legal.{IsReadQuiet, IsDelivered, IsComplete, Complete, since_up, has_lost, has_rnr}
-use Rattle.history.specs.Steps.{end_of, entries_for, bare_link}
-use Rattle.history.specs.Follows.{Follows, host_of}
 use Rattle.history.proofs.legal.Runs.{AreOf, link_events, of_front, of_allowed, of_can}
 use Rattle.history.proofs.legal.Noted.{sent-all, got-all, acked-all, unsaid}
 use Rattle.history.proofs.legal.Ordered.{IsRun, is_run, notes_of, run_entries, same_link}
-use Rattle.link_laws.proofs.entries.Hearing.{session_up}
 use Rattle.history.proofs.legal.Sessions.{controller_heard, host_heard}
 use Rattle.history.proofs.legal.Plain.{plain_trace}
 use Rattle.history.proofs.legal.Reading.{session-all, none_session, no_bytes, wire-controller, wire-host, since-all, plain_since, undisturbed}

@@ -1,23 +1,10 @@
 -- What the filters read off the entries of a history is what those of the link read off what was noted of it.
-use Rattle.std.proofs.Common.{◌≡◌, ℕ, Bool, true, false, List, [], ◌∷◌, ◌++◌, Option, Some, None, max, refl, ap, sym, ◌∙◌, arith}
-use Rattle.std.specs.Prelude.{◌==◌, ◌&&◌, if◌then◌else◌}
-use Rattle.std.specs.List.{cons_option, fold, list_any, AllByRecursion}
 use Rattle.std.proofs.lemmas.List.Elements.{filter_map-append}
-use Rattle.swp_base.specs.declared.link_terms.Cause.TheVariants.{Asked, NoAnswer, Peer, Act as ByAct, Chain}
-use Rattle.trace_model.specs.declared.entry.Entry.{Entry}
-use Rattle.trace_model.specs.declared.line.End.{End}
-use Rattle.link_laws.specs.machine.Machine.{Message}
-use Rattle.link_laws.specs.entries.Entries.{End as Side, Entry as Noted}
-use Rattle.link_laws.specs.entries.Entries.End.{Controller, Host}
-use Rattle.link_laws.specs.entries.Entries.Entry.{Up, Down, Active, GaveUp, Acked, Got, Sent, Emit, Took, Lost, Tick, Restarted, Cut}
-use Rattle.link_laws.specs.entries.Filters.{same_link_end as same_side, sent_noted as link_sent, got_noted as link_got, acked_noted as link_acked}
-use Rattle.link_laws.specs.entries.Order.{is_noted_chain_fault as link_fault}
-use Rattle.link_laws.proofs.entries.Lasting.{same_number}
-use Rattle.link_laws.proofs.entries.Books.{Book, read-append}
-use Rattle.history.specs.Filters.{Saying, same_end, at_end, said_of, sent_by, got_in_session, acked_after, sent_in, got_in, acked_in}
-use Rattle.history.specs.Filters.Saying.{Begins, Ends, Sends, Gets, Counts}
-use Rattle.history.specs.Legal.{is_chain_fault}
-use Rattle.history.specs.Steps.{end_of, entry_of, entries_for}
+use Rattle.history.proofs.Words.{Acked, Active, AllByRecursion, Asked, Begins, Book, Bool, ByAct, Chain, Controller, Counts, Down, Emit, End, Ends, Entry}
+use Rattle.history.proofs.Words.{GaveUp, Gets, Got, Host, List, Lost, Message, NoAnswer, None, Noted, Option, Peer, Saying, Sends, Sent, Side, Some, Took, Up}
+use Rattle.history.proofs.Words.{[], acked_after, acked_in, ap, arith, at_end, cons_option, end_of, entries_for, entry_of, false, fold, got_in, got_in_session}
+use Rattle.history.proofs.Words.{if◌then◌else◌, is_chain_fault, link_acked, link_fault, link_got, link_sent, list_any, max, read-append, refl, said_of}
+use Rattle.history.proofs.Words.{same_end, same_number, same_side, sent_by, sent_in, sym, true, ℕ, ◌&&◌, ◌++◌, ◌==◌, ◌∙◌, ◌∷◌, ◌≡◌}
 
 -- ## At the ends of the link
 
@@ -38,31 +25,26 @@ passed : {A : Type 0} (g : Option Saying → Option A) (b : Bool) (s : Saying) �
 passed g true s none some = ap (λ o. cons_option o []) some
 passed g false s none some = ap (λ o. cons_option o []) none
 
--- ## Messages sent
+-- a filter hears one kind, in the session that is asked for
+chosen : (g : Option Saying → Option Message) (s : Saying) (c : Bool) (m : Message) (b : Bool) → g None ≡ None → g (Some s) ≡ (if c then Some m else None)
+    → cons_option (g (if_said b s)) [] ≡ (if b && c then m ∷ [] else [])
+chosen g s c m false none some = ap (λ o. cons_option o []) none
+chosen g s true m true none some = ap (λ o. cons_option o []) some
+chosen g s false m true none some = ap (λ o. cons_option o []) some
 
-sent_here : (n k : ℕ) (m : Message) (b : Bool) → cons_option (sent_by n (if_said b (Sends k m))) [] ≡ (if b && (k == n) then m ∷ [] else [])
-sent_here n k m false = refl
-sent_here n k m true = go (k == n)
-  where
-    go : (c : Bool) → cons_option (if c then Some m else None) [] ≡ (if c then m ∷ [] else [])
-    go true = refl
-    go false = refl
+-- ## Messages sent
 
 sent-one : (h : ℕ) (x : Noted) (who : Side) (n : ℕ) → sent_in (entry_of h x) (end_of h who) n ≡ link_sent (x ∷ []) who n
 sent-one h (Up w k) who n = passed (sent_by n) (same_end (end_of h w) (end_of h who)) (Begins k) refl refl
 sent-one h (Down w cause) who n = passed (sent_by n) (same_end (end_of h w) (end_of h who)) Ends refl refl
-sent-one h (Active w) who n = refl
-sent-one h (GaveUp w tries) who n = refl
 sent-one h (Acked w k count) who n = passed (sent_by n) (same_end (end_of h w) (end_of h who)) (Counts k count) refl refl
 sent-one h (Got w k m) who n = passed (sent_by n) (same_end (end_of h w) (end_of h who)) (Gets k m) refl refl
 sent-one h (Sent w k m) who n =
-    ap (λ b. cons_option (sent_by n (if_said b (Sends k m))) []) (same_as h w who) ∙ sent_here n k m (same_side w who)
+    ap (λ b. cons_option (sent_by n (if_said b (Sends k m))) []) (same_as h w who) ∙ chosen (sent_by n) (Sends k m) (k == n) m (same_side w who) refl refl
 sent-one h (Emit w c) who n = passed (sent_by n) (same_end (end_of h w) (end_of h who)) _ refl refl
 sent-one h (Took w c) who n = passed (sent_by n) (same_end (end_of h w) (end_of h who)) _ refl refl
 sent-one h (Lost w c why) who n = passed (sent_by n) (same_end (end_of h w) (end_of h who)) _ refl refl
-sent-one h Tick who n = refl
-sent-one h (Restarted w) who n = refl
-sent-one h (Cut w) who n = refl
+sent-one h _ who n = refl
 
 pub sent-all : (h : ℕ) (t : List Noted) (who : Side) (n : ℕ) → sent_in (entries_for h t) (end_of h who) n ≡ link_sent t who n
 sent-all h [] who n = refl
@@ -73,29 +55,18 @@ sent-all h (x ∷ t) who n =
 
 -- ## Messages got
 
-got_here : (n k : ℕ) (m : Message) (b : Bool) → cons_option (got_in_session n (if_said b (Gets k m))) [] ≡ (if b && (k == n) then m ∷ [] else [])
-got_here n k m false = refl
-got_here n k m true = go (k == n)
-  where
-    go : (c : Bool) → cons_option (if c then Some m else None) [] ≡ (if c then m ∷ [] else [])
-    go true = refl
-    go false = refl
-
 got-one : (h : ℕ) (x : Noted) (who : Side) (n : ℕ) → got_in (entry_of h x) (end_of h who) n ≡ link_got (x ∷ []) who n
 got-one h (Up w k) who n = passed (got_in_session n) (same_end (end_of h w) (end_of h who)) (Begins k) refl refl
 got-one h (Down w cause) who n = passed (got_in_session n) (same_end (end_of h w) (end_of h who)) Ends refl refl
-got-one h (Active w) who n = refl
-got-one h (GaveUp w tries) who n = refl
 got-one h (Acked w k count) who n = passed (got_in_session n) (same_end (end_of h w) (end_of h who)) (Counts k count) refl refl
 got-one h (Got w k m) who n =
-    ap (λ b. cons_option (got_in_session n (if_said b (Gets k m))) []) (same_as h w who) ∙ got_here n k m (same_side w who)
+    ap (λ b. cons_option (got_in_session n (if_said b (Gets k m))) []) (same_as h w who)
+    ∙ chosen (got_in_session n) (Gets k m) (k == n) m (same_side w who) refl refl
 got-one h (Sent w k m) who n = passed (got_in_session n) (same_end (end_of h w) (end_of h who)) (Sends k m) refl refl
 got-one h (Emit w c) who n = passed (got_in_session n) (same_end (end_of h w) (end_of h who)) _ refl refl
 got-one h (Took w c) who n = passed (got_in_session n) (same_end (end_of h w) (end_of h who)) _ refl refl
 got-one h (Lost w c why) who n = passed (got_in_session n) (same_end (end_of h w) (end_of h who)) _ refl refl
-got-one h Tick who n = refl
-got-one h (Restarted w) who n = refl
-got-one h (Cut w) who n = refl
+got-one h _ who n = refl
 
 pub got-all : (h : ℕ) (t : List Noted) (who : Side) (n : ℕ) → got_in (entries_for h t) (end_of h who) n ≡ link_got t who n
 got-all h [] who n = refl
@@ -135,8 +106,6 @@ acked-from h (Up w k ∷ t) who n a =
     ap (counted_from n (end_of h who) (entries_for h t)) (not_counted n a (same_end (end_of h w) (end_of h who)) (Begins k) refl) ∙ acked-from h t who n a
 acked-from h (Down w cause ∷ t) who n a =
     ap (counted_from n (end_of h who) (entries_for h t)) (not_counted n a (same_end (end_of h w) (end_of h who)) Ends refl) ∙ acked-from h t who n a
-acked-from h (Active w ∷ t) who n a = acked-from h t who n a
-acked-from h (GaveUp w tries ∷ t) who n a = acked-from h t who n a
 acked-from h (Acked w k count ∷ t) who n a =
     acked-from h t who n (acked_after n a (if_said (same_end (end_of h w) (end_of h who)) (Counts k count)))
     ∙ (ap (λ b. max (acked_after n a (if_said b (Counts k count))) (link_acked t who n)) (same_as h w who)
@@ -151,9 +120,7 @@ acked-from h (Took w c ∷ t) who n a =
     ap (counted_from n (end_of h who) (entries_for h t)) (not_counted n a (same_end (end_of h w) (end_of h who)) _ refl) ∙ acked-from h t who n a
 acked-from h (Lost w c why ∷ t) who n a =
     ap (counted_from n (end_of h who) (entries_for h t)) (not_counted n a (same_end (end_of h w) (end_of h who)) _ refl) ∙ acked-from h t who n a
-acked-from h (Tick ∷ t) who n a = acked-from h t who n a
-acked-from h (Restarted w ∷ t) who n a = acked-from h t who n a
-acked-from h (Cut w ∷ t) who n a = acked-from h t who n a
+acked-from h (_ ∷ t) who n a = acked-from h t who n a
 
 pub acked-all : (h : ℕ) (t : List Noted) (who : Side) (n : ℕ) → acked_in (entries_for h t) (end_of h who) n ≡ link_acked t who n
 acked-all h t who n = acked-from h t who n 0 ∙ let z : max 0 (link_acked t who n) ≡ link_acked t who n = omega arith in z
@@ -180,9 +147,7 @@ unsaid h e (Sent w k m ∷ t) q = (unsaid_there h e w _ q, unsaid h e t q)
 unsaid h e (Emit w c ∷ t) q = (unsaid_there h e w _ q, unsaid h e t q)
 unsaid h e (Took w c ∷ t) q = (unsaid_there h e w _ q, unsaid h e t q)
 unsaid h e (Lost w c why ∷ t) q = (unsaid_there h e w _ q, unsaid h e t q)
-unsaid h e (Tick ∷ t) q = unsaid h e t q
-unsaid h e (Restarted w ∷ t) q = unsaid h e t q
-unsaid h e (Cut w ∷ t) q = unsaid h e t q
+unsaid h e (_ ∷ t) q = unsaid h e t q
 
 pub none_sent : (e : End) (n : ℕ) (t : List Entry) → Unsaid e t → sent_in t e n ≡ []
 none_sent e n [] u = refl
@@ -200,20 +165,9 @@ none_acked e n (x ∷ t) u = ap (λ o. counted_from n e t (acked_after n 0 o)) u
 
 pub fault-all : (h : ℕ) (t : List Noted) → list_any is_chain_fault (entries_for h t) ≡ list_any link_fault t
 fault-all h [] = refl
-fault-all h (Up w k ∷ t) = fault-all h t
 fault-all h (Down w Asked ∷ t) = fault-all h t
 fault-all h (Down w NoAnswer ∷ t) = fault-all h t
 fault-all h (Down w Peer ∷ t) = fault-all h t
 fault-all h (Down w ByAct ∷ t) = fault-all h t
 fault-all h (Down w Chain ∷ t) = refl
-fault-all h (Active w ∷ t) = fault-all h t
-fault-all h (GaveUp w tries ∷ t) = fault-all h t
-fault-all h (Acked w k count ∷ t) = fault-all h t
-fault-all h (Got w k m ∷ t) = fault-all h t
-fault-all h (Sent w k m ∷ t) = fault-all h t
-fault-all h (Emit w c ∷ t) = fault-all h t
-fault-all h (Took w c ∷ t) = fault-all h t
-fault-all h (Lost w c why ∷ t) = fault-all h t
-fault-all h (Tick ∷ t) = fault-all h t
-fault-all h (Restarted w ∷ t) = fault-all h t
-fault-all h (Cut w ∷ t) = fault-all h t
+fault-all h (_ ∷ t) = fault-all h t

@@ -1,28 +1,11 @@
 -- At each moment of a history messages are in order.
-use Rattle.std.proofs.Common.{◌≡◌, ℕ, ◌≤◌, Bool, true, false, List, [], ◌∷◌, ◌++◌, length, take, refl, ap, sym, subst, ◌∙◌, arith}
-use Rattle.std.specs.Prelude.{◌==◌}
-use Rattle.std.specs.List.{flat_map, list_any, AllByRecursion}
 use Rattle.std.proofs.lemmas.Grind.{common_steps}
-use Rattle.hcp_packet.specs.Packets.{good_of, IsFrontOf}
-use Rattle.trace_model.specs.declared.entry.Entry.{Entry}
-use Rattle.trace_model.specs.declared.line.End.{End}
-use Rattle.trace_model.specs.declared.line.Header.{Header}
-use Rattle.trace_model.specs.declared.line.Line.{Line}
-use Rattle.trace_model.specs.Ends.{other_end}
-use Rattle.trace_model.specs.Lines.{IsLineOf, IsHeader}
-use Rattle.link_laws.specs.machine.Machine.{Message}
-use Rattle.link_laws.specs.messages.Links.IsStart.{IsBare}
-use Rattle.link_laws.specs.entries.Entries.{End as Side, Entry as Noted, trace}
-use Rattle.link_laws.specs.entries.Entries.End.{Controller, Host}
-use Rattle.link_laws.specs.entries.Entries.Entry.{Up, Down, Active, GaveUp, Acked, Got, Sent, Emit, Took, Lost, Tick, Restarted, Cut}
-use Rattle.link_laws.specs.entries.Order.{InOrderIn}
-use Rattle.link_laws.proofs.entries.Running.{at_each_moment}
+use Rattle.history.proofs.Words.{AllByRecursion, Bool, Controller, End, Entry, Event, Follows, Header, History, Host, InOrderIn, IsBare, IsFrontOf, IsHeader}
+use Rattle.history.proofs.Words.{IsInOrder, IsLineOf, Line, List, Message, Noted, Prefix, Side, Up, [], acked_in, all_entries, all_events, ap, arith}
+use Rattle.history.proofs.Words.{at_each_moment, bare_link, end_of, entries_for, entries_of, entry_of, false, flat_map, good_of, got_in, host_of}
+use Rattle.history.proofs.Words.{is_chain_fault, length, list_any, opening_of, other_end, refl, sent_in, subst, sym, take, trace, true, ℕ, ◌++◌, ◌==◌, ◌∙◌, ◌∷◌}
+use Rattle.history.proofs.Words.{◌≡◌, ◌≤◌}
 use Rattle.link_laws.proofs.entries.Chains.{no_chain_noted}
-use Rattle.history.specs.Histories.{Event, History, entries_of, all_events, all_entries}
-use Rattle.history.specs.Filters.{sent_in, got_in, acked_in}
-use Rattle.history.specs.Legal.{IsInOrder, Prefix, is_chain_fault}
-use Rattle.history.specs.Steps.{end_of, entry_of, entries_for, bare_link}
-use Rattle.history.specs.Follows.{Follows, host_of, opening_of}
 use Rattle.history.proofs.legal.Runs.{AreOf, link_events, of_entries, of_allowed, of_steps}
 use Rattle.history.proofs.legal.Noted.{sent-all, got-all, acked-all, unsaid, none_sent, none_got, none_acked, fault-all}
 
@@ -65,18 +48,7 @@ front_given {X} {Y} f one (x ∷ xs) (y ∷ front) back q = go (f x) refl (one x
 
 pub one_entry : (h : ℕ) (x : Noted) → IsOneAtMost (entry_of h x)
 one_entry h (Up w k) = tt
-one_entry h (Down w cause) = tt
-one_entry h (Active w) = tt
-one_entry h (GaveUp w tries) = tt
-one_entry h (Acked w k count) = tt
-one_entry h (Got w k m) = tt
-one_entry h (Sent w k m) = tt
-one_entry h (Emit w c) = tt
-one_entry h (Took w c) = tt
-one_entry h (Lost w c why) = tt
-one_entry h Tick = tt
-one_entry h (Restarted w) = tt
-one_entry h (Cut w) = tt
+one_entry h _ = tt
 
 -- ## In order at an end
 

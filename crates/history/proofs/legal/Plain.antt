@@ -1,33 +1,18 @@
 -- In what is noted of the events of causes no end is started, stopped or cut off, and the frames put on the link have their numbers below 8.
-use Rattle.std.proofs.Common.{◌≡◌, ℕ, zero, suc, ◌%◌, ◌-◌, Bool, true, false, List, [], ◌∷◌, ◌++◌, length, map, take, drop, Option, Some, None, refl, sym}
-use Rattle.std.proofs.Common.{subst, arith}
-use Rattle.std.specs.Prelude.{is_some, nat_lt, option_to_list, if◌then◌else◌}
-use Rattle.std.specs.List.{AllByRecursion}
-use Rattle.swp_base.specs.declared.control_frames.Control.{Control}
-use Rattle.swp_base.specs.declared.control_frames.Control.TheVariants.{I}
-use Rattle.shdlc_core.specs.declared.answers.Due.{Due}
-use Rattle.shdlc_core.specs.declared.answers.Due.TheVariants.{Rr as Rr_due, Rej as Rej_due, Rnr as Rnr_due, Rset as Rset_due, Ua as Ua_due}
-use Rattle.shdlc_core.specs.Machine.{EndState, Fragment, frame_due, fragment_due, control_due, expected, fetched, frames_of, most_frames}
-use Rattle.swp_lpdu.specs.Controls.{HasNumbers}
-use Rattle.trace_model.specs.declared.line.End.{End as NamedEnd}
-use Rattle.link_laws.specs.sessions.Sessions.{OnWire, took_with}
-use Rattle.link_laws.specs.machine.Machine.{LinkEnd, ActDue, Refused, LinkInput, Turn, Report, report, whole_acked, turn, turned, give_refusal, after_input}
-use Rattle.link_laws.specs.machine.Machine.{ended_by, among, frames_out}
-use Rattle.link_laws.specs.machine.Machine.LinkInput.{Take, Tick as HasTick, Reset}
-use Rattle.link_laws.specs.machine.Machine.Turn.{Give, Hold, FetchMessage, SetAside, Release}
-use Rattle.link_laws.specs.messages.Links.{NumberedEnd, Link, Loss, EndEvent, exchanged, number_of, put, with_ended, ticks_at_controller, aged, happens}
-use Rattle.link_laws.specs.messages.Links.Ending.{GoesOut, CutOff}
-use Rattle.link_laws.specs.messages.Links.Comes.{NextFrame, AsksReset, Starts, Stops, NoInput}
-use Rattle.link_laws.specs.messages.Links.EndEvent.{Step as EndStep, Lose}
-use Rattle.link_laws.specs.messages.Links.Loss.{TooMany}
-use Rattle.link_laws.specs.entries.Entries.{End, Entry, far, if_so, told, told_of, turn_entry, turn_entries, sent_unless, first_lost, wire_with, put_entries}
-use Rattle.link_laws.specs.entries.Entries.{puts_entries, rest_entries, left_after, taken_entries, step_entries, here_entries, aged_entries, tick_entries}
-use Rattle.link_laws.specs.entries.Entries.{event_entries, entries, trace}
-use Rattle.link_laws.specs.entries.Entries.End.{Controller, Host}
-use Rattle.link_laws.specs.entries.Entries.Entry.{Up, Down, Active, GaveUp, Acked, Got, Emit, Restarted, Cut}
-use Rattle.history.specs.Histories.{Cause}
-use Rattle.history.specs.Histories.Cause.{Given, Taken, WasLost, Ticked, WasReset, Readied}
-use Rattle.history.specs.Steps.{at, idle, event_of, bare_link}
+use Rattle.history.proofs.Words.{Acked, ActDue, Active, AllByRecursion, AsksReset, Bool, Cause, Control, Controller, Cut, CutOff, Down, Due, Emit, EndEvent}
+use Rattle.history.proofs.Words.{EndState, EndStep, Fragment, GaveUp, Give, Given, GoesOut, Got, HasNumbers, HasTick, Hold, Host, I, Link, LinkEnd, LinkInput}
+use Rattle.history.proofs.Words.{List, Loss, NamedEnd, NextFrame, NoInput, None, NumberedEnd, OnWire, Option, Readied, Report, Restarted, Rset_due, Some}
+use Rattle.history.proofs.Words.{Starts, Stops, Take, Taken, Ticked, TooMany, Turn, Ua_due, Up, WasLost, WasReset, [], after_input, aged, aged_entries, among}
+use Rattle.history.proofs.Words.{arith, at, bare_link, control_due, drop, ended_by, entries, event_entries, event_of, exchanged, expected, false, far, fetched}
+use Rattle.history.proofs.Words.{first_lost, fragment_due, frame_due, frames_of, frames_out, give_refusal, happens, here_entries, idle, if_so, if◌then◌else◌}
+use Rattle.history.proofs.Words.{is_some, left_after, length, map, most_frames, nat_lt, number_of, option_to_list, put, put_entries, puts_entries, refl, report}
+use Rattle.history.proofs.Words.{rest_entries, sent_unless, step_entries, subst, suc, sym, take, taken_entries, tick_entries, ticks_at_controller, told}
+use Rattle.history.proofs.Words.{told_of, took_with, trace, true, turn, turn_entries, turn_entry, turned, whole_acked, wire_with, with_ended, zero, ℕ, ◌%◌}
+use Rattle.history.proofs.Words.{◌++◌, ◌-◌, ◌∷◌, ◌≡◌}
+use Rattle.link_laws.specs.machine.Machine.{Refused}
+use Rattle.link_laws.specs.machine.Machine.LinkInput.{Reset}
+use Rattle.link_laws.specs.messages.Links.EndEvent.{Lose}
+use Rattle.link_laws.specs.entries.Entries.{End, Entry}
 
 -- ## Frames
 
@@ -35,11 +20,9 @@ abbrev pub HaveNumbers : List Control → Type 0
 HaveNumbers cs = AllByRecursion HasNumbers cs
 
 control_numbers : (e : EndState) (d : Due) → HasNumbers (control_due e d)
-control_numbers e Rr_due = omega arith
-control_numbers e Rej_due = omega arith
-control_numbers e Rnr_due = omega arith
 control_numbers e Rset_due = tt
 control_numbers e Ua_due = tt
+control_numbers e _ = omega arith
 
 due_numbers : (e : EndState) (due : List Due) (q : Option Fragment) (c : Control) → fragment_due e.session ≡ q
     → frame_due (record e { due = due }) ≡ Some c → HasNumbers c
@@ -131,9 +114,7 @@ plain_turn who n e (Give m) = go (give_refusal e m)
     go None = (tt, tt)
     go (Some why) = tt
 plain_turn who n e (Hold held) = tt
-plain_turn who n e FetchMessage = tt
-plain_turn who n e SetAside = tt
-plain_turn who n e Release = tt
+plain_turn who n e _ = tt
 
 plain_turns : (who : End) (n : ℕ) (e : LinkEnd) (ts : List Turn) → ArePlain (turn_entries who n e ts)
 plain_turns who n e [] = tt

@@ -1,30 +1,12 @@
 -- The sessions and the wires that are read off the entries of a history are those of the link, and what disturbs a link is seen there.
-use Rattle.std.proofs.Common.{◌≡◌, ℕ, zero, suc, ◌<◌, Bool, true, false, List, [], ◌∷◌, map, Option, Some, None, refl, ap, sym, ◌∙◌, arith}
-use Rattle.std.specs.Prelude.{◌==◌, ◌&&◌, ◌||◌, if◌then◌else◌}
-use Rattle.std.specs.List.{fold, list_any}
 use Rattle.std.proofs.lemmas.List.{drop-map, map-append}
-use Rattle.swp_base.specs.declared.control_frames.Control.{Control}
-use Rattle.swp_base.specs.declared.control_frames.Control.TheVariants.{I, S, Rset, Ua, Act, Clt}
-use Rattle.swp_base.specs.declared.control_frames.Kind.TheVariants.{Rr, Rej, Rnr, Srej}
-use Rattle.swp_lpdu.specs.Controls.{lpdu_of}
-use Rattle.trace_model.specs.declared.entry.Entry.{Entry}
-use Rattle.trace_model.specs.declared.line.End.{End}
-use Rattle.trace_model.specs.Ends.{other_end}
-use Rattle.link_laws.specs.sessions.Sessions.{OnWire, older}
-use Rattle.link_laws.specs.messages.Links.{Loss}
-use Rattle.link_laws.specs.entries.Entries.{End as Side, Entry as Noted}
-use Rattle.link_laws.specs.entries.Entries.End.{Controller, Host}
-use Rattle.link_laws.specs.entries.Entries.Entry.{Up, Down, Active, GaveUp, Acked, Got, Sent, Emit, Took, Lost, Tick, Restarted, Cut}
-use Rattle.link_laws.specs.entries.Filters.{same_link_end as same_side}
-use Rattle.link_laws.specs.entries.Reading.{Seen, see, see_all, numbered}
-use Rattle.link_laws.specs.entries.Quiet.{disturbs, begins, since}
-use Rattle.link_laws.proofs.entries.Lasting.{same_number}
-use Rattle.history.specs.Filters.{Saying, same_end, said_of, session_after, session_number, wire_after, wire_to}
-use Rattle.history.specs.Filters.Saying.{Begins, Ends, Sends, Gets, Counts, Puts, Takes, Loses}
-use Rattle.history.specs.Legal.{begins_on, since_up, has_lost, has_rnr, is_rnr_lpdu}
-use Rattle.history.specs.Steps.{end_of, entries_for}
+use Rattle.history.proofs.Words.{Acked, Act, Begins, Bool, Clt, Control, Controller, Counts, Cut, Down, Emit, End, Ends, Entry, Gets, Got, Host, I, List, Loses}
+use Rattle.history.proofs.Words.{Loss, Lost, None, Noted, OnWire, Option, Puts, Rej, Restarted, Rnr, Rr, Rset, S, Saying, Seen, Sends, Sent, Side, Some, Srej}
+use Rattle.history.proofs.Words.{Takes, Tick, Took, Ua, Up, [], ap, arith, begins, begins_on, disturbs, end_of, entries_for, false, fold, has_lost, has_rnr}
+use Rattle.history.proofs.Words.{heard, if◌then◌else◌, is_rnr_lpdu, list_any, lpdu_of, map, numbered, older, other_end, refl, said_of, same_end, same_number}
+use Rattle.history.proofs.Words.{same_side, see, see_all, session_after, session_number, since, since_up, suc, sym, true, wire_after, wire_to, zero, ℕ, ◌&&◌}
+use Rattle.history.proofs.Words.{◌<◌, ◌==◌, ◌||◌, ◌∙◌, ◌∷◌, ◌≡◌}
 use Rattle.history.proofs.legal.Noted.{same_as, if_said, Unsaid}
-use Rattle.link_laws.proofs.entries.Hearing.{heard}
 use Rattle.history.proofs.legal.Plain.{ArePlain}
 
 -- ## Sessions
@@ -60,17 +42,14 @@ session-from h (Down w cause ∷ t) who s p =
     ap (λ z. session_from z (end_of h who) (entries_for h t))
     (ended_here s (same_end (end_of h w) (end_of h who)) ∙ ap (λ b. if b then None else s) (same_as h w who))
     ∙ session-from h t who (if same_side w who then None else s) p.1
-session-from h (Active w ∷ t) who s p = session-from h t who s p.1
-session-from h (GaveUp w tries ∷ t) who s p = session-from h t who s p.1
 session-from h (Acked w k count ∷ t) who s p = passed_over h t who w s (Counts k count) refl ∙ session-from h t who s p.1
 session-from h (Got w k m ∷ t) who s p = passed_over h t who w s (Gets k m) refl ∙ session-from h t who s p.1
 session-from h (Sent w k m ∷ t) who s p = passed_over h t who w s (Sends k m) refl ∙ session-from h t who s p.1
 session-from h (Emit w c ∷ t) who s p = passed_over h t who w s (Puts (lpdu_of c)) refl ∙ session-from h t who s p.1
 session-from h (Took w c ∷ t) who s p = passed_over h t who w s (Takes (lpdu_of c)) refl ∙ session-from h t who s p.1
 session-from h (Lost w c why ∷ t) who s p = passed_over h t who w s (Loses (lpdu_of c)) refl ∙ session-from h t who s p.1
-session-from h (Tick ∷ t) who s p = session-from h t who s p.1
-session-from h (Restarted w ∷ t) who s p = session-from h t who s p.1
 session-from h (Cut w ∷ t) who s p = absurd p.0
+session-from h (_ ∷ t) who s p = session-from h t who s p.1
 
 pub session-all : (h : ℕ) (t : List Noted) (who : Side) → ArePlain t → session_number (entries_for h t) (end_of h who) ≡ heard who None t
 session-all h t who p = session-from h t who None p
@@ -156,8 +135,6 @@ wire-from h who (Up w k ∷ t) s p =
 wire-from h who (Down w cause ∷ t) s p =
     ap (λ z. wire_from z (end_of h who) (entries_for h t)) (unmoved (bytes_on (wire_seen who s)) Ends (same_end (end_of h w) (end_of h who))
     (same_end (end_of h w) (other_end (end_of h who))) (record { both = refl; here = refl; there = refl })) ∙ wire-from h who t s p.1
-wire-from h who (Active w ∷ t) s p = wire-from h who t s p.1
-wire-from h who (GaveUp w tries ∷ t) s p = wire-from h who t s p.1
 wire-from h who (Acked w k count ∷ t) s p =
     ap (λ z. wire_from z (end_of h who) (entries_for h t)) (unmoved (bytes_on (wire_seen who s)) (Counts k count) (same_end (end_of h w) (end_of h who))
     (same_end (end_of h w) (other_end (end_of h who))) (record { both = refl; here = refl; there = refl })) ∙ wire-from h who t s p.1
@@ -176,6 +153,7 @@ wire-from h who (Lost w c why ∷ t) s p =
 wire-from h who (Tick ∷ t) s p = ap (λ z. wire_from z (end_of h who) (entries_for h t)) (aged_seen who s) ∙ wire-from h who t (see s Tick) p.1
 wire-from h who (Restarted w ∷ t) s p = absurd p.0
 wire-from h who (Cut w ∷ t) s p = absurd p.0
+wire-from h who (_ ∷ t) s p = wire-from h who t s p.1
 
 pub wire-controller : (h : ℕ) (t : List Noted) (s : Seen) → s.to_controller ≡ [] → ArePlain t
     → wire_to (entries_for h t) (end_of h Controller) ≡ bytes_on (see_all s t).to_controller
@@ -200,17 +178,7 @@ since-all h n (Up w k ∷ t) =
     go true q = refl
     go false q = q
 since-all h n (Down w cause ∷ t) = since-all h n t
-since-all h n (Active w ∷ t) = since-all h n t
-since-all h n (GaveUp w tries ∷ t) = since-all h n t
-since-all h n (Acked w k count ∷ t) = since-all h n t
-since-all h n (Got w k m ∷ t) = since-all h n t
-since-all h n (Sent w k m ∷ t) = since-all h n t
-since-all h n (Emit w c ∷ t) = since-all h n t
-since-all h n (Took w c ∷ t) = since-all h n t
-since-all h n (Lost w c why ∷ t) = since-all h n t
-since-all h n (Tick ∷ t) = since-all h n t
-since-all h n (Restarted w ∷ t) = since-all h n t
-since-all h n (Cut w ∷ t) = since-all h n t
+since-all h n (_ ∷ t) = since-all h n t
 
 pub plain_since : (n : ℕ) (t : List Noted) → ArePlain t → ArePlain (since n t)
 plain_since n [] p = tt
@@ -250,13 +218,6 @@ link_same h Host = same_number h
 pub undisturbed : (h : ℕ) (t : List Noted) → ArePlain t → has_lost h (entries_for h t) ≡ false → has_rnr h (entries_for h t) ≡ false
     → list_any disturbs t ≡ false
 undisturbed h [] p a b = refl
-undisturbed h (Up w k ∷ t) p a b = undisturbed h t p.1 a b
-undisturbed h (Down w cause ∷ t) p a b = undisturbed h t p.1 a b
-undisturbed h (Active w ∷ t) p a b = undisturbed h t p.1 a b
-undisturbed h (GaveUp w tries ∷ t) p a b = undisturbed h t p.1 a b
-undisturbed h (Acked w k count ∷ t) p a b = undisturbed h t p.1 a b
-undisturbed h (Got w k m ∷ t) p a b = undisturbed h t p.1 a b
-undisturbed h (Sent w k m ∷ t) p a b = undisturbed h t p.1 a b
 undisturbed h (Emit w (I ns nr info) ∷ t) p a b = undisturbed h t p.1 a (or_right _ _ b)
 undisturbed h (Emit w (S Rr nr) ∷ t) p a b = undisturbed h t p.1 a (or_right _ _ b)
 undisturbed h (Emit w (S Rej nr) ∷ t) p a b = undisturbed h t p.1 a (or_right _ _ b)
@@ -269,8 +230,7 @@ undisturbed h (Emit w (Rset window caps) ∷ t) p a b = undisturbed h t p.1 a (o
 undisturbed h (Emit w Ua ∷ t) p a b = undisturbed h t p.1 a (or_right _ _ b)
 undisturbed h (Emit w (Act act again) ∷ t) p a b = undisturbed h t p.1 a (or_right _ _ b)
 undisturbed h (Emit w Clt ∷ t) p a b = undisturbed h t p.1 a (or_right _ _ b)
-undisturbed h (Took w c ∷ t) p a b = undisturbed h t p.1 a b
 undisturbed h (Lost w c why ∷ t) p a b = absurd (or_left ((end_of h w).link == h) (has_lost h (entries_for h t)) a (link_same h w))
-undisturbed h (Tick ∷ t) p a b = undisturbed h t p.1 a b
 undisturbed h (Restarted w ∷ t) p a b = absurd p.0
 undisturbed h (Cut w ∷ t) p a b = absurd p.0
+undisturbed h (_ ∷ t) p a b = undisturbed h t p.1 a b

@@ -1,26 +1,13 @@
 -- The events of a history that follows a schedule are those of its causes, and these may happen on the link.
-use Rattle.std.proofs.Common.{◌≡◌, ℕ, zero, suc, ◌<◌, Bool, true, false, List, [], ◌∷◌, ◌++◌, map, Option, Some, None, replicate, refl, ap, sym, subst, ◌∙◌}
-use Rattle.std.proofs.Common.{arith}
-use Rattle.std.specs.Prelude.{unwrap_or}
-use Rattle.std.specs.List.{flat_map, AllByRecursion}
 use Rattle.std.proofs.lemmas.List.Concat.{flat_map-append}
-use Rattle.trace_model.specs.declared.entry.NoCause.{NoCause}
-use Rattle.trace_model.specs.declared.line.End.{End}
-use Rattle.trace_model.specs.declared.line.Header.{Header}
-use Rattle.trace_model.specs.declared.line.Line.{Line}
-use Rattle.trace_model.specs.declared.line.Line.TheVariants.{Send, Deliver, Lose, Damage, Tick, Reset, Busy, Ready, Boot, Cut, Activate, Arm, Init, Tables}
-use Rattle.trace_model.specs.declared.line.Line.TheVariants.{Settle}
-use Rattle.trace_model.specs.Lines.{IsLineOf}
-use Rattle.hcp_packet.specs.Packets.{IsSendable}
-use Rattle.link_laws.specs.messages.Links.{Link, LinkEvent, EndEvent, IsWindow, IsEvent, IsAllowed, AllAllowed, exchanged, happens, after_link_events}
-use Rattle.link_laws.specs.entries.Entries.{entries, event_entries}
-use Rattle.history.specs.Histories.{Cause, Event, Outcome, Step, events_of, entries_of, causes_of}
-use Rattle.history.specs.Histories.Cause.{Given, Taken, WasLost, Ticked, WasReset, Readied}
-use Rattle.history.specs.Histories.Outcome.{Refused, Caused}
-use Rattle.history.specs.Damage.{Verdict}
-use Rattle.history.specs.Damage.Verdict.{Same, LostFor, Undetected}
-use Rattle.history.specs.Steps.{at, event_of, link_after, event_at, link_after_all, events_at, entries_for, entry_of}
-use Rattle.history.specs.Follows.{causes_in, damage_causes, first_verdict, frames_to, taken_of, refusal, outcome_of, StepsFollow, link_after_line}
+use Rattle.history.proofs.Words.{AllAllowed, AllByRecursion, Bool, Busy, Cause, Caused, Damage, Deliver, End, EndEvent, Event, Given, Header, IsAllowed}
+use Rattle.history.proofs.Words.{IsEvent, IsLineOf, IsSendable, IsWindow, Line, Link, LinkEvent, List, Lose, LostFor, NoCause, None, Option, Outcome, Readied}
+use Rattle.history.proofs.Words.{Ready, Refused, Reset, Same, Send, Some, Step, StepsFollow, Taken, Ticked, Undetected, Verdict, WasLost, WasReset, []}
+use Rattle.history.proofs.Words.{after_link_events, ap, arith, at, causes_in, causes_of, damage_causes, entries, entries_for, entries_of, entry_of, event_at}
+use Rattle.history.proofs.Words.{event_entries, event_of, events_at, events_of, exchanged, false, first_verdict, flat_map, frames_to, happens, link_after}
+use Rattle.history.proofs.Words.{link_after_all, link_after_line, map, outcome_of, refl, refusal, replicate, subst, suc, sym, taken_of, true, unwrap_or, zero}
+use Rattle.history.proofs.Words.{ℕ, ◌++◌, ◌<◌, ◌∙◌, ◌∷◌, ◌≡◌}
+use Rattle.trace_model.specs.declared.line.Line.TheVariants.{Tick}
 
 -- ## Causes
 
@@ -28,10 +15,7 @@ use Rattle.history.specs.Follows.{causes_in, damage_causes, first_verdict, frame
 abbrev pub CanCause : Cause → Type 0
 CanCause (Given e m) = IsSendable m
 CanCause (WasReset e window) = IsWindow window
-CanCause (Taken e) = Unit {0}
-CanCause (WasLost e why) = Unit {0}
-CanCause Ticked = Unit {0}
-CanCause (Readied e ready) = Unit {0}
+CanCause _ = Unit {0}
 
 abbrev pub CanAll : List Cause → Type 0
 CanAll causes = AllByRecursion CanCause causes
@@ -83,13 +67,7 @@ can_line header l (Reset e None) is = (tt, tt)
 can_line header l (Reset e (Some w)) is = let low : 0 < w = omega (arith, is.1.0) in ((low, is.1.1), tt)
 can_line header l (Busy e) is = (tt, tt)
 can_line header l (Ready e) is = (tt, tt)
-can_line header l (Boot node) is = tt
-can_line header l (Cut node) is = tt
-can_line header l (Activate host sync power) is = tt
-can_line header l (Arm node nth fill) is = tt
-can_line header l (Init e identity pipes) is = tt
-can_line header l (Tables node) is = tt
-can_line header l (Settle rounds) is = tt
+can_line header l _ is = tt
 
 -- ## Events
 

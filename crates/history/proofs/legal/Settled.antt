@@ -1,44 +1,20 @@
 -- A reset whose answer nothing kept back has brought both ends up.
-use Rattle.std.proofs.Common.{◌≡◌, ℕ, Bool, true, false, List, [], ◌∷◌, ◌++◌, Option, Some, None, refl, ap, sym, subst, ◌∙◌, append_assoc}
-use Rattle.std.specs.Prelude.{◌==◌, ◌&&◌}
-use Rattle.std.specs.List.{list_any, AllByRecursion}
-use Rattle.std.proofs.lemmas.Bool.{true≢false}
-use Rattle.swp_base.specs.declared.control_frames.Control.TheVariants.{I, S, Rset, Ua, Act, Clt}
-use Rattle.trace_model.specs.declared.entry.Entry.{Entry}
-use Rattle.trace_model.specs.declared.line.End.{End}
-use Rattle.trace_model.specs.declared.line.Header.{Header}
-use Rattle.trace_model.specs.declared.line.Line.{Line}
-use Rattle.trace_model.specs.Ends.{other_end}
-use Rattle.trace_model.specs.Lines.{IsLineOf, IsHeader}
-use Rattle.shdlc_core.specs.Machine.{is_waiting}
-use Rattle.link_laws.specs.machine.Machine.{reset_refusal}
+use Rattle.history.proofs.Words.{Act, AllAllowed, AllByRecursion, AreActive, AreReadUpTogether, AsksReset, Bool, Cause, Clt, Controller, Cut, Emit, End}
+use Rattle.history.proofs.Words.{EndStep, Entry, Event, Follows, GoesOut, Good, Header, History, Host, I, IsBare, IsHeader, IsLineOf, IsNoted, Line, Link}
+use Rattle.history.proofs.Words.{LinkEvent, List, Lost, None, Noted, Option, Reached, Restarted, Rset, S, Settled, Some, Ua, WasReset, [], after_link_events}
+use Rattle.history.proofs.Words.{all_events, ap, append_assoc, at, bare_link, causes_of, core_event, core_of, end_of, entries, entries_for, entries_of}
+use Rattle.history.proofs.Words.{event_entries, event_goes, event_of, event_step, false, first_entries, happens, has_lost, has_rset, host_of, is_waiting}
+use Rattle.history.proofs.Words.{link_after, link_after_all, list_any, machine_of, note_event, number_of, other_end, reached_more, refl, reset_refusal}
+use Rattle.history.proofs.Words.{session_number, start_noted, subst, sym, together, true, true≢false, up_session, waits_in, wire_to, ℕ, ◌&&◌, ◌++◌, ◌==◌, ◌∙◌}
+use Rattle.history.proofs.Words.{◌∷◌, ◌≡◌}
 use Rattle.link_laws.specs.places.Wire.{sans}
-use Rattle.link_laws.specs.messages.Links.Ending.{GoesOut}
-use Rattle.link_laws.specs.messages.Links.Comes.{AsksReset}
-use Rattle.link_laws.specs.messages.Links.EndEvent.{Step as EndStep}
-use Rattle.link_laws.specs.messages.Links.IsStart.{IsBare}
 use Rattle.link_laws.specs.messages.Settled.{AreUpTogether as LinkTogether}
 use Rattle.link_laws.proofs.messages.Whole.{start_good, start_reached}
-use Rattle.link_laws.specs.entries.Entries.End.{Controller, Host}
-use Rattle.link_laws.specs.entries.Entries.Entry.{Up, Down, Active, GaveUp, Acked, Got, Sent, Emit, Took, Lost, Tick, Restarted, Cut}
-use Rattle.link_laws.specs.messages.Links.{Link, LinkEvent, happens, after_link_events, number_of, AllAllowed}
-use Rattle.link_laws.specs.messages.Projection.{core_of, core_event}
-use Rattle.link_laws.proofs.messages.Runs.{Good, Reached, reached_more, event_step}
-use Rattle.link_laws.specs.entries.Entries.{Entry as Noted, event_entries, entries, first_entries}
 use Rattle.link_laws.specs.entries.Settled.{IsReset, rest_of, withholds}
-use Rattle.link_laws.proofs.entries.Running.{Noted as IsNoted, note_event, start_noted}
 use Rattle.link_laws.proofs.entries.Sparing.{Spared, Stands, or_none, none_withheld}
-use Rattle.link_laws.proofs.entries.Together.{AreActive, event_goes, together}
 use Rattle.history.proofs.legal.Runs.{AreOf, CanAll, can_event, link_events, of_front, of_entries, of_allowed, of_can, after_causes}
 use Rattle.history.proofs.legal.Plain.{ArePlain, plain_event, plain_entries, plain_trace}
-use Rattle.history.specs.Histories.{Cause, Event, History, entries_of, causes_of, all_events}
-use Rattle.history.specs.Histories.Cause.{WasReset}
-use Rattle.history.specs.Filters.{session_number, wire_to}
-use Rattle.history.specs.Legal.{has_lost, has_rset, waits_in, AreReadUpTogether, Settled}
-use Rattle.history.specs.Steps.{at, event_of, end_of, entries_for, bare_link, link_after, link_after_all}
-use Rattle.history.specs.Follows.{machine_of, Follows, host_of}
 use Rattle.history.proofs.legal.Ordered.{IsRun, is_run, notes_of, run_entries}
-use Rattle.link_laws.proofs.entries.Hearing.{up_session}
 use Rattle.history.proofs.legal.Sessions.{controller_heard, host_heard}
 use Rattle.history.proofs.legal.Reading.{session-all, link_same}
 use Rattle.history.proofs.legal.Complete.{link_now, empty_controller, empty_host}
@@ -130,13 +106,6 @@ any_right f (x ∷ t) u q = any_right f t u (or_none (f x) (list_any f (t ++ u))
 -- where no frame of a bare link was lost and no RSET put on it
 spared_of : (h : ℕ) (t : List Noted) → has_lost h (entries_for h t) ≡ false → has_rset h (entries_for h t) ≡ false → Spared t
 spared_of h [] a b = refl
-spared_of h (Up w k ∷ t) a b = spared_of h t a b
-spared_of h (Down w cause ∷ t) a b = spared_of h t a b
-spared_of h (Active w ∷ t) a b = spared_of h t a b
-spared_of h (GaveUp w tries ∷ t) a b = spared_of h t a b
-spared_of h (Acked w k count ∷ t) a b = spared_of h t a b
-spared_of h (Got w k m ∷ t) a b = spared_of h t a b
-spared_of h (Sent w k m ∷ t) a b = spared_of h t a b
 spared_of h (Emit w (I ns nr info) ∷ t) a b = spared_of h t a (or_none _ _ b).1
 spared_of h (Emit w (S kind nr) ∷ t) a b = spared_of h t a (or_none _ _ b).1
 spared_of h (Emit w (Rset window caps) ∷ t) a b =
@@ -144,11 +113,8 @@ spared_of h (Emit w (Rset window caps) ∷ t) a b =
 spared_of h (Emit w Ua ∷ t) a b = spared_of h t a (or_none _ _ b).1
 spared_of h (Emit w (Act act again) ∷ t) a b = spared_of h t a (or_none _ _ b).1
 spared_of h (Emit w Clt ∷ t) a b = spared_of h t a (or_none _ _ b).1
-spared_of h (Took w c ∷ t) a b = spared_of h t a b
 spared_of h (Lost w c why ∷ t) a b = absurd (true≢false (sym (link_same h w) ∙ (or_none _ _ a).0))
-spared_of h (Tick ∷ t) a b = spared_of h t a b
-spared_of h (Restarted w ∷ t) a b = spared_of h t a b
-spared_of h (Cut w ∷ t) a b = spared_of h t a b
+spared_of h (_ ∷ t) a b = spared_of h t a b
 
 of_back : (h : ℕ) (l : Link) (xs ys : List Event) → AreOf h l (xs ++ ys) → AreOf h (link_after_all l (causes_of xs)) ys
 of_back h l [] ys a = a

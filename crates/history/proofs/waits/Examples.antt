@@ -1,10 +1,7 @@
 -- An end waits once RSET goes out of it, until its session begins or it gives up.
-use Rattle.std.proofs.Common.{◌≡◌, refl, true, false, List, [], ◌∷◌, ◌++◌}
+use Rattle.history.proofs.Words.{Entry, List, [], false, opening_of, refl, true, waits_in, ◌++◌, ◌∷◌, ◌≡◌}
 use Rattle.swp_base.specs.declared.link_terms.Cause.TheVariants as cause
-use Rattle.trace_model.specs.declared.entry.Entry.{Entry}
 use Rattle.trace_model.specs.declared.entry.Entry.TheVariants.{Up, Down, Emit, Took, GaveUp}
-use Rattle.history.specs.Follows.{opening_of}
-use Rattle.history.specs.Legal.{waits_in}
 use Rattle.history.proofs.Examples.{end_c, end_h}
 
 -- the host's end of the link with host 02 is reset

@@ -1,27 +1,16 @@
 -- What is noted of a link says whether each end waits for the answer to a reset.
-use Rattle.std.proofs.Common.{◌≡◌, ℕ, Bool, false, List, [], ◌∷◌, ◌++◌, refl, ap, sym, subst, ◌∙◌}
+use Rattle.history.proofs.Words.{AllAllowed, AreOwn, AtController, AtHost, Bool, CanStart, Controller, EndEvent, Good, Host, IsBare, IsEvent, IsInTick, IsLine}
+use Rattle.history.proofs.Words.{IsNode, IsStart, IsUicc, IsUnderWay, Link, LinkEvent, List, NumberedEnd, Reached, Sound, Sounds, Starts, Tick, Ticks}
+use Rattle.history.proofs.Words.{TicksWithout, [], after_link_events, after_tick, aged, aged_entries, all_at_controller, all_in_tick, all_step, ap, before_here}
+use Rattle.history.proofs.Words.{before_there, can_start, clf_starts, core_event, core_of, entries, entries_of_events, event_entries, event_step, exchanged}
+use Rattle.history.proofs.Words.{false, first_entries, goes_on, happens, happens_at_controller, here_entries, host_here, host_in_tick, near_in_tick}
+use Rattle.history.proofs.Words.{own_in_tick, reached_more, refl, rests_of, safe_reached, sound_here, start_under_way, started_clf, step_here, step_tick, subst}
+use Rattle.history.proofs.Words.{sym, tick_entries, ticks_at_controller, ticks_host, trace, without_tick, ℕ, ◌++◌, ◌∙◌, ◌∷◌, ◌≡◌}
 use Rattle.link_laws.proofs.sessions.Steps.{safe_aged}
-use Rattle.link_laws.proofs.machine.Runs.{Sound}
-use Rattle.link_laws.specs.messages.Links.{NumberedEnd, Link, IsStart, EndEvent, LinkEvent, exchanged, happens_at_controller, happens}
-use Rattle.link_laws.specs.messages.Links.{all_at_controller}
-use Rattle.link_laws.specs.messages.Links.{ticks_at_controller, aged, after_link_events, CanStart, IsUicc, IsNode, AreOwn, IsEvent, AllAllowed}
-use Rattle.link_laws.specs.messages.Links.IsStart.{IsBare, IsLine}
-use Rattle.link_laws.specs.messages.Links.Comes.{Starts}
 use Rattle.link_laws.specs.messages.Links.EndEvent.{Step}
-use Rattle.link_laws.specs.messages.Links.LinkEvent.{AtController, AtHost, Ticks, TicksWithout, Activate}
-use Rattle.link_laws.specs.messages.Projection.{core_of, core_event}
-use Rattle.link_laws.proofs.messages.Finishing.{step_tick}
-use Rattle.link_laws.proofs.messages.Runs.{Good, Reached, safe_reached, rests_of, reached_more, event_step, step_here, all_step, started_clf}
-use Rattle.link_laws.proofs.messages.Runs.{clf_starts, can_start}
-use Rattle.link_laws.specs.entries.Entries.{End, Entry, here_entries, entries_of_events, aged_entries, tick_entries, event_entries, entries}
-use Rattle.link_laws.specs.entries.Entries.{first_entries, trace}
-use Rattle.link_laws.specs.entries.Entries.End.{Controller, Host}
-use Rattle.link_laws.specs.entries.Entries.Entry.{Tick}
-use Rattle.link_laws.proofs.entries.Running.{Sounds, before_here, before_there, host_here, sound_here, IsInTick, near_in_tick, own_in_tick}
-use Rattle.link_laws.proofs.entries.Running.{after_tick, without_tick}
-use Rattle.link_laws.proofs.entries.Running.{host_in_tick, IsUnderWay, goes_on, start_under_way, all_in_tick}
+use Rattle.link_laws.specs.messages.Links.LinkEvent.{Activate}
+use Rattle.link_laws.specs.entries.Entries.{End, Entry}
 use Rattle.history.proofs.waits.Harking.{waits, harks, harks-append, passes-append, passes_aged, Harked, tick_harked, own_harked, here_harked}
-use Rattle.link_laws.proofs.entries.Together.{ticks_host}
 
 -- what is noted as l becomes m says whether both ends wait
 record BothHarked (l m : Link) (u : List Entry) : Type 0 where

@@ -1,54 +1,39 @@
 -- What is noted of a step of an end says whether it waits for the answer to a reset.
-use Rattle.std.proofs.Common.{◌≡◌, ℕ, suc, Bool, true, false, List, [], ◌∷◌, ◌++◌, map, Option, Some, None, ◌⊎◌, inl, inr, refl, ap, sym, subst, ◌∙◌}
-use Rattle.std.specs.Prelude.{is_some, nat_lt, option_to_list, length, if◌then◌else◌, ◌&&◌, ◌+◌, ◌==◌}
-use Rattle.std.specs.List.{fold, list_any}
-use Rattle.std.proofs.lemmas.Bool.{true≢false}
+use Rattle.std.specs.Prelude.{length, ◌+◌}
 use Rattle.std.proofs.lemmas.List.Sums.{fold-append}
+use Rattle.history.proofs.Words.{Acked, Act, Active, AreSendableTurns, Asked, AsksReset, Before, Bool, Clt, Control, CoreTurn, Cut, CutOff, Down, Due, Emit}
+use Rattle.history.proofs.Words.{EndEvent, EndState, Ending, Fragment, GaveUp, Give, GoesOut, Got, HasTick, Hold, I, IsAllowed, IsNode, IsOwn, Link, LinkEnd}
+use Rattle.history.proofs.Words.{LinkInput, List, Loss, NextFrame, NoInput, Node, None, NumberedEnd, OnWire, Option, Report, Restarted, Role, Rr_due, Rset}
+use Rattle.history.proofs.Words.{Rset_due, Some, Starts, Stops, Take, TooMany, Turn, Up, [], act_answer, activated, after_input, aged_entries, among, ap}
+use Rattle.history.proofs.Words.{becomes, began_by, comes_first, core_turn, core_turned, core_turns, due_left, ended_by, false, far, finished, first_lost}
+use Rattle.history.proofs.Words.{first_none, fold, frames_of, frames_out, gave_up_by, give_refusal, happens_at_controller, has_taken, here_entries, if_so}
+use Rattle.history.proofs.Words.{if_up, if◌then◌else◌, inl, input_entries, inr, is_open, is_rset, is_some, is_waiting, left_after, list_any, map, most_frames}
+use Rattle.history.proofs.Words.{moved, nat_lt, near_of, new_link_end, none_out, number_of, opened, option_to_list, put, put_entries, puts_entries, refl}
+use Rattle.history.proofs.Words.{renewed, report, reset_by, reset_keeps, reset_refusal, reset_tells, reset_waits, reset_with, rest_entries, restart_entries}
+use Rattle.history.proofs.Words.{restart_mid, role_after, runs_timer, same_far, same_link_end, same_self, sent_unless, silent, step_entries, stopped, subst}
+use Rattle.history.proofs.Words.{suc, sym, take_answer, taken, taken_entries, tick_answer, tick_closed, tick_entries, tick_open, ticked, ticks_at_controller}
+use Rattle.history.proofs.Words.{told, told_of, took, took_with, true, true≢false, turn, turn_entries, turn_entry, turned, whole_acked, window_of, wire_with}
+use Rattle.history.proofs.Words.{with_ended, ℕ, ◌&&◌, ◌++◌, ◌==◌, ◌∙◌, ◌∷◌, ◌≡◌, ◌⊎◌}
 use Rattle.swp_base.specs.declared.control_frames.Act.{Act as Activation}
-use Rattle.swp_base.specs.declared.control_frames.Control.{Control}
-use Rattle.swp_base.specs.declared.control_frames.Control.TheVariants.{I, S, Rset, Ua, Act, Clt}
-use Rattle.swp_base.specs.declared.link_terms.Cause.TheVariants.{Asked}
 use Rattle.swp_act.specs.declared.ActEvent.{ActEvent}
 use Rattle.swp_act.specs.declared.ActEvent.TheVariants.{Take as ActTake, Tick as ActTick}
 use Rattle.shdlc_core.specs.declared.answers.LinkState.{LinkState}
 use Rattle.shdlc_core.specs.declared.answers.LinkState.TheVariants.{Down as IsDown, Waiting as IsWaitingNow, Up as IsUpNow}
-use Rattle.shdlc_core.specs.declared.answers.Due.{Due}
-use Rattle.shdlc_core.specs.declared.answers.Due.TheVariants.{Rr as Rr_due, Rset as Rset_due}
-use Rattle.shdlc_core.specs.Machine.{EndState, Fragment, is_waiting, frames_of, most_frames, taken, take_answer, ticked, tick_answer, runs_timer, reset_with}
-use Rattle.shdlc_core.specs.Machine.{stopped, due_left}
 use Rattle.link_laws.proofs.places.Joined.{ready_cases, changed}
-use Rattle.link_laws.specs.sessions.Sessions.{OnWire, ShdlcTurn as CoreTurn, is_rset, took_with, shdlc_turn as core_turn, shdlc_turned as core_turned}
 use Rattle.link_laws.specs.sessions.Sessions.ShdlcTurn.{Offer, SetReady}
-use Rattle.link_laws.specs.machine.Machine.{LinkEnd, Role, Refused, LinkInput, Turn, Report, report, turn, turned, give_refusal, took, after_input, ended_by}
-use Rattle.link_laws.specs.machine.Machine.{began_by, gave_up_by, whole_acked, frames_out, among, is_open, moved, activated, role_after, act_answer}
-use Rattle.link_laws.specs.machine.Machine.{reset_refusal, reset_by, window_of, if_up, renewed, new_link_end}
-use Rattle.link_laws.specs.machine.Machine.Role.{Bare, Clf, Uicc}
-use Rattle.link_laws.specs.machine.Machine.LinkInput.{Take, Tick as HasTick, Reset}
-use Rattle.link_laws.specs.machine.Machine.Turn.{Give, Hold, FetchMessage, SetAside, Release}
-use Rattle.link_laws.proofs.machine.Runs.{opened}
+use Rattle.link_laws.specs.machine.Machine.{Refused}
+use Rattle.link_laws.specs.machine.Machine.Role.{Bare}
+use Rattle.link_laws.specs.machine.Machine.LinkInput.{Reset}
 use Rattle.link_laws.proofs.machine.Reports.{shdlc_is as shdlc_moved}
 use Rattle.link_laws.proofs.machine.Shifts.{Shift, taken_shift}
 use Rattle.link_laws.proofs.machine.Shifts.Shift.{Stays, Ends, Renews, Begins, Rests as ShiftRests}
-use Rattle.link_laws.specs.messages.Links.{NumberedEnd, Link, Loss, Ending, Node, EndEvent, number_of, put, becomes, silent, finished, with_ended, has_taken}
-use Rattle.link_laws.specs.messages.Links.{happens_at_controller, ticks_at_controller, AreSendableTurns, IsNode, IsAllowed, IsOwn}
-use Rattle.link_laws.specs.messages.Links.Ending.{GoesOut, CutOff}
-use Rattle.link_laws.specs.messages.Links.Comes.{NextFrame, AsksReset, Starts, Stops, NoInput}
 use Rattle.link_laws.specs.messages.Links.EndEvent.{Step, Lose}
-use Rattle.link_laws.specs.messages.Links.Loss.{TooMany}
-use Rattle.link_laws.specs.messages.Projection.{core_turns}
 use Rattle.link_laws.proofs.messages.Asks.{NoAsk, NoRset, none_due}
 use Rattle.link_laws.proofs.messages.Ends.{frames_alike, ticked_keeps}
 use Rattle.link_laws.proofs.messages.Project.{Now, mid_moved, turns_mid}
 use Rattle.link_laws.proofs.messages.Steps.{ComesFirst, is_shdlc, heard_is, took_open, took_closed, no_fault_first, polite, role_closes, act_mid}
-use Rattle.link_laws.proofs.messages.Finishing.{none_out, first_none, reset_tells, reset_waits, reset_keeps, tick_open, tick_closed, restart_mid}
-use Rattle.link_laws.specs.entries.Entries.{End, Entry, far, if_so, told, told_of, turn_entry, turn_entries, sent_unless, first_lost, wire_with}
-use Rattle.link_laws.specs.entries.Entries.{put_entries, puts_entries, rest_entries, input_entries, restart_entries, step_entries, here_entries, tick_entries}
-use Rattle.link_laws.specs.entries.Entries.{left_after, taken_entries, aged_entries}
-use Rattle.link_laws.specs.entries.Entries.Entry.{Up, Down, Active, GaveUp, Acked, Got, Emit, Restarted, Cut}
-use Rattle.link_laws.specs.entries.Filters.{same_link_end}
-use Rattle.link_laws.proofs.entries.Books.{same_self, same_far}
+use Rattle.link_laws.specs.entries.Entries.{End, Entry}
 use Rattle.link_laws.proofs.entries.Noting.{turned_same, Near, IsRestart, start_restarts, stop_restarts}
-use Rattle.link_laws.proofs.entries.Running.{Before, comes_first, near_of}
 
 -- ## What is read
 
@@ -150,9 +135,7 @@ passes_turn w who n e (Give m) = go (give_refusal e m)
     go None b = refl
     go (Some why) b = refl
 passes_turn w who n e (Hold held) = λ b. refl
-passes_turn w who n e FetchMessage = λ b. refl
-passes_turn w who n e SetAside = λ b. refl
-passes_turn w who n e Release = λ b. refl
+passes_turn w who n e _ = λ b. refl
 
 passes_turns : (w who : End) (n : ℕ) (e : LinkEnd) (ts : List Turn) → Passes w (turn_entries who n e ts)
 passes_turns w who n e [] = λ b. refl
@@ -230,8 +213,7 @@ same_waiting a b p = go b.phase refl
   where
     go : (y : LinkState) → b.phase ≡ y → is_waiting a ≡ is_waiting b
     go IsUpNow q = let r = p ∙ q in rw (r, q) refl
-    go IsWaitingNow q = let r = p ∙ q in rw (r, q) refl
-    go IsDown q = let r = p ∙ q in rw (r, q) refl
+    go _ q = let r = p ∙ q in rw (r, q) refl
 
 -- how an end f whose node has these turns ends its step, where this was read of it before: RSET goes out, and it waits; or none goes out
 data EndsSo (f : LinkEnd) (ts : List Turn) (b : Bool) : Type 0 where
@@ -244,8 +226,7 @@ turned_waits l f ts =
 
 new_waits : (r : Role) → is_waiting (new_link_end (renewed r)).shdlc ≡ false
 new_waits Bare = refl
-new_waits (Clf s) = refl
-new_waits (Uicc s) = refl
+new_waits _ = refl
 
 rest_harked : (who : End) (l : Link) (f : LinkEnd) (ts : List Turn) (ending : Ending) (b : Bool) → EndsSo f ts b
     → harks who b (rest_entries who l f ts ending) ≡ waits (finished l (turned f ts) ending).controller
@@ -278,8 +259,7 @@ offer_due s fragments = go s.phase refl
   where
     go : (p : LinkState) → s.phase ≡ p → (core_turn s (Offer fragments)).due ≡ s.due
     go IsUpNow q = rw q refl
-    go IsWaitingNow q = rw q refl
-    go IsDown q = rw q refl
+    go _ q = rw q refl
 
 -- turns leave the RSET in front
 first_due : (us : List CoreTurn) (s : EndState) (ds : List Due) → s.due ≡ Rset_due ∷ ds → (es : List Due) × ((core_turned s us).due ≡ Rset_due ∷ es)
@@ -385,8 +365,7 @@ tick_so l ts a n = go (is_open e.role) refl
 
 no_due : (p : LinkState) (due : List Due) → due ≡ [] → due_left p due ≡ []
 no_due IsUpNow due q = refl
-no_due IsWaitingNow due q = q
-no_due IsDown due q = q
+no_due _ due q = q
 
 reset_due : (e : EndState) (w : ℕ) → is_waiting e ≡ false → e.due ≡ [] → (reset_with e w).due ≡ Rset_due ∷ []
 reset_due e w n q = let z = no_due e.phase e.due q in rw n (ap (λ d. d ++ Rset_due ∷ []) z)
@@ -437,16 +416,12 @@ taken_waits s c = go s.phase refl c
     never false = refl
 
     ended_began : s.phase ≡ IsUpNow → (c : Control) → is_some (take_answer s c).ended ≡ true → (take_answer s c).began ≡ false → ⊥
-    ended_began p (I ns nr info) q r = true≢false (let z : false ≡ true = rw p at q in sym z)
-    ended_began p (S kind nr) q r = true≢false (let z : false ≡ true = rw p at q in sym z)
     ended_began p (Rset w caps) q r = by (w == 0) refl
       where
         by : (z : Bool) → (w == 0) ≡ z → ⊥
         by true z = true≢false (let y : false ≡ true = rw (p, z) at q in sym y)
         by false z = true≢false (let y : true ≡ false = rw (p, z) at r in y)
-    ended_began p Ua q r = true≢false (let z : false ≡ true = rw p at q in sym z)
-    ended_began p (Act x y) q r = true≢false (let z : false ≡ true = rw p at q in sym z)
-    ended_began p Clt q r = true≢false (let z : false ≡ true = rw p at q in sym z)
+    ended_began p _ q r = true≢false (let z : false ≡ true = rw p at q in sym z)
 
     stays_up : (c : Control) → s.phase ≡ IsUpNow → Shift s (taken s c) (is_some (take_answer s c).ended) (take_answer s c).began
         → is_waiting (taken s c) ≡ false
@@ -466,21 +441,15 @@ taken_waits s c = go s.phase refl c
         by true q = rw (p, q) refl
         by false q = rw (p, q) refl
     go IsWaitingNow p (I ns nr info) = rw p refl
-    go IsWaitingNow p (S kind nr) = rw p refl
-    go IsWaitingNow p Ua = rw p refl
-    go IsWaitingNow p (Act x y) = rw p refl
-    go IsWaitingNow p Clt = rw p refl
     go IsDown p (Rset w caps) = by (w == 0) refl
       where
         by : (b : Bool) → (w == 0) ≡ b
             → after_told (take_answer s (Rset w caps)).began false (is_waiting s) ≡ is_waiting (taken s (Rset w caps))
         by true q = rw (p, q) refl
         by false q = rw (p, q) refl
+    go IsWaitingNow p _ = rw p refl
     go IsDown p (I ns nr info) = rw p refl
-    go IsDown p (S kind nr) = rw p refl
-    go IsDown p Ua = rw p refl
-    go IsDown p (Act x y) = rw p refl
-    go IsDown p Clt = rw p refl
+    go IsDown p _ = rw p refl
 
 frame_waits : (l : Link) (x : OnWire) (xs : List OnWire) → ComesFirst l x xs
     → after_told (began_by l.controller.side (Take x.frame)) false (waits l.controller) ≡ is_waiting (took l.controller.side x.frame).shdlc
@@ -501,16 +470,14 @@ frame_waits l x xs comes = go x.frame refl
       where
         by : (p : LinkState) → e.shdlc.phase ≡ p → (take_answer e.shdlc (Act act again)).began ≡ false
         by IsUpNow p = rw p refl
-        by IsWaitingNow p = rw p refl
-        by IsDown p = rw p refl
+        by _ p = rw p refl
 
     clt_none : (take_answer e.shdlc Clt).began ≡ false
     clt_none = by e.shdlc.phase refl
       where
         by : (p : LinkState) → e.shdlc.phase ≡ p → (take_answer e.shdlc Clt).began ≡ false
         by IsUpNow p = rw p refl
-        by IsWaitingNow p = rw p refl
-        by IsDown p = rw p refl
+        by _ p = rw p refl
 
     shdlc : (b : Bool) → is_open e.role ≡ b → is_shdlc x.frame ≡ true → began_by e (Take x.frame) ≡ (b && (take_answer e.shdlc x.frame).began) → P x.frame
     shdlc true o s began =
@@ -543,10 +510,7 @@ frame_waits l x xs comes = go x.frame refl
     go : (c : Control) → x.frame ≡ c → P x.frame
     go (Act act again) q = subst P (sym q) (acts act again q)
     go Clt q = subst P (sym q) (no_began (is_open e.role) (take_answer e.shdlc Clt).began clt_none)
-    go (I ns nr info) q = of_shdlc (ap is_shdlc q)
-    go (S kind nr) q = of_shdlc (ap is_shdlc q)
-    go (Rset w caps) q = of_shdlc (ap is_shdlc q)
-    go Ua q = of_shdlc (ap is_shdlc q)
+    go _ q = of_shdlc (ap is_shdlc q)
 
 -- ## Steps
 
@@ -657,16 +621,7 @@ frame_harked who l ts ending a b = go l.to_controller refl
         subst P (sym next) (subst Q (sym some) (taken_harked who l x xs ts ending a (comes_first l x xs q b)))
 
 pub here_harked : (who : End) (l : Link) (e : EndEvent) → IsAllowed l e → Before l → Harked who l (happens_at_controller l e) (here_entries who l e)
-here_harked who l e a b = go e a
-  where
-    near : Near l
-    near = near_of l b
-
-    go : (e : EndEvent) → IsAllowed l e → Harked who l (happens_at_controller l e) (here_entries who l e)
-    go (Lose why) a =
-        record { here = passes_lost who who why l.to_controller (waits l.controller); there = passes_lost (far who) who why l.to_controller }
-    go (Step NextFrame ts ending) a = frame_harked who l ts ending a.1 b
-    go (Step (AsksReset window) ts ending) a = own_harked who l (Step (AsksReset window) ts ending) tt a near
-    go (Step (Starts v) ts ending) a = own_harked who l (Step (Starts v) ts ending) tt a near
-    go (Step Stops ts ending) a = own_harked who l (Step Stops ts ending) tt a near
-    go (Step NoInput ts ending) a = own_harked who l (Step NoInput ts ending) tt a near
+here_harked who l (Lose why) a b =
+    record { here = passes_lost who who why l.to_controller (waits l.controller); there = passes_lost (far who) who why l.to_controller }
+here_harked who l (Step NextFrame ts ending) a b = frame_harked who l ts ending a.1 b
+here_harked who l e a b = own_harked who l e tt a (near_of l b)

@@ -1,15 +1,6 @@
 -- In each history of a bare world the ends that wait for the answer to a reset are those that are read.
-use Rattle.std.proofs.Common.{◌≡◌, ℕ, List, ◌++◌, ap, sym, subst, ◌∙◌}
-use Rattle.std.specs.List.{AllByRecursion}
-use Rattle.trace_model.specs.declared.line.End.{End}
-use Rattle.trace_model.specs.declared.line.Header.{Header}
-use Rattle.trace_model.specs.declared.line.Line.{Line}
-use Rattle.trace_model.specs.Lines.{IsHeader, IsLineOf}
-use Rattle.shdlc_core.specs.Machine.{is_waiting}
-use Rattle.history.specs.Histories.{Event, History, all_events, causes_of, entries_of}
-use Rattle.history.specs.Follows.{Follows, host_of, machine_of}
-use Rattle.history.specs.Legal.{waits_in}
-use Rattle.history.specs.Steps.{bare_link, link_after_all, entries_for}
+use Rattle.history.proofs.Words.{AllByRecursion, End, Event, Follows, Header, History, IsHeader, IsLineOf, Line, List, all_events, ap, bare_link, causes_of}
+use Rattle.history.proofs.Words.{entries_for, entries_of, host_of, is_waiting, link_after_all, machine_of, subst, sym, waits_in, ℕ, ◌++◌, ◌∙◌, ◌≡◌}
 use Rattle.history.proofs.legal.Runs.{AreOf, of_front}
 use Rattle.history.proofs.legal.Ordered.{IsRun, is_run, notes_of, run_entries}
 use Rattle.history.proofs.waits.Reading.{waits_as_read}

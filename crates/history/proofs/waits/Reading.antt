@@ -1,27 +1,10 @@
 -- Whether an end of a bare link waits for the answer to a reset is read off the entries of a history.
-use Rattle.std.proofs.Common.{◌≡◌, ℕ, zero, suc, ◌+◌, ◌*◌, ◌<◌, Bool, true, false, List, [], ◌∷◌, length, map, Some, refl, ap, subst, ◌∙◌, arith}
-use Rattle.std.specs.Prelude.{nat_lt, nat_le, slice_index, ◌&&◌, if◌then◌else◌}
-use Rattle.std.specs.List.{fold}
-use Rattle.std.proofs.lemmas.Bool.{le-leb}
-use Rattle.swp_base.specs.declared.control_frames.Control.{Control}
-use Rattle.swp_base.specs.declared.control_frames.Control.TheVariants.{I, S, Rset, Ua, Act, Clt}
-use Rattle.swp_base.specs.declared.control_frames.Kind.TheVariants.{Rr, Rej, Rnr, Srej}
+use Rattle.history.proofs.Words.{Act, Bool, Cause, Control, Controller, Cut, Emit, End, Entry, Event, GaveUp, HasNumbers, Host, I, IsBare, Link, List, Noted}
+use Rattle.history.proofs.Words.{Rej, Restarted, Rnr, Rr, S, Side, Some, Srej, Up, [], ap, arith, bare_link, causes_of, end_of, entries_for, event_of, false}
+use Rattle.history.proofs.Words.{fold, i_frame, if◌then◌else◌, is_rset, is_rset_lpdu, is_waiting, le-leb, length, link_after_all, lpdu_of, lpdu_row}
+use Rattle.history.proofs.Words.{lpdu_row_of, machine_of, map, nat_le, nat_lt, refl, same_side, slice_index, subst, suc, true, waits_after, waits_in, zero, ℕ}
+use Rattle.history.proofs.Words.{◌&&◌, ◌*◌, ◌+◌, ◌<◌, ◌∙◌, ◌∷◌, ◌≡◌}
 use Rattle.swp_base.specs.declared.control_frames.Act.TheVariants.{Ready, SyncId, PowerMode}
-use Rattle.swp_lpdu.specs.Controls.{HasNumbers, lpdu_of, lpdu_row, lpdu_row_of, i_frame}
-use Rattle.trace_model.specs.declared.entry.Entry.{Entry}
-use Rattle.trace_model.specs.declared.line.End.{End}
-use Rattle.shdlc_core.specs.Machine.{is_waiting}
-use Rattle.link_laws.specs.sessions.Sessions.{is_rset}
-use Rattle.link_laws.specs.messages.Links.{Link}
-use Rattle.link_laws.specs.messages.Links.IsStart.{IsBare}
-use Rattle.link_laws.specs.entries.Entries.{End as Side, Entry as Noted}
-use Rattle.link_laws.specs.entries.Entries.End.{Controller, Host}
-use Rattle.link_laws.specs.entries.Entries.Entry.{Up, Down, Active, GaveUp, Acked, Got, Sent, Emit, Took, Lost, Tick, Restarted, Cut}
-use Rattle.link_laws.specs.entries.Filters.{same_link_end as same_side}
-use Rattle.history.specs.Histories.{Cause, Event, causes_of}
-use Rattle.history.specs.Legal.{is_rset_lpdu, waits_after, waits_in}
-use Rattle.history.specs.Steps.{end_of, entries_for, event_of, bare_link, link_after_all}
-use Rattle.history.specs.Follows.{machine_of}
 use Rattle.history.proofs.legal.Noted.{same_as}
 use Rattle.history.proofs.legal.Plain.{ArePlain, plain_trace}
 use Rattle.history.proofs.legal.Runs.{AreOf, CanAll, of_can, all_can, after_causes}
@@ -65,15 +48,13 @@ reads_rset (S Rr nr) low = eight (λ n. is_rset_lpdu (lpdu_of (S Rr n)) ≡ fals
 reads_rset (S Rej nr) low = eight (λ n. is_rset_lpdu (lpdu_of (S Rej n)) ≡ false) refl refl refl refl refl refl refl refl nr low
 reads_rset (S Rnr nr) low = eight (λ n. is_rset_lpdu (lpdu_of (S Rnr n)) ≡ false) refl refl refl refl refl refl refl refl nr low
 reads_rset (S Srej nr) low = eight (λ n. is_rset_lpdu (lpdu_of (S Srej n)) ≡ false) refl refl refl refl refl refl refl refl nr low
-reads_rset (Rset window caps) low = refl
-reads_rset Ua low = refl
 reads_rset (Act Ready true) low = refl
 reads_rset (Act Ready false) low = refl
 reads_rset (Act (SyncId id) true) low = refl
 reads_rset (Act (SyncId id) false) low = refl
 reads_rset (Act (PowerMode power) true) low = refl
 reads_rset (Act (PowerMode power) false) low = refl
-reads_rset Clt low = refl
+reads_rset _ low = refl
 
 -- ## Entries
 
@@ -86,23 +67,16 @@ waits-from h [] who b p = refl
 waits-from h (Up w k ∷ t) who b p =
     ap (λ c. waits_from (if c then false else b) (end_of h who) (entries_for h t)) (same_as h w who)
     ∙ waits-from h t who (if same_side w who then false else b) p.1
-waits-from h (Down w cause ∷ t) who b p = waits-from h t who b p.1
-waits-from h (Active w ∷ t) who b p = waits-from h t who b p.1
 waits-from h (GaveUp w tries ∷ t) who b p =
     ap (λ c. waits_from (if c then false else b) (end_of h who) (entries_for h t)) (same_as h w who)
     ∙ waits-from h t who (if same_side w who then false else b) p.1
-waits-from h (Acked w k count ∷ t) who b p = waits-from h t who b p.1
-waits-from h (Got w k m ∷ t) who b p = waits-from h t who b p.1
-waits-from h (Sent w k m ∷ t) who b p = waits-from h t who b p.1
 waits-from h (Emit w c ∷ t) who b p =
     ap (λ x. waits_from (if x && is_rset_lpdu (lpdu_of c) then true else b) (end_of h who) (entries_for h t)) (same_as h w who)
     ∙ (ap (λ x. waits_from (if same_side w who && x then true else b) (end_of h who) (entries_for h t)) (reads_rset c p.0)
     ∙ waits-from h t who (if same_side w who && is_rset c then true else b) p.1)
-waits-from h (Took w c ∷ t) who b p = waits-from h t who b p.1
-waits-from h (Lost w c why ∷ t) who b p = waits-from h t who b p.1
-waits-from h (Tick ∷ t) who b p = waits-from h t who b p.1
 waits-from h (Restarted w ∷ t) who b p = absurd p.0
 waits-from h (Cut w ∷ t) who b p = absurd p.0
+waits-from h (_ ∷ t) who b p = waits-from h t who b p.1
 
 -- ## Ends
 
