@@ -1,3 +1,4 @@
+pub mod Words
 pub mod fragments
 pub mod messages
 pub mod lines

@@ -1,11 +1,8 @@
 -- How far the place a of a sender has come on its way to be acknowledged, from one moment of a link to a later one. The sender is the
 -- controller's end.
-use Rattle.std.proofs.Common.{◌≡◌, ℕ, ◌+◌, ◌<◌, ◌≤◌, ◌⊎◌, inl, inr, List, [], ◌∷◌, ◌++◌, refl, ap, sym, ◌∙◌, arith, length, length-append, append_assoc, None}
 use Rattle.std.proofs.lemmas.List.{append-nil}
-use mathlib.Core.List.{IsPrefix}
-use Rattle.std.proofs.lemmas.Bool.{cases_lt}
-use Rattle.shdlc_core.specs.Machine.{frame_due}
-use Rattle.link_laws.specs.sessions.Sessions.{ShdlcLink}
+use Rattle.lines_told.proofs.Words.{IsPrefix, List, None, ShdlcLink, [], ap, append_assoc, arith, cases_lt, frame_due, inl, inr, length, length-append, refl}
+use Rattle.lines_told.proofs.Words.{sym, ℕ, ◌++◌, ◌+◌, ◌<◌, ◌∙◌, ◌∷◌, ◌≡◌, ◌≤◌, ◌⊎◌}
 use Rattle.lines_told.proofs.fragments.Wires.{StandsIn, Stands, NoRnrBehind, stands_in, in_all}
 use Rattle.lines_told.proofs.fragments.Takes.{Answers, Brings}
 
@@ -118,11 +115,10 @@ advances_then {a} {c} {d} {t} {c'} {d'} {t'} {m} {n} {o} g h =
 
     idle : IsIdle m ⊎ (0 < t + t') → IsIdle o
     idle (inl e) = h.idle (inl (g.idle (inl e)))
-    idle (inr e) = go (cases_lt 0 t')
-      where
-        go : (0 < t') ⊎ (t' ≤ 0) → IsIdle o
-        go (inl i) = h.idle (inr i)
-        go (inr i) = h.idle (inl (g.idle (inr (omega arith))))
+    idle (inr e) = elim (cases_lt 0 t') [
+      | inl i ↦ h.idle (inr i)
+      | inr i ↦ h.idle (inl (g.idle (inr (omega arith))))
+    ]
 
     answered : (k : ℕ) → a ≤ m.controller.side.session.acked → StandsIn (Answers a) (k + c') n.to_controller ⊎ Grown a n
         → StandsIn (Answers a) k o.to_controller ⊎ Grown a o

@@ -1,21 +1,10 @@
 -- One end of a link has become e, has its turns and sends all that is due: how far this brings its own places, and those of the other
 -- end. The controller's end is the near one.
-use Rattle.std.proofs.Common.{◌≡◌, ℕ, zero, suc, ◌+◌, ◌%◌, ◌<◌, ◌≤◌, true, false, ◌||◌, not, List, [], ◌∷◌, ◌++◌, Some, ◌⊎◌, inl, inr, refl, ap, sym, ◌∙◌}
-use Rattle.std.proofs.Common.{arith, length, length-append, nat_lt, slice_get}
-use Rattle.std.proofs.lemmas.Bool.{cases_lt, lt-ltb, or_right}
-use Rattle.swp_base.specs.declared.control_frames.Control.TheVariants.{S}
-use Rattle.swp_base.specs.declared.control_frames.Kind.TheVariants.{Rr}
-use Rattle.shdlc_core.specs.declared.answers.LinkState.TheVariants.{Up}
-use Rattle.shdlc_core.specs.declared.answers.Due.{Due}
-use Rattle.shdlc_core.specs.declared.answers.Due.TheVariants.{Rr as Rr_due}
-use Rattle.shdlc_core.specs.Machine.{EndState, Session, Fragment, frame_due, fragment_due, expected, frames_of}
-use Rattle.link_laws.specs.places.Wire.{OnWire}
-use Rattle.link_laws.proofs.places.Whole.{AnswersOnly, NoRnr}
-use Rattle.link_laws.proofs.places.Marks.{slice_get-append}
+use Rattle.lines_told.proofs.Words.{AnswersOnly, Due, EndState, Fragment, List, Losses, NoRnr, NumberedShdlc, OnWire, Rr, Rr_due, S, Session, ShdlcLink}
+use Rattle.lines_told.proofs.Words.{ShdlcTurn, Some, Up, [], ap, arith, cases_lt, expected, false, few_turns, fragment_due, frame_due, frames_of, inl, inr}
+use Rattle.lines_told.proofs.Words.{length, length-append, lt-ltb, nat_lt, not, noted_out, or_right, refl, shdlc_becomes, shdlc_exchanged, shdlc_put_all}
+use Rattle.lines_told.proofs.Words.{shdlc_turned, slice_get, slice_get-append, suc, sym, true, zero, ℕ, ◌%◌, ◌++◌, ◌+◌, ◌<◌, ◌||◌, ◌∙◌, ◌∷◌, ◌≡◌, ◌≤◌, ◌⊎◌}
 use Rattle.link_laws.proofs.places.Idle.{left, idle_after}
-use Rattle.link_laws.specs.sessions.Sessions.{NumberedShdlc, ShdlcLink, shdlc_exchanged, shdlc_put_all, shdlc_becomes, ShdlcTurn, shdlc_turned}
-use Rattle.link_laws.specs.sessions.Losses.{Losses, noted_out}
-use Rattle.link_laws.proofs.sessions.Ties.{few_turns}
 use Rattle.link_laws.proofs.sessions.Quiet.{few_room}
 use Rattle.lines_told.proofs.fragments.Wires.{StandsIn, Stands, NoRnrBehind, in_more, behind_more}
 use Rattle.lines_told.proofs.fragments.Sends.{SentSame, sent_same, put_all_same, sent_stands, first_stands, fragment_stands, sent_no_rnr}

@@ -1,19 +1,10 @@
 -- Each event of a round, and so each stretch of them, brings the places of both ends on their way.
-use Rattle.std.proofs.Common.{◌≡◌, ℕ, true, false, ◌||◌, List, [], ◌∷◌, Some, refl, ap, sym, ◌∙◌, arith, map, is_some}
-use Rattle.std.proofs.lemmas.Bool.{or_parts}
-use Rattle.shdlc_core.specs.declared.answers.LinkState.TheVariants.{Up}
-use Rattle.shdlc_core.specs.Machine.{EndState, ticked, tick_answer, frames_of}
-use Rattle.link_laws.specs.places.Wire.{OnWire, aged_wire, sans, loses_aged}
-use Rattle.link_laws.specs.sessions.Sessions.{NumberedShdlc, ShdlcLink, shdlc_exchanged, shdlc_put_all, shdlc_turned, act_frame, with_shdlc_ended, ShdlcTurn}
-use Rattle.link_laws.specs.sessions.Sessions.{ShdlcEndEvent, IsShdlcAllowed, shdlc_happens_at_controller, shdlc_ticks_at_controller, shdlc_aged, AreTurns}
-use Rattle.link_laws.specs.sessions.Sessions.{shdlc_all_at_controller, shdlc_happens}
-use Rattle.link_laws.specs.sessions.Sessions.ShdlcEndEvent.{Turns, Deliver, Acts, Lose}
-use Rattle.link_laws.specs.sessions.Sessions.ShdlcLinkEvent.{Tick}
-use Rattle.link_laws.specs.sessions.Losses.{Losses, noted_all, noted_here, noted_turns, noted_tick, noted_aged, noted_event}
-use Rattle.link_laws.proofs.sessions.Sending.{SafeLink}
-use Rattle.link_laws.proofs.sessions.Steps.{safe_turn, safe_aged, tick_or_cut}
-use Rattle.link_laws.proofs.sessions.Ties.{turned-phase}
-use Rattle.lines_told.specs.fragments.Rounds.{IsOrdinary, AreOrdinaryTurns, taken_here}
+use Rattle.lines_told.proofs.Words.{Acts, AreOrdinaryTurns, AreTurns, Deliver, EndState, IsOrdinary, IsShdlcAllowed, List, Lose, Losses, NumberedShdlc, OnWire}
+use Rattle.lines_told.proofs.Words.{SafeLink, ShdlcEndEvent, ShdlcLink, ShdlcTurn, Some, Tick, Turns, Up, [], act_frame, aged_wire, ap, arith, false, frames_of}
+use Rattle.lines_told.proofs.Words.{is_some, loses_aged, map, noted_aged, noted_all, noted_event, noted_here, noted_tick, noted_turns, or_parts, refl}
+use Rattle.lines_told.proofs.Words.{safe_aged, safe_turn, sans, shdlc_aged, shdlc_all_at_controller, shdlc_exchanged, shdlc_happens}
+use Rattle.lines_told.proofs.Words.{shdlc_happens_at_controller, shdlc_put_all, shdlc_ticks_at_controller, shdlc_turned, sym, taken_here, tick_answer}
+use Rattle.lines_told.proofs.Words.{tick_or_cut, ticked, true, turned-phase, with_shdlc_ended, ℕ, ◌||◌, ◌∙◌, ◌∷◌, ◌≡◌}
 use Rattle.lines_told.proofs.fragments.Wires.{in_more, in_aged, behind_more, behind_aged}
 use Rattle.lines_told.proofs.fragments.Sends.{sent_same, put_all_same, out_lost}
 use Rattle.lines_told.proofs.fragments.Near.{Sound, Did, Leaves, did_then, did_exchanged, did_wires, leaves_same, sound_exchanged}

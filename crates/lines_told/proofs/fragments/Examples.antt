@@ -1,12 +1,7 @@
 -- The machines compute worked examples of rounds: what is asked of rounds can be met, and a fragment can take twelve of them.
-use Rattle.std.proofs.Common.{true, false, ◌≡◌, refl, Some, ℕ, suc, zero, List, [], ◌∷◌, ◌++◌, length}
-use Rattle.link_laws.specs.sessions.Sessions.ShdlcTurn.{Offer, SetReady}
-use Rattle.link_laws.specs.sessions.Sessions.{ShdlcLink, start, ShdlcLinkEvent, shdlc_happens, shdlc_after}
-use Rattle.link_laws.specs.sessions.Losses.{no_losses, noted_event}
-use Rattle.shdlc_core.specs.declared.answers.LinkState.TheVariants.{Up}
-use Rattle.link_laws.specs.sessions.Sessions.ShdlcEndEvent.{Turns, Deliver, Lose}
-use Rattle.link_laws.specs.sessions.Sessions.ShdlcLinkEvent.{AtController, AtHost, Tick}
-use Rattle.lines_told.specs.fragments.Rounds.{BothTakeFragments, IsRound, AreRounds, AreUndisturbed, to_deliver}
+use Rattle.lines_told.proofs.Words.{AreRounds, AreUndisturbed, AtController, AtHost, BothTakeFragments, Deliver, IsRound, List, Lose, Offer, SetReady}
+use Rattle.lines_told.proofs.Words.{ShdlcLink, ShdlcLinkEvent, Some, Tick, Turns, Up, [], false, length, no_losses, noted_event, refl, shdlc_after}
+use Rattle.lines_told.proofs.Words.{shdlc_happens, start, suc, to_deliver, true, zero, ℕ, ◌++◌, ◌∷◌, ◌≡◌}
 
 abbrev time : List ShdlcLinkEvent
 time = Tick (Some []) [] (Some []) ∷ []

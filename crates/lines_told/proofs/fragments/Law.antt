@@ -1,12 +1,7 @@
 -- The law, for links that came about in any way.
-use Rattle.std.proofs.Common.{ℕ, ◌+◌, ◌*◌, ◌≤◌, List, arith, length}
-use Rattle.shdlc_core.specs.Machine.{Fragment}
-use mathlib.Core.List.{IsPrefix}
-use Rattle.link_laws.specs.places.Order.{FragmentsInOrder}
-use Rattle.link_laws.specs.sessions.Sessions.{ShdlcLink, shdlc_exchanged, ShdlcLinkEvent, AllShdlcAllowed, IsShdlcStart, shdlc_after}
-use Rattle.link_laws.proofs.sessions.Sending.{SafeLink}
-use Rattle.link_laws.proofs.sessions.Steps.{safe}
-use Rattle.lines_told.specs.fragments.Rounds.{AreRounds, BothTakeFragments, AreUndisturbed, EarlierDelivered, undelivered, to_deliver}
+use Rattle.lines_told.proofs.Words.{AllShdlcAllowed, AreRounds, AreUndisturbed, BothTakeFragments, EarlierDelivered, Fragment, FragmentsInOrder, IsPrefix}
+use Rattle.lines_told.proofs.Words.{IsShdlcStart, List, SafeLink, ShdlcLink, ShdlcLinkEvent, arith, length, safe, shdlc_after, shdlc_exchanged, to_deliver}
+use Rattle.lines_told.proofs.Words.{undelivered, ℕ, ◌*◌, ◌+◌, ◌≤◌}
 use Rattle.lines_told.proofs.fragments.Advances.{prefix_within}
 use Rattle.lines_told.proofs.fragments.Near.{Sound, pair_up, sound_exchanged}
 use Rattle.lines_told.proofs.fragments.Stretches.{began}

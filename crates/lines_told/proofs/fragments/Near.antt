@@ -1,17 +1,9 @@
 -- What the near end of a link does, where both ends are up in one session: how far this brings the places of both ends.
-use Rattle.std.proofs.Common.{◌≡◌, ℕ, ◌+◌, ◌<◌, ◌≤◌, Bool, true, false, ◌&&◌, List, Some, None, ◌⊎◌, inl, inr, refl, ap, sym, subst, ◌∙◌, arith, length}
 use Rattle.std.specs.Prelude.{nat_lt, slice_get}
-use Rattle.std.proofs.lemmas.Bool.{cases_lt, lt-ltb, or_right}
-use Rattle.shdlc_core.specs.declared.answers.LinkState.TheVariants.{Up}
-use Rattle.shdlc_core.specs.Machine.{EndState, Session, frame_due, fragment_due, runs_timer}
-use Rattle.swp_base.specs.declared.control_frames.Control.{Control}
-use Rattle.link_laws.specs.places.Wire.{OnWire, is_act, sans}
-use Rattle.link_laws.proofs.places.Joined.{fetch_cases}
-use Rattle.link_laws.specs.sessions.Sessions.{ShdlcLink, shdlc_exchanged, shdlc_number_of, shdlc_session_of}
-use Rattle.link_laws.proofs.sessions.Wire.{live}
-use Rattle.link_laws.proofs.sessions.Data.{Pair, of_up}
-use Rattle.link_laws.proofs.sessions.Safe.{agreed, pair_from, safe_swap}
-use Rattle.link_laws.proofs.sessions.Sending.{SafeLink}
+use Rattle.lines_told.proofs.Words.{Bool, Control, EndState, List, None, OnWire, Pair, SafeLink, Session, ShdlcLink, Some, Up, agreed, ap, arith, cases_lt}
+use Rattle.lines_told.proofs.Words.{false, fetch_cases, fragment_due, frame_due, inl, inr, is_act, length, live, lt-ltb, of_up, or_right, pair_from, refl}
+use Rattle.lines_told.proofs.Words.{runs_timer, safe_swap, sans, shdlc_exchanged, shdlc_number_of, shdlc_session_of, subst, sym, true, ℕ, ◌&&◌, ◌+◌, ◌<◌, ◌∙◌}
+use Rattle.lines_told.proofs.Words.{◌≡◌, ◌≤◌, ◌⊎◌}
 use Rattle.lines_told.proofs.fragments.Wires.{StandsIn, NoRnrBehind, in_more, behind_more}
 use Rattle.lines_told.proofs.fragments.Takes.{Answers, Brings, answers_no_act, brings_no_act}
 use Rattle.lines_told.proofs.fragments.Advances.{Advances, IsIdle, advances_then, prefix_of}

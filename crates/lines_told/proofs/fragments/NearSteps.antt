@@ -1,25 +1,13 @@
 -- Each thing that the near end of a link does, where both ends are up in one session: how far it brings the places of both ends.
-use Rattle.std.proofs.Common.{◌≡◌, ℕ, ◌+◌, ◌<◌, ◌≤◌, Bool, true, false, not, List, [], ◌∷◌, Some, ◌⊎◌, inl, inr, refl, ap, sym, subst, ◌∙◌, arith, length, drop}
-use Rattle.std.proofs.Common.{map, nat_lt, is_some}
-use Rattle.std.proofs.lemmas.Bool.{cases_lt, ltb-true, or_parts, true≢false}
-use Rattle.swp_base.specs.declared.control_frames.Control.{Control}
-use Rattle.swp_base.specs.declared.control_frames.Control.TheVariants.{Ua}
-use Rattle.swp_base.specs.declared.control_frames.Act.{Act as Activation}
-use Rattle.shdlc_core.specs.declared.answers.LinkState.TheVariants.{Up, Waiting}
-use Rattle.shdlc_core.specs.declared.answers.Due.{Due}
-use Rattle.shdlc_core.specs.declared.answers.Due.TheVariants.{Rr as Rr_due}
-use Rattle.shdlc_core.specs.Machine.{EndState, taken, take_answer, ticked, tick_answer, runs_timer, sent_again, waiting_from, frames_of}
-use Rattle.link_laws.specs.places.Wire.{OnWire, is_act, sans, counts_first, with_frame}
-use Rattle.link_laws.specs.sessions.Sessions.{NumberedShdlc, ShdlcLink, shdlc_put, shdlc_put_all, shdlc_becomes, with_shdlc_ended, took_with, act_frame}
-use Rattle.link_laws.specs.sessions.Sessions.{ShdlcTurn, shdlc_turned, shdlc_happens_at_controller, shdlc_ticks_at_controller}
-use Rattle.link_laws.specs.sessions.Sessions.ShdlcEndEvent.{Turns, Deliver, Acts, Lose}
-use Rattle.link_laws.specs.sessions.Losses.{Losses, noted_loss, noted_all, noted_out, came_up, noted_here, noted_tick}
-use Rattle.link_laws.proofs.sessions.Wire.{IsData, live}
+use Rattle.std.proofs.lemmas.Bool.{true≢false}
+use Rattle.lines_told.proofs.Words.{Activation, Acts, Bool, Control, Deliver, Due, EndState, IsData, List, Lose, Losses, NumberedShdlc, OnWire, Pair, Rr_due}
+use Rattle.lines_told.proofs.Words.{Safe, ShdlcLink, ShdlcTurn, Some, TakenUp, Turns, Ua, Up, Waiting, [], act_frame, ap, arith, came_up, cases_lt}
+use Rattle.lines_told.proofs.Words.{counts_first, drop, false, frame_cases, frames_of, inl, inr, is_act, is_some, length, live, ltb-true, map, nat_lt, not}
+use Rattle.lines_told.proofs.Words.{noted_all, noted_here, noted_loss, noted_out, noted_tick, or_parts, passes_act, refl, runs_timer, sans, sent_again}
+use Rattle.lines_told.proofs.Words.{shdlc_becomes, shdlc_happens_at_controller, shdlc_put, shdlc_put_all, shdlc_ticks_at_controller, shdlc_turned, subst, sym}
+use Rattle.lines_told.proofs.Words.{take_answer, taken, taken_up, tick_answer, ticked, took_with, true, turned-phase, waiting_from, with_frame}
+use Rattle.lines_told.proofs.Words.{with_shdlc_ended, ℕ, ◌+◌, ◌<◌, ◌∙◌, ◌∷◌, ◌≡◌, ◌≤◌, ◌⊎◌}
 use Rattle.link_laws.proofs.sessions.Hand.{IsRset, ua_told, rset_told}
-use Rattle.link_laws.proofs.sessions.Data.{Pair, TakenUp, taken_up}
-use Rattle.link_laws.proofs.sessions.Safe.{Safe, frame_cases}
-use Rattle.link_laws.proofs.sessions.Steps.{passes_act}
-use Rattle.link_laws.proofs.sessions.Ties.{turned-phase}
 use Rattle.lines_told.proofs.fragments.Wires.{StandsIn, NoRnrBehind, in_rest, in_more, behind_more, behind_rest, behind_push, behind_fits}
 use Rattle.lines_told.proofs.fragments.Sends.{sent_same, put_all_same, out_lost, put_stands}
 use Rattle.lines_told.proofs.fragments.Turns.{turned_up}
@@ -135,11 +123,10 @@ did_loses {m = m} n none = go m.to_controller (or_parts n.lost (counts_first m.t
     rest : (P : Control → Type 0) → ((c : Control) → is_act c ≡ true → P c → ⊥) → (j k : ℕ) → j ≤ k + 1 → (w : List OnWire) → counts_first w ≡ false
         → StandsIn P j w → StandsIn P k (drop 1 w)
     rest P plain j k i [] e s = absurd s
-    rest P plain j k i (x ∷ xs) e s = by (in_rest P j k x xs i s)
-      where
-        by : P x.frame ⊎ StandsIn P k xs → StandsIn P k xs
-        by (inl p) = absurd (plain x.frame (act x xs e) p)
-        by (inr t) = t
+    rest P plain j k i (x ∷ xs) e s = elim (in_rest P j k x xs i s) [
+      | inl p ↦ absurd (plain x.frame (act x xs e) p)
+      | inr t ↦ t
+    ]
 
     rnr : (j k : ℕ) → j ≤ k + 1 → (w : List OnWire) → NoRnrBehind j w → NoRnrBehind k (drop 1 w)
     rnr j k i [] r = tt
@@ -199,11 +186,10 @@ did_delivers {m} h ready ts n none = go m.to_controller h none
           where
             rest : (P : Control → Type 0) → ((c : Control) → is_act c ≡ true → P c → ⊥) → (j k : ℕ) → j ≤ k + 1 → StandsIn P j (x ∷ xs)
                 → StandsIn P k left.to_controller
-            rest P plain j k i s = by (in_rest P j k x xs i s)
-              where
-                by : P x.frame ⊎ StandsIn P k xs → StandsIn P k left.to_controller
-                by (inl p) = absurd (plain x.frame q p)
-                by (inr t) = rw wires.0 t
+            rest P plain j k i s = elim (in_rest P j k x xs i s) [
+              | inl p ↦ absurd (plain x.frame q p)
+              | inr t ↦ rw wires.0 t
+            ]
 
             sends : (a : ℕ) → Sends a 1 0 full left m.controller.side
             sends a =

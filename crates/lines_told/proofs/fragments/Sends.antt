@@ -1,19 +1,9 @@
 -- An end sends all that is due: what this leaves of the end, and what stands on the wire then.
-use Rattle.std.proofs.Common.{◌≡◌, ℕ, zero, suc, ◌%◌, ◌<◌, Bool, true, false, List, [], ◌∷◌, Some, inl, refl, ap, sym, ◌∙◌, arith, length}
-use Rattle.std.proofs.lemmas.Bool.{or_parts}
-use Rattle.swp_base.specs.declared.control_frames.Control.{Control}
-use Rattle.swp_base.specs.declared.control_frames.Control.TheVariants.{I}
-use Rattle.shdlc_core.specs.declared.answers.Due.{Due}
-use Rattle.shdlc_core.specs.declared.answers.Due.TheVariants.{Rr as Rr_due, Rej as Rej_due, Rnr as Rnr_due, Rset as Rset_due, Ua as Ua_due}
-use Rattle.shdlc_core.specs.Machine.{EndState, Fragment, fetched, frame_due, fragment_due, control_due, expected, frames_of, after_frames}
-use Rattle.link_laws.specs.places.Wire.{OnWire, with_frame, fits, is_rset, is_act, is_rnr, overflows}
-use Rattle.link_laws.proofs.places.Whole.{AnswersOnly, NoRnr}
-use Rattle.link_laws.proofs.places.Joined.{fetch_cases}
-use Rattle.link_laws.specs.sessions.Sessions.{ShdlcLink, shdlc_put, shdlc_put_all}
-use Rattle.link_laws.specs.sessions.Losses.{Losses, noted_loss, noted_all}
-use Rattle.link_laws.proofs.sessions.Steps.{not_rset}
-use Rattle.link_laws.proofs.sessions.Sending.{sends_keeps}
-use Rattle.link_laws.proofs.sessions.Ties.{data_due, fetched_answers, sends_noted}
+use Rattle.lines_told.proofs.Words.{AnswersOnly, Bool, Control, Due, EndState, Fragment, I, List, Losses, NoRnr, OnWire, Rej_due, Rnr_due, Rr_due, ShdlcLink}
+use Rattle.lines_told.proofs.Words.{Some, [], after_frames, ap, arith, control_due, data_due, expected, false, fetch_cases, fetched, fetched_answers, fits}
+use Rattle.lines_told.proofs.Words.{fragment_due, frame_due, frames_of, inl, is_act, is_rnr, is_rset, length, not_rset, noted_all, noted_loss, or_parts}
+use Rattle.lines_told.proofs.Words.{overflows, refl, sends_keeps, sends_noted, shdlc_put, shdlc_put_all, suc, sym, true, with_frame, zero, ℕ, ◌%◌, ◌<◌, ◌∙◌}
+use Rattle.lines_told.proofs.Words.{◌∷◌, ◌≡◌}
 use Rattle.lines_told.proofs.fragments.Wires.{StandsIn, Stands, NoRnrBehind, stands_in, in_all, in_push, in_fits, stands_new, behind_push, behind_fits}
 
 -- ## What the end is then
@@ -144,8 +134,7 @@ not_rnr e c none answers is =
     control Rr_due ds h a q = ap is_rnr (sym (some (control_due e Rr_due) c q))
     control Rej_due ds h a q = ap is_rnr (sym (some (control_due e Rej_due) c q))
     control Rnr_due ds h a q = absurd h
-    control Rset_due ds h a q = absurd a
-    control Ua_due ds h a q = absurd a
+    control _ ds h a q = absurd a
 
 no_rnr_rest : (d : Due) (ds : List Due) → NoRnr (d ∷ ds) → NoRnr ds
 no_rnr_rest Rnr_due ds h = absurd h

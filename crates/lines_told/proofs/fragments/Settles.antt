@@ -1,11 +1,7 @@
 -- Rounds one after another acknowledge all that was given before them.
-use Rattle.std.proofs.Common.{◌≡◌, ℕ, zero, suc, ◌+◌, ◌-◌, ◌*◌, ◌<◌, ◌≤◌, List, ◌++◌, ◌⊎◌, inl, inr, refl, ap, sym, subst, ◌∙◌, arith, length}
-use Rattle.std.proofs.lemmas.Bool.{cases_lt}
-use Rattle.link_laws.specs.sessions.Sessions.{ShdlcLink, shdlc_exchanged, ShdlcLinkEvent, shdlc_after}
-use Rattle.link_laws.proofs.sessions.Steps.{after-append}
-use Rattle.lines_told.specs.fragments.Rounds.{AreRounds, AreUndisturbed}
+use Rattle.lines_told.proofs.Words.{AreRounds, AreUndisturbed, IsPrefix, List, ShdlcLink, ShdlcLinkEvent, after-append, ap, arith, cases_lt, inl, inr, length}
+use Rattle.lines_told.proofs.Words.{refl, shdlc_after, shdlc_exchanged, subst, suc, sym, zero, ℕ, ◌*◌, ◌++◌, ◌+◌, ◌-◌, ◌<◌, ◌∙◌, ◌≡◌, ◌≤◌, ◌⊎◌}
 use Rattle.lines_told.proofs.fragments.Wires.{NoRnrBehind}
-use mathlib.Core.List.{IsPrefix}
 use Rattle.lines_told.proofs.fragments.Advances.{prefix_of, prefix_then, prefix_length, Grown, IsIdle, Answered, Sent, Counted}
 use Rattle.lines_told.proofs.fragments.Near.{Sound}
 use Rattle.lines_told.proofs.fragments.Stretches.{Passes, undisturbed_parts, round_passes}

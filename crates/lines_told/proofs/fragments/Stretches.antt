@@ -1,16 +1,12 @@
 -- A stretch of events, and a round: how far they bring the places of both ends.
-use Rattle.std.proofs.Common.{◌≡◌, ℕ, ◌<◌, ◌≤◌, List, [], ◌∷◌, ◌++◌, ◌⊎◌, inl, inr, Some, None, refl, ap, sym, subst, ◌∙◌, arith, length}
-use mathlib.Core.List.{IsPrefix}
-use Rattle.link_laws.specs.sessions.Sessions.{ShdlcLink, shdlc_exchanged, ShdlcLinkEvent, shdlc_happens, shdlc_after}
-use Rattle.link_laws.specs.sessions.Sessions.ShdlcLinkEvent.{AtController, AtHost, Tick, TickWithout}
-use Rattle.link_laws.specs.sessions.Losses.{no_losses}
-use Rattle.link_laws.proofs.sessions.Steps.{safe_event, after-append}
-use Rattle.lines_told.specs.fragments.Rounds.{AllOrdinary, taken_at_controller, taken_at_host, ticks_among, IsStretch, IsRound}
-use Rattle.lines_told.specs.fragments.Rounds.{BothTakeFragments, AreUndisturbed}
-use Rattle.lines_told.proofs.fragments.Wires.{StandsIn, NoRnrBehind, in_all, in_none, behind_all}
+use Rattle.lines_told.proofs.Words.{AllOrdinary, AreUndisturbed, AtController, AtHost, BothTakeFragments, IsPrefix, IsRound, IsStretch, List, None, ShdlcLink}
+use Rattle.lines_told.proofs.Words.{ShdlcLinkEvent, Some, Tick, TickWithout, [], after-append, ap, arith, inl, inr, length, no_losses, refl, safe_event}
+use Rattle.lines_told.proofs.Words.{shdlc_after, shdlc_exchanged, shdlc_happens, subst, sym, taken_at_controller, taken_at_host, ticks_among, ℕ, ◌++◌, ◌<◌, ◌∙◌}
+use Rattle.lines_told.proofs.Words.{◌∷◌, ◌≡◌, ◌≤◌, ◌⊎◌}
+use Rattle.lines_told.proofs.fragments.Wires.{NoRnrBehind, in_all, in_none, behind_all}
 use Rattle.lines_told.proofs.fragments.Takes.{Answers, Brings}
-use Rattle.lines_told.proofs.fragments.Advances.{prefix_then, Grown, IsIdle, Answered, Sent, Counted, Advances, advances_then, grown_still}
-use Rattle.lines_told.proofs.fragments.Advances.{answered_still, sent_still}
+use Rattle.lines_told.proofs.fragments.Advances.{prefix_then, Grown, IsIdle, Answered, Sent, Counted, Advances, advances_then, grown_still, answered_still}
+use Rattle.lines_told.proofs.fragments.Advances.{sent_still}
 use Rattle.lines_told.proofs.fragments.Near.{Sound, Did, did_then, did_exchanged, sound_exchanged}
 use Rattle.lines_told.proofs.fragments.Events.{did_here, did_tick, did_nothing, sound_from, allowed, turns_allowed}
 
@@ -83,20 +79,18 @@ passes_near {a} {l} {m} {o} {n} f g h =
   where
     answered : a ≤ l.controller.side.session.acked → Answered a l → Grown a n
     answered low (inr e) = grown_still h (grown_still g (grown_still f e))
-    answered low (inl s) = go (f.answered (length l.to_controller) 0 (omega arith) low (in_all (Answers a) l.to_controller s))
-      where
-        go : StandsIn (Answers a) 0 m.to_controller ⊎ Grown a m → Grown a n
-        go (inl e) = absurd (in_none (Answers a) m.to_controller e)
-        go (inr e) = grown_still h (grown_still g e)
+    answered low (inl s) = elim (f.answered (length l.to_controller) 0 (omega arith) low (in_all (Answers a) l.to_controller s)) [
+      | inl e ↦ absurd (in_none (Answers a) m.to_controller e)
+      | inr e ↦ grown_still h (grown_still g e)
+    ]
 
     sent : a ≤ l.controller.side.session.acked → Sent a m → Answered a n
     sent low (inr e) =
         answered_still h (omega (arith, f.acked, g.acked)) (answered_still g (omega (arith, f.acked)) e)
-    sent low (inl s) = go (g.sent (length m.to_host) 0 (omega arith) (omega (arith, f.acked)) (in_all (Brings a) m.to_host s))
-      where
-        go : StandsIn (Brings a) 0 o.to_host ⊎ Answered a o → Answered a n
-        go (inl e) = absurd (in_none (Brings a) o.to_host e)
-        go (inr e) = answered_still h (omega (arith, f.acked, g.acked)) e
+    sent low (inl s) = elim (g.sent (length m.to_host) 0 (omega arith) (omega (arith, f.acked)) (in_all (Brings a) m.to_host s)) [
+      | inl e ↦ absurd (in_none (Brings a) o.to_host e)
+      | inr e ↦ answered_still h (omega (arith, f.acked, g.acked)) e
+    ]
 
 -- first all that stands on the wire from it is taken
 passes_far : {a : ℕ} {l m o n : ShdlcLink} → Advances a 0 (length l.to_host) 0 l m → Advances a (length m.to_controller) 0 0 m o → Advances a 0 0 1 o n
@@ -116,22 +110,20 @@ passes_far {a} {l} {m} {o} {n} f g h =
   where
     answered : a ≤ l.controller.side.session.acked → Answered a m → Grown a n
     answered low (inr e) = grown_still h (grown_still g e)
-    answered low (inl s) = go (g.answered (length m.to_controller) 0 (omega arith) (omega (arith, f.acked)) (in_all (Answers a) m.to_controller s))
-      where
-        go : StandsIn (Answers a) 0 o.to_controller ⊎ Grown a o → Grown a n
-        go (inl e) = absurd (in_none (Answers a) o.to_controller e)
-        go (inr e) = grown_still h e
+    answered low (inl s) = elim (g.answered (length m.to_controller) 0 (omega arith) (omega (arith, f.acked)) (in_all (Answers a) m.to_controller s)) [
+      | inl e ↦ absurd (in_none (Answers a) o.to_controller e)
+      | inr e ↦ grown_still h e
+    ]
 
     later : a ≤ l.controller.side.session.acked → Answered a m → Answered a n
     later low e = answered_still h (omega (arith, f.acked, g.acked)) (answered_still g (omega (arith, f.acked)) e)
 
     sent : a ≤ l.controller.side.session.acked → Sent a l → Answered a n
     sent low (inr e) = later low (answered_still f low e)
-    sent low (inl s) = go (f.sent (length l.to_host) 0 (omega arith) low (in_all (Brings a) l.to_host s))
-      where
-        go : StandsIn (Brings a) 0 m.to_host ⊎ Answered a m → Answered a n
-        go (inl e) = absurd (in_none (Brings a) m.to_host e)
-        go (inr e) = later low e
+    sent low (inl s) = elim (f.sent (length l.to_host) 0 (omega arith) low (in_all (Brings a) l.to_host s)) [
+      | inl e ↦ absurd (in_none (Brings a) m.to_host e)
+      | inr e ↦ later low e
+    ]
 
 -- undisturbed events, cut in two
 pub undisturbed_parts : (es fs : List ShdlcLinkEvent) (l : ShdlcLink) → AreUndisturbed l (es ++ fs) → AreUndisturbed l es × AreUndisturbed (shdlc_after l es) fs

@@ -1,23 +1,10 @@
 -- What an end that is up and ready has become when it took a frame of its session.
-use Rattle.std.proofs.Common.{◌≡◌, ℕ, ◌+◌, ◌%◌, ◌<◌, ◌≤◌, ◌==◌, Bool, true, false, List, [], ◌∷◌, ◌++◌, Option, Some, ◌⊎◌, inl, inr, refl, ap, ◌∙◌, arith}
-use Rattle.std.proofs.Common.{length, length-append, max, nat_lt}
-use Rattle.std.proofs.lemmas.Bool.{eqb-true, eqb-false, ltb-true, ltb-false, le-ltb, cases_lt}
-use Rattle.swp_base.specs.declared.control_frames.Kind.{Kind}
-use Rattle.swp_base.specs.declared.control_frames.Kind.TheVariants.{Rr, Rej, Rnr, Srej}
-use Rattle.swp_base.specs.declared.control_frames.Control.{Control}
-use Rattle.swp_base.specs.declared.control_frames.Control.TheVariants.{I, S, Rset}
-use Rattle.shdlc_core.specs.declared.answers.LinkState.TheVariants.{Up}
-use Rattle.shdlc_core.specs.declared.answers.Due.{Due}
-use Rattle.shdlc_core.specs.declared.answers.Due.TheVariants.{Rr as Rr_due, Rej as Rej_due}
-use Rattle.shdlc_core.specs.Machine.{EndState, Session, Fragment, place_of, acknowledged, ahead, received, accepted, repeated, taken, ready_again, rejected}
-use Rattle.shdlc_core.specs.Machine.{made_busy}
-use Rattle.link_laws.specs.places.Wire.{OnWire, is_act, is_rnr}
+use Rattle.lines_told.proofs.Words.{AnswersOnly, Bool, Control, Counts, Due, EndState, Fragment, I, IsData, Kind, List, NoRnr, OnWire, Option, Pair, Rej}
+use Rattle.lines_told.proofs.Words.{Rej_due, Rnr, Rr, Rr_due, Rset, S, Session, ShowsAct, Some, Srej, Up, [], accepted, acknowledged, ahead, ap, arith}
+use Rattle.lines_told.proofs.Words.{cases_lt, counts_le, eqb-false, eqb-true, false, inl, inr, is_act, is_rnr, le-ltb, length, length-append, ltb-false}
+use Rattle.lines_told.proofs.Words.{ltb-true, made_busy, max, nat_lt, place_of, ready_again, received, refl, rejected, repeated, taken, taken_I, taken_S, true}
+use Rattle.lines_told.proofs.Words.{ℕ, ◌%◌, ◌++◌, ◌+◌, ◌<◌, ◌==◌, ◌∙◌, ◌∷◌, ◌≡◌, ◌≤◌, ◌⊎◌}
 use Rattle.link_laws.proofs.places.Numbers.{place_found}
-use Rattle.link_laws.proofs.places.Marks.{Counts, counts_le}
-use Rattle.link_laws.proofs.places.Whole.{AnswersOnly, NoRnr}
-use Rattle.link_laws.proofs.places.Joined.{taken_I, taken_S}
-use Rattle.link_laws.proofs.sessions.Wire.{IsData}
-use Rattle.link_laws.proofs.sessions.Data.{Pair, ShowsAct}
 
 -- the frame tells that the place a is accepted, where its number is valid and none below a is told
 abbrev pub Answers : ℕ → Control → Type 0
@@ -77,11 +64,10 @@ received_ready P e ns info ready takes same gap repeat =
 
 -- a number at or above a that isn't a modulo 8 is above it
 above : (a n : ℕ) → a ≤ n → (n % 8 ≡ a % 8 → ⊥) → a < n
-above a n i h = go (cases_lt a n)
-  where
-    go : (a < n) ⊎ (n ≤ a) → a < n
-    go (inl k) = k
-    go (inr k) = absurd (h (let e : n ≡ a = omega arith in ap (λ (m : ℕ). m % 8) e))
+above a n i h = elim (cases_lt a n) [
+  | inl k ↦ k
+  | inr k ↦ absurd (h (let e : n ≡ a = omega arith in ap (λ (m : ℕ). m % 8) e))
+]
 
 ack_timer : (e : EndState) (n : ℕ) → n ≡ e.session.acked → (acknowledged e n).timer ≡ e.timer
 ack_timer e n q = let b : nat_lt e.session.acked n ≡ false = le-ltb e.session.acked n (omega arith) in rw b refl

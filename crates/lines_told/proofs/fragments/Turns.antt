@@ -1,14 +1,7 @@
 -- What the turns of its node leave of an end that is up.
-use Rattle.std.proofs.Common.{◌≡◌, Bool, false, List, [], ◌∷◌, ◌++◌, refl, ap, sym, subst, ◌∙◌, append_assoc, append-nil}
-use Rattle.shdlc_core.specs.declared.answers.LinkState.TheVariants.{Up}
-use Rattle.shdlc_core.specs.declared.answers.Due.{Due}
-use Rattle.shdlc_core.specs.declared.answers.Due.TheVariants.{Rr as Rr_due, Rnr as Rnr_due}
-use Rattle.shdlc_core.specs.Machine.{EndState, Fragment}
-use Rattle.link_laws.proofs.places.Whole.{AnswersOnly, NoRnr}
-use Rattle.link_laws.proofs.places.Joined.{ready_cases}
-use Rattle.link_laws.specs.sessions.Sessions.{ShdlcTurn, shdlc_turn, shdlc_turned}
-use Rattle.link_laws.specs.sessions.Sessions.ShdlcTurn.{Offer, SetReady}
-use Rattle.link_laws.proofs.sessions.Ties.{offer_up, answers_more, turn-phase}
+use Rattle.lines_told.proofs.Words.{AnswersOnly, Bool, Due, EndState, Fragment, List, NoRnr, Offer, Rnr_due, Rr_due, SetReady, ShdlcTurn, Up, [], answers_more}
+use Rattle.lines_told.proofs.Words.{ap, append-nil, append_assoc, false, offer_up, ready_cases, refl, shdlc_turn, shdlc_turned, subst, sym, turn-phase, ◌++◌}
+use Rattle.lines_told.proofs.Words.{◌∙◌, ◌∷◌, ◌≡◌}
 
 no_rnr_more : (ds : List Due) → NoRnr ds → NoRnr (ds ++ Rr_due ∷ [])
 no_rnr_more [] a = tt

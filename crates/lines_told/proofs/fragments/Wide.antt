@@ -1,31 +1,16 @@
 -- The window of a session isn't 0, whatever happened on the link before.
-use Rattle.std.proofs.Common.{◌≡◌, ℕ, ◌+◌, ◌<◌, ◌==◌, Bool, true, false, List, [], ◌∷◌, ◌++◌, Option, Some, None, refl, sym, subst, ◌∙◌, arith, min, map}
 use Rattle.std.specs.Prelude.{nat_lt, is_some}
-use Rattle.std.proofs.lemmas.Bool.{eqb-false}
-use Rattle.swp_base.specs.declared.control_frames.Kind.{Kind}
-use Rattle.swp_base.specs.declared.control_frames.Kind.TheVariants.{Rr, Rej, Rnr, Srej}
-use Rattle.swp_base.specs.declared.control_frames.Control.{Control}
-use Rattle.swp_base.specs.declared.control_frames.Control.TheVariants.{I, S, Rset, Ua, Act, Clt}
-use Rattle.swp_base.specs.declared.control_frames.Act.{Act as Activation}
+use Rattle.lines_told.proofs.Words.{Activation, Acts, AllShdlcAllowed, AreTurns, AtController, AtHost, Bool, Control, Cut, Deliver, Down, EndState, HasWindows}
+use Rattle.lines_told.proofs.Words.{I, Ignore, IsShdlcStart, IsTurn, Kind, List, Lose, None, NumberedShdlc, Offer, OnWire, Option, Rej, Reset, Rnr, Rr, Rset, S}
+use Rattle.lines_told.proofs.Words.{SafeLink, SetReady, ShdlcEndEvent, ShdlcLink, ShdlcLinkEvent, ShdlcTurn, Some, Srej, Stop, Tick, TickWithout, Turns, Ua}
+use Rattle.lines_told.proofs.Words.{Ua_due, Up, Waiting, [], acknowledged, act_frame, arith, asked_again, due_left, eqb-false, false, frames_of, given_up}
+use Rattle.lines_told.proofs.Words.{is_up, is_waiting, map, min, place_of, ready_cases, received, received_cases, refl, reset_taken, reset_with, runs_timer}
+use Rattle.lines_told.proofs.Words.{safe_event, safe_start, sent_again, shdlc_after, shdlc_aged, shdlc_all_at_controller, shdlc_becomes, shdlc_exchanged}
+use Rattle.lines_told.proofs.Words.{shdlc_happens, shdlc_happens_at_controller, shdlc_put_all, shdlc_silent, shdlc_ticks_at_controller, shdlc_turn}
+use Rattle.lines_told.proofs.Words.{shdlc_turned, subst, sym, take_answer, taken, tick_answer, ticked, ticks_if_waiting, ticks_or_cut, took_with, true}
+use Rattle.lines_told.proofs.Words.{turned-phase, up_with, waiting_from, with_shdlc_ended, ℕ, ◌++◌, ◌+◌, ◌<◌, ◌==◌, ◌∙◌, ◌∷◌, ◌≡◌}
 use Rattle.shdlc_core.specs.declared.answers.LinkState.{LinkState}
-use Rattle.shdlc_core.specs.declared.answers.LinkState.TheVariants.{Down, Waiting, Up}
-use Rattle.shdlc_core.specs.declared.answers.Due.TheVariants.{Ua as Ua_due}
-use Rattle.shdlc_core.specs.Machine.{EndState, place_of, acknowledged, received, taken, take_answer, ticked, tick_answer, runs_timer, sent_again}
-use Rattle.shdlc_core.specs.Machine.{waiting_from, asked_again, given_up, up_with, due_left, reset_taken, reset_with, is_waiting, frames_of}
-use Rattle.link_laws.specs.places.Wire.{OnWire}
-use Rattle.link_laws.proofs.places.Joined.{received_cases, ready_cases}
-use Rattle.link_laws.specs.sessions.Sessions.{NumberedShdlc, ShdlcLink, shdlc_exchanged, shdlc_put_all, shdlc_becomes, with_shdlc_ended, took_with, is_up}
-use Rattle.link_laws.specs.sessions.Sessions.{act_frame, ShdlcTurn, shdlc_turn, shdlc_turned, ShdlcEndEvent, shdlc_silent, shdlc_happens_at_controller}
-use Rattle.link_laws.specs.sessions.Sessions.{shdlc_ticks_at_controller, shdlc_aged, ShdlcLinkEvent, AreTurns, IsTurn, shdlc_all_at_controller, ticks_or_cut}
-use Rattle.link_laws.specs.sessions.Sessions.{ticks_if_waiting, AllShdlcAllowed, shdlc_happens, shdlc_after, IsShdlcStart}
-use Rattle.link_laws.specs.sessions.Sessions.ShdlcTurn.{Offer, SetReady}
-use Rattle.link_laws.specs.sessions.Sessions.ShdlcEndEvent.{Turns, Deliver, Ignore, Acts, Lose, Reset, Cut, Stop}
-use Rattle.link_laws.specs.sessions.Sessions.ShdlcLinkEvent.{AtController, AtHost, Tick, TickWithout}
 use Rattle.link_laws.specs.sessions.Sessions.IsShdlcStart.{BothUp, BothDown}
-use Rattle.link_laws.proofs.sessions.Safe.{HasWindows}
-use Rattle.link_laws.proofs.sessions.Sending.{SafeLink}
-use Rattle.link_laws.proofs.sessions.Steps.{safe_event, safe_start}
-use Rattle.link_laws.proofs.sessions.Ties.{turned-phase}
 use Rattle.lines_told.proofs.fragments.Sends.{sent_same, put_all_same}
 use Rattle.lines_told.proofs.fragments.NearSteps.{ended_wires}
 
@@ -100,19 +85,9 @@ wide_taken e c has h = go e.phase c refl
     go : (p : LinkState) (c : Control) → e.phase ≡ p → IsWide (taken e c)
     go Up (I ns nr info) q = fragment (place_of e.session nr) ns nr info q refl
     go Up (S k nr) q = control (place_of e.session nr) k nr q refl
-    go Up (Rset w caps) q = wide_by (reset_taken e w) (taken e (Rset w caps)) (rw q refl) (wide_reset e w has h)
     go _ (Rset w caps) q = wide_by (reset_taken e w) (taken e (Rset w caps)) (rw q refl) (wide_reset e w has h)
-    go Up Ua q = same Ua (rw q refl)
-    go Up (Act a b) q = same (Act a b) (rw q refl)
-    go Up Clt q = same Clt (rw q refl)
-    go Waiting (I ns nr info) q = same (I ns nr info) (rw q refl)
-    go Waiting (S k nr) q = same (S k nr) (rw q refl)
     go Waiting Ua q = λ u. rw q (omega (arith, has.own.0, has.peer.0))
-    go Down (I ns nr info) q = same (I ns nr info) (rw q refl)
-    go Down (S k nr) q = same (S k nr) (rw q refl)
-    go Down Ua q = same Ua (rw q refl)
-    go _ (Act a b) q = same (Act a b) (rw q refl)
-    go _ Clt q = same Clt (rw q refl)
+    go _ c q = same c (rw q refl)
 
 wide_ticked : (e : EndState) → IsWide e → IsWide (ticked e)
 wide_ticked e h = go e.phase (runs_timer e.session) (nat_lt (e.timer + 1) 10) (nat_lt e.tries 5) refl refl refl refl
@@ -135,10 +110,7 @@ wide_asked e w h = go e.phase refl
   where
     go : (p : LinkState) → e.phase ≡ p → IsWide (reset_with e w)
     go Waiting q = wide_by e (reset_with e w) (rw q refl) h
-    go Up q =
-        wide_by (waiting_from (record e { own_window = w })) (reset_with e w) (rw q refl)
-        (not_up (waiting_from (record e { own_window = w })) Waiting refl (λ z. cc))
-    go Down q =
+    go _ q =
         wide_by (waiting_from (record e { own_window = w })) (reset_with e w) (rw q refl)
         (not_up (waiting_from (record e { own_window = w })) Waiting refl (λ z. cc))
 
@@ -215,8 +187,7 @@ wide_here l (Ignore ts) has h = wide_ignored l ts h
 wide_here l (Acts acts ts) has h = wide_acts l acts ts h
 wide_here l Lose has h = record { wide = h; host = refl }
 wide_here l (Reset w ts) has h = wide_asks l w ts h
-wide_here l Cut has h = wide_silent l _ refl
-wide_here l Stop has h = wide_silent l _ refl
+wide_here l _ has h = wide_silent l _ refl
 
 wide_turn : (l : ShdlcLink) (e : ShdlcEndEvent) → IsTurn e → IsWide l.controller.side → WideHere l (shdlc_happens_at_controller l e)
 wide_turn l (Turns ts) a h = becomes_here l l ts l.controller.side refl h

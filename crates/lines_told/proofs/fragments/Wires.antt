@@ -1,8 +1,6 @@
 -- Frames that stand on a wire, among the first so many of them or anywhere, as frames are put behind them, taken or grow older.
-use Rattle.std.proofs.Common.{◌≡◌, ℕ, zero, suc, ◌+◌, ◌≤◌, Bool, true, false, cond, ◌&&◌, List, [], ◌∷◌, ◌++◌, ◌⊎◌, inl, inr, refl, arith, length, drop, nat_lt}
-use Rattle.std.proofs.Common.{true≢false}
-use Rattle.swp_base.specs.declared.control_frames.Control.{Control}
-use Rattle.link_laws.specs.places.Wire.{OnWire, fits, aged_wire, is_act, is_rnr, sans, overflows, loses_aged, counts_first}
+use Rattle.lines_told.proofs.Words.{Bool, Control, List, OnWire, [], aged_wire, arith, cond, counts_first, drop, false, fits, inl, inr, is_act, is_rnr, length}
+use Rattle.lines_told.proofs.Words.{loses_aged, nat_lt, overflows, refl, sans, suc, true, true≢false, zero, ℕ, ◌&&◌, ◌++◌, ◌+◌, ◌∷◌, ◌≡◌, ◌≤◌, ◌⊎◌}
 
 -- a frame like this is among the first k
 abbrev pub StandsIn : (Control → Type 0) → ℕ → List OnWire → Type 0

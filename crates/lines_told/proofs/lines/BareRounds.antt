@@ -1,21 +1,12 @@
 -- The lines of a round of a bare link do what the round does.
-use Rattle.std.proofs.Common.{◌≡◌, ℕ, zero, suc, false, List, [], ◌∷◌, ◌++◌, None, refl, ap, sym, ◌∙◌, length, append-nil, replicate, if◌then◌else◌}
-use Rattle.trace_model.specs.declared.line.End.{End}
-use Rattle.trace_model.specs.declared.line.Header.{Header}
-use Rattle.trace_model.specs.declared.line.Line.{Line}
+use Rattle.lines_told.proofs.Words.{Cause, Controller, End, Header, Host, Line, Link, List, None, Play, Round, [], after_steps, ap, append-nil, bare_link}
+use Rattle.lines_told.proofs.Words.{bare_link_behind, causes_in, causes_of, end_of, events_at, false, frames_to, host_of, if◌then◌else◌, is_clear, length}
+use Rattle.lines_told.proofs.Words.{lines_played, link_after, link_after_all, link_after_line, link_after_lines, outcome_of, refl, refusal, replicate}
+use Rattle.lines_told.proofs.Words.{round_behind, round_on, suc, sym, taking_on, zero, ℕ, ◌++◌, ◌∙◌, ◌∷◌, ◌≡◌}
 use Rattle.trace_model.specs.declared.line.Line.TheVariants as saying
 use Rattle.link_laws.specs.sessions.Sessions.{OnWire}
-use Rattle.link_laws.specs.messages.Links.{Link}
-use Rattle.link_laws.specs.messages.Rest.{is_clear, after_steps}
-use Rattle.link_laws.specs.entries.Entries.End.{Controller, Host}
-use Rattle.history.specs.Histories.{Cause, causes_of}
 use Rattle.history.specs.Histories.Cause.{Taken, Ticked}
 use Rattle.history.specs.Histories.Outcome.{Caused}
-use Rattle.history.specs.Steps.{bare_link, end_of, events_at, link_after, link_after_all}
-use Rattle.history.specs.Follows.{causes_in, frames_to, host_of, link_after_line, link_after_lines, outcome_of, refusal}
-use Rattle.lines_told.specs.lines.Below.{bare_link_behind}
-use Rattle.lines_told.specs.lines.Plays.{Play, taking_on, round_on, round_behind, lines_played}
-use Rattle.lines_told.specs.lines.Plays.Play.{Round}
 use Rattle.lines_told.proofs.lines.Plays.{played_more, round_first}
 
 -- ## Lines and causes one after another

@@ -1,24 +1,12 @@
 -- The lines of a round may be played, and none of them is misread; so it is with the lines that plays come to.
-use Rattle.std.proofs.Common.{◌≡◌, ℕ, suc, ◌<◌, inl, inr, Bool, true, false, List, [], ◌∷◌, ◌++◌, None, refl, sym, subst, ◌∙◌, length, arith, IsTrue, map}
-use Rattle.std.proofs.Common.{if◌then◌else◌, not, ◌&&◌, Contains, slice_index, true≢false}
-use Rattle.std.specs.List.{AllByRecursion, flat_map, fold}
-use Rattle.trace_model.specs.declared.line.End.{End}
-use Rattle.trace_model.specs.declared.line.Header.{Header}
-use Rattle.trace_model.specs.declared.line.Line.{Line}
+use Rattle.std.specs.List.{flat_map}
+use Rattle.lines_told.proofs.Words.{AllByRecursion, Bool, Contains, Controller, End, Header, Host, IsEndOf, IsLineOf, IsPlayFor, IsPlayedLine, IsTrue, Line}
+use Rattle.lines_told.proofs.Words.{Link, List, MayBegin, NodeWorld, None, Play, Round, Said, Site, [], arith, bare_link_behind, end_c, end_h, end_of}
+use Rattle.lines_told.proofs.Words.{ends_in_order, false, fold, frames_at, frames_to, host_of, if◌then◌else◌, inl, inr, is_clear, is_running, length}
+use Rattle.lines_told.proofs.Words.{lines_of_play, lines_played, link_after_lines, map, misread, misread_below, misread_in, node_of, nodes_behind, not, refl}
+use Rattle.lines_told.proofs.Words.{round_behind, round_in, round_on, slice_index, subst, suc, sym, taking_in, taking_on, true, true≢false, world_after, ℕ}
+use Rattle.lines_told.proofs.Words.{◌&&◌, ◌++◌, ◌<◌, ◌∙◌, ◌∷◌, ◌≡◌}
 use Rattle.trace_model.specs.declared.line.Line.TheVariants as saying
-use Rattle.trace_model.specs.Lines.{IsEndOf, IsLineOf, MayBegin}
-use Rattle.link_laws.specs.messages.Links.{Link}
-use Rattle.link_laws.specs.messages.Rest.{is_clear}
-use Rattle.link_laws.specs.entries.Entries.End.{Controller, Host}
-use Rattle.history.specs.Follows.{frames_to, host_of, link_after_lines, misread}
-use Rattle.history.specs.Steps.{end_of}
-use Rattle.node_machine.specs.world.World.{Site, NodeWorld, node_of, end_c, end_h}
-use Rattle.node_machine.specs.world.Lines.{frames_at, is_running, misread_in}
-use Rattle.node_machine.specs.world.NodeHistories.{world_after}
-use Rattle.node_machine.specs.world.Rounds.{ends_in_order}
-use Rattle.lines_told.specs.lines.Below.{IsPlayedLine, bare_link_behind, nodes_behind, misread_below}
-use Rattle.lines_told.specs.lines.Plays.{Play, taking_on, round_on, taking_in, round_in, round_behind, lines_of_play, lines_played, IsPlayFor}
-use Rattle.lines_told.specs.lines.Plays.Play.{Said, Round}
 use Rattle.lines_told.specs.lines.RoundLines.{IsRoundLine, HostsStay}
 use Rattle.lines_told.proofs.lines.Plays.{all-append}
 use Rattle.lines_told.proofs.lines.NodeRounds.{round_lines}

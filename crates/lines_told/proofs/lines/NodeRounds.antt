@@ -1,23 +1,13 @@
 -- The lines of a round in a world of nodes do what the round does, and tell of it; and none of them is misread.
-use Rattle.std.proofs.Common.{◌≡◌, ℕ, zero, suc, Bool, true, false, List, [], ◌∷◌, ◌++◌, None, refl, ap, sym, subst, ◌∙◌, length, append-nil, append_assoc}
-use Rattle.std.proofs.Common.{replicate, if◌then◌else◌, not, ◌&&◌, flat_map}
-use Rattle.std.proofs.lemmas.List.Concat.{flat_map-append}
-use Rattle.trace_model.specs.declared.entry.Entry.{Entry}
-use Rattle.trace_model.specs.declared.line.End.{End}
-use Rattle.trace_model.specs.declared.line.Header.{Header}
-use Rattle.trace_model.specs.declared.line.Line.{Line}
+use Rattle.lines_told.proofs.Words.{Bool, End, Entry, Header, Line, LineOutcome, List, NodeWorld, None, NoneIsMisread, Occurrence, Play, Round, Said, []}
+use Rattle.lines_told.proofs.Words.{all_happen, ap, append-nil, append_assoc, end_takes_all, ends_in_order, ends_take_all, entries_below, entries_in, false}
+use Rattle.lines_told.proofs.Words.{flat_map, flat_map-append, frames_at, goes_on, if◌then◌else◌, is_clear, is_running, length, line_step, lines_played}
+use Rattle.lines_told.proofs.Words.{misread_in, new_world, node_of, nodes_behind, not, noted_below, noted_lines, refl, refusal_in, replicate, round_behind}
+use Rattle.lines_told.proofs.Words.{round_in, rounds_of_world, subst, suc, sym, taking_in, true, world_after, world_after_round, world_round, zero, ℕ, ◌&&◌}
+use Rattle.lines_told.proofs.Words.{◌++◌, ◌∙◌, ◌∷◌, ◌≡◌}
 use Rattle.trace_model.specs.declared.line.Line.TheVariants as saying
 use Rattle.link_laws.specs.sessions.Sessions.{OnWire}
-use Rattle.link_laws.specs.messages.Rest.{is_clear}
-use Rattle.node_machine.specs.world.World.{NodeWorld, new_world, node_of}
 use Rattle.node_machine.specs.world.World.Happening.{Takes, Ticks}
-use Rattle.node_machine.specs.world.Lines.{Occurrence, LineOutcome, all_happen, frames_at, goes_on, is_running, line_step, misread_in, noted_below, noted_lines}
-use Rattle.node_machine.specs.world.Lines.{refusal_in}
-use Rattle.node_machine.specs.world.NodeHistories.{NoneIsMisread, entries_in, world_after}
-use Rattle.node_machine.specs.world.Rounds.{ends_in_order, end_takes_all, ends_take_all, world_round, world_after_round, rounds_of_world}
-use Rattle.lines_told.specs.lines.Below.{entries_below, nodes_behind}
-use Rattle.lines_told.specs.lines.Plays.{Play, taking_in, round_in, round_behind, lines_played}
-use Rattle.lines_told.specs.lines.Plays.Play.{Said, Round}
 use Rattle.lines_told.proofs.lines.Plays.{played_more, round_first}
 
 -- ## Lines one after another

@@ -1,16 +1,10 @@
 -- Plays one after another: the lines that they come to, how many they are, and those of a schedule.
-use Rattle.std.proofs.Common.{◌≡◌, ℕ, zero, suc, ◌+◌, ◌≤◌, ◌<◌, false, List, [], ◌∷◌, ◌++◌, refl, ap, sym, ◌∙◌, length, arith, append-nil, append_assoc}
 use Rattle.std.specs.Prelude.{replicate}
-use Rattle.std.specs.List.{AllByRecursion, fold}
 use Rattle.std.proofs.lemmas.List.Sums.{fold-append}
-use Rattle.trace_model.specs.declared.line.Header.{Header}
-use Rattle.trace_model.specs.declared.line.Line.{Line}
+use Rattle.lines_told.proofs.Words.{AllByRecursion, AreFewPlays, Header, IsPlayFor, Line, List, MayFollow, Play, Round, Said, [], ap, append-nil, append_assoc}
+use Rattle.lines_told.proofs.Words.{arith, false, fold, is_settling, length, lines_of_play, lines_played, lines_played_of, lines_said, plays_of, plays_of_line}
+use Rattle.lines_told.proofs.Words.{refl, rounds_played, rounds_to_rest, suc, sym, zero, ℕ, ◌++◌, ◌+◌, ◌<◌, ◌∙◌, ◌∷◌, ◌≡◌, ◌≤◌}
 use Rattle.trace_model.specs.declared.line.Line.TheVariants as saying
-use Rattle.trace_model.specs.Lines.{MayFollow}
-use Rattle.lines_told.specs.lines.Below.{is_settling}
-use Rattle.lines_told.specs.lines.Plays.{Play, lines_of_play, lines_played, IsPlayFor, lines_said, rounds_played, AreFewPlays, rounds_to_rest, plays_of_line}
-use Rattle.lines_told.specs.lines.Plays.{plays_of, lines_played_of}
-use Rattle.lines_told.specs.lines.Plays.Play.{Said, Round}
 
 -- ## One play more
 

@@ -1,17 +1,11 @@
 -- How many rounds are played until all links are at rest.
-use Rattle.std.proofs.Common.{◌≡◌, ℕ, zero, suc, ◌+◌, ◌*◌, ◌≤◌, ◌<◌, Bool, true, false, List, [], ◌∷◌, ◌++◌, refl, ap, sym, ◌∙◌, length, arith, append-nil}
 use Rattle.std.specs.Prelude.{replicate, if◌then◌else◌}
-use Rattle.std.specs.List.{AllByRecursion, fold}
-use Rattle.trace_model.specs.declared.line.Header.{Header}
-use Rattle.trace_model.specs.declared.line.Line.{Line}
+use Rattle.lines_told.proofs.Words.{AllByRecursion, AreFewPlays, Bool, Header, IsFirstRest, Line, List, MayFollow, Play, Round, [], after_steps, ap, append-nil}
+use Rattle.lines_told.proofs.Words.{arith, bare_link_behind, false, fold, length, lines_played, link_rests, nodes_behind, plays_of, plays_of_line, refl}
+use Rattle.lines_told.proofs.Words.{rests_behind, rounds_played, rounds_to_rest, steps_to_rest, suc, sym, true, world_after_round, world_rests}
+use Rattle.lines_told.proofs.Words.{world_rounds_to_settle, zero, ℕ, ◌*◌, ◌++◌, ◌+◌, ◌<◌, ◌∙◌, ◌∷◌, ◌≡◌, ◌≤◌}
 use Rattle.trace_model.specs.declared.line.Line.TheVariants as saying
-use Rattle.trace_model.specs.Lines.{MayFollow}
-use Rattle.link_laws.specs.messages.Rest.{link_rests, steps_to_rest, after_steps, IsFirstRest}
-use Rattle.node_machine.specs.world.Rounds.{world_rests, world_after_round, world_rounds_to_settle}
 use Rattle.lines_told.proofs.messages.Rest.{first_rest}
-use Rattle.lines_told.specs.lines.Below.{bare_link_behind, nodes_behind}
-use Rattle.lines_told.specs.lines.Plays.{Play, lines_played, rounds_played, AreFewPlays, rests_behind, rounds_to_rest, plays_of_line, plays_of}
-use Rattle.lines_told.specs.lines.Plays.Play.{Round}
 use Rattle.lines_told.proofs.lines.Plays.{round_first, played-append, so_many_rounds, few_said}
 use Rattle.lines_told.proofs.lines.NodeRounds.{played_round}
 use Rattle.lines_told.proofs.lines.BareRounds.{bare_round, bare_played_round}

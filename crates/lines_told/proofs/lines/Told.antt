@@ -1,20 +1,10 @@
 -- What is noted of lines and of rounds behind plays.
-use Rattle.std.proofs.Common.{◌≡◌, ℕ, zero, suc, Bool, true, List, [], ◌∷◌, ◌++◌, refl, ap, sym, ◌∙◌, append-nil, append_assoc, if◌then◌else◌}
-use Rattle.std.proofs.lemmas.List.Concat.{flat_map-append}
-use Rattle.trace_model.specs.declared.entry.Entry.{Entry}
-use Rattle.trace_model.specs.declared.entry.Entry.TheVariants.{Settled}
-use Rattle.trace_model.specs.declared.line.Header.{Header}
-use Rattle.trace_model.specs.declared.line.Line.{Line}
+use Rattle.lines_told.proofs.Words.{Bool, Entry, Header, Line, List, NodeWorld, Occurrence, Play, Round, [], ap, append-nil, append_assoc, bare_link_behind}
+use Rattle.lines_told.proofs.Words.{entries_below, entries_in, flat_map-append, host_of, if◌then◌else◌, line_step, lines_played, new_world, nodes_behind, noted}
+use Rattle.lines_told.proofs.Words.{noted_below, outcome_of, refl, round_behind, rounds_of_world, suc, sym, told_behind, told_below, told_of_line}
+use Rattle.lines_told.proofs.Words.{told_of_rounds, true, world_round, world_rounds_to_settle, world_settling, zero, ℕ, ◌++◌, ◌∙◌, ◌∷◌, ◌≡◌}
 use Rattle.trace_model.specs.declared.line.Line.TheVariants as saying
-use Rattle.history.specs.Histories.{noted}
-use Rattle.history.specs.Follows.{host_of, outcome_of}
-use Rattle.node_machine.specs.world.World.{NodeWorld, new_world}
-use Rattle.node_machine.specs.world.Lines.{Occurrence, line_step, noted_below}
-use Rattle.node_machine.specs.world.NodeHistories.{entries_in}
-use Rattle.node_machine.specs.world.Rounds.{world_round, rounds_of_world, world_rounds_to_settle, world_settling}
-use Rattle.lines_told.specs.lines.Below.{bare_link_behind, entries_below, nodes_behind, told_below}
-use Rattle.lines_told.specs.lines.Plays.{Play, round_behind, lines_played, told_behind, told_of_rounds, told_of_line}
-use Rattle.lines_told.specs.lines.Plays.Play.{Round}
+use Rattle.trace_model.specs.declared.entry.Entry.TheVariants.{Settled}
 use Rattle.lines_told.proofs.lines.NodeRounds.{told_in, after-append, round_told, round_lines, played_round}
 use Rattle.lines_told.proofs.lines.Resting.{nodes_come_to_rest}
 

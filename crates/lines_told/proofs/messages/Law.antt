@@ -1,33 +1,24 @@
 -- The law over messages.
-use Rattle.std.proofs.Common.{◌≡◌, ℕ, ◌+◌, ◌-◌, ◌*◌, ◌≤◌, Bool, true, false, ◌&&◌, List, [], ◌∷◌, ◌++◌, take, map, refl, ap, sym, subst, ◌∙◌, arith, length}
-use Rattle.std.proofs.Common.{length-append, append_assoc, nat_le}
-use Rattle.std.proofs.lemmas.List.{length-map, append-nil, take_all}
+use Rattle.std.proofs.lemmas.List.{append-nil}
 use Rattle.std.proofs.lemmas.List.Elements.{filter_map-append}
-use Rattle.std.proofs.lemmas.Bool.{leb-false, and_parts, eqb-true}
+use Rattle.lines_told.proofs.Words.{AllAllowed, AreLinkRounds, AreRounds, AreUndisturbed, Bool, BothTakeFragments, CoreEarlierDelivered, CoreInOrder, CoreLink}
+use Rattle.lines_told.proofs.Words.{CoreLinkEvent, EarlierGot, IsLinkUndisturbed, IsPrefix, IsStart, Link, LinkEnd, LinkEvent, List, Message, Reached, Talk, Up}
+use Rattle.lines_told.proofs.Words.{[], after_link_events, and_parts, ap, append_assoc, arith, core_after, core_events, core_of, eqb-true, false}
+use Rattle.lines_told.proofs.Words.{fragments_left, is_clear, leb-false, length, length-append, length-map, link_rests, map, messages_got, nat_le, refl, subst}
+use Rattle.lines_told.proofs.Words.{sym, take, take_all, talk_now, to_deliver, true, whole_acked, whole_among, ℕ, ◌&&◌, ◌*◌, ◌++◌, ◌+◌, ◌-◌, ◌∙◌, ◌∷◌, ◌≡◌, ◌≤◌}
 use Rattle.hcp_packet.specs.declared.Packet.{Packet}
 use Rattle.hcp_packet.specs.Packets.{packets_of, packet_count, packet_bytes, packet_of, fragments_of, good_of, good_messages_of, packets_in, messages_of}
 use Rattle.hcp_packet.specs.Packets.{messages_after, message_ended_by, IsFrontOf}
 use Rattle.hcp_packet.proofs.Joining.{packets_are_counted, joined_again, whole_messages_have_come}
 use Rattle.link_laws.specs.sending.Sending.{AreShort}
 use Rattle.link_laws.proofs.sending.TakenLemmas.{all_given}
-use Rattle.link_laws.specs.sessions.Sessions.{ShdlcLink as CoreLink, ShdlcLinkEvent as CoreLinkEvent, shdlc_after as core_after}
-use Rattle.link_laws.specs.places.Order.{FragmentsInOrder as CoreInOrder}
-use Rattle.lines_told.specs.fragments.Rounds.{AreRounds, BothTakeFragments, AreUndisturbed, to_deliver, EarlierDelivered as CoreEarlierDelivered}
 use Rattle.lines_told.proofs.fragments.Law.{all_to_host, all_to_controller, acked_to_host, acked_to_controller, given_still, order_after}
 use Rattle.lines_told.proofs.fragments.Advances.{prefix_length}
-use mathlib.Core.List.{IsPrefix}
 use Rattle.lines_told.proofs.fragments.Stretches.{ended}
-use Rattle.link_laws.specs.machine.Machine.{Message, LinkEnd, messages_got, whole_among, whole_acked}
 use Rattle.link_laws.proofs.machine.Sound.{whole_acked_before}
-use Rattle.shdlc_core.specs.declared.answers.LinkState.TheVariants.{Up}
 use Rattle.link_laws.specs.machine.AtRest.{end_rests}
-use Rattle.link_laws.specs.messages.Rest.{is_clear, link_rests}
-use Rattle.link_laws.specs.messages.Links.{Talk, Link, LinkEvent, IsStart, after_link_events, talk_now, AllAllowed}
-use Rattle.link_laws.specs.messages.Projection.{core_of, core_events}
 use Rattle.link_laws.proofs.messages.Project.{Says}
-use Rattle.link_laws.proofs.messages.Runs.{Reached}
 use Rattle.link_laws.proofs.messages.Whole.{start_good, start_reached, sendable}
-use Rattle.lines_told.specs.messages.Recovery.{AreLinkRounds, IsLinkUndisturbed, fragments_left, EarlierGot}
 use Rattle.lines_told.proofs.messages.Projected.{Known, known_after, rounds_core}
 
 -- ## Messages of fragments

@@ -1,28 +1,18 @@
 -- Rounds of a link over messages are rounds of the link over their fragments.
-use Rattle.std.proofs.Common.{◌≡◌, ℕ, zero, suc, ◌+◌, Bool, true, false, Option, List, [], ◌∷◌, ◌++◌, Some, map, refl, ap, sym, subst, ◌∙◌, arith, length}
-use Rattle.std.proofs.Common.{append_assoc}
-use Rattle.swp_base.specs.declared.control_frames.Control.{Control}
-use Rattle.swp_base.specs.declared.control_frames.Control.TheVariants.{Act}
-use Rattle.shdlc_core.specs.declared.answers.LinkState.TheVariants.{Up, Down}
-use Rattle.link_laws.specs.places.Wire.{OnWire}
-use Rattle.link_laws.specs.sessions.Sessions.{ShdlcLink as CoreLink, ShdlcTurn as CoreTurn, ShdlcEndEvent as CoreEndEvent, ShdlcLinkEvent as CoreLinkEvent}
-use Rattle.link_laws.specs.sessions.Sessions.{shdlc_after as core_after}
-use Rattle.link_laws.specs.sessions.Sessions.ShdlcLinkEvent.{AtController as CoreAtController, AtHost as CoreAtHost, Tick as CoreTick}
-use Rattle.lines_told.specs.fragments.Rounds.{IsOrdinary, AreOrdinaryTurns, AllOrdinary, taken_here, taken_at_controller, taken_at_host, ticks_among}
-use Rattle.lines_told.specs.fragments.Rounds.{IsStretch, IsRound, AreRounds, AreUndisturbed}
+use Rattle.lines_told.proofs.Words.{Act, AllAllowed, AllOrdinary, AllOrdinaryOnLink, AreLinkRounds, AreOrdinaryOwn, AreOrdinaryTurns, AreRounds, AreUndisturbed}
+use Rattle.lines_told.proofs.Words.{Bool, Control, CoreAtController, CoreAtHost, CoreEndEvent, CoreLink, CoreLinkEvent, CoreTick, CoreTurn, Down, EndEvent}
+use Rattle.lines_told.proofs.Words.{Ending, Good, IsEvent, IsLinkRound, IsLinkStretch, IsLinkUndisturbed, IsOrdinary, IsOrdinaryOnLink, IsOrdinaryStep, IsRound}
+use Rattle.lines_told.proofs.Words.{IsStretch, Link, LinkEnd, LinkEvent, List, NumberedEnd, OnWire, Option, Reached, Some, Turn, Up, [], after_input}
+use Rattle.lines_told.proofs.Words.{after_link_events, aged, ap, append_assoc, arith, come_here, come_to_controller, come_to_host, core_after, core_all}
+use Rattle.lines_told.proofs.Words.{core_event, core_events, core_here, core_of, core_take, core_tick, core_tick_rest, core_turns, event_step, exchanged, false}
+use Rattle.lines_told.proofs.Words.{happens, happens_at_controller, is_open, length, map, reached_more, refl, run, subst, suc, sym, taken_at_controller}
+use Rattle.lines_told.proofs.Words.{taken_at_host, taken_here, ticks_among, ticks_at_controller, times_among, true, zero, ℕ, ◌++◌, ◌+◌, ◌∙◌, ◌∷◌, ◌≡◌}
 use Rattle.lines_told.proofs.fragments.Stretches.{began, undisturbed_parts}
-use Rattle.link_laws.specs.machine.Machine.{LinkEnd, Turn, is_open, after_input}
 use Rattle.link_laws.specs.machine.Machine.LinkInput.{Tick as InputTick}
-use Rattle.link_laws.specs.messages.Links.{NumberedEnd, Link, Ending, EndEvent, LinkEvent, exchanged, happens, aged, ticks_at_controller, happens_at_controller}
-use Rattle.link_laws.specs.messages.Links.{after_link_events, AllAllowed, IsEvent}
 use Rattle.link_laws.specs.messages.Links.Ending.{GoesOut}
 use Rattle.link_laws.specs.messages.Links.Comes.{NextFrame, NoInput}
 use Rattle.link_laws.specs.messages.Links.EndEvent.{Step}
-use Rattle.link_laws.specs.messages.Links.LinkEvent.{AtController, AtHost, Ticks, TicksWithout, Activate}
-use Rattle.link_laws.specs.messages.Projection.{core_of, core_turns, core_take, core_here, core_all, core_tick, core_tick_rest, core_event, core_events}
-use Rattle.link_laws.proofs.messages.Runs.{Good, Reached, run, event_step, reached_more}
-use Rattle.lines_told.specs.messages.Recovery.{IsOrdinaryStep, AreOrdinaryOwn, IsOrdinaryOnLink, AllOrdinaryOnLink, come_here, come_to_controller, come_to_host}
-use Rattle.lines_told.specs.messages.Recovery.{times_among, IsLinkStretch, IsLinkRound, AreLinkRounds, IsLinkUndisturbed}
+use Rattle.link_laws.specs.messages.Links.LinkEvent.{AtController, AtHost, Ticks}
 
 -- ## At one end
 
@@ -111,8 +101,7 @@ event_does l (Ticks c es h) o p q =
     let b = tick_open l.host.side h.turns h.ending o.2 q in
     tick_does (core_all (ticks_at_controller (aged l) c.turns c.ending) es) a.0.1 a.1
     (own_turns es (ticks_at_controller (aged l) c.turns c.ending) o.1) b.0.1 b.1
-event_does l (TicksWithout es h) o p q = absurd o
-event_does l (Activate power c id h) o p q = absurd o
+event_does l _ o p q = absurd o
 
 -- ## Stretches
 

@@ -1,6 +1,5 @@
 -- The first rest is the first.
-use Rattle.std.proofs.Common.{◌≡◌, ℕ, zero, suc, ◌<◌, Bool, true, false, refl, arith}
-use Rattle.link_laws.specs.messages.Rest.{steps_to_rest, after_steps, IsFirstRest}
+use Rattle.lines_told.proofs.Words.{Bool, IsFirstRest, after_steps, arith, false, refl, steps_to_rest, suc, true, zero, ℕ, ◌<◌, ◌≡◌}
 
 pub first_rest : {W : Type 0} (rests : W → Bool) (next : W → W) (n : ℕ) (w : W) → IsFirstRest rests next n w (steps_to_rest rests next n w)
 first_rest rests next zero w =
