@@ -1,19 +1,16 @@
 -- Worked examples compute.
-use Rattle.std.proofs.Common.{◌≡◌, refl, List, [], ◌∷◌, ◌++◌, ℕ, map, take, replicate, None, true, false}
-use Rattle.swp_base.specs.Bits.{bits_of_byte}
-use Rattle.lone_laws.proofs.Words.{Entry, FrameComes, FrameIsRefused, Lone, LoneCause, LoneEvent, Memory, ResetComes, StartComes, StopComes, end_c, end_causes}
-use Rattle.lone_laws.proofs.Words.{lone_after, lone_events}
+use Rattle.lone_laws.proofs.Words.{AnyOk, Dropped, Entry, FrameComes, FrameIsRefused, List, Lone, LoneCause, LoneEvent, Memory, None, OnBytes, OnLine}
+use Rattle.lone_laws.proofs.Words.{ResetComes, Sent, StartComes, StopComes, [], end_c, end_causes, end_h, end_node, end_written, false, lone_after, lone_events}
+use Rattle.lone_laws.proofs.Words.{map, new_memory, refl, replicate, take, true, ℕ, ◌++◌, ◌∷◌, ◌≡◌}
 use Rattle.swp_base.specs.declared.link_terms.Cause.TheVariants as cause
-use Rattle.swp_base.specs.declared.link_terms.FrameFault.TheVariants as fault
-use Rattle.trace_model.specs.declared.entry.Entry.TheVariants.{Up, Down, Active, Sent, Got, Acked, Emit, Took, Lost, Turn, Dropped, Command, AnyOk}
-use Rattle.trace_model.specs.declared.entry.LostCause.TheVariants as lost
 use Rattle.hci_tables.specs.declared.command.Command.TheVariants as command
+use Rattle.swp_base.specs.declared.link_terms.FrameFault.TheVariants as fault
+use Rattle.swp_base.specs.Bits.{bits_of_byte}
+use Rattle.trace_model.specs.declared.entry.Entry.TheVariants.{Up, Down, Active, Got, Acked, Emit, Took, Lost, Turn, Command}
 use Rattle.journal_laws.specs.Records.{found_from}
 use Rattle.gate_admin.specs.View.{hosts_where}
 use Rattle.pipe_table.specs.PipeRows.{lowest_free}
-use Rattle.node_machine.specs.world.World.{new_memory, end_h}
-use Rattle.lone_laws.specs.alone.Ends.{end_written, end_node}
-use Rattle.lone_laws.specs.alone.Ends.EndForm.{OnLine, OnBytes}
+use Rattle.trace_model.specs.declared.entry.LostCause.TheVariants as lost
 
 -- both nodes over a blank memory
 abbrev pub blank : Memory

@@ -1,12 +1,11 @@
 -- Which periods of a line are ticks, and in what order a byte brings what it brings: computed.
-use Rattle.std.proofs.Common.{◌≡◌, refl, List, [], ◌∷◌, ◌++◌, ℕ, replicate}
-use Rattle.swp_base.specs.Bits.{bits_of_byte}
+use Rattle.lone_laws.proofs.Words.{FrameComes, FrameIsRefused, List, OnLine, StartComes, StopComes, TickComes, [], end_causes, refl, replicate, ℕ, ◌++◌, ◌∷◌}
+use Rattle.lone_laws.proofs.Words.{◌≡◌}
 use Rattle.swp_base.specs.declared.link_terms.FrameFault.TheVariants as fault
+use Rattle.swp_base.specs.Bits.{bits_of_byte}
 use Rattle.journal_laws.specs.Records.{found_from}
 use Rattle.gate_admin.specs.View.{hosts_where}
 use Rattle.pipe_table.specs.PipeRows.{lowest_free}
-use Rattle.lone_laws.proofs.Words.{FrameComes, FrameIsRefused, StartComes, StopComes, TickComes, end_causes}
-use Rattle.lone_laws.specs.alone.Ends.EndForm.{OnLine}
 use Rattle.lone_laws.proofs.alone.Examples.{clf, uicc, c1_record}
 
 -- so many periods without bits

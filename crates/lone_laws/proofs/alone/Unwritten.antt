@@ -1,14 +1,11 @@
 -- In a step of a node nothing is written for what it notes: its frames go out behind it.
-use Rattle.std.proofs.Common.{◌≡◌, ℕ, List, [], ◌∷◌, refl}
-use Rattle.lone_laws.proofs.Words.{AllByRecursion, Deed, Entry, NodeInput, Port, Sends, Work, deeds_of, own_side, steps}
+use Rattle.lone_laws.proofs.Words.{AllByRecursion, Cut, Deed, Emit, EndForm, Entry, List, Lost, NodeInput, Noted, Port, Restarted, Sends, Side, Took, Work, []}
+use Rattle.lone_laws.proofs.Words.{deeds_of, entry_of, entry_written, own_side, refl, steps, ℕ, ◌∷◌, ◌≡◌}
 use Rattle.trace_model.specs.declared.entry.Entry.TheVariants as entry
-use Rattle.link_laws.specs.entries.Entries.{End as Side, Entry as Noted}
-use Rattle.link_laws.specs.entries.Entries.Entry.{Emit, Took, Lost, Tick, Restarted, Cut}
-use Rattle.history.specs.Steps.{entry_of}
+use Rattle.link_laws.specs.entries.Entries.Entry.{Tick}
 use Rattle.node_machine.specs.Parts.Deed.{Ends}
 use Rattle.node_laws.proofs.telling.Mute.{IsPlain, IsMute, AreMute, deeds_mute}
 use Rattle.node_laws.proofs.readings.Noting.{IsOwnNote, IsBeside, NotesSo, steps_note}
-use Rattle.lone_laws.specs.alone.Ends.{EndForm, entry_written}
 
 -- nothing is written for an entry
 abbrev pub IsUnwritten : Entry → Type 0

@@ -1,18 +1,16 @@
 -- What one walk over a history of a node alone finds says whether a fact of its answers holds.
-use Rattle.std.proofs.Common.{◌≡◌, ap, sym, subst, append_assoc, append-nil, ℕ, Bool, true, false, true≢false, List, [], ◌∷◌, ◌++◌, Option, Some, None, ◌==◌}
-use Rattle.lone_laws.proofs.Words.{AllByRecursion, AnsweredAlone, AreInTurn, AtEachNoted, Core, Entry, HearsFirstAlone, IsDueAlone, IsFirstThere, IsHeldAlone}
-use Rattle.lone_laws.proofs.Words.{IsRepliedAlone, IsResetAlone, LoneEvent, Message, core_since, entries_of_events_alone, eqb-true, lack_since, list_any}
-use Rattle.lone_laws.proofs.Words.{noted_since, oldest, option_map_or, reply_since, sync_due, unhandled_in}
+use Rattle.std.proofs.Common.{true≢false}
+use Rattle.lone_laws.proofs.Words.{AllByRecursion, AnsweredAlone, AreInTurn, Ascending, AtEachLoneEvent, AtEachNoted, Bool, Core, Done, Due, Entry, Fact, Heard}
+use Rattle.lone_laws.proofs.Words.{HearsFirstAlone, Held, InTurn, IsDueAlone, IsFirstThere, IsHeldAlone, IsRepliedAlone, IsResetAlone, List, LoneEvent, Message}
+use Rattle.lone_laws.proofs.Words.{None, Option, Replied, Short, Some, TurnsAscendAlone, Unless, [], answerer, ap, append-nil, append_assoc, both_are}
+use Rattle.lone_laws.proofs.Words.{core_since, entries_of_events_alone, eqb-true, false, first_lack_since, hears, holds_in, is_asked_down, is_done_alone}
+use Rattle.lone_laws.proofs.Words.{is_fact, is_reset_alone, is_short_alone, lack_since, list_any, none_heard, none_hears, noted_since, oldest, option_map_or}
+use Rattle.lone_laws.proofs.Words.{reply_since, some_is, subst, sym, sync_due, true, unhandled_in, ℕ, ◌++◌, ◌==◌, ◌∷◌, ◌≡◌}
 use Rattle.trace_model.specs.declared.entry.Entry.TheVariants as entry
-use Rattle.node_laws.specs.answers.Moments.{holds_in}
-use Rattle.node_laws.specs.answers.Order.{answerer, hears}
 use Rattle.node_laws.proofs.answers.Walks.{answers_found, answers_wanted}
 use Rattle.node_laws.proofs.answers.Splits.{first_or, rest_of}
 use Rattle.node_laws.proofs.answers.Rising.{turns_rise, rise_ascends}
-use Rattle.lone_laws.specs.alone.Known.{first_lack_since}
-use Rattle.lone_laws.specs.alone.Answers.{AtEachLoneEvent, TurnsAscendAlone, is_asked_down, is_done_alone, is_reset_alone, is_short_alone}
-use Rattle.node_laws.proofs.answers.OneFact.Fact.{InTurn, Replied, Held, Done, Short, Due, Reset, Ascending, Heard}
-use Rattle.node_laws.proofs.answers.OneFact.{Fact, is_fact, some_is, both_are, none_heard, none_hears, Unless}
+use Rattle.node_laws.proofs.answers.OneFact.Fact.{Reset}
 use Rattle.lone_laws.proofs.answered.Queued.{are_in_turn}
 
 -- ## Walks

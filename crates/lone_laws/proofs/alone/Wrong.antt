@@ -1,15 +1,15 @@
 -- Small wrong histories of a node alone aren't answered: for each fact of `AnsweredAlone` one that it alone refuses.
-use Rattle.std.proofs.Common.{◌≡◌, ◌≤◌, arith, refl, ap, sym, ℕ, Bool, true, false, true≢false, List, [], ◌∷◌, replicate, Option, Some, None, is_some}
+use Rattle.std.proofs.Common.{true≢false}
+use Rattle.lone_laws.proofs.Words.{AnsweredAlone, Ascending, Bool, Core, Done, Dropped, Due, Entry, Fact, FrameIsRefused, Heard, HeldFact, InTurn, List}
+use Rattle.lone_laws.proofs.Words.{LoneEvent, None, Option, Replied, Sent, Short, Some, TickComes, [], ap, arith, end_c, false, formatted, is_some, no_tables}
+use Rattle.lone_laws.proofs.Words.{refl, replicate, sym, true, ℕ, ◌∷◌, ◌≡◌, ◌≤◌}
 use Rattle.swp_base.specs.declared.link_terms.Cause.TheVariants as cause
 use Rattle.swp_base.specs.declared.link_terms.FrameFault.TheVariants as fault
-use Rattle.lone_laws.proofs.Words.{AnsweredAlone, Core, Entry, FrameIsRefused, LoneEvent, TickComes, end_c, formatted}
-use Rattle.trace_model.specs.declared.entry.Entry.TheVariants.{Up, Down, Sent, Got, Acked, Turn, Held, Dropped}
-use Rattle.hci_tables.specs.Tables.{no_tables}
+use Rattle.trace_model.specs.declared.entry.Entry.TheVariants.{Up, Down, Got, Acked, Turn, Held}
 use Rattle.gate_admin.specs.View.{hosts_where}
 use Rattle.pipe_table.specs.PipeRows.{lowest_free}
 use Rattle.lone_laws.proofs.alone.Walks.{IsFound, RefusedByOnly, all_found, others_hold}
-use Rattle.node_laws.proofs.answers.OneFact.{Fact}
-use Rattle.node_laws.proofs.answers.OneFact.Fact.{InTurn, Replied, Held as HeldFact, Done, Short, Due, Reset, Ascending, Heard}
+use Rattle.node_laws.proofs.answers.OneFact.Fact.{Reset}
 
 -- A controller that knows of one pipe, which leads from host 02 to its loopback gate.
 abbrev core : Core

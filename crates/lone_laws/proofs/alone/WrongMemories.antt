@@ -1,11 +1,11 @@
 -- Small wrong memories don't keep the commands of a run: one for each fact of `FindsBehind`, of which the others hold.
-use Rattle.std.proofs.Common.{◌≡◌, inl, inr, ◌+◌, arith, refl, ap, sym, subst, ℕ, Bool, true, false, true≢false, List, [], ◌∷◌, ◌++◌, length, replicate, None}
-use Rattle.std.proofs.lemmas.Bool.{leb-true}
-use Rattle.lone_laws.proofs.Words.{Command, Counts, CountsAll, FindsBehind, HciTables, IsReadyMemory, close, journal, records, tables_of}
-use Rattle.journal_laws.specs.Records.{found_from}
+use Rattle.std.proofs.Common.{true≢false}
+use Rattle.lone_laws.proofs.Words.{Bool, Command, Counts, CountsAll, FindsBehind, FindsTables, HciTables, IsKeptIn, IsReadyMemory, List, None, [], ap, arith}
+use Rattle.lone_laws.proofs.Words.{close, false, inl, inr, journal, leb-true, length, records, refl, replicate, subst, sym, tables_of, true, ℕ, ◌++◌, ◌+◌, ◌∷◌}
+use Rattle.lone_laws.proofs.Words.{◌≡◌}
 use Rattle.hci_tables.specs.declared.command.Command.TheVariants as command
+use Rattle.journal_laws.specs.Records.{found_from}
 use Rattle.hci_store.specs.Image.{image_fault}
-use Rattle.lone_laws.specs.alone.Memories.{FindsTables, IsKeptIn}
 
 -- a memory that says nothing
 abbrev blank : List ℕ

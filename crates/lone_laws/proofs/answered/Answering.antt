@@ -1,27 +1,23 @@
 -- In each step of a node alone messages have their turns, and are held, as is read.
-use Rattle.std.proofs.Common.{◌≡◌, ℕ, ◌≤◌, Bool, true, false, eqb, List, [], ◌∷◌, ◌++◌, map, refl, sym, ap, subst, ◌∙◌, append_assoc, append-nil}
 use Rattle.std.specs.Prelude.{Option, Some, None}
-use Rattle.lone_laws.proofs.Words.{AllByRecursion, BeginWithTurn, ComesTo, Control, Core, Deed, End, Entry, Hold, IsHeldAlone, IsTurnSo, LastsOverTurns}
-use Rattle.lone_laws.proofs.Words.{LinkInput, Lone, LoneCause, Message, Port, Running, Work, after_turn, by_test, count_of, deeds_of, emits_behind, end_of_node}
-use Rattle.lone_laws.proofs.Words.{end_of_node_alone, errors_found, handles, holds_back, lack_since, lets, link_of_turn, lone_input, lpdu_of, noted_by_deeds}
-use Rattle.lone_laws.proofs.Words.{noted_of, noted_since, noting, oldest, option_map_or, port_at, reply_since, session_now, session_with, takes_up, turn_at}
-use Rattle.lone_laws.proofs.Words.{unhandled_in, waiting_at, with_desk}
+use Rattle.lone_laws.proofs.Words.{AllByRecursion, BeginWithTurn, BeginsBehind, Bool, ComesTo, Control, Core, Deed, End, Entry, Hold, IsHeldAlone, IsTurnSo}
+use Rattle.lone_laws.proofs.Words.{LastsOverTurns, LinkInput, List, Lone, LoneCause, Message, Port, Running, Work, [], after_turn, ap, append-nil, append_assoc}
+use Rattle.lone_laws.proofs.Words.{by_test, comes_so, count_of, deeds_of, emits_behind, end_of_node, end_of_node_alone, eqb, errors_found, false}
+use Rattle.lone_laws.proofs.Words.{first_lack_since, handles, holds_back, lack_since, lacking, lets, link_of_turn, lone_input, lpdu_of, map, noted_by_deeds}
+use Rattle.lone_laws.proofs.Words.{noted_of, noted_since, noting, oldest, option_map_or, port_at, refl, reply_since, session_now, session_with, subst, sym}
+use Rattle.lone_laws.proofs.Words.{takes_up, true, turn_at, unhandled_in, waiting_at, with_desk, ℕ, ◌++◌, ◌∙◌, ◌∷◌, ◌≡◌, ◌≤◌}
 use Rattle.trace_model.specs.declared.entry.Entry.TheVariants as entry
-use Rattle.node_laws.specs.passes.Passing.{lacking}
-use Rattle.node_laws.proofs.passes.Passing.{comes_so}
-use Rattle.lone_laws.specs.alone.Known.{first_lack_since}
 use Rattle.lone_laws.proofs.answered.Mine.{AnswersOwn, IsRepliedOwn}
 use Rattle.lone_laws.proofs.answered.Reading.{Read, left_is}
 use Rattle.lone_laws.proofs.answered.Turning.{IsHere, alone_here}
 use Rattle.lone_laws.proofs.answered.Lasting.{LoneKeeps}
 use Rattle.lone_laws.proofs.answered.Ordered.{begin_read, OrderAt, pass_noted, begun, ended, noted, entries_are, in_order}
 use Rattle.lone_laws.proofs.answered.Knowing.{KnowsAlone, knows_lasts}
-use Rattle.node_laws.proofs.worlds.Late.{BeginsBehind}
 use Rattle.lone_laws.proofs.answered.Told.{entries_of_deeds, noted_as_reply, reply_told}
 use Rattle.lone_laws.proofs.answered.Replying.{session_of_end, IsMuteEntry, AreUntil, mute_then, mutes_then, turn_then, deeds_answer, noted_answers}
 use Rattle.lone_laws.proofs.answered.Errors.{ErrorsAre, IsSettled, errors_then, desk_errors, errors_with}
-use Rattle.lone_laws.proofs.answered.Replied.{found, KnowsAll, deeds_shape, lack_read, deeds_read, core_read, session_read, same_link, own_port}
-use Rattle.lone_laws.proofs.answered.Replied.{noted_so, errs_handled}
+use Rattle.lone_laws.proofs.answered.Replied.{found, KnowsAll, deeds_shape, lack_read, deeds_read, core_read, session_read, same_link, own_port, noted_so}
+use Rattle.lone_laws.proofs.answered.Replied.{errs_handled}
 
 pub emits_mute : (f : End) (frames : List Control) → AllByRecursion IsMuteEntry (map (λ c. entry.Emit f (lpdu_of c)) frames)
 emits_mute f [] = tt

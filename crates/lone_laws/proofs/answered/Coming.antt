@@ -1,19 +1,15 @@
 -- A node with one link in a step before its pass: something comes to its end, and an identifier may be kept; nothing else is done.
-use Rattle.std.proofs.Common.{◌≡◌, ℕ, Bool, true, false, cond, eqb, List, [], ◌∷◌, ◌++◌, map, refl, sym, ap, ap₂, ◌∙◌, append-nil, Some, None, is_some}
-use Rattle.lone_laws.proofs.Words.{Core, End, Entry, LinkEnd, LinkInput, NodeInput, Port, Reset, Start, Stop, Take, TakeUnknown, Tick, Work, after_input}
-use Rattle.lone_laws.proofs.Words.{after_sessions, all_come, all_done, all_owed, comes_to_pass, cond_both, end_of, end_of_node_alone, flat_map, forgets}
-use Rattle.lone_laws.proofs.Words.{forgotten, input_at, is_open, list_any, moved, node_input, own_side, report, same_end, stopped, syncs_in, tick_answer}
-use Rattle.lone_laws.proofs.Words.{ticked, times_out, told_at, unless_cut, whole_acked, without_notice}
-use Rattle.swp_act.specs.declared.ActEvent.TheVariants.{Start as ActStart, Tick as ActTick, Stop as ActStop}
-use Rattle.link_laws.specs.machine.Machine.{had_tick, started, deactivated, got_by}
-use Rattle.link_laws.specs.machine.Machine.LinkInput.{TakeBroken, FromNode, Fetch}
+use Rattle.lone_laws.proofs.Words.{ActStart, ActStop, ActTick, AtEnd, Bool, Core, End, Entry, LinkEnd, LinkInput, List, NodeInput, None, Port, Reset, Some}
+use Rattle.lone_laws.proofs.Words.{Start, Stop, Take, TakeUnknown, Tick, TimePasses, Work, [], after_input, after_sessions, all_come, all_done, all_owed, ap}
+use Rattle.lone_laws.proofs.Words.{append-nil, ap₂, comes_to_pass, cond, cond_both, deactivated, end_of, end_of_node_alone, eqb, false, flat_map, forgets}
+use Rattle.lone_laws.proofs.Words.{forgets_same, forgotten, got_by, had_tick, has_come, has_come_so, has_freed, has_synced, input_at, is_late, is_open, is_over}
+use Rattle.lone_laws.proofs.Words.{is_some, list_any, map, moved, node_input, own_side, refl, report, reset_late, same_end, same_end_itself, started, stopped}
+use Rattle.lone_laws.proofs.Words.{sym, syncs_in, tick_answer, ticked, times_out, told_at, told_late, true, unless_cut, whole_acked, with_older, without_notice}
+use Rattle.lone_laws.proofs.Words.{ℕ, ◌++◌, ◌∙◌, ◌∷◌, ◌≡◌}
 use Rattle.link_laws.proofs.machine.Kept.{moved_got, activated_got, reset_got, took_got}
-use Rattle.node_machine.specs.Node.{has_come, with_older, is_late, reset_late, told_late, is_over}
-use Rattle.node_machine.specs.Node.NodeInput.{AtEnd, TimePasses}
 use Rattle.node_laws.proofs.steps.StepWalks.{unless}
-use Rattle.node_laws.specs.passes.Steps.{has_come_so, has_freed, has_synced}
 use Rattle.lone_laws.proofs.answered.Reading.{eqb_same, Read, read_all, told_read, reads_of, Alone, read_more, alone_as}
-use Rattle.lone_laws.proofs.answered.Turning.{same_self, own_end}
+use Rattle.lone_laws.proofs.answered.Turning.{own_end}
 
 -- ## What comes
 
@@ -46,15 +42,8 @@ lone_got e _ a = absurd a
 
 -- it comes to the end
 pub comes_there : (h : ℕ) (i : LinkInput) (p : Port) → p.desk.host ≡ h → input_at (node_input h i) p ≡ Some i
-comes_there h (Take c) p q = ap (λ b. cond b (Some (Take c)) None) (ap (λ n. eqb n h) q ∙ eqb_same h)
-comes_there h TakeUnknown p q = ap (λ b. cond b (Some TakeUnknown) None) (ap (λ n. eqb n h) q ∙ eqb_same h)
-comes_there h (TakeBroken fault) p q = ap (λ b. cond b (Some (TakeBroken fault)) None) (ap (λ n. eqb n h) q ∙ eqb_same h)
 comes_there h Tick p q = refl
-comes_there h (Reset window) p q = ap (λ b. cond b (Some (Reset window)) None) (ap (λ n. eqb n h) q ∙ eqb_same h)
-comes_there h (Start value) p q = ap (λ b. cond b (Some (Start value)) None) (ap (λ n. eqb n h) q ∙ eqb_same h)
-comes_there h Stop p q = ap (λ b. cond b (Some Stop) None) (ap (λ n. eqb n h) q ∙ eqb_same h)
-comes_there h (FromNode x) p q = ap (λ b. cond b (Some (FromNode x)) None) (ap (λ n. eqb n h) q ∙ eqb_same h)
-comes_there h Fetch p q = ap (λ b. cond b (Some Fetch) None) (ap (λ n. eqb n h) q ∙ eqb_same h)
+comes_there h i p q = ap (λ b. cond b (Some i) None) (ap (λ n. eqb n h) q ∙ eqb_same h)
 
 -- ## Without notices
 
@@ -66,9 +55,6 @@ late_none p q = rw q refl
 
 reset_none : (p : Port) → p.desk.notice ≡ None → reset_late p ≡ p
 reset_none p q = ap (λ b. cond b (record p { side = after_input p.side (Reset None); late = true }) p) (late_none p q)
-
-forgets_none : (ports : List Port) (p : Port) → p.desk.notice ≡ None → forgets ports p ≡ p
-forgets_none ports p q = rw q refl
 
 without_none : (p : Port) → p.desk.notice ≡ None → without_notice p ≡ p
 without_none p q = cond_both (is_over p) (record p { desk = record p.desk { notice = None } }) p (λ x. x ≡ p)
@@ -116,13 +102,13 @@ freed_none v q ports none command init =
     let freed : forgotten v.ports ≡ [] = ap forgotten ports ∙ forgotten_none q none in
     let ps : map without_notice (map (forgets v.ports) v.ports) ≡ v.ports =
     ap (λ z. map without_notice (map (forgets v.ports) z)) ports
-    ∙ (ap (λ z. z ∷ []) (ap without_notice (forgets_none v.ports q none) ∙ without_none q none) ∙ sym ports) in
+    ∙ (ap (λ z. z ∷ []) (ap without_notice (forgets_same v.ports q none) ∙ without_none q none) ∙ sym ports) in
     ap (λ d. all_done 0 d (record v { core = after_sessions v.core v.ports; ports = map without_notice (map (forgets v.ports) v.ports) })) freed
     ∙ ap₂ (λ c z. record v { core = c; ports = z }) (sessions_none v.core v.ports command init) ps
 
 owed_left : (v : Work) (q : Port) → v.ports ≡ q ∷ [] → q.desk.notice ≡ None → all_owed (map (forgets v.ports) v.ports) ≡ []
 owed_left v q ports none =
-    ap (λ z. all_owed (map (forgets v.ports) z)) ports ∙ (ap (λ z. all_owed (z ∷ [])) (forgets_none v.ports q none) ∙ owed_none q none)
+    ap (λ z. all_owed (map (forgets v.ports) z)) ports ∙ (ap (λ z. all_owed (z ∷ [])) (forgets_same v.ports q none) ∙ owed_none q none)
 
 module _ (number h : ℕ) (r : Read) (t : List Entry) where
   abbrev e : End
@@ -149,7 +135,7 @@ module _ (number h : ℕ) (r : Read) (t : List Entry) where
         ∙ ap (λ z. w.entries ++ z) (append-nil (told_at w.core a.port (Some i))))
 
     pub own_side_end : same_end (end_of a.port.desk.host (own_side w.core)) e ≡ true
-    own_side_end = ap (λ x. same_end x e) (own_end w.core number h a.port.desk.host a.node a.host) ∙ same_self e
+    own_side_end = ap (λ x. same_end x e) (own_end w.core number h a.port.desk.host a.node a.host) ∙ same_end_itself e
 
     pub alone_comes : Of (all_come input w)
     alone_comes =

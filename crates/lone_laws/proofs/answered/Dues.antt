@@ -1,30 +1,21 @@
 -- Before the first turn in an event a node alone answers what is due.
-use Rattle.std.proofs.Common.{◌≡◌, ℕ, ◌≤◌, Bool, true, false, cond, eqb, ◌&&◌, ◌||◌, List, [], ◌∷◌, ◌++◌, refl, sym, ap, subst, ◌∙◌, append_assoc, append-nil}
-use Rattle.std.specs.Prelude.{Option, Some, None, not, Result, Ok, Err}
-use Rattle.lone_laws.proofs.Words.{Acked, ActEvent, Active, AllByRecursion, AllByRecursion-append, ComesTo, Commits, Control, Core, Deed, Down, End, Entry}
-use Rattle.lone_laws.proofs.Words.{FrameComes, FrameIsRefused, GaveUp, Got, IsTurnSo, LinkEnd, LinkInput, Lone, LoneCause, LpduFault, Port, Report, ResetComes}
-use Rattle.lone_laws.proofs.Words.{Running, StartComes, StopComes, TickComes, Up, Work, after_input, all_come, all_done, by_test, cond_both, control_of}
-use Rattle.lone_laws.proofs.Words.{core_since, count_of, emits_behind, end_of_node_alone, entries_for, filter, flat_map, frames_behind, goes_in, input_at}
-use Rattle.lone_laws.proofs.Words.{is_open, list_any, lone_arrival, lone_end, lone_input, lpdu_input, node_input, noted_by_deeds, noted_since, own_side, report}
-use Rattle.lone_laws.proofs.Words.{session_now, session_with, sync_due, synced, syncs_in, to_command, told, told_at, whole_acked}
-use Rattle.swp_base.specs.declared.control_frames.Control.TheVariants as control
+use Rattle.std.specs.Prelude.{Option, Some, None, not}
+use Rattle.lone_laws.proofs.Words.{Acked, ActEvent, ActStart, ActStop, ActTake, ActTick, Active, AllByRecursion, AllByRecursion-append, Bare, BeginsBehind}
+use Rattle.lone_laws.proofs.Words.{Bool, Clf, ComesTo, Commits, Control, Core, Deed, Down, End, Entry, Err, FrameComes, FrameIsRefused, GaveUp, Got, IsTurnSo}
+use Rattle.lone_laws.proofs.Words.{LinkEnd, LinkInput, List, Lone, LoneCause, LpduFault, Noted, Ok, Port, Report, ResetComes, Result, Role, Running, Side}
+use Rattle.lone_laws.proofs.Words.{StartComes, StopComes, Sync, TickComes, Uicc, Up, Work, [], act_event, act_out, after_input, all_come, all_done, ap}
+use Rattle.lone_laws.proofs.Words.{append-nil, append_assoc, by_test, cond, cond_both, control_of, core_since, count_of, deeds_note, emits_behind}
+use Rattle.lone_laws.proofs.Words.{end_of_node_alone, entries_for, eqb, false, filter, finds_room, flat_map, frames_behind, goes_in, input_at, is_kept_sync}
+use Rattle.lone_laws.proofs.Words.{is_open, list_any, lone_arrival, lone_end, lone_input, lpdu_input, node_input, noted_by_deeds, noted_since, own_side, refl}
+use Rattle.lone_laws.proofs.Words.{report, session_now, session_with, subst, sym, sync_due, synced, syncs_in, ticked_sync, to_command, told, told_at, true}
+use Rattle.lone_laws.proofs.Words.{whole_acked, ℕ, ◌&&◌, ◌++◌, ◌||◌, ◌∙◌, ◌∷◌, ◌≡◌, ◌≤◌}
+use Rattle.trace_model.specs.declared.entry.Entry.TheVariants as entry
 use Rattle.swp_base.specs.declared.control_frames.Act.TheVariants.{SyncId, Ready, PowerMode}
-use Rattle.swp_act.specs.declared.ActEvent.TheVariants.{Start as ActStart, Take as ActTake, Tick as ActTick, Stop as ActStop}
 use Rattle.swp_act.specs.declared.Phase.{Phase}
 use Rattle.swp_act.specs.declared.Phase.TheVariants.{Inactive}
 use Rattle.swp_act.specs.declared.clf.ClfAct.{ClfAct}
 use Rattle.swp_act.specs.Activation.{clf_step}
-use Rattle.trace_model.specs.declared.entry.Entry.TheVariants as entry
-use Rattle.hci_tables.specs.declared.command.Command.TheVariants.{Sync}
-use Rattle.hci_tables.specs.Tables.{is_kept_sync}
-use Rattle.link_laws.specs.machine.Machine.{Role, act_out, act_event}
-use Rattle.link_laws.specs.machine.Machine.Role.{Bare, Clf, Uicc}
-use Rattle.link_laws.specs.entries.Entries.{End as Side, Entry as Noted}
-use Rattle.node_machine.specs.Carrying.{finds_room}
-use Rattle.node_laws.proofs.passes.Notes.{deeds_note}
-use Rattle.node_laws.proofs.worlds.Late.{BeginsBehind}
 use Rattle.node_laws.proofs.worlds.Uiccs.{uicc_sync}
-use Rattle.node_laws.proofs.kept.Stepping.{ticked_sync}
 use Rattle.lone_laws.proofs.answered.Mine.{is_own_answer, is_own_cut, to_turn, AnswersOwn, IsDueOwn}
 use Rattle.lone_laws.proofs.answered.Reading.{Read, Alone, core_is}
 use Rattle.lone_laws.proofs.answered.Coming.{comes_there, came_entries, pass_is}
@@ -37,6 +28,7 @@ use Rattle.lone_laws.proofs.answered.Replying.{IsMuteEntry, AreUntil, IsNotedSo,
 use Rattle.lone_laws.proofs.answered.Errors.{IsToldNote, told_of_it}
 use Rattle.lone_laws.proofs.answered.Answering.{none_until, emits_mute}
 use Rattle.lone_laws.proofs.answered.Keeping.{core_of, KeepsAll}
+use Rattle.swp_base.specs.declared.control_frames.Control.TheVariants as control
 
 -- ## What a frame says of an identifier
 
@@ -68,9 +60,8 @@ out_none (Uicc s) None q = refl
 out_none (Uicc s) (Some event) q = uicc_sync s event
 
 clf_out : (r : Role) (event : ActEvent) → kind_of r ≡ Some true → (act_out r (Some event)).sync ≡ wanted event
-clf_out Bare event q = absurd (cc q)
-clf_out (Uicc s) event q = absurd (cc q)
 clf_out (Clf s) event q = clf_sync s event
+clf_out _ event q = absurd (cc q)
 
 -- the command that keeps an identifier
 abbrev of_sync : Core → ℕ → Option ℕ → List Deed

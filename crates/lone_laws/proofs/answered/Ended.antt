@@ -1,10 +1,8 @@
 -- A whole run over a memory that a boot left answers every message, and the memory keeps its commands.
-use Rattle.std.proofs.Common.{◌≡◌, inl, inr, ℕ, ◌+◌, ◌-◌, ◌^◌, Bool, true, false, cond, List, [], ◌∷◌, length, refl, sym, subst, arith, min, is_none}
-use Rattle.lone_laws.proofs.Words.{AnsweredAlone, Command, Counts, CountsAll, FindsBehind, IsReadyMemory, Lone, Memory, after_commands, commands_of_entries}
-use Rattle.lone_laws.proofs.Words.{end_causes, entries_of_events_alone, found, lone_after, true≢false}
-use Rattle.hci_store.specs.Stored.{FindsSame}
-use Rattle.lone_laws.specs.alone.Ends.{EndForm, end_history, end_node, end_written}
-use Rattle.lone_laws.specs.alone.Memories.{FindsTables, IsHeldBehind, IsKeptIn, IsTakenMemory, behind_boot}
+use Rattle.lone_laws.proofs.Words.{AnsweredAlone, Bool, Command, Counts, CountsAll, EndForm, FindsBehind, FindsSame, FindsTables, IsHeldBehind, IsKeptIn}
+use Rattle.lone_laws.proofs.Words.{IsReadyMemory, IsTakenMemory, List, Lone, Memory, [], after_commands, arith, behind_boot, commands_of_entries, cond}
+use Rattle.lone_laws.proofs.Words.{end_causes, end_history, end_node, end_written, entries_of_events_alone, false, found, inl, inr, is_none, length, lone_after}
+use Rattle.lone_laws.proofs.Words.{min, refl, subst, sym, true, true≢false, ℕ, ◌+◌, ◌-◌, ◌^◌, ◌∷◌, ◌≡◌}
 use Rattle.lone_laws.specs.alone.Runs.{IsAnsweredRun}
 use Rattle.lone_laws.proofs.answered.Ready.{counts_all, finds_same, is_ready}
 use Rattle.lone_laws.proofs.answered.Runs.{run_held}

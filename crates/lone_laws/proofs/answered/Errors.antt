@@ -1,25 +1,17 @@
 -- REC_ERROR of a node alone is what is read, over each message that it handles.
-use Rattle.std.proofs.Common.{◌≡◌, ℕ, Bool, true, false, cond, eqb, ◌&&◌, List, [], ◌∷◌, ◌++◌, refl, sym, ap, subst, ◌∙◌, append-nil}
-use Rattle.std.specs.Prelude.{Option, Some, None, unwrap_or}
-use Rattle.lone_laws.proofs.Words.{Acked, Active, AllByRecursion, AllByRecursion-append, AreNoBoots, Command, Commits, Core, Deed, Down, Drops, End, Entry}
-use Rattle.lone_laws.proofs.Words.{ErrorCount, GaveUp, Give, Got, HciTables, IsAnswered, IsNoBoot, Message, Port, Report, SaysOk, Sends, SetsErrors, Turn, Up}
-use Rattle.lone_laws.proofs.Words.{Work, after_turn, all_done, apply, by_test, changed_if, controller_deeds, core_noted, core_with, done, end_c}
-use Rattle.lone_laws.proofs.Words.{end_of_node_alone, end_view, entries_for, eqb-true, errors_found, fold, fold-append, host_deeds, is_up, option_map_or}
-use Rattle.lone_laws.proofs.Words.{own_view, port_at, same_end, told, true≢false, turn_at, unless_cut, view_of, with_port}
+use Rattle.std.specs.Prelude.{Option, Some, None}
+use Rattle.lone_laws.proofs.Words.{Acked, Active, AllByRecursion, AllByRecursion-append, AreNoBoots, AreUnset, Bool, Command, Commits, Core, Deed, Down, Drops}
+use Rattle.lone_laws.proofs.Words.{End, Entry, ErrorCount, GaveUp, Give, Got, HciTables, IsAnswered, IsNoBoot, IsUpAt, IsUpNow, List, Message, Noted, Port}
+use Rattle.lone_laws.proofs.Words.{Report, SaysOk, Sends, SetDeeds, SetsErrors, SetsNone, Side, Turn, Up, Work, [], after_turn, all_done, answer_of, ap}
+use Rattle.lone_laws.proofs.Words.{append-nil, apply, by_test, changed_if, cond, controller_deeds, controller_sets, controller_unset, core_noted, core_with}
+use Rattle.lone_laws.proofs.Words.{done, end_c, end_h, end_of_node_alone, end_view, entries_for, eqb, eqb-true, errors_after, errors_found, errors_set_by}
+use Rattle.lone_laws.proofs.Words.{false, fold, fold-append, host_deeds, host_sets, host_unset, is_any_ok, is_link_gate, is_up, leads_to_link_gate}
+use Rattle.lone_laws.proofs.Words.{option_map_or, own_gate, own_view, port_at, refl, same_end, same_end_itself, subst, sym, told, told_all, true, true≢false}
+use Rattle.lone_laws.proofs.Words.{turn_at, uncut, unless_cut, unwrap_or, view_of, with_command, with_port, ℕ, ◌&&◌, ◌++◌, ◌∙◌, ◌∷◌, ◌≡◌}
 use Rattle.trace_model.specs.declared.entry.Entry.TheVariants as entry
-use Rattle.shdlc_core.specs.declared.answers.LinkState.TheVariants.{Up as IsUpNow}
 use Rattle.gate_answers.specs.declared.response.Response.TheVariants as response
-use Rattle.gate_answers.specs.Answers.{answer_of}
-use Rattle.link_laws.specs.entries.Entries.{End as Side, Entry as Noted}
-use Rattle.node_machine.specs.Controller.{own_gate}
-use Rattle.node_machine.specs.world.World.{end_h}
-use Rattle.node_machine.specs.world.NodeFilters.{with_command}
-use Rattle.node_laws.specs.views.Errors.{errors_after, errors_set_by, is_any_ok, leads_to_link_gate}
-use Rattle.node_laws.proofs.telling.Reported.{told_all}
-use Rattle.node_laws.proofs.views.Setting.{AreUnset, is_link_gate, SetsNone, IsUpAt, SetDeeds, controller_unset, controller_sets, host_unset, host_sets}
 use Rattle.node_laws.proofs.views.Setting.SetDeeds.{IsSet as IsSetSo, IsRefused as IsRefusedSo, IsDropped as IsDroppedSo}
-use Rattle.lone_laws.proofs.answered.Turning.{same_self}
-use Rattle.lone_laws.proofs.answered.Replying.{session_of_end, sent_alone, unless_on}
+use Rattle.lone_laws.proofs.answered.Replying.{session_of_end, sent_alone}
 use Rattle.lone_laws.proofs.answered.Told.{entries_of_deeds}
 use Rattle.lone_laws.proofs.answered.Shapes.{IsLoneReply}
 use Rattle.lone_laws.proofs.answered.Shapes.IsLoneReply.{IsNone, IsDrop, IsSend, IsCommit, IsSet, IsHeard}
@@ -211,7 +203,7 @@ module _ (e : End) where
       → (errs_all e z (sent_alone e (Some n) to (pid, answer_of response.Ok []))).errors ≡ v
   sent_ok n to pid v z there set =
       ap (λ b. (errs_all e z (cond b (entry.Sent e n pid (answer_of response.Ok []) ∷ []) [])).errors) there
-      ∙ (ap (λ b. cond (b && true) (unwrap_or z.sets z.errors) z.errors) (same_self e) ∙ ap (λ o. unwrap_or o z.errors) set)
+      ∙ (ap (λ b. cond (b && true) (unwrap_or z.sets z.errors) z.errors) (same_end_itself e) ∙ ap (λ o. unwrap_or o z.errors) set)
 
   -- deeds that set nothing, where no command that sets it waits for its answer
   unset_errs : (core : Core) (session : Option ℕ) (deeds : List Deed) → IsLoneReply deeds → AreUnset deeds → (z : ErrorCount) → z.sets ≡ None
@@ -235,7 +227,7 @@ kept_commit c u still = by_test (Rattle.node_laws.specs.passes.Noting.goes_in c 
 
 module _ (k : ℕ) (u : Work) (on : u.cut ≡ false) where
   one_done : (d : Deed) → (done k d u).cut ≡ false → all_done k (d ∷ []) u ≡ done k d u
-  one_done d q = unless_on (all_done k []) (done k d u) q
+  one_done d q = uncut (all_done k []) (done k d u) q
 
   unset_kept : (deeds : List Deed) → IsLoneReply deeds → AreUnset deeds → (all_done k deeds u).cut ≡ false
       → desk_errors (all_done k deeds u).ports ≡ desk_errors u.ports
@@ -255,10 +247,10 @@ module _ (k : ℕ) (u : Work) (on : u.cut ≡ false) where
           off : (x : Work) → x.cut ≡ true → unless_cut (all_done k D) x ≡ x
           off x z = rw z refl
     go false q =
-        let first : all_done k (Commits c ∷ D) u ≡ all_done k D w = unless_on (all_done k D) w q in
-        let second : all_done k D w ≡ all_done k (SaysOk ∷ []) (done k (Sends to m) w) = unless_on (all_done k (SaysOk ∷ [])) (done k (Sends to m) w) q in
+        let first : all_done k (Commits c ∷ D) u ≡ all_done k D w = uncut (all_done k D) w q in
+        let second : all_done k D w ≡ all_done k (SaysOk ∷ []) (done k (Sends to m) w) = uncut (all_done k (SaysOk ∷ [])) (done k (Sends to m) w) q in
         let third : all_done k (SaysOk ∷ []) (done k (Sends to m) w) ≡ done k SaysOk (done k (Sends to m) w) =
-        unless_on (all_done k []) (done k SaysOk (done k (Sends to m) w)) q in
+        uncut (all_done k []) (done k SaysOk (done k (Sends to m) w)) q in
         ap (λ (x : Work). desk_errors x.ports) (first ∙ (second ∙ third)) ∙ (kept_turn to (Give m) w ∙ kept_commit c u q)
   unset_kept _ (IsSet v to m) unset still = absurd unset.0
   unset_kept _ IsHeard unset still =
@@ -270,8 +262,8 @@ module _ (k : ℕ) (u : Work) (on : u.cut ≡ false) where
   set_kept v to m p ports own =
       let g : Port → Port = λ q. record q { desk = record q.desk { errors = v } } in
       let w : Work = done k (SetsErrors v) u in
-      let first : all_done k (SetsErrors v ∷ Sends to m ∷ []) u ≡ all_done k (Sends to m ∷ []) w = unless_on (all_done k (Sends to m ∷ [])) w on in
-      let second : all_done k (Sends to m ∷ []) w ≡ done k (Sends to m) w = unless_on (all_done k []) (done k (Sends to m) w) on in
+      let first : all_done k (SetsErrors v ∷ Sends to m ∷ []) u ≡ all_done k (Sends to m ∷ []) w = uncut (all_done k (Sends to m ∷ [])) w on in
+      let second : all_done k (Sends to m ∷ []) w ≡ done k (Sends to m) w = uncut (all_done k []) (done k (Sends to m) w) on in
       ap (λ (x : Work). desk_errors x.ports) (first ∙ second)
       ∙ (kept_turn to (Give m) w ∙ ap desk_errors (ap (with_port k g) ports ∙ ap (λ b. changed_if b g p ∷ []) own))
 

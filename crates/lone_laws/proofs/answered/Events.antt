@@ -1,8 +1,8 @@
 -- What holds of each event of a node alone holds of its history, and what holds of each turn of a pass of each entry.
-use Rattle.std.proofs.Common.{◌≡◌, Bool, true, false, cond, List, [], ◌∷◌, ◌++◌, map, refl, sym, ap, subst, ◌∙◌, append_assoc, append-nil, inl, inr}
 use Rattle.std.specs.Prelude.{◌⊎◌, None, is_some}
-use Rattle.lone_laws.proofs.Words.{AllByRecursion, AreNoTurns, Control, End, Entry, Lone, LoneCause, LoneEvent, entries_of_events_alone, link_of_turn}
-use Rattle.lone_laws.proofs.Words.{lone_events, lone_step, lpdu_of}
+use Rattle.lone_laws.proofs.Words.{AllByRecursion, AreNoTurns, Bool, Control, End, Entry, List, Lone, LoneCause, LoneEvent, [], ap, append-nil, append_assoc}
+use Rattle.lone_laws.proofs.Words.{cond, entries_of_events_alone, false, inl, inr, link_of_turn, lone_events, lone_step, lpdu_of, map, refl, subst, sym, true}
+use Rattle.lone_laws.proofs.Words.{◌++◌, ◌∙◌, ◌∷◌, ◌≡◌}
 use Rattle.trace_model.specs.declared.entry.Entry.TheVariants as entry
 
 -- ## Lists

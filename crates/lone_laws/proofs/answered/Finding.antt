@@ -1,33 +1,21 @@
 -- A commit, whole or cut, over a memory that holds what a node knows. What is said of counts may rest on something that is known of the first memory.
-use Rattle.std.proofs.Common.{◌≡◌, ◌⊎◌, inl, inr, ℕ, ◌+◌, ◌^◌, ◌<◌, ◌≤◌, Bool, true, false, cond, nat_lt, List, [], ◌∷◌, length, sym, refl, ap, ◌∙◌, subst}
-use Rattle.std.proofs.Common.{arith, ◌-◌, min, Option, Some, None, IsSome, is_some}
-use Rattle.lone_laws.proofs.Words.{AreTables, Command, Counts, HciTables, IsCommand, IsRecordable, Memory, State, Write, after_planned, after_writes, apply}
-use Rattle.lone_laws.proofs.Words.{body_of, commit_writes, count_of, counted, current, fails_within, format_writes, formatted, journal, option_map_or}
-use Rattle.lone_laws.proofs.Words.{planned_whole, records, state_of}
-use Rattle.std.proofs.lemmas.Bool.{and_from, leb-true, ltb-true}
-use Rattle.journal_laws.specs.Writes.{IsCut}
-use Rattle.journal_laws.specs.Journal.{Journal, gate_at, left, IsSound}
-use Rattle.journal_laws.specs.Operations.{append_writes, compact_writes, HasRoomForBody, CanCompact, appended, compacted}
-use Rattle.journal_laws.proofs.Kept.{append_count, compact_count, same_count}
+use Rattle.std.proofs.lemmas.Bool.{ltb-true}
+use Rattle.lone_laws.proofs.Words.{AreTables, Bool, CanCompact, Command, Counts, FindsRoom, HasRoomForBody, HciTables, HoldsTables, IsCommand, IsCut}
+use Rattle.lone_laws.proofs.Words.{IsLeftBetween, IsRecordable, IsSome, IsSound, Journal, List, Memory, None, Option, Says, Some, State, Write, []}
+use Rattle.lone_laws.proofs.Words.{after-append, after_planned, after_writes, all_recordable, and_from, ap, append_count, append_writes, appended, apply}
+use Rattle.lone_laws.proofs.Words.{are_bodies, are_commands, arith, body_of, command_of, commit_writes, committed, compact_count, compact_writes, compacted}
+use Rattle.lone_laws.proofs.Words.{cond, count_of, counted, current, cut-append, fails_within, false, first_other, format_all_or_nothing, format_writes}
+use Rattle.lone_laws.proofs.Words.{formatted, gate_at, holds_more, holds_snapshot, holds_still, inl, inr, is_body, is_some, journal, leb-true, left, length}
+use Rattle.lone_laws.proofs.Words.{min, nat_lt, no_records_then, option_map_or, planned_cut, planned_whole, record_fits, records, refl, room_count, room_writes}
+use Rattle.lone_laws.proofs.Words.{same_count, says_either, says_formatted, snapshot_bodies, snapshot_fits, snapshot_of, some_other, state_of, subst, sym, true}
+use Rattle.lone_laws.proofs.Words.{with_room, ℕ, ◌+◌, ◌-◌, ◌<◌, ◌^◌, ◌∙◌, ◌∷◌, ◌≡◌, ◌≤◌, ◌⊎◌}
+use Rattle.nv_journal.proofs.Compacting as compacting
 use Rattle.journal_laws.proofs.Cuts.{length-after, length-cut}
 use Rattle.nv_journal.specs.declared.JournalFault.{JournalFault}
 use Rattle.nv_journal.specs.declared.JournalFault.TheVariants.{BadRecord, UnknownFormat}
 use Rattle.nv_journal.specs.Faults.{is_known, fault}
-use Rattle.nv_journal.specs.Kept.{Says}
+use Rattle.hci_store.specs.Image.{image_fault}
 use Rattle.nv_journal.proofs.Appending as appending
-use Rattle.nv_journal.proofs.Compacting as compacting
-use Rattle.nv_journal.proofs.Formatting.{says_formatted, format_all_or_nothing, no_records_then}
-use Rattle.hci_tables.specs.Bodies.{command_of}
-use Rattle.hci_store.specs.Image.{are_commands, first_other, image_fault}
-use Rattle.hci_store.specs.Snapshots.{snapshot_of}
-use Rattle.hci_store.specs.Stored.{HoldsTables}
-use Rattle.hci_store.specs.Committing.{record_fits, snapshot_bodies, room_writes, with_room, committed}
-use Rattle.hci_store.proofs.CutShort.{holds_still, room_count, is_body, are_bodies}
-use Rattle.hci_store.proofs.Committed.{all_recordable, holds_more, holds_snapshot}
-use Rattle.node_laws.specs.kept.Finds.{FindsRoom}
-use Rattle.node_laws.proofs.kept.Commits.{after-append, cut-append, some_other, IsLeftBetween, says_either}
-use Rattle.node_laws.proofs.kept.Snapshots.{snapshot_fits}
-use Rattle.node_laws.proofs.kept.Planned.{planned_cut}
 
 -- ## Sound memories
 

@@ -1,34 +1,19 @@
 -- Each session of a node alone has a greater number than those before it.
-use Rattle.std.proofs.Common.{◌≡◌, ◌⊎◌, inl, inr, ℕ, zero, suc, ◌+◌, ◌-◌, ◌<◌, ◌≤◌, Bool, true, false, cond, eqb, List, [], ◌∷◌, ◌++◌, length, take, drop, map}
-use Rattle.std.proofs.Common.{refl, sym, ap, ◌∙◌, arith, not, Some, None}
-use Rattle.lone_laws.proofs.Words.{AllByRecursion, Clt, Command, Commits, Control, Deed, Desk, EndState, FetchMessage, Give, Hold, I, IsAnswered, LinkEnd}
-use Rattle.lone_laws.proofs.Words.{LinkInput, LinkState, Message, NodeInput, Port, Release, Releases, Rset, S, Sends, SetAside, SetsErrors, Sound, Take, Tells}
-use Rattle.lone_laws.proofs.Words.{Turn, Ua, Work, after_input, after_sessions, after_turn, all_come, all_owed, asked_at, began_by, body_of, by_option, by_test}
-use Rattle.lone_laws.proofs.Words.{changed_if, commit, commit_writes, done, fails_within, filter, flat_map, forgets, forgotten, give_refusal, is_open, noting}
-use Rattle.lone_laws.proofs.Words.{rsets_since, sent_all, steps, synced, take_answer, times_out, true≢false, turn, turn_at, with_desk, with_port}
-use Rattle.lone_laws.proofs.Words.{without_notice}
-use Rattle.std.proofs.lemmas.Bool.{and_parts}
-use Rattle.swp_base.specs.declared.control_frames.Control.TheVariants.{Act as ActFrame}
+use Rattle.lone_laws.proofs.Words.{About, ActDue, ActFrame, AllByRecursion, AsksFor, Begins, Bool, Clt, Command, Commits, Control, Deed, Desk, EndState, Ends}
+use Rattle.lone_laws.proofs.Words.{FetchMessage, Give, Hold, I, IsAnswered, Lasts, LinkEnd, LinkInput, LinkState, List, Message, NodeInput, None, Orders, Port}
+use Rattle.lone_laws.proofs.Words.{Release, Releases, Renews, Rests, Rr_due, Rset, Rset_due, S, Sends, SetAside, SetsErrors, Shift, Some, Sound, Stays, Take}
+use Rattle.lone_laws.proofs.Words.{Tells, Turn, Ua, Waiting, Work, [], after_frames, after_input, after_sessions, after_turn, all_changed, all_come, all_map}
+use Rattle.lone_laws.proofs.Words.{all_owed, among, and_parts, anyone, ap, arith, aside_refusal, asked_at, began_by, body_of, by_list, by_option, by_test}
+use Rattle.lone_laws.proofs.Words.{commit, commit_writes, cond, control_due, done, drop, eqb, fails_within, false, fetch_cases, fetched, filter, flat_map}
+use Rattle.lone_laws.proofs.Words.{forgets, forgotten, frames_of, frames_out, give_refusal, got_at, inl, inr, is_forgotten, is_open, is_over, is_rset}
+use Rattle.lone_laws.proofs.Words.{is_waiting, length, map, most_frames, not, notified, noting, refl, rest_lasts, rsets_among, rsets_due, rsets_since, sent_all}
+use Rattle.lone_laws.proofs.Words.{steps, suc, sym, synced, take, take_answer, take_so, times_out, true, true≢false, turn, turn_at, with_desk, with_port}
+use Rattle.lone_laws.proofs.Words.{with_ready, without_notice, zero, ℕ, ◌++◌, ◌+◌, ◌-◌, ◌<◌, ◌∙◌, ◌∷◌, ◌≡◌, ◌≤◌, ◌⊎◌}
 use Rattle.trace_model.specs.declared.entry.Entry.TheVariants as entry
-use Rattle.shdlc_core.specs.declared.answers.LinkState.TheVariants.{Down, Waiting, Up}
+use Rattle.shdlc_core.specs.declared.answers.LinkState.TheVariants.{Up}
 use Rattle.shdlc_core.specs.declared.answers.Due.{Due}
-use Rattle.shdlc_core.specs.declared.answers.Due.TheVariants.{Rr as Rr_due, Rset as Rset_due}
-use Rattle.shdlc_core.specs.Machine.{control_due, is_waiting, with_ready, fetched, frames_of, after_frames, most_frames}
-use Rattle.link_laws.specs.sessions.Sessions.{is_rset}
 use Rattle.link_laws.proofs.sessions.Sending.{at_most_one}
-use Rattle.link_laws.specs.machine.Machine.{ActDue, aside_refusal, among, frames_out}
-use Rattle.link_laws.specs.messages.Rsets.{rsets_among, rsets_due}
-use Rattle.link_laws.proofs.places.Joined.{fetch_cases}
-use Rattle.link_laws.proofs.machine.Shifts.{Shift}
-use Rattle.link_laws.proofs.machine.Shifts.Shift.{Stays, Ends, Renews, Begins, Rests}
-use Rattle.link_laws.proofs.machine.Reports.{take_so}
-use Rattle.node_machine.specs.Parts.Deed.{Asks as AsksFor, Orders}
 use Rattle.node_machine.specs.Parts.About.{Waits, Removed}
-use Rattle.node_machine.specs.Carrying.{notified}
-use Rattle.node_machine.specs.Node.{is_over, is_forgotten}
-use Rattle.node_machine.specs.Parts.{About}
-use Rattle.node_laws.proofs.Cases.{by_list}
-use Rattle.node_laws.proofs.steps.StepWalks.{Lasts, rest_lasts, got_at}
 use Rattle.lone_laws.proofs.answered.Coming.{IsLoneInput}
 use Rattle.lone_laws.proofs.answered.Numbers.{no_fewer, one_more, IsAsked, input_asked}
 
@@ -99,31 +84,24 @@ turn_turned s f (Hold held) a =
       asks = let v = z.1 in let w = a.asks in omega (arith, v, w);
       few = let v = z.2 in let w = a.few in omega (arith, v, w);
     }
-turn_turned s f FetchMessage a = same_turned s f (turn f FetchMessage) refl a
 turn_turned s f SetAside a = by_option (aside_refusal f) (λ q. rw q (record { waits = a.waits; asks = a.asks; few = a.few })) (λ why q. rw q a)
-turn_turned s f Release a = same_turned s f (turn f Release) refl a
+turn_turned s f x a = same_turned s f (turn f x) refl a
 
 -- ## A node in a step
 
 module _ (s : LinkEnd) where
+  abbrev Turned : Port → Type 0
+  Turned p = IsTurned s p.side
+
   abbrev pub AreTurned : List Port → Type 0
-  AreTurned ports = AllByRecursion (λ (p : Port). IsTurned s p.side) ports
+  AreTurned ports = AllByRecursion Turned ports
 
   abbrev pub IsTurnedWork : Work → Type 0
   IsTurnedWork w = AreTurned w.ports
 
-  map_turned : (f : Port → Port) → ((p : Port) → IsTurned s p.side → IsTurned s (f p).side) → (ports : List Port) → AreTurned ports → AreTurned (map f ports)
-  map_turned f one [] a = tt
-  map_turned f one (p ∷ ports) a = (one p a.0, map_turned f one ports a.1)
-
-  changed_turned : (b : Bool) (f : Port → Port) (p : Port) → IsTurned s (f p).side → IsTurned s p.side → IsTurned s (changed_if b f p).side
-  changed_turned true f p one a = one
-  changed_turned false f p one a = a
-
   port_turned : (h : ℕ) (f : Port → Port) → ((p : Port) → IsTurned s p.side → IsTurned s (f p).side) → (ports : List Port) → AreTurned ports
       → AreTurned (with_port h f ports)
-  port_turned h f one ports a =
-      map_turned (λ (p : Port). changed_if (eqb p.desk.host h) f p) (λ p b. changed_turned (eqb p.desk.host h) f p (one p b) b) ports a
+  port_turned h f one ports a = all_changed Turned (λ (p : Port). eqb p.desk.host h) f one ports a
 
   at_turned : (h : ℕ) (x : Turn) (w : Work) → IsTurnedWork w → IsTurnedWork (turn_at h x w)
   at_turned h x w a = port_turned h (after_turn x) (λ p b. turn_turned s p.side x b) w.ports a
@@ -158,10 +136,6 @@ module _ (s : LinkEnd) where
   abbrev AnyMessage : ℕ → Message → Type 0
   AnyMessage h m = Unit {0}
 
-  any : {X : Type 0} (xs : List X) → AllByRecursion (λ x. Unit {0}) xs
-  any [] = tt
-  any (x ∷ xs) = (tt, any xs)
-
   turned_lasts : Lasts IsTurnedWork AnyDeed AnyMessage
   turned_lasts = record {
     does = done_turned;
@@ -170,8 +144,8 @@ module _ (s : LinkEnd) where
     fetched = λ h w a. at_turned h FetchMessage w a;
     held = λ h flag w a. at_turned h (Hold flag) w a;
     marked = λ h flag w a. desk_turned h (λ d. record d { holds = flag }) w a;
-    come = λ h w a. any (got_at h w);
-    causes = λ h m w may a. any _;
+    come = λ h w a. anyone (AnyMessage h) (λ m. tt) (got_at h w);
+    causes = λ h m w may a. anyone AnyDeed (λ d. tt) _;
   }
 
   without_turned : (p : Port) → IsTurned s p.side → IsTurned s (without_notice p).side
@@ -186,9 +160,9 @@ module _ (s : LinkEnd) where
       let came : Work = times_out input (all_come input w) in
       let left : List Port = map (forgets came.ports) came.ports in
       rest_lasts IsTurnedWork AnyDeed AnyMessage turned_lasts (forgotten came.ports) (flat_map (synced w.core input) w.ports) (all_owed left)
-      (record came { core = after_sessions came.core came.ports; ports = map without_notice left }) (any (forgotten came.ports))
-      (any (flat_map (synced w.core input) w.ports)) (any (all_owed left))
-      (map_turned without_notice without_turned left (map_turned (forgets came.ports) (forgets_turned came.ports) came.ports a))
+      (record came { core = after_sessions came.core came.ports; ports = map without_notice left }) (anyone AnyDeed (λ d. tt) (forgotten came.ports))
+      (anyone AnyDeed (λ d. tt) (flat_map (synced w.core input) w.ports)) (anyone AnyDeed (λ d. tt) (all_owed left))
+      (all_map Turned Turned without_notice without_turned left (all_map Turned Turned (forgets came.ports) (forgets_turned came.ports) came.ports a))
 
 -- ## Frames that go out
 
@@ -270,9 +244,8 @@ began_more e (Take c) rsets session low waits began = go c (and_parts (is_open e
     by _ p = no_input (take_answer e.shdlc (S kind nr)).began (rw p refl) b
   go Ua b = by e.shdlc.phase refl where
     by : (p : LinkState) → e.shdlc.phase ≡ p → session < rsets
-    by Up p = absurd (no_input (take_answer e.shdlc Ua).began (rw p refl) b)
     by Waiting p = waits (rw p refl)
-    by Down p = absurd (no_input (take_answer e.shdlc Ua).began (rw p refl) b)
+    by _ p = absurd (no_input (take_answer e.shdlc Ua).began (rw p refl) b)
   go (ActFrame act again) b = absurd (by e.shdlc.phase refl) where
     by : (p : LinkState) → e.shdlc.phase ≡ p → ⊥
     by Up p = no_input (take_answer e.shdlc (ActFrame act again)).began (rw p refl) b

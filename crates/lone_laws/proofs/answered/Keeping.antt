@@ -1,18 +1,12 @@
 -- Between events of a node alone all that is read of it is what it keeps.
-use Rattle.std.proofs.Common.{◌≡◌, ℕ, ◌≤◌, true, false, cond, eqb, List, [], ◌∷◌, ◌++◌, map, refl, sym, ap, subst, ◌∙◌, append_assoc, arith}
 use Rattle.std.specs.Prelude.{◌+◌, length, Some, None}
-use Rattle.lone_laws.proofs.Words.{AllByRecursion, ComesTo, Commits, Control, Core, Deed, Desk, End, Entry, FrameComes, LinkEnd, LinkInput, Lone, LoneCause}
-use Rattle.lone_laws.proofs.Words.{Port, Running, Work, after_input, all_come, all_do, all_done, by_test, done, emits_behind, errors_found, filter}
-use Rattle.lone_laws.proofs.Words.{frames_behind, goes_in, lone_arrival, lone_behind_step, lone_end, lone_input, lone_port, lpdu_of, node_input, own_side}
-use Rattle.lone_laws.proofs.Words.{passes, port_at, report, rsets_since, sent_all, session_with, steps_are, syncs_in, told_at, true≢false, whole_acked}
+use Rattle.lone_laws.proofs.Words.{AllByRecursion, ComesTo, Commits, Control, Core, Deed, Desk, End, Entry, FrameComes, LinkEnd, LinkInput, List, Lone}
+use Rattle.lone_laws.proofs.Words.{LoneCause, Port, Running, Work, [], after_input, all_come, all_do, all_done, all_synced_hold, ap, append_assoc, arith}
+use Rattle.lone_laws.proofs.Words.{by_list, by_test, cond, done, emits_behind, eqb, errors_found, false, filter, fine_at, frames_behind, frames_out, goes_in}
+use Rattle.lone_laws.proofs.Words.{is_rset, lone_arrival, lone_behind_step, lone_end, lone_input, lone_port, lpdu_of, map, node_input, own_side, passes}
+use Rattle.lone_laws.proofs.Words.{port_at, refl, report, rsets_since, sent_all, session_with, side_behind, sound_sent, steps_are, subst, sym, syncs_in}
+use Rattle.lone_laws.proofs.Words.{told_at, true, true≢false, whole_acked, ℕ, ◌++◌, ◌∙◌, ◌∷◌, ◌≡◌, ◌≤◌}
 use Rattle.trace_model.specs.declared.entry.Entry.TheVariants as entry
-use Rattle.link_laws.specs.machine.Machine.{frames_out}
-use Rattle.link_laws.specs.sessions.Sessions.{is_rset}
-use Rattle.link_laws.proofs.entries.Stepping.{sound_sent}
-use Rattle.node_machine.proofs.Walks.{all_synced_hold}
-use Rattle.node_laws.proofs.Cases.{by_list}
-use Rattle.node_laws.proofs.links.Works.{fine_at}
-use Rattle.lone_laws.specs.alone.Lone.{side_behind}
 use Rattle.lone_laws.proofs.answered.Reading.{eqb_same, Read, Alone}
 use Rattle.lone_laws.proofs.answered.Coming.{IsLoneInput, pass_is, came_is, came_ports, came_entries}
 use Rattle.lone_laws.proofs.answered.Stepping.{lone_comes, passed}

@@ -1,16 +1,12 @@
 -- What is known of a node alone at each turn of a step: what it keeps, its session and its blocks are read.
-use Rattle.std.proofs.Common.{◌≡◌, ℕ, ◌<◌, ◌≤◌, true, false, cond, eqb, List, [], ◌∷◌, ◌++◌, map, refl, sym, ap, subst, ◌∙◌, append_assoc, Some, None}
-use Rattle.lone_laws.proofs.Words.{AllByRecursion, Core, Deed, End, Entry, FetchMessage, Hold, LastsOverTurns, LinkEnd, LinkInput, Lone, LoneCause, Message}
-use Rattle.lone_laws.proofs.Words.{Port, Reset, Running, Sound, Start, Stop, Take, TakeUnknown, Tick, Work, after_input, all_come, all_do, all_done, began_by}
-use Rattle.lone_laws.proofs.Words.{by_test, deeds_of, end_of_node, handles, holds_back, lets, lone_arrival, lone_end, lone_input, lone_port, node_input, noting}
-use Rattle.lone_laws.proofs.Words.{option_map_or, own_side, port_at, report, rsets_since, session_with, syncs_in, takes_up, told_at, turn_at, waiting_at}
-use Rattle.lone_laws.proofs.Words.{whole_acked, with_desk}
+use Rattle.lone_laws.proofs.Words.{AllByRecursion, AreFine, AreSendable, Core, Deed, End, Entry, FetchMessage, Hold, IsFine, IsFinePort, IsFineWork, IsTrueDesk}
+use Rattle.lone_laws.proofs.Words.{LastsOverTurns, LinkEnd, LinkInput, List, Lone, LoneCause, Message, None, Port, Reset, Running, Some, Sound, Start, Stop}
+use Rattle.lone_laws.proofs.Words.{Take, TakeUnknown, Tick, Work, [], after_input, all_come, all_do, all_done, all_done_fine, all_synced_hold, ap, append_assoc}
+use Rattle.lone_laws.proofs.Words.{began_by, by_test, came_fine, cond, deeds_fine, deeds_of, end_of_node, eqb, false, fine_at, handles, handles_fine}
+use Rattle.lone_laws.proofs.Words.{holds_back, holds_fine, lets, lets_fine, lone_arrival, lone_end, lone_input, lone_port, map, node_input, noting}
+use Rattle.lone_laws.proofs.Words.{option_map_or, own_side, port_at, refl, report, rsets_since, session_with, sound_input, subst, sym, syncs_in, takes_up}
+use Rattle.lone_laws.proofs.Words.{told_at, true, turn_at, waiting_at, whole_acked, with_desk, ℕ, ◌++◌, ◌<◌, ◌∙◌, ◌∷◌, ◌≡◌, ◌≤◌}
 use Rattle.trace_model.specs.declared.entry.Entry.TheVariants as entry
-use Rattle.hcp_packet.specs.Packets.{AreSendable}
-use Rattle.link_laws.proofs.machine.Runs.{sound_input}
-use Rattle.node_laws.proofs.links.Deeds.{IsFine, AreFine, IsTrueDesk}
-use Rattle.node_machine.proofs.Walks.{all_synced_hold}
-use Rattle.node_laws.proofs.links.Works.{IsFinePort, IsFineWork, fine_at, deeds_fine, all_done_fine, handles_fine, holds_fine, lets_fine, came_fine}
 use Rattle.lone_laws.proofs.answered.Own.{IsOwnDeed}
 use Rattle.lone_laws.proofs.answered.Reading.{Read, Alone}
 use Rattle.lone_laws.proofs.answered.Turning.{IsHere, alone_here, own_deeds, alone_handled, alone_held, alone_lasts}

@@ -1,12 +1,11 @@
 -- Over the events of a node alone what it keeps is read, and what holds of each event holds of all.
-use Rattle.std.proofs.Common.{◌≡◌, ◌≤◌, Bool, true, false, cond, eqb, List, [], ◌∷◌, ◌++◌, map, refl, sym, ap, subst, ◌∙◌, append_assoc}
 use Rattle.std.specs.Prelude.{◌+◌, min, Option, Some, None, is_some}
-use Rattle.lone_laws.proofs.Words.{AreTables, Control, Desk, End, Entry, FrameComes, FrameIsRefused, JoinTwo, LinkEnd, LinkInput, Lone, LoneCause, Port}
-use Rattle.lone_laws.proofs.Words.{Running, Work, by_option, by_test, changed_if, does_by_power, emits_behind, lone_arrival, lone_behind_step, lone_end}
-use Rattle.lone_laws.proofs.Words.{lone_input, lone_port, lone_step, lone_work, lpdu_of, node_input, noted_of_refused, option_map_or, port_at, session_with}
-use Rattle.lone_laws.proofs.Words.{steps, true≢false, with_refusal}
+use Rattle.lone_laws.proofs.Words.{AreTables, Bool, Control, Desk, End, Entry, FrameComes, FrameIsRefused, JoinTwo, LinkEnd, LinkInput, List, Lone, LoneCause}
+use Rattle.lone_laws.proofs.Words.{Port, Running, Work, [], ap, append_assoc, by_option, by_test, changed_if, cond, does_by_power, does_with_input}
+use Rattle.lone_laws.proofs.Words.{emits_behind, eqb, false, lone_arrival, lone_behind_step, lone_end, lone_input, lone_port, lone_step, lone_work, lpdu_of}
+use Rattle.lone_laws.proofs.Words.{map, node_input, noted_of_refused, option_map_or, port_at, refl, session_with, side_behind, steps, subst, sym, true}
+use Rattle.lone_laws.proofs.Words.{true≢false, with_refusal, ◌++◌, ◌∙◌, ◌∷◌, ◌≡◌, ◌≤◌}
 use Rattle.trace_model.specs.declared.entry.Entry.TheVariants as entry
-use Rattle.lone_laws.specs.alone.Lone.{side_behind, does_with_input}
 use Rattle.lone_laws.proofs.answered.Reading.{eqb_same, Read, read_all, read-append, reads_of, AreNothing, nothing_read, Alone}
 use Rattle.lone_laws.proofs.answered.Stepping.{lone_comes, alone_steps}
 

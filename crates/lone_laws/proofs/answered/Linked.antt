@@ -1,15 +1,9 @@
 -- A node with one link goes by what is said of such a node, and does by that what it does.
-use Rattle.std.proofs.Common.{◌≡◌, ℕ, ◌&&◌, ◌||◌, Bool, true, false, cond, eqb, List, [], ◌∷◌, refl, sym, ap, ◌∙◌, Some, None, is_some, option_map}
-use Rattle.std.proofs.Common.{option_and_then}
-use Rattle.lone_laws.proofs.Words.{Core, Creation, Message, Port, by_test, creation_in, deeds_for, deeds_of, end_view, eqb-true, first_lack, host_deeds, is_up}
-use Rattle.lone_laws.proofs.Words.{lack, list_any, option_map_or, own_view, port_at, spare, spare_with_link, view_of, view_with_link}
-use Rattle.std.specs.List.{cons_option}
+use Rattle.lone_laws.proofs.Words.{Bool, Core, Creation, List, Message, NodeView, None, Port, Some, [], about_of, ap, by_test, cond, cons_option, creation_in}
+use Rattle.lone_laws.proofs.Words.{creation_of, deeds_far, deeds_for, deeds_near, deeds_of, end_view, eqb, eqb-true, false, first_lack, host_deeds, is_asked_at}
+use Rattle.lone_laws.proofs.Words.{is_connected_at, is_opened, is_some, is_up, lack, list_any, option_and_then, option_map, option_map_or, own_view, pipe_of}
+use Rattle.lone_laws.proofs.Words.{port_at, refl, spare, spare_with, spare_with_link, sym, true, view_of, view_with_link, ℕ, ◌&&◌, ◌||◌, ◌∙◌, ◌∷◌, ◌≡◌}
 use mathlib.Core.Bool.{and-false, and-true}
-use Rattle.hci_tables.specs.Tables.{is_opened}
-use Rattle.node_machine.specs.Parts.{NodeView}
-use Rattle.node_machine.specs.Carrying.{spare_with}
-use Rattle.node_machine.specs.Controller.{about_of, creation_of, is_asked_at, is_connected_at, pipe_of}
-use Rattle.node_machine.proofs.Walks.{deeds_near, deeds_far}
 use Rattle.node_laws.specs.views.Views.{IsSameView}
 use Rattle.node_laws.proofs.views.Viewing.{where_same}
 use Rattle.node_laws.specs.read_steps.Alike.{KnowsTheSame}

@@ -1,21 +1,14 @@
 -- The memory of a node alone holds its commands, or all but the last one where its power went in that one's writes.
-use Rattle.std.proofs.Common.{◌≡◌, ◌⊎◌, inl, inr, ℕ, ◌+◌, ◌-◌, ◌^◌, true, false, List, [], ◌∷◌, ◌++◌, length, refl, sym, ap, subst, ◌∙◌, arith, append_assoc}
-use Rattle.std.proofs.Common.{append-nil, length-append, min, Option, Some, None}
-use Rattle.lone_laws.proofs.Words.{AllByRecursion, AreTables, AreTables-apply, Command, Commits, Deed, Drops, Entry, HciTables, IsAnswered, IsCommand}
-use Rattle.lone_laws.proofs.Words.{IsRecordable, Memory, SaysOk, Sends, SetsErrors, State, Work, Write, after_commands, after_planned, all_done, apply, body_of}
-use Rattle.lone_laws.proofs.Words.{by_test, commands_of_entries, commit, commit_writes, count_of, done, end_of_node, fails_within, fold-append, keeps}
-use Rattle.lone_laws.proofs.Words.{loses_power, noting, planned_whole, unless_cut}
+use Rattle.lone_laws.proofs.Words.{AllByRecursion, AreTables, AreTables-apply, Command, Commits, Deed, Drops, Entry, FindsRoom, HciTables, Init, IsAnswered}
+use Rattle.lone_laws.proofs.Words.{IsCommand, IsRecordable, List, MayBeDone, Memory, None, Option, Plainly, SaysOk, Sends, SetsErrors, Some, State, Work, Write}
+use Rattle.lone_laws.proofs.Words.{[], after_commands, after_planned, after_planned-append, all_done, ap, append-nil, append_assoc, apply, arith, body_of}
+use Rattle.lone_laws.proofs.Words.{by_test, commands_of_entries, commit, commit_writes, committed, count_of, done, end_of_node, fails_within, false}
+use Rattle.lone_laws.proofs.Words.{fold-append, inl, inr, keeps, length, length-append, loses_power, min, noting, plainly_desk, plainly_noting, plainly_turn}
+use Rattle.lone_laws.proofs.Words.{plan_behind, planned_whole, refl, subst, sym, true, unless_cut, ℕ, ◌++◌, ◌+◌, ◌-◌, ◌^◌, ◌∙◌, ◌∷◌, ◌≡◌, ◌⊎◌}
 use Rattle.trace_model.specs.declared.entry.Entry.TheVariants as entry
 use Rattle.hci_store.proofs.Recorded.{recordable-apply}
-use Rattle.hci_store.specs.Committing.{committed}
-use Rattle.node_machine.specs.Parts.{Init}
-use Rattle.node_machine.specs.Carrying.{plan_behind}
 use Rattle.node_laws.specs.kept.Books.{IsPlain}
-use Rattle.node_laws.specs.kept.Deeds.{MayBeDone}
-use Rattle.node_laws.specs.kept.Finds.{FindsRoom}
 use Rattle.node_laws.proofs.kept.Doing.{stays_cut, uncut}
-use Rattle.node_laws.proofs.kept.Plainly.{Plainly, plainly_desk, plainly_noting, plainly_turn}
-use Rattle.node_laws.proofs.kept.Planned.{after_planned-append}
 use Rattle.lone_laws.proofs.answered.Finding.{FindsIf, KnowsIf, commit_count, finds_counting, planned_knows, planned_left}
 
 -- ## Commands

@@ -1,18 +1,11 @@
 -- All that a node alone notes is its own, so its answers are read as those of a node among others.
-use Rattle.std.proofs.Common.{◌≡◌, ℕ, Bool, true, false, cond, eqb, ◌||◌, List, [], ◌∷◌, ◌++◌, inl, inr, map, refl, sym, ap, ap₂, subst, ◌∙◌, None, not}
-use Rattle.std.proofs.Common.{if◌then◌else◌, eq-eqb}
-use Rattle.lone_laws.proofs.Words.{Control, Core, Desk, Entry, FrameComes, IsDueAlone, IsRepliedAlone, LinkInput, Lone, LoneCause, LoneEvent, NodeInput}
-use Rattle.lone_laws.proofs.Words.{Running, Work, by_test, core_since, eqb-true, filter, lack_since, list_any, lone_arrival, lone_end, lone_port, lone_work}
-use Rattle.lone_laws.proofs.Words.{lpdu_of, noted_since, reply_since, session_with, steps, sync_due, to_command}
-use Rattle.std.proofs.lemmas.List.Sums.{take_while-cons}
-use Rattle.registry.proofs.ValueLemmas.{AllByRecursion-append as all_append}
+use Rattle.lone_laws.proofs.Words.{AnswersSo, AreOwn, Bool, Control, Core, Desk, Entry, FrameComes, IsDueAlone, IsOwn, IsRepliedAlone, LinkInput, List, Lone}
+use Rattle.lone_laws.proofs.Words.{LoneCause, LoneEvent, NodeInput, None, Running, Work, [], all_append, ap, ap₂, before_turn, by_test, cond, core_since}
+use Rattle.lone_laws.proofs.Words.{eq-eqb, eqb, eqb-true, false, filter, if◌then◌else◌, inl, inr, is_answer_of, is_cut_of, is_turn_of, lack_since, list_any}
+use Rattle.lone_laws.proofs.Words.{lone_arrival, lone_end, lone_port, lone_work, lpdu_of, map, node_of, not, noted_since, refl, reply_since, session_with}
+use Rattle.lone_laws.proofs.Words.{steps, subst, sym, sync_due, take_while-cons, to_command, true, ℕ, ◌++◌, ◌||◌, ◌∙◌, ◌∷◌, ◌≡◌}
 use Rattle.trace_model.specs.declared.entry.Entry.TheVariants as entry
-use Rattle.node_machine.specs.world.World.{node_of}
-use Rattle.node_laws.specs.kept.Reckonings.{is_cut_of}
-use Rattle.node_laws.specs.answers.Answered.{AnswersSo, before_turn, is_turn_of}
-use Rattle.node_laws.specs.answers.Order.{is_answer_of}
 use Rattle.node_laws.proofs.telling.Walks.{AreUncut}
-use Rattle.node_laws.proofs.power.Parts.{IsOwn, AreOwn}
 use Rattle.node_laws.proofs.power.Doing.{AreEnds, Fine, IsEndOf, Runs}
 use Rattle.node_laws.proofs.power.Steps.{steps_fine}
 

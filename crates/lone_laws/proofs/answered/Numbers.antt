@@ -1,21 +1,15 @@
 -- The sessions of a node alone have growing numbers: behind each one that waits an RSET went out, or is about to.
-use Rattle.std.proofs.Common.{◌≡◌, ◌⊎◌, inl, inr, ℕ, ◌+◌, ◌≤◌, Bool, true, false, cond, List, [], ◌∷◌, ◌++◌, length, refl, sym, ap, subst, ◌∙◌, arith}
-use Rattle.std.proofs.Common.{length-append, nat_lt, ◌==◌, is_some, Option, Some, None}
-use Rattle.lone_laws.proofs.Words.{Act, ActEvent, Clt, Control, EndState, I, LinkEnd, LinkInput, LinkState, Reset, Rset, S, Start, Stop, Take, TakeUnknown}
-use Rattle.lone_laws.proofs.Words.{Tick, Ua, act_answer, activated, after_input, by_option, by_test, heard, is_faulty, is_open, moved, put_down, reset_refusal}
-use Rattle.lone_laws.proofs.Words.{reset_with, role_after, stopped, take_answer, taken, tick_answer, ticked, true≢false, window_of, with_act}
-use Rattle.swp_base.specs.declared.control_frames.Control.TheVariants.{Act as ActFrame}
+use Rattle.lone_laws.proofs.Words.{Act, ActEvent, ActFrame, ActStart, ActStop, ActTake, ActTick, Asked, Bool, Clt, Control, EndState, Fragment, I, LinkEnd}
+use Rattle.lone_laws.proofs.Words.{LinkInput, LinkState, List, None, Option, Rej_due, Reset, Rnr_due, Rr_due, Rset, Rset_due, S, Some, Start, Stop, Take}
+use Rattle.lone_laws.proofs.Words.{TakeUnknown, Tick, Ua, Ua_due, Waiting, [], acknowledged, act_answer, activated, after_input, ap, arith, by_option, by_test}
+use Rattle.lone_laws.proofs.Words.{cond, due_left, false, heard, if_up, inl, inr, is_faulty, is_open, is_some, is_waiting, length, length-append, moved, nat_lt}
+use Rattle.lone_laws.proofs.Words.{place_of, put_down, received, received_cases, refl, reset_refusal, reset_with, role_after, rsets_among, runs_timer}
+use Rattle.lone_laws.proofs.Words.{sent_again, stopped, subst, sym, take_answer, taken, tick_answer, ticked, true, true≢false, waiting_from, window_of}
+use Rattle.lone_laws.proofs.Words.{with_act, ℕ, ◌++◌, ◌+◌, ◌==◌, ◌∙◌, ◌∷◌, ◌≡◌, ◌≤◌, ◌⊎◌}
 use Rattle.swp_base.specs.declared.control_frames.Kind.{Kind}
 use Rattle.swp_base.specs.declared.control_frames.Kind.TheVariants.{Rr, Rej, Rnr, Srej}
-use Rattle.swp_base.specs.declared.link_terms.Cause.TheVariants.{Asked}
-use Rattle.swp_act.specs.declared.ActEvent.TheVariants.{Start as ActStart, Take as ActTake, Tick as ActTick, Stop as ActStop}
-use Rattle.shdlc_core.specs.declared.answers.LinkState.TheVariants.{Down, Waiting, Up}
+use Rattle.shdlc_core.specs.declared.answers.LinkState.TheVariants.{Down, Up}
 use Rattle.shdlc_core.specs.declared.answers.Due.{Due}
-use Rattle.shdlc_core.specs.declared.answers.Due.TheVariants.{Rr as Rr_due, Rej as Rej_due, Rnr as Rnr_due, Rset as Rset_due, Ua as Ua_due}
-use Rattle.shdlc_core.specs.Machine.{Fragment, due_left, waiting_from, place_of, acknowledged, received, runs_timer, is_waiting, sent_again}
-use Rattle.link_laws.specs.machine.Machine.{if_up}
-use Rattle.link_laws.specs.messages.Rsets.{rsets_among}
-use Rattle.link_laws.proofs.places.Joined.{received_cases}
 use Rattle.lone_laws.proofs.answered.Coming.{IsLoneInput}
 
 -- ## Control frames that are due
@@ -89,17 +83,8 @@ taken_more e c = go e.phase refl c where
   go Up p (I ns nr info) = (up_I e ns nr info p (rw p refl)).0
   go Up p (S kind nr) = (up_S e kind nr p (rw p refl)).0
   go p q (Rset w caps) = reset w caps p q (w == 0) refl
-  go Up p Ua = same Ua (rw p refl)
-  go Up p (ActFrame x y) = same (ActFrame x y) (rw p refl)
-  go Up p Clt = same Clt (rw p refl)
   go Waiting p Ua = rw p (omega arith)
-  go Waiting p (I ns nr info) = same (I ns nr info) (rw p refl)
-  go Waiting p (S kind nr) = same (S kind nr) (rw p refl)
-  go Down p (I ns nr info) = same (I ns nr info) (rw p refl)
-  go Down p (S kind nr) = same (S kind nr) (rw p refl)
-  go Down p Ua = same Ua (rw p refl)
-  go _ p (ActFrame x y) = same (ActFrame x y) (rw p refl)
-  go _ p Clt = same Clt (rw p refl)
+  go _ p c = same c (rw p refl)
 
 -- a frame makes no end wait
 taken_still : (e : EndState) (c : Control) → is_waiting e ≡ false → is_waiting (taken e c) ≡ false
@@ -118,15 +103,8 @@ taken_still e c still = go e.phase refl c where
   go p q (Rset w caps) = reset w caps p q (w == 0) refl
   go Up p (I ns nr info) = (up_I e ns nr info p still).1
   go Up p (S kind nr) = (up_S e kind nr p still).1
-  go Up p Ua = same Ua (rw p refl)
-  go Up p (ActFrame x y) = same (ActFrame x y) (rw p refl)
-  go Up p Clt = same Clt (rw p refl)
   go Waiting p c = absurd (true≢false (sym (rw p refl) ∙ still))
-  go Down p (I ns nr info) = same (I ns nr info) (rw p refl)
-  go Down p (S kind nr) = same (S kind nr) (rw p refl)
-  go Down p Ua = same Ua (rw p refl)
-  go Down p (ActFrame x y) = same (ActFrame x y) (rw p refl)
-  go Down p Clt = same Clt (rw p refl)
+  go _ p c = same c (rw p refl)
 
 -- ## A tick and a reset
 
@@ -187,9 +165,8 @@ down_asked : (b : Bool) (e : LinkEnd) → IsAsked e.shdlc (put_down b e)
 down_asked false e = still_asked e.shdlc e refl
 down_asked true e = go e.shdlc.phase refl where
   go : (p : LinkState) → e.shdlc.phase ≡ p → IsAsked e.shdlc (put_down true e)
-  go Up q = rw q (omega arith, λ still. inl refl)
-  go Waiting q = rw q (omega arith, λ still. inl refl)
   go Down q = rw q (omega arith, λ still. inl still)
+  go _ q = rw q (omega arith, λ still. inl refl)
 
 act_shdlc : (o : Option Act) (e : LinkEnd) → (with_act o e).shdlc ≡ e.shdlc
 act_shdlc None e = refl
@@ -222,12 +199,9 @@ anew_asked s e event q =
     (let z = few in omega (arith, z), λ _. a.1 (ap is_waiting q))
 
 pub input_asked : (e : LinkEnd) (i : LinkInput) → IsLoneInput i → IsAsked e.shdlc (after_input e i)
-input_asked e (Take (I ns nr info)) a = open_asked e (I ns nr info)
-input_asked e (Take (S kind nr)) a = open_asked e (S kind nr)
-input_asked e (Take (Rset window caps)) a = open_asked e (Rset window caps)
-input_asked e (Take Ua) a = open_asked e Ua
 input_asked e (Take (ActFrame act again)) a = activated_asked e (ActTake act again)
 input_asked e (Take Clt) a = still_asked e.shdlc (after_input e (Take Clt)) refl
+input_asked e (Take c) a = open_asked e c
 input_asked e TakeUnknown a = still_asked e.shdlc (after_input e TakeUnknown) refl
 input_asked e Tick a = by_test (is_open e.role)
     (λ q. rw q (moved_asked e (is_some (tick_answer e.shdlc).ended) (ticked e.shdlc) (ticked_so e.shdlc)))

@@ -1,20 +1,15 @@
 -- Messages have their turns in order, and behind each event all have had them, or all before one that is held.
-use Rattle.std.proofs.Common.{◌≡◌, ◌≤◌, Bool, true, false, cond, eqb, ◌||◌, List, [], ◌∷◌, ◌++◌, map, refl, sym, ap, ap₂, subst, ◌∙◌, append_assoc, append-nil}
 use Rattle.std.specs.Prelude.{Some, None, is_none}
-use Rattle.lone_laws.proofs.Words.{AllByRecursion-append, AreNoTurns, BeginWithTurn, ComesTo, Core, End, Entry, FrameComes, IsTurnSo, LinkInput, Lone}
-use Rattle.lone_laws.proofs.Words.{LoneCause, Message, Port, Running, Work, by_test, comes_to_pass, emits_behind, frames_behind, hosts_of_ends, link_of_turn}
-use Rattle.lone_laws.proofs.Words.{lone_arrival, lone_end, lone_input, lone_work, node_input, oldest, option_map_or, passes, steps, steps_are, unhandled_in}
-use Rattle.lone_laws.proofs.Words.{waiting_at}
+use Rattle.lone_laws.proofs.Words.{AllByRecursion-append, AreNoTurns, ArePassed, BeginWithTurn, Bool, ComesTo, Core, End, Entry, FrameComes, IsBehind, IsNoTurn}
+use Rattle.lone_laws.proofs.Words.{IsTurnSo, LinkInput, List, Lone, LoneCause, Message, Port, Running, Work, [], ap, append-nil, append_assoc, ap₂}
+use Rattle.lone_laws.proofs.Words.{before_entries, before_none, by_test, comes_lasts, comes_to_pass, cond, emits_behind, eqb, false, frames_behind}
+use Rattle.lone_laws.proofs.Words.{goes_through_ends, holds_in, hosts_of_ends, is_at_rest, is_held_at, link_of_turn, lone_arrival, lone_end, lone_input}
+use Rattle.lone_laws.proofs.Words.{lone_work, map, node_input, noted_before_pass, oldest, option_map_or, passes, refl, steps, steps_are, subst, sym, true}
+use Rattle.lone_laws.proofs.Words.{unhandled_in, waiting_at, ◌++◌, ◌||◌, ◌∙◌, ◌∷◌, ◌≡◌, ◌≤◌}
 use Rattle.trace_model.specs.declared.entry.Entry.TheVariants as entry
-use Rattle.node_machine.specs.Turns.{goes_through_ends}
-use Rattle.node_laws.specs.answers.Moments.{holds_in}
-use Rattle.node_laws.specs.passes.Passing.{IsNoTurn, ArePassed, IsBehind, Stays, is_held_at}
+use Rattle.node_laws.specs.passes.Passing.{Stays}
 use Rattle.node_laws.specs.passes.Passing.ComesTo.{Begins}
-use Rattle.node_laws.specs.passes.Steps.{noted_before_pass}
-use Rattle.node_laws.proofs.passes.Passing.{comes_lasts}
-use Rattle.node_laws.proofs.passes.Before.{before_entries, before_none}
 use Rattle.node_laws.proofs.passes.Behind.{leaves_behind}
-use Rattle.lone_laws.specs.alone.Answers.{is_at_rest}
 use Rattle.lone_laws.proofs.answered.Reading.{eqb_same, Read, read_all, read-append, left_is, held_is, reads_of, nothing_read, Alone}
 use Rattle.lone_laws.proofs.answered.Turning.{own_end, IsHere, alone_here, alone_at, link_is}
 use Rattle.lone_laws.proofs.answered.Stepping.{lone_comes, alone_begins, alone_steps, passed}

@@ -1,21 +1,13 @@
 -- A node with one link asks nobody for a pipe and tells nobody of one: what it does with a message is of its own.
-use Rattle.std.proofs.Common.{◌≡◌, ℕ, ◌≤◌, Bool, true, false, cond, eqb, ◌&&◌, not, List, [], ◌∷◌, refl, sym, ap, ◌∙◌, inl, inr, Some, None}
-use Rattle.lone_laws.proofs.Words.{AllByRecursion, AreTables, Commits, Core, Creation, Deed, Drops, HciTables, IsAnswered, IsCommand, JoinTwo, Message, Port}
-use Rattle.lone_laws.proofs.Words.{Releases, SaysOk, Sends, SetsErrors, Tells, asked_at, controller_deeds, creation_in, end_view, eqb-true, host_deeds}
-use Rattle.lone_laws.proofs.Words.{option_map_or, own_view, port_at, true≢false, view_of}
-use Rattle.std.specs.List.{list_all}
-use Rattle.std.proofs.lemmas.Bool.{and_parts, not-true, not_from_false, not-false, and_cases, eqb-false, false≢true}
-use Rattle.gate_answers.specs.Answers.{body_in}
-use Rattle.gate_admin.specs.declared.view.LinkView.{LinkView}
-use Rattle.gate_admin.specs.declared.decision.Decision.{Decision}
-use Rattle.gate_admin.specs.declared.decision.Decision.TheVariants.{Answer, Commit, Ask}
-use Rattle.gate_admin.specs.View.{has, hosts_where, mask_of, is_connected}
-use Rattle.gate_admin.specs.Decide.{decided, tests_to_create, dest_in, IsRecordableDecision}
+use Rattle.lone_laws.proofs.Words.{AllByRecursion, Answer, AreTables, Ask, Bool, Commit, Commits, Core, Creation, Decision, Deed, Drops, HciTables, IsAnswered}
+use Rattle.lone_laws.proofs.Words.{IsCommand, IsRecordableDecision, JoinTwo, LinkView, List, Message, None, OfDecision, Plain, Port, Releases, SaysOk, Sends}
+use Rattle.lone_laws.proofs.Words.{SetsErrors, Some, Tells, [], all_of_controller, all_ordered, and_cases, and_parts, ap, asked_at, body_in, cond}
+use Rattle.lone_laws.proofs.Words.{controller_deeds, creation_in, decided, decided_holds, decided_tells_others, dest_in, end_view, eqb, eqb-false, eqb-true}
+use Rattle.lone_laws.proofs.Words.{false, false≢true, has, host_deeds, host_holds, hosts_where, inl, inr, is_connected, is_connected_at, list_all, mask_of, not}
+use Rattle.lone_laws.proofs.Words.{not-false, not-true, not_from_false, option_map_or, own_view, port_at, refl, sym, tests_to_create, true, true≢false}
+use Rattle.lone_laws.proofs.Words.{view_for, view_of, ℕ, ◌&&◌, ◌∙◌, ◌∷◌, ◌≡◌, ◌≤◌}
 use Rattle.gate_admin.proofs.CreationLemmas.{AllFalse, all_false}
 use Rattle.tables_laws.specs.gate.Rules.{TellsOthers}
-use Rattle.tables_laws.proofs.gate.Decisions.{decided_holds, decided_tells_others}
-use Rattle.node_machine.specs.Controller.{is_connected_at, view_for}
-use Rattle.node_machine.proofs.Walks.{Plain, OfDecision, all_of_controller, all_ordered, host_holds}
 use Rattle.node_laws.proofs.links.Masking.{nobody, from_mask}
 use Rattle.node_laws.proofs.kept.Deciding.{decided_recordable}
 

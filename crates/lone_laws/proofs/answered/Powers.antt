@@ -1,16 +1,10 @@
 -- A node that has lost its power in a step has noted it.
-use Rattle.std.proofs.Common.{◌≡◌, ℕ, Bool, true, false, ◌||◌, List, [], ◌∷◌, ◌++◌, map, refl, sym, subst, ◌∙◌, length}
-use Rattle.lone_laws.proofs.Words.{Commits, Deed, Drops, Entry, FetchMessage, Hold, IsAnswered, NodeInput, Port, Releases, SaysOk, Sends, SetsErrors, Tells}
-use Rattle.lone_laws.proofs.Words.{Turn, Work, after_sessions, all_come, all_owed, body_of, by_test, commit_writes, done, end_of_node, fails_within, flat_map}
-use Rattle.lone_laws.proofs.Words.{forgets, forgotten, keeps, list_any, loses_power, noted_of, noting, option_map_or, port_at, steps, synced, times_out}
-use Rattle.lone_laws.proofs.Words.{true≢false, turn_at, without_notice}
+use Rattle.lone_laws.proofs.Words.{AtEnd, Bool, Commits, Deed, Entry, FetchMessage, Hold, Lasts, List, NodeInput, Port, Sends, TimePasses, Turn, Work, []}
+use Rattle.lone_laws.proofs.Words.{after_sessions, all_come, all_owed, anyone, body_of, by_test, commit_writes, deed_notes, done, end_of_node, fails_within}
+use Rattle.lone_laws.proofs.Words.{false, flat_map, forgets, forgotten, keeps, length, list_any, loses_power, map, noted_by_deed, noted_of, noting}
+use Rattle.lone_laws.proofs.Words.{option_map_or, port_at, refl, rest_lasts, steps, subst, sym, synced, times_out, true, true≢false, turn_at, without_notice, ℕ}
+use Rattle.lone_laws.proofs.Words.{◌++◌, ◌||◌, ◌∙◌, ◌∷◌, ◌≡◌}
 use Rattle.trace_model.specs.declared.entry.Entry.TheVariants as entry
-use Rattle.node_machine.specs.Parts.Deed.{Asks, Orders, Hears, GoesOn, Ends}
-use Rattle.node_machine.specs.Node.NodeInput.{AtEnd, TimePasses}
-use Rattle.node_machine.proofs.Walks.{anyone}
-use Rattle.node_laws.proofs.steps.StepWalks.{Lasts, rest_lasts}
-use Rattle.node_laws.specs.passes.Noting.{noted_by_deed}
-use Rattle.node_laws.proofs.passes.Notes.{deed_notes}
 use Rattle.lone_laws.proofs.answered.Mine.{is_own_cut}
 
 -- where its power has gone, that was noted
@@ -57,17 +51,7 @@ cut_deed h (Commits c) w may a = by_test (fails_within (length (commit_writes w.
       by true = loses_power (commit_writes w.core.journal w.core.tables (body_of c)) begun
       by false = keeps c (commit_writes w.core.journal w.core.tables (body_of c)) begun
 cut_deed h (Sends to m) w may a = deed_noted h (Sends to m) w refl a
-cut_deed h SaysOk w may a = deed_noted h SaysOk w refl a
-cut_deed h (Asks to message c) w may a = deed_noted h (Asks to message c) w refl a
-cut_deed h (Releases asker) w may a = deed_noted h (Releases asker) w refl a
-cut_deed h (Tells to message) w may a = deed_noted h (Tells to message) w refl a
-cut_deed h IsAnswered w may a = deed_noted h IsAnswered w refl a
-cut_deed h (Drops pid) w may a = deed_noted h (Drops pid) w refl a
-cut_deed h (SetsErrors errors) w may a = deed_noted h (SetsErrors errors) w refl a
-cut_deed h (Orders message) w may a = deed_noted h (Orders message) w refl a
-cut_deed h Hears w may a = deed_noted h Hears w refl a
-cut_deed h (GoesOn i) w may a = deed_noted h (GoesOn i) w refl a
-cut_deed h (Ends e) w may a = deed_noted h (Ends e) w refl a
+cut_deed h d w may a = deed_noted h d w refl a
 
 cut_lasts : Lasts IsCutNoted (λ d. Unit {0}) (λ h m. Unit {0})
 cut_lasts = record {

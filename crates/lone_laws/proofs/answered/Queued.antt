@@ -1,7 +1,6 @@
 -- Where each message that has its turn is the first that came and had none, messages have their turns in the order in which they came.
-use Rattle.std.proofs.Common.{◌≡◌, List, [], ◌∷◌, ◌++◌, inl, inr, refl, sym, ap, subst, append_assoc, ◌⊎◌}
-use Rattle.lone_laws.proofs.Words.{AreInTurn, AtEachNoted, Entry, IsFirstThere, LoneEvent, entries_of_events_alone}
-use Rattle.node_laws.proofs.answers.OneFact.{firsts_in_turn}
+use Rattle.lone_laws.proofs.Words.{AreInTurn, AtEachNoted, Entry, IsFirstThere, List, LoneEvent, [], ap, append_assoc, entries_of_events_alone, firsts_in_turn}
+use Rattle.lone_laws.proofs.Words.{inl, inr, refl, subst, sym, ◌++◌, ◌∷◌, ◌≡◌, ◌⊎◌}
 use Rattle.lone_laws.proofs.answered.Events.{split_at, InFirst, InSecond}
 
 -- what holds at each entry of events holds at each of their entries

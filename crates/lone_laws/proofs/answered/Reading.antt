@@ -1,20 +1,15 @@
 -- What a node with one link keeps in a step is what is read off all entries until there: its tables and its journal, the messages that wait,
 -- and whether the first of them was noted as held.
-use Rattle.std.proofs.Common.{◌≡◌, ℕ, Bool, true, false, cond, eqb, List, [], ◌∷◌, ◌++◌, map, refl, sym, ap, ◌∙◌, append_assoc, append-nil, arith}
-use Rattle.std.specs.Prelude.{◌+◌, nat_lt, length, Option, Some, None, option_to_list}
-use Rattle.lone_laws.proofs.Words.{Acked, Active, AllByRecursion, AreTables, AreTables-apply, Command, Commits, Core, Deed, Desk, Down, Drops, End, Entry}
-use Rattle.lone_laws.proofs.Words.{FetchMessage, GaveUp, Give, Got, Hold, IsAnswered, IsCommand, JoinTwo, LinkEnd, Message, Port, Release, Releases, Report}
-use Rattle.lone_laws.proofs.Words.{SaysOk, Sends, SetAside, SetsErrors, Turn, Up, Work, after_turn, body_of, by_test, changed_if, commit, commit_writes}
-use Rattle.lone_laws.proofs.Words.{core_noted, core_with, done, end_of, end_of_node, end_of_node_alone, entries_for, fails_within, fold, fold-append}
-use Rattle.lone_laws.proofs.Words.{give_refusal, if_so, keeps, noted_of, noting, option_map_or, own_side, port_at, same_end, told, true≢false, turn, turn_at}
-use Rattle.lone_laws.proofs.Words.{unhandled_after, with_desk, with_port}
-use Rattle.std.proofs.lemmas.Grind.{common_steps}
-use Rattle.swp_base.specs.declared.link_terms.Cause.{Cause as EndedBy}
+use Rattle.std.specs.Prelude.{◌+◌, nat_lt, length, Option, Some, None}
+use Rattle.lone_laws.proofs.Words.{Acked, Active, AllByRecursion, AreTables, AreTables-apply, Bool, Command, Commits, Core, Deed, Desk, Down, Drops, End}
+use Rattle.lone_laws.proofs.Words.{EndedBy, Entry, FetchMessage, GaveUp, Give, Got, IsAnswered, IsCommand, JoinTwo, JoinTwo-after, LinkEnd, List, Message}
+use Rattle.lone_laws.proofs.Words.{Noted, Port, Refused, Release, Releases, Report, SaysOk, Sends, SetAside, SetsErrors, Side, Turn, Up, Work, [], after_turn}
+use Rattle.lone_laws.proofs.Words.{ap, append-nil, append_assoc, arith, aside_refusal, body_of, by_test, changed_if, commit, commit_writes, common_steps, cond}
+use Rattle.lone_laws.proofs.Words.{core_noted, core_with, done, end_of, end_of_node, end_of_node_alone, entries_for, eqb, fails_within, false, fold}
+use Rattle.lone_laws.proofs.Words.{fold-append, give_refusal, given, holds_after, if_so, keeps, map, noted_of, noting, option_map_or, option_to_list, own_side}
+use Rattle.lone_laws.proofs.Words.{port_at, refl, same_end, sym, told, true, true≢false, turn, turn_at, unhandled_after, unless, with_desk, with_port, ℕ, ◌++◌}
+use Rattle.lone_laws.proofs.Words.{◌∙◌, ◌∷◌, ◌≡◌}
 use Rattle.trace_model.specs.declared.entry.Entry.TheVariants as entry
-use Rattle.tables_laws.proofs.tables.TwoHosts.{JoinTwo-after}
-use Rattle.link_laws.specs.machine.Machine.{Refused, given, aside_refusal, unless}
-use Rattle.link_laws.specs.entries.Entries.{End as Side, Entry as Noted}
-use Rattle.node_laws.specs.answers.Moments.{holds_after}
 use Rattle.lone_laws.proofs.answered.Own.{IsOwnDeed}
 
 -- a number is itself
@@ -174,10 +169,9 @@ IsNoFetching _ = Unit {0}
 
 turn_got : (e : LinkEnd) (x : Turn) → IsNoFetching x → (turn e x).got ≡ e.got
 turn_got e (Give m) a = unless_got (give_refusal e m) e (given e m) refl
-turn_got e (Hold held) a = refl
 turn_got e FetchMessage a = absurd a
 turn_got e SetAside a = unless_got (aside_refusal e) e (record e { aside = e.aside + 1 }) refl
-turn_got e Release a = refl
+turn_got e _ a = refl
 
 turn_same : (x : Turn) → IsNoFetching x → (p : Port) → IsSamePort p (after_turn x p)
 turn_same x a p = record { host = refl; none = λ q. q; got = turn_got p.side x a; holds = refl }

@@ -1,31 +1,16 @@
 -- A boot makes a memory ready: what the next boot finds there is what it found.
-use Rattle.std.proofs.Common.{◌≡◌, ◌⊎◌, inl, inr, ℕ, ◌+◌, ◌<◌, ◌≤◌, true, false, ◌==◌, ◌||◌, List, [], ◌++◌, map, IsTrue, sym, refl, ap, ap₂, ◌∙◌, subst, arith}
 use Rattle.std.specs.Prelude.{Option, Some, None, IsSome}
-use Rattle.lone_laws.proofs.Words.{AreTables, CountsAll, HciTables, IsReadyMemory, IsRecordable, State, after_writes, boot_writes, by_test, close, count_of}
-use Rattle.lone_laws.proofs.Words.{counted, current, eqb-true, format_writes, formatted, found, journal, option_map_or, records, state_of, tables_of}
-use Rattle.lone_laws.proofs.Words.{true≢false}
 use Rattle.std.proofs.lemmas.Bool.Decides.{nat_tests}
-use Rattle.journal_laws.specs.declared.banks.Side.{Side}
-use Rattle.journal_laws.specs.Journal.{count, IsSound}
-use Rattle.journal_laws.specs.Operations.{started_state, compact_writes, compacted, CanCompact}
-use Rattle.journal_laws.proofs.Kept.{compact_count}
-use Rattle.nv_journal.specs.Kept.{Says}
+use Rattle.lone_laws.proofs.Words.{AreTables, CanCompact, CountsAll, FindsSame, HciTables, HoldsTables, IsReadyMemory, IsRecordable, IsSound, IsTakenMemory}
+use Rattle.lone_laws.proofs.Words.{IsTrue, List, Says, State, [], after_writes, all_recordable, ap, ap₂, are_bodies, are_commands, arith, behind_boot}
+use Rattle.lone_laws.proofs.Words.{boot_writes, by_test, close, close-close, compact_count, compact_writes, compacted, count, count_of, counted, current}
+use Rattle.lone_laws.proofs.Words.{eqb-true, false, format_writes, formatted, found, good_found, holds_snapshot, holds_still, inl, inr, journal, map, new_desk}
+use Rattle.lone_laws.proofs.Words.{no_records_then, option_map_or, records, refl, says_formatted, snapshot_bodies, snapshot_fits, snapshot_of, some_other}
+use Rattle.lone_laws.proofs.Words.{sound_has_no_fault, started_state, state_of, subst, sym, tables_of, true, true≢false, ℕ, ◌++◌, ◌+◌, ◌<◌, ◌==◌, ◌||◌, ◌∙◌}
+use Rattle.lone_laws.proofs.Words.{◌≡◌, ◌≤◌, ◌⊎◌}
 use Rattle.nv_journal.proofs.Compacting as compacting
-use Rattle.nv_journal.proofs.Formatting.{says_formatted, no_records_then}
-use Rattle.hci_store.specs.Committing.{snapshot_bodies}
-use Rattle.hci_store.specs.Image.{are_commands}
-use Rattle.hci_store.specs.Snapshots.{snapshot_of}
+use Rattle.journal_laws.specs.declared.banks.Side.{Side}
 use Rattle.hci_store.specs.Starting.{migration_writes, migrated, ready_state}
-use Rattle.hci_store.specs.Stored.{FindsSame, HoldsTables}
-use Rattle.hci_store.proofs.Applying.{sound_has_no_fault}
-use Rattle.hci_store.proofs.Closing.{close-close}
-use Rattle.hci_store.proofs.Committed.{all_recordable, holds_snapshot}
-use Rattle.hci_store.proofs.CutShort.{are_bodies, holds_still}
-use Rattle.node_machine.specs.Node.{new_desk}
-use Rattle.node_laws.proofs.kept.Commits.{some_other}
-use Rattle.node_laws.proofs.kept.Booting.{good_found}
-use Rattle.node_laws.proofs.kept.Snapshots.{snapshot_fits}
-use Rattle.lone_laws.specs.alone.Memories.{IsTakenMemory, behind_boot}
 use Rattle.lone_laws.proofs.answered.Finding.{KnowsIf, fault_none, knows_from}
 
 first_version : (v : ℕ) → IsTrue (v == 1 || v == 2) → (v == 2) ≡ false → v ≡ 1

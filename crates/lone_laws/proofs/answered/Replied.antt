@@ -1,31 +1,25 @@
 -- At each turn of a step a node alone replies to its message as is read.
-use Rattle.std.proofs.Common.{◌≡◌, ℕ, ◌≤◌, Bool, true, false, cond, eqb, ◌&&◌, List, [], ◌∷◌, ◌++◌, refl, sym, ap, ap₂, subst, ◌∙◌, append_assoc}
 use Rattle.std.specs.Prelude.{Some, None, is_some, nat_lt}
-use Rattle.lone_laws.proofs.Words.{AllByRecursion-append, AreNoBoots, AreTables, Core, Deed, End, Entry, ErrorCount, FetchMessage, IsNoBoot, JoinTwo, Message}
-use Rattle.lone_laws.proofs.Words.{Port, Sends, Work, after_turn, all_done, by_test, changed_if, core_since, deeds_for, deeds_of, end_of_node}
-use Rattle.lone_laws.proofs.Words.{end_of_node_alone, end_view, eqb-true, errors_found, first_lack, handles, is_up, is_up_read, lack, lack_since, needs}
-use Rattle.lone_laws.proofs.Words.{noted_by_deeds, option_map_or, port_at, reply_since, same_end, session_now, spare, spare_with_link, takes_up, view_with_link}
-use Rattle.lone_laws.proofs.Words.{waiting_at, with_port}
+use Rattle.lone_laws.proofs.Words.{AllByRecursion-append, AreNoBoots, AreTables, Bool, Core, Deed, End, Entry, ErrorCount, FetchMessage, IsNoBoot, IsUpAt}
+use Rattle.lone_laws.proofs.Words.{IsUpNow, JoinTwo, List, Message, Port, Sends, Work, [], after_turn, all_done, ap, append_assoc, ap₂, by_test, changed_if}
+use Rattle.lone_laws.proofs.Words.{cond, core_since, deeds_for, deeds_note, deeds_of, end_of_node, end_of_node_alone, end_since, end_view, eqb, eqb-true}
+use Rattle.lone_laws.proofs.Words.{errors_after, errors_found, errors_set_by, errors_since, false, first_lack, handles, is_up, is_up_read, lack, lack_since}
+use Rattle.lone_laws.proofs.Words.{lacking, leads_to_link_gate, needs, noted_by_deeds, option_map_or, port_at, refl, reply_since, same_end, same_end_itself}
+use Rattle.lone_laws.proofs.Words.{session_now, spare, spare_since, spare_with_link, subst, sym, takes_entries, takes_up, true, view_with_link, waiting_at}
+use Rattle.lone_laws.proofs.Words.{with_port, ℕ, ◌&&◌, ◌++◌, ◌∙◌, ◌∷◌, ◌≡◌, ◌≤◌}
 use Rattle.trace_model.specs.declared.entry.Entry.TheVariants as entry
-use Rattle.shdlc_core.specs.declared.answers.LinkState.TheVariants.{Up as IsUpNow}
-use Rattle.node_laws.specs.passes.Passing.{lacking}
-use Rattle.node_laws.proofs.passes.Notes.{deeds_note}
-use Rattle.node_laws.proofs.passes.Passing.{takes_entries}
 use Rattle.node_laws.proofs.passes.Counts.{taken_at_once}
-use Rattle.node_laws.proofs.views.Setting.{IsUpAt}
-use Rattle.lone_laws.specs.alone.Known.{errors_since, end_since, spare_since}
-use Rattle.node_laws.specs.views.Errors.{errors_after, errors_set_by, leads_to_link_gate}
 use Rattle.lone_laws.proofs.answered.Reading.{eqb_same, Read, core_is, Alone}
 use Rattle.lone_laws.proofs.answered.Linked.{one_deeds, one_lack}
-use Rattle.lone_laws.proofs.answered.Turning.{same_self, own_end, IsHere, alone_here, link_is}
+use Rattle.lone_laws.proofs.answered.Turning.{own_end, IsHere, alone_here, link_is}
 use Rattle.lone_laws.proofs.answered.Ordered.{begin_read}
 use Rattle.lone_laws.proofs.answered.Rooms.{Talks, spare_is}
 use Rattle.lone_laws.proofs.answered.Knowing.{KnowsAlone}
 use Rattle.lone_laws.proofs.answered.Shapes.{IsLoneReply, controller_reply, host_reply}
 use Rattle.lone_laws.proofs.answered.Told.{entries_of_deeds, link_of_end, same_number}
 use Rattle.lone_laws.proofs.answered.Replying.{session_of_end, TakesIt, IsNotedSo, reply_noted, deeds_answer, answers_unbooted}
-use Rattle.lone_laws.proofs.answered.Errors.{errs_all, errs-append, ErrorsAre, gate_read, desk_errors}
-use Rattle.lone_laws.proofs.answered.Errors.{FitsErrors, sets_there, controller_fits, host_fits, deeds_errs}
+use Rattle.lone_laws.proofs.answered.Errors.{errs_all, errs-append, ErrorsAre, gate_read, desk_errors, FitsErrors, sets_there, controller_fits, host_fits}
+use Rattle.lone_laws.proofs.answered.Errors.{deeds_errs}
 
 -- what lacks is decided by what is spare
 lack_same : (p q : Port) → p.desk.host ≡ q.desk.host → spare p.side ≡ spare q.side → (ns : List (ℕ × ℕ)) → lack (p ∷ []) ns ≡ lack (q ∷ []) ns
@@ -208,7 +202,8 @@ module _ (rest : Core) (number h : ℕ) (some : 1 ≤ h) (most : h ≤ 7) (s : �
       z_sets : z.sets ≡ sets_there w.core e m
       z_sets =
           ap (λ (r : ErrorCount). r.sets) z_is
-          ∙ (ap (λ (b : Bool). cond (b && leads_to_link_gate x.book.tables e m.0) (errors_set_by m.1) None) (ap (λ d. same_end d e) its_end_is ∙ same_self e)
+          ∙ (ap (λ (b : Bool). cond (b && leads_to_link_gate x.book.tables e m.0) (errors_set_by m.1) None)
+          (ap (λ d. same_end d e) its_end_is ∙ same_end_itself e)
           ∙ ap (λ (b : Bool). cond b (errors_set_by m.1) None) x_gate)
 
       z_errors : z.errors ≡ desk_errors u.ports

@@ -1,14 +1,11 @@
 -- What a node alone notes of a message that has its turn is the reply that is read.
-use Rattle.std.proofs.Common.{◌≡◌, ℕ, Bool, true, false, cond, eqb, ◌||◌, List, [], ◌∷◌, ◌++◌, refl, sym, ap, ap₂, subst, ◌∙◌, Option, Some, None}
-use Rattle.lone_laws.proofs.Words.{AllByRecursion, AreNoBoots, Command, Commits, Core, Deed, Drops, End, Entry, Give, IsAnswered, IsNoBoot, LinkState, Message}
-use Rattle.lone_laws.proofs.Words.{Port, SaysOk, Sends, SetsErrors, Work, Write, all_done, body_of, by_test, changed_if, commit_writes, core_with, count_of}
-use Rattle.lone_laws.proofs.Words.{done, end_of, end_of_node, end_of_node_alone, entries_for, eqb-true, filter, give_refusal, goes_in, is_up, keeps, lack}
-use Rattle.lone_laws.proofs.Words.{list_any, loses_power, needs, noted_by_deeds, noted_of, noting, option_map_or, own_side, port_at, to_command, true≢false}
-use Rattle.lone_laws.proofs.Words.{unless_cut, with_port}
+use Rattle.lone_laws.proofs.Words.{AllByRecursion, AreNoBoots, Bool, Command, Commits, Core, Deed, Drops, End, Entry, Give, IsAnswered, IsDown, IsNoBoot}
+use Rattle.lone_laws.proofs.Words.{IsUpNow, IsWaitingNow, LinkState, List, Message, None, Option, Port, SaysOk, Sends, SetsErrors, Some, Work, Write, []}
+use Rattle.lone_laws.proofs.Words.{all_done, ap, ap₂, body_of, by_test, changed_if, commit_writes, cond, core_with, count_of, done, end_of, end_of_node}
+use Rattle.lone_laws.proofs.Words.{end_of_node_alone, entries_for, eqb, eqb-true, false, filter, give_refusal, goes_in, is_up, keeps, lack, list_any}
+use Rattle.lone_laws.proofs.Words.{loses_power, needs, noted_at, noted_by_deeds, noted_of, noting, option_map_or, own_side, port_at, refl, sent_unless}
+use Rattle.lone_laws.proofs.Words.{stays_cut, subst, sym, to_command, true, true≢false, uncut, unless_cut, with_port, ℕ, ◌++◌, ◌||◌, ◌∙◌, ◌∷◌, ◌≡◌}
 use Rattle.trace_model.specs.declared.entry.Entry.TheVariants as entry
-use Rattle.shdlc_core.specs.declared.answers.LinkState.TheVariants.{Down as IsDown, Waiting as IsWaitingNow, Up as IsUpNow}
-use Rattle.link_laws.specs.entries.Entries.{sent_unless}
-use Rattle.node_laws.specs.passes.Noting.{noted_at}
 use Rattle.lone_laws.proofs.answered.Mine.{is_own_answer, is_own_turn, is_own_cut, to_turn, AnswersOwn}
 use Rattle.lone_laws.proofs.answered.Reading.{eqb_same}
 use Rattle.lone_laws.proofs.answered.Turning.{own_end}
@@ -28,15 +25,9 @@ sent_alone e session to m = cond (eqb to e.link) (option_map_or (λ n. entry.Sen
 abbrev pub TakesIt : Port → ℕ → Message → Type 0
 TakesIt p to m = eqb p.desk.host to ≡ true → p.side.shdlc.phase ≡ IsUpNow → give_refusal p.side m ≡ None
 
-pub unless_on : (f : Work → Work) (w : Work) → w.cut ≡ false → unless_cut f w ≡ f w
-unless_on f w q = rw q refl
-
-unless_off : (f : Work → Work) (w : Work) → w.cut ≡ true → unless_cut f w ≡ w
-unless_off f w q = rw q refl
-
 -- after one deed that leaves the power on
 one_cut : (k : ℕ) (d : Deed) (u : Work) → (done k d u).cut ≡ false → (all_done k (d ∷ []) u).cut ≡ false
-one_cut k d u q = ap (λ (w : Work). w.cut) (unless_on (all_done k []) (done k d u) q) ∙ q
+one_cut k d u q = ap (λ (w : Work). w.cut) (uncut (all_done k []) (done k d u) q) ∙ q
 
 module _ (number h : ℕ) where
   abbrev e : End
@@ -140,7 +131,7 @@ module _ (number h : ℕ) where
           → IsNotedSo (all_done k (Commits c ∷ D) u).cut (noted_by_deeds k (Commits c ∷ D) u) (reads (Commits c ∷ D))
       go true q =
           subst (λ b. IsNotedSo b (noted_by_deeds k (Commits c ∷ D) u) (reads (Commits c ∷ D)))
-          (sym (ap (λ (w : Work). (unless_cut (all_done k D) w).cut) (its true q) ∙ ap (λ (w : Work). w.cut) (unless_off (all_done k D) lost refl))) (
+          (sym (ap (λ (w : Work). (unless_cut (all_done k D) w).cut) (its true q) ∙ ap (λ (w : Work). w.cut) (stays_cut (all_done k D) lost refl))) (
             c,
             entries_of_deeds (core_with u.core c) e (session_of_end p) D,
             ap
@@ -159,8 +150,8 @@ module _ (number h : ℕ) where
           ∙ (ap (λ (w : Work). (entry.Command u.core.node c ∷ []) ++ cond w.cut [] (noted_by_deeds k D w)) (its false q)
           ∙ ap (λ es. entry.Command u.core.node c ∷ es) (still_on kept.cut (noted_by_deeds k D kept) on ∙ rest))) where
             rest_on : (unless_cut (all_done k D) kept).cut ≡ false
-            rest_on = ap (λ (w : Work). w.cut) (unless_on (all_done k D) kept on)
-                ∙ (ap (λ (w : Work). w.cut) (unless_on (all_done k (SaysOk ∷ [])) (done k (Sends to m) kept) on)
+            rest_on = ap (λ (w : Work). w.cut) (uncut (all_done k D) kept on)
+                ∙ (ap (λ (w : Work). w.cut) (uncut (all_done k (SaysOk ∷ [])) (done k (Sends to m) kept) on)
                 ∙ one_cut k SaysOk (done k (Sends to m) kept) on)
 
             rest : noted_by_deeds k D kept ≡ entries_of_deeds (core_with u.core c) e (session_of_end p) D
@@ -181,7 +172,7 @@ module _ (number h : ℕ) where
     reply_noted _ (IsSet v to m) takes room =
         let w : Work = done k (SetsErrors v) u in
         let still : (all_done k (SetsErrors v ∷ Sends to m ∷ []) u).cut ≡ false =
-        ap (λ (x : Work). x.cut) (unless_on (all_done k (Sends to m ∷ [])) w on) ∙ one_cut k (Sends to m) w on in
+        ap (λ (x : Work). x.cut) (uncut (all_done k (Sends to m ∷ [])) w on) ∙ one_cut k (Sends to m) w on in
         subst (λ b. IsNotedSo b (noted_by_deeds k (SetsErrors v ∷ Sends to m ∷ []) u) (reads (SetsErrors v ∷ Sends to m ∷ []))) (sym still)
         (set_noted v to m (takes to m room))
     reply_noted _ IsHeard takes room = quiet_noted IsAnswered on (ap (λ b. cond b [] []) on)

@@ -1,22 +1,15 @@
 -- Sessions of a node alone end by resets exactly where they are asked for.
-use Rattle.std.proofs.Common.{ℕ, ◌≤◌, Bool, true, false, cond, List, [], ◌∷◌, map, Option, Some, None, refl, ◌≡◌, ◌++◌, ◌||◌, eqb, sym, ap, subst, ◌∙◌}
-use Rattle.lone_laws.proofs.Words.{Acked, Active, AllByRecursion, Control, Core, Down, End, Entry, FrameComes, FrameIsRefused, GaveUp, Got, IsResetAlone}
-use Rattle.lone_laws.proofs.Words.{LinkEnd, LinkInput, LinkState, Lone, LoneCause, LpduFault, NodeInput, Report, ResetComes, Running, Sound, StartComes}
-use Rattle.lone_laws.proofs.Words.{StopComes, TickComes, Up, Work, after_input, all_come, cond_both, control_of, emits_behind, entries_for, frames_behind}
-use Rattle.lone_laws.proofs.Words.{if_so, is_open, is_up, is_up_read, list_any, lone_arrival, lone_end, lone_input, lpdu_input, lpdu_of, node_input, own_side}
-use Rattle.lone_laws.proofs.Words.{report, reset_refusal, session_now, session_with, tick_answer, told, told_at, whole_acked}
+use Rattle.std.specs.Prelude.{is_some, nat_lt}
+use Rattle.lone_laws.proofs.Words.{Acked, ActTick, Active, AllByRecursion, Asked, Bool, ByAct, Control, Core, Down, End, EndedBy, Entry, Err, FrameComes}
+use Rattle.lone_laws.proofs.Words.{FrameIsRefused, GaveUp, Got, IsDown, IsResetAlone, IsUpNow, IsWaitingNow, LinkEnd, LinkInput, LinkState, List, Lone}
+use Rattle.lone_laws.proofs.Words.{LoneCause, LpduFault, NodeInput, None, Noted, Ok, Option, Report, ResetComes, Result, Running, Side, Some, Sound, StartComes}
+use Rattle.lone_laws.proofs.Words.{StopComes, TickComes, Up, Work, [], after_input, all_come, ap, come_entries, cond, cond_both, control_of, emits_behind}
+use Rattle.lone_laws.proofs.Words.{ended_by, ended_by_act, ended_by_reset, entries_for, eqb, false, frames_behind, if_so, is_asked_down, is_open}
+use Rattle.lone_laws.proofs.Words.{is_reset_alone, is_up, is_up_read, list_any, lone_arrival, lone_end, lone_input, lpdu_input, lpdu_of, map, node_input}
+use Rattle.lone_laws.proofs.Words.{option_to_list, own_side, refl, report, reset_refusal, rest_all, session_now, session_with, subst, sym, tick_answer, told}
+use Rattle.lone_laws.proofs.Words.{told_at, true, whole_acked, ℕ, ◌++◌, ◌||◌, ◌∙◌, ◌∷◌, ◌≡◌, ◌≤◌}
 use Rattle.trace_model.specs.declared.entry.Entry.TheVariants as entry
-use Rattle.link_laws.specs.entries.Entries.{End as Side, Entry as Noted}
-use Rattle.std.specs.Prelude.{is_some, option_to_list, nat_lt, Result, Ok, Err}
-use Rattle.swp_base.specs.declared.link_terms.Cause.{Cause as EndedBy}
-use Rattle.swp_base.specs.declared.link_terms.Cause.TheVariants.{Asked, Act as ByAct}
-use Rattle.shdlc_core.specs.declared.answers.LinkState.TheVariants.{Up as IsUpNow, Waiting as IsWaitingNow, Down as IsDown}
-use Rattle.link_laws.specs.machine.Machine.{ended_by, ended_by_reset, ended_by_act}
-use Rattle.node_laws.proofs.passes.Before.{come_entries}
 use Rattle.node_laws.proofs.passes.InSteps.{IsOfStep, step_keeps}
-use Rattle.node_laws.proofs.telling.Reported.{rest_all}
-use Rattle.lone_laws.specs.alone.Answers.{is_asked_down, is_reset_alone}
-use Rattle.swp_act.specs.declared.ActEvent.TheVariants.{Tick as ActTick}
 use Rattle.lone_laws.proofs.answered.Reading.{Alone}
 use Rattle.lone_laws.proofs.answered.Coming.{came_entries, came_is}
 use Rattle.lone_laws.proofs.answered.Stepping.{lone_comes}
@@ -81,9 +74,8 @@ told_asked h who n acked rep = go rep.ended where
       (notes_quiet h others (rest_all EndsNothing who n acked tt tt (λ k. tt) tt (λ m. tt) rep))
 
   go : (o : Option EndedBy) → list_any is_asked_down (entries_for h (map (Down who) (option_to_list o) ++ others)) ≡ asked o
-  go None = quiet
   go (Some Asked) = refl
-  go (Some _) = quiet
+  go _ = quiet
 
 -- ## Why a session ends
 

@@ -1,11 +1,9 @@
 -- In an event of a node alone turns stand in the order of their links, since it has one, and nothing comes behind an answer.
-use Rattle.std.proofs.Common.{◌≡◌, ℕ, ◌≤◌, List, [], ◌∷◌, ◌++◌, map, refl, sym, ap, subst, arith, ◌==◌, if◌then◌else◌, Some, None}
-use Rattle.lone_laws.proofs.Words.{AllByRecursion, Control, End, Entry, FrameComes, HearsFirstAlone, Lone, LoneCause, NodeInput, Work, by_test, lone_arrival}
-use Rattle.lone_laws.proofs.Words.{lpdu_of, steps}
-use Rattle.std.specs.List.{cons_option, filter_map}
+use Rattle.std.specs.List.{filter_map}
+use Rattle.lone_laws.proofs.Words.{AllByRecursion, Control, End, Entry, FrameComes, HearsFirstAlone, IsAscending, List, Lone, LoneCause, NodeInput, None, Some}
+use Rattle.lone_laws.proofs.Words.{Work, [], ap, arith, by_test, cons_option, if◌then◌else◌, lone_arrival, lpdu_of, map, node_of, refl, steps, subst, sym}
+use Rattle.lone_laws.proofs.Words.{turn_link, ℕ, ◌++◌, ◌==◌, ◌∷◌, ◌≡◌, ◌≤◌}
 use Rattle.trace_model.specs.declared.entry.Entry.TheVariants as entry
-use Rattle.node_machine.specs.world.World.{node_of}
-use Rattle.node_laws.specs.answers.Order.{IsAscending, turn_link}
 use Rattle.node_laws.proofs.worlds.Hearing.{AreUnanswered, AreUnheard, IsParted, step_parted}
 use Rattle.node_laws.proofs.worlds.Order.{first_heard, parted_for}
 use Rattle.lone_laws.proofs.answered.Ordered.{IsAtEnd}

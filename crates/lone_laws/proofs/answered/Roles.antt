@@ -1,14 +1,10 @@
 -- An end of a CLF stays one, and so does an end of a UICC; what each takes of activation.
-use Rattle.std.proofs.Common.{◌≡◌, ℕ, ◌+◌, Bool, true, false, cond, List, ◌++◌, refl, ◌∙◌, Option, Some, None, is_some}
-use Rattle.lone_laws.proofs.Words.{Act, ActEvent, Clt, Control, EndState, I, LinkEnd, LinkInput, LinkState, Reset, Rset, S, Start, Stop, Take, TakeUnknown}
-use Rattle.lone_laws.proofs.Words.{Tick, Ua, act_answer, activated, after_input, by_option, cond_both, heard, is_faulty, is_open, moved, put_down}
-use Rattle.lone_laws.proofs.Words.{reset_refusal, reset_with, role_after, stopped, take_answer, taken, tick_answer, ticked, window_of, with_act}
-use Rattle.swp_base.specs.declared.control_frames.Control.TheVariants.{Act as ActFrame}
-use Rattle.swp_act.specs.declared.ActEvent.TheVariants.{Start as ActStart, Take as ActTake, Tick as ActTick, Stop as ActStop}
-use Rattle.shdlc_core.specs.declared.answers.LinkState.TheVariants.{Up as IsUpNow}
-use Rattle.link_laws.specs.machine.Machine.{Message, news, Role}
+use Rattle.lone_laws.proofs.Words.{Act, ActEvent, ActFrame, ActStart, ActStop, ActTake, ActTick, Bare, Bool, Clf, Clt, Control, EndState, IsUpNow, LinkEnd}
+use Rattle.lone_laws.proofs.Words.{LinkInput, LinkState, List, Message, None, Option, Reset, Role, Some, Start, Stop, Take, TakeUnknown, Tick, Uicc, act_answer}
+use Rattle.lone_laws.proofs.Words.{activated, after_input, by_option, cond, cond_both, false, heard, is_faulty, is_open, is_some, moved, news, put_down, refl}
+use Rattle.lone_laws.proofs.Words.{reset_refusal, reset_with, role_after, stopped, take_answer, taken, tick_answer, ticked, true, window_of, with_act, ℕ, ◌++◌}
+use Rattle.lone_laws.proofs.Words.{◌+◌, ◌∙◌, ◌≡◌}
 use Rattle.lone_laws.proofs.answered.Coming.{IsLoneInput}
-use Rattle.link_laws.specs.machine.Machine.Role.{Bare, Clf, Uicc}
 
 -- an end of a CLF, or of a UICC
 abbrev pub kind_of : Role → Option Bool
@@ -58,12 +54,9 @@ module _ {A : Type 0} (f : LinkEnd → A) (down : (b : Bool) (e : LinkEnd) → f
   open_keeps e c = cond_both (is_open e.role) (heard e c) e (λ z. f z ≡ f e) (λ _. heard_keeps e c) (λ _. refl)
 
   pub input_keeps : (e : LinkEnd) (i : LinkInput) → IsLoneInput i → f (after_input e i) ≡ f e
-  input_keeps e (Take (I ns nr info)) a = open_keeps e (I ns nr info)
-  input_keeps e (Take (S kind nr)) a = open_keeps e (S kind nr)
-  input_keeps e (Take (Rset window caps)) a = open_keeps e (Rset window caps)
-  input_keeps e (Take Ua) a = open_keeps e Ua
   input_keeps e (Take (ActFrame act again)) a = acts e (ActTake act again)
   input_keeps e (Take Clt) a = passes e (e.passed_over + 1)
+  input_keeps e (Take c) a = open_keeps e c
   input_keeps e TakeUnknown a = passes e (e.passed_over + 1)
   input_keeps e Tick a =
       cond_both (is_open e.role) (moved e (is_some (tick_answer e.shdlc).ended) (ticked e.shdlc)) (activated e ActTick) (λ z. f z ≡ f e)

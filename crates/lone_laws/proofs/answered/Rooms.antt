@@ -1,27 +1,18 @@
 -- The session of the end of a node alone, and the blocks that it has to spare, are what is read at each turn of a step.
-use Rattle.std.proofs.Common.{◌≡◌, ℕ, ◌<◌, ◌+◌, ◌-◌, Bool, true, false, cond, eqb, not, List, [], ◌∷◌, ◌++◌, length, refl, sym, ap, subst, ◌∙◌, append_assoc}
-use Rattle.std.proofs.Common.{append-nil, arith, Some, None}
-use Rattle.lone_laws.proofs.Words.{Command, Commits, Deed, Desk, Drops, End, Entry, FetchMessage, Give, Hold, IsAnswered, LinkEnd, LinkState, Message}
-use Rattle.lone_laws.proofs.Words.{Port, Release, Releases, SaysOk, Sends, SetAside, SetsErrors, Sound, Turn, Work, after_turn, body_of, by_option, by_test}
-use Rattle.lone_laws.proofs.Words.{changed_if, commit, commit_writes, done, end_of, end_of_node, end_of_node_alone, entries_for, eqb-true, fails_within}
-use Rattle.lone_laws.proofs.Words.{give_refusal, is_up, keeps, loses_power, noted_of, noting, option_map_or, own_side, port_at, same_end, sent_all, spare}
-use Rattle.lone_laws.proofs.Words.{spare_at, true≢false, turn, turn_at, whole_acked, with_desk, with_port}
+use Rattle.lone_laws.proofs.Words.{Bool, Command, Commits, Deed, Desk, Drops, End, Entry, Give, Hold, IsAnswered, IsFine, IsSendable, IsUpNow, LinkEnd}
+use Rattle.lone_laws.proofs.Words.{LinkState, List, Message, None, Port, Release, Releases, SaysOk, Sends, SetAside, SetsErrors, Side, Some, Sound, Turn, Work}
+use Rattle.lone_laws.proofs.Words.{[], after_turn, ap, append-nil, append_assoc, arith, body_of, by_option, by_test, changed_if, commit, commit_writes, cond}
+use Rattle.lone_laws.proofs.Words.{done, end_of, end_of_node, end_of_node_alone, entries_for, eqb, eqb-true, fails_within, false, fetched_acked, fragments_of}
+use Rattle.lone_laws.proofs.Words.{give_refusal, given, in_use, is_up, keeps, length, loses_power, most_frames, not, noted_of, noting, option_map_or, own_side}
+use Rattle.lone_laws.proofs.Words.{packet_count, port_at, ready_cases, refl, same_end, same_end_itself, sent_all, sound_turn, spare, spare_at, subst, sym, true}
+use Rattle.lone_laws.proofs.Words.{true≢false, turn, turn_at, turn_entry, whole_acked, whole_among, whole_given, with_desk, with_port, ℕ, ◌++◌, ◌+◌, ◌-◌, ◌<◌}
+use Rattle.lone_laws.proofs.Words.{◌∙◌, ◌∷◌, ◌≡◌}
 use Rattle.trace_model.specs.declared.entry.Entry.TheVariants as entry
-use Rattle.shdlc_core.specs.declared.answers.LinkState.TheVariants.{Down as IsDown, Waiting as IsWaitingNow, Up as IsUpNow}
-use Rattle.shdlc_core.specs.Machine.{most_frames}
-use Rattle.hcp_packet.specs.Packets.{IsSendable, packet_count, fragments_of}
-use Rattle.link_laws.specs.machine.Machine.{given, whole_among, in_use}
 use Rattle.link_laws.proofs.sessions.Ties.{after_frames-phase}
 use Rattle.link_laws.specs.machine.Machine.Refused.{NotUp}
-use Rattle.link_laws.proofs.machine.Sound.{whole_given}
-use Rattle.link_laws.proofs.machine.Runs.{sound_turn}
-use Rattle.link_laws.proofs.places.Joined.{ready_cases}
-use Rattle.link_laws.specs.entries.Entries.{End as Side, turn_entry}
-use Rattle.link_laws.proofs.entries.Stepping.{fetched_acked}
-use Rattle.node_laws.proofs.links.Deeds.{IsFine}
 use Rattle.lone_laws.proofs.answered.Own.{IsOwnDeed}
 use Rattle.lone_laws.proofs.answered.Roles.{kind_of}
-use Rattle.lone_laws.proofs.answered.Turning.{same_self, own_end}
+use Rattle.lone_laws.proofs.answered.Turning.{own_end}
 use Rattle.lone_laws.proofs.answered.Sessions.{AreSilent, Reads, reads_silent, reads_sent, spare_in}
 use Rattle.lone_laws.proofs.answered.Talking.{talk_of_side}
 
@@ -35,10 +26,8 @@ IsLoneTurn _ = Unit {0}
 
 pub lone_turn_sound : (s : LinkEnd) (x : Turn) → IsLoneTurn x → Sound s → Sound (turn s x)
 lone_turn_sound s (Give m) may a = sound_turn s (Give m) (may, tt) a
-lone_turn_sound s (Hold held) may a = sound_turn s (Hold held) tt a
-lone_turn_sound s FetchMessage may a = sound_turn s FetchMessage tt a
 lone_turn_sound s SetAside may a = absurd may
-lone_turn_sound s Release may a = sound_turn s Release tt a
+lone_turn_sound s x may a = sound_turn s x tt a
 
 lone_turn_kind : (s : LinkEnd) (x : Turn) → IsLoneTurn x → kind_of (turn s x).role ≡ kind_of s.role
 lone_turn_kind s (Give m) may = by_option (give_refusal s m) (λ q. rw q refl) (λ why q. rw q refl)
@@ -47,10 +36,9 @@ lone_turn_kind s _ may = refl
 
 lone_turn_aside : (s : LinkEnd) (x : Turn) → IsLoneTurn x → s.aside ≡ 0 → (turn s x).aside ≡ 0
 lone_turn_aside s (Give m) may a = by_option (give_refusal s m) (λ q. rw q a) (λ why q. rw q a)
-lone_turn_aside s (Hold held) may a = a
-lone_turn_aside s FetchMessage may a = a
 lone_turn_aside s SetAside may a = absurd may
 lone_turn_aside s Release may a = ap (λ n. n - 1) a
+lone_turn_aside s _ may a = a
 
 given_talk : (s : LinkEnd) (m : Message) (k : ℕ) → IsSendable m → Sound s
     → talk_of_side (given s m) k ≡ record (talk_of_side s k) { sent = s.sent ++ m ∷ [] }
@@ -65,8 +53,7 @@ given_up : (s : LinkEnd) (m : Message) (k : ℕ) → give_refusal s m ≡ None �
 given_up s m k taken = go s.shdlc.phase refl where
   go : (p : LinkState) → s.shdlc.phase ≡ p → (talk_of_side s k).session ≡ Some k
   go IsUpNow q = rw q refl
-  go IsWaitingNow q = absurd (let refused : Some NotUp ≡ None = sym (rw q refl) ∙ taken in cc refused)
-  go IsDown q = absurd (let refused : Some NotUp ≡ None = sym (rw q refl) ∙ taken in cc refused)
+  go _ q = absurd (let refused : Some NotUp ≡ None = sym (rw q refl) ∙ taken in cc refused)
 
 module _ (e : End) (n : ℕ) (who : Side) (h : ℕ) (own : same_end (end_of h who) e ≡ true) (t : List Entry) where
   none_more : (k : ℕ) (s : LinkEnd) → Reads e n k t (talk_of_side s k) → Reads e n k (t ++ []) (talk_of_side s k)
@@ -85,9 +72,8 @@ module _ (e : End) (n : ℕ) (who : Side) (h : ℕ) (own : same_end (end_of h wh
   turn_reads s k (Hold held) may sound r =
       subst (Reads e n k (t ++ []))
       (ready_cases (λ f. talk_of_side s k ≡ talk_of_side (record s { shdlc = f }) k) s.shdlc (not held) refl refl refl) (none_more k s r)
-  turn_reads s k FetchMessage may sound r = none_more k s r
   turn_reads s k SetAside may sound r = absurd may
-  turn_reads s k Release may sound r = none_more k s r
+  turn_reads s k _ may sound r = none_more k s r
 
 -- ## A node alone in a step
 
@@ -178,7 +164,7 @@ module _ (number h s : ℕ) (t : List Entry) where
         f = after_turn y
 
         own : same_end (end_of a.port.desk.host (own_side w.core)) e ≡ true
-        own = ap (λ z. same_end z e) (own_end w.core number h a.port.desk.host a.node a.host) ∙ same_self e
+        own = ap (λ z. same_end z e) (own_end w.core number h a.port.desk.host a.node a.host) ∙ same_end_itself e
 
         es : List Entry
         es = option_map_or (noted_of w.core y) (port_at w.ports k) []

@@ -1,35 +1,21 @@
 -- Over a whole run of a node alone its memory holds its commands, or all but the last one where its power went in that one's writes.
-use Rattle.std.proofs.Common.{◌≡◌, ◌⊎◌, inl, inr, ℕ, ◌+◌, ◌-◌, ◌^◌, ◌≤◌, Bool, true, false, cond, eqb, List, [], ◌∷◌, ◌++◌, length, map, refl, sym, ap, subst}
-use Rattle.std.proofs.Common.{◌∙◌, arith, append_assoc, append-nil, min, Option, Some, None, is_some, IsSome}
-use Rattle.lone_laws.proofs.Words.{AllByRecursion, AreTables, Command, Control, Core, CountsAll, Deed, End, Entry, FetchMessage, FindsBehind, FrameComes}
-use Rattle.lone_laws.proofs.Words.{FrameIsRefused, HciTables, Hold, IsReadyMemory, IsRecordable, LinkInput, Lone, LoneCause, LoneEvent, Memory, Message, Port}
-use Rattle.lone_laws.proofs.Words.{Running, Work, after_commands, after_planned, after_writes, all_come, all_done, boot_writes, by_option, by_test, close}
-use Rattle.lone_laws.proofs.Words.{comes_to_pass, commands_of_entries, count_of, counted, current, deeds_of, does_by_power, emits_behind, end_of_node}
-use Rattle.lone_laws.proofs.Words.{entries_of_events_alone, fails_within, format_writes, formatted, found, frames_behind, handles, holds_back, hosts_of_ends}
-use Rattle.lone_laws.proofs.Words.{lack, lone_after, lone_arrival, lone_behind_step, lone_end, lone_events, lone_input, lone_step, lone_work, lpdu_of, needs}
-use Rattle.lone_laws.proofs.Words.{node_input, noted_of_refused, noting, option_map_or, passes, planned_whole, port_at, session_with, state_of, steps}
-use Rattle.lone_laws.proofs.Words.{steps_are, syncs_in, tables_of, true≢false, turn_at, waiting_at, with_desk, with_refusal}
+use Rattle.lone_laws.proofs.Words.{AllByRecursion, AreTables, Bool, Command, Control, Core, CountsAll, Deed, End, Entry, FetchMessage, FindsAllButLast}
+use Rattle.lone_laws.proofs.Words.{FindsBehind, FrameComes, FrameIsRefused, HciTables, Hold, IsHeldBehind, IsReadyMemory, IsRecordable, IsSome, LinkInput, List}
+use Rattle.lone_laws.proofs.Words.{Lone, LoneCause, LoneEvent, MayBeDone, Memory, Message, None, Option, Port, Running, Some, WaitsAt, Work, [], after_commands}
+use Rattle.lone_laws.proofs.Words.{after_planned, after_writes, all_come, all_done, ap, append-nil, append_assoc, arith, boot_writes, by_option, by_test, close}
+use Rattle.lone_laws.proofs.Words.{close-close, comes_to_pass, commands_of_entries, cond, count, count_of, counted, current, deeds_of, does_by_power}
+use Rattle.lone_laws.proofs.Words.{emits_behind, end_of_node, entries_of_events_alone, eqb, fails_within, false, format_writes, formatted, found, frames_behind}
+use Rattle.lone_laws.proofs.Words.{goes_through_ends, good_found, handles, handles_sees, have_turns, holds_back, hosts_of_ends, inl, inr, is_held, is_some}
+use Rattle.lone_laws.proofs.Words.{lack, length, lets_go, lone_after, lone_arrival, lone_behind_step, lone_booted, lone_end, lone_events, lone_input, lone_step}
+use Rattle.lone_laws.proofs.Words.{lone_work, lpdu_of, map, min, needs, node_input, noted_of_refused, noting, one_may, option_map_or, passes, plainly_come}
+use Rattle.lone_laws.proofs.Words.{plainly_desk, plainly_noting, plainly_then, plainly_turn, planned_cut, planned_whole, port_at, refl, runs_on, session_with}
+use Rattle.lone_laws.proofs.Words.{sound_has_no_fault, started_state, state_of, steps, steps_are, subst, sym, syncs_in, syncs_one, tables_of, true, true≢false}
+use Rattle.lone_laws.proofs.Words.{turn_at, waiting_at, with_desk, with_refusal, ℕ, ◌++◌, ◌+◌, ◌-◌, ◌^◌, ◌∙◌, ◌∷◌, ◌≡◌, ◌≤◌, ◌⊎◌}
 use Rattle.trace_model.specs.declared.entry.Entry.TheVariants as entry
 use Rattle.journal_laws.specs.declared.banks.Side.{Side}
-use Rattle.journal_laws.specs.Journal.{count}
-use Rattle.journal_laws.specs.Operations.{started_state}
-use Rattle.hci_store.proofs.Applying.{sound_has_no_fault}
-use Rattle.hci_store.proofs.Closing.{close-close}
-use Rattle.link_laws.specs.machine.Machine.{is_held}
-use Rattle.node_machine.specs.Turns.{goes_through_ends, have_turns, lets_go}
-use Rattle.node_machine.specs.world.World.{runs_on}
-use Rattle.node_laws.specs.kept.Books.{WaitsAt}
 use Rattle.node_machine.specs.Orders.{IsOnOrder}
-use Rattle.node_laws.specs.kept.Deeds.{MayBeDone}
-use Rattle.node_laws.proofs.kept.Booting.{good_found}
 use Rattle.node_laws.proofs.kept.HostsReply.{OneOrNone, host_may}
-use Rattle.node_laws.proofs.kept.Plainly.{plainly_desk, plainly_noting, plainly_then, plainly_turn}
-use Rattle.node_laws.proofs.kept.Planned.{planned_cut}
 use Rattle.node_laws.proofs.kept.Replies.{controller_may}
-use Rattle.node_laws.proofs.kept.Stepping.{one_may, plainly_come, syncs_one}
-use Rattle.node_laws.proofs.passes.Passing.{handles_sees}
-use Rattle.lone_laws.specs.alone.Lone.{lone_booted}
-use Rattle.lone_laws.specs.alone.Memories.{FindsAllButLast, IsHeldBehind}
 use Rattle.lone_laws.proofs.answered.Coming.{IsLoneInput, pass_is}
 use Rattle.lone_laws.proofs.answered.Lasting.{LoneKeeps, arrival_nothing, begins_alone, step_is}
 use Rattle.lone_laws.proofs.answered.Finding.{FindsIf, KnowsIf, fault_none, finds_counting, knows_formatted, left_formatted}
@@ -318,11 +304,6 @@ module _ (E : Type 0) (tables : HciTables) (many : ℕ) where
         let same : lone_after l (c ∷ causes) ≡ l = off_stays (c ∷ causes) l (none_of l.node q) in
         subst (λ x. AllRemembered E tables many (t ++ entries_of_events_alone x) (lone_after l (c ∷ causes))) (sym is)
         (subst (λ (x : Lone). AllRemembered E tables many (t ++ []) x) (sym same) (subst (λ x. AllRemembered E tables many x l) (sym (append-nil t)) b))) where
-          Later : Type 0
-          Later =
-              (u : List Entry) (v : Lone) → Between rest number h u v → AllRemembered E tables many u v
-              → AllRemembered E tables many (u ++ entries_of_events_alone (lone_events v causes)) (lone_after v causes)
-
           none_of : (o : Option Running) → is_some o ≡ false → o ≡ None
           none_of None q = refl
           none_of (Some n) q = absurd (true≢false q)

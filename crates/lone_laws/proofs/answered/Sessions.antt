@@ -1,15 +1,12 @@
 -- The session of an end, the messages sent in it and how many of them are acknowledged are read of a node alone by the words for any node.
-use Rattle.std.proofs.Common.{◌≡◌, ℕ, zero, suc, ◌+◌, ◌<◌, ◌≤◌, ◌-◌, Bool, true, false, cond, eqb, List, [], ◌∷◌, ◌++◌, refl, sym, ap, ap₂, subst, ◌∙◌}
-use Rattle.std.proofs.Common.{append_assoc, append-nil, arith, drop, max, not, ◌&&◌, Option, Some, None, is_some, filter_map}
-use Rattle.lone_laws.proofs.Words.{AllByRecursion, End, Entry, Message, by_test, fold-append, same_end, session_now, spare_at}
-use Rattle.std.proofs.lemmas.Grind.{common_steps}
 use Rattle.std.proofs.lemmas.List.Elements.{filter_map-append}
-use Rattle.swp_base.specs.declared.link_terms.Cause.{Cause as EndedBy}
+use Rattle.lone_laws.proofs.Words.{AllByRecursion, Bool, End, EndedBy, Entry, List, Message, None, Option, Saying, Some, [], acked_after, acked_in, ap}
+use Rattle.lone_laws.proofs.Words.{append-nil, append_assoc, ap₂, arith, asking_after, asking_in, by_test, common_steps, cond, drop, eqb, false, filter_map}
+use Rattle.lone_laws.proofs.Words.{fold-append, is_some, max, need_of_all, not, refl, said_of, same_end, sent_by, sent_in, session_now, spare_at, subst, suc}
+use Rattle.lone_laws.proofs.Words.{sym, true, unacknowledged_in, zero, ℕ, ◌&&◌, ◌++◌, ◌+◌, ◌-◌, ◌<◌, ◌∙◌, ◌∷◌, ◌≡◌, ◌≤◌}
 use Rattle.trace_model.specs.declared.entry.Entry.TheVariants as entry
-use Rattle.link_laws.specs.machine.Machine.{need_of_all}
-use Rattle.history.specs.Filters.{Saying, said_of, sent_by, sent_in, acked_after, acked_in}
 use Rattle.history.specs.Filters.Saying.{Begins, Ends, Sends, Gets, Counts, Puts, Takes, Loses}
-use Rattle.node_machine.specs.world.NodeFilters.{asking_after, asking_in, unacknowledged_in}
+use Rattle.lone_laws.proofs.answered.Reading.{eqb_same}
 
 -- what an end has of its session: its number, while there is one, the messages sent in it, and how many of them are acknowledged
 pub record Talk : Type 0 where
@@ -210,9 +207,6 @@ pub record Reads (e : End) (n s : ℕ) (t : List Entry) (x : Talk) : Type 0 wher
 apart : (k j : ℕ) → k < j → eqb k j ≡ false
 apart k j less = grind (arith, common_steps)
 
-alike : (k : ℕ) → eqb k k ≡ true
-alike k = grind (arith, common_steps)
-
 module _ (e : End) (n : ℕ) where
   silent_one : (s : ℕ) (t : List Entry) (x : Talk) (y : Entry) → IsSilent y → Reads e n s t x → Reads e n s (t ++ y ∷ []) x
   silent_one s t x y a r = record {
@@ -273,7 +267,7 @@ module _ (e : End) (n : ℕ) where
           sent = λ j q.
               let both : Some k ≡ Some j = sym now ∙ q in
               let same : k ≡ j = cc in
-              sent_one e j t f k pid message own (subst (λ z. eqb k z ≡ true) same (alike k)) ∙ ap (λ l. l ++ (pid, message) ∷ []) (r.sent j q);
+              sent_one e j t f k pid message own (subst (λ z. eqb k z ≡ true) same (eqb_same k)) ∙ ap (λ l. l ++ (pid, message) ∷ []) (r.sent j q);
           acked = λ j q. acked_same e j t y tt ∙ r.acked j q;
           none_sent = λ j q.
               let most = r.low k now in sent_other e j t f k pid message own (apart k j (omega (arith, q, most))) ∙ r.none_sent j q;
@@ -294,7 +288,7 @@ module _ (e : End) (n : ℕ) where
               let both : Some k ≡ Some j = sym now ∙ q in
               let same : k ≡ j = cc in
               let before = r.acked j q in
-              acked_one e j t f k count own (subst (λ z. eqb k z ≡ true) same (alike k)) ∙ omega (arith, before, more);
+              acked_one e j t f k count own (subst (λ z. eqb k z ≡ true) same (eqb_same k)) ∙ omega (arith, before, more);
           none_sent = λ j q. sent_same e j t y tt ∙ r.none_sent j q;
           none_acked = λ j q.
               let most = r.low k now in acked_other e j t f k count own (apart k j (omega (arith, q, most))) ∙ r.none_acked j q;

@@ -1,22 +1,13 @@
 -- What a node with one link does with a message: nothing, or one message is dropped or sent, behind a command or REC_ERROR, if at all.
-use Rattle.std.proofs.Common.{◌≡◌, ℕ, Bool, true, false, cond, eqb, List, [], ◌∷◌, map, sym, ap, ◌∙◌, Option, Some, None}
-use Rattle.lone_laws.proofs.Words.{AllByRecursion, Command, Commits, Core, Creation, Deed, Drops, IsAnswered, JoinTwo, Message, Port, SaysOk, Sends, SetsErrors}
-use Rattle.lone_laws.proofs.Words.{Tells, asked_at, by_option, by_test, controller_deeds, creation_in, end_view, host_deeds, own_view, port_at, view_of}
-use Rattle.hci_tables.specs.declared.command.Command.TheVariants.{Create, Delete, Clear}
+use Rattle.lone_laws.proofs.Words.{AllByRecursion, Answer, Ask, Bool, Clear, Command, Commit, Commits, Core, Create, Creation, Decision, Deed, Delete, Drops}
+use Rattle.lone_laws.proofs.Words.{IsAnswered, JoinTwo, LinkView, List, Message, None, Option, Port, SaysOk, Sends, SetsErrors, Some, Tells, [], accepts}
+use Rattle.lone_laws.proofs.Words.{answer_of, ap, asked_at, body_in, by_option, by_test, commit_deeds, cond, controller_deeds, controller_holds, creation_in}
+use Rattle.lone_laws.proofs.Words.{decided, decided_tells_others, decision_deeds, end_view, eqb, false, finds_room, gates, has, host_deeds, host_holds}
+use Rattle.lone_laws.proofs.Words.{hosts_where, link_deeds, map, ordered_deeds, ordered_holds, own_view, port_at, sym, true, view_for, view_of, ℕ, ◌∙◌, ◌∷◌}
+use Rattle.lone_laws.proofs.Words.{◌≡◌}
 use Rattle.gate_answers.specs.declared.response.Response.TheVariants as response
-use Rattle.gate_answers.specs.Answers.{answer_of, body_in}
-use Rattle.gate_admin.specs.declared.view.LinkView.{LinkView}
-use Rattle.gate_admin.specs.declared.decision.Decision.{Decision}
-use Rattle.gate_admin.specs.declared.decision.Decision.TheVariants.{Answer, Commit, Ask}
-use Rattle.gate_admin.specs.View.{has, hosts_where}
-use Rattle.gate_admin.specs.Decide.{decided}
 use Rattle.gate_identity.specs.Identity.{identity_served}
 use Rattle.gate_link.specs.Link.{link_served}
-use Rattle.tables_laws.proofs.gate.Decisions.{decided_tells_others}
-use Rattle.node_machine.specs.Carrying.{finds_room}
-use Rattle.node_machine.specs.Controller.{view_for, commit_deeds, decision_deeds, link_deeds, gates}
-use Rattle.node_machine.specs.HostReplies.{accepts, ordered_deeds}
-use Rattle.node_machine.proofs.Walks.{controller_holds, ordered_holds, host_holds}
 use Rattle.lone_laws.proofs.answered.Own.{TellsNobody, tells_nobody, asks_nobody}
 
 pub data IsLoneReply : List Deed → Type 0 where

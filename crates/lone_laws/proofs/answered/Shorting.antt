@@ -1,15 +1,13 @@
 -- Behind each step of a node alone that runs on, the first message that came and had no turn lacks room.
-use Rattle.std.proofs.Common.{◌≡◌, ℕ, ◌≤◌, Bool, true, false, cond, eqb, ◌||◌, List, [], ◌∷◌, ◌++◌, map, refl, sym, ap, ap₂, subst, ◌∙◌, append_assoc}
-use Rattle.std.proofs.Common.{append-nil, Option, Some, None, is_some, is_none, option_and_then}
-use Rattle.lone_laws.proofs.Words.{AllByRecursion, AllByRecursion-append, BeginWithTurn, ComesTo, Control, Core, End, Entry, ErrorCount, LinkInput, Lone}
-use Rattle.lone_laws.proofs.Words.{LoneCause, Message, Port, Running, Work, core_noted, core_since, deeds_for, emits_behind, end_of_node, end_of_node_alone}
-use Rattle.lone_laws.proofs.Words.{errors_found, first_lack, fold, fold-append, frames_behind, is_up_read, lack_since, lone_input, lpdu_of, needs, oldest}
-use Rattle.lone_laws.proofs.Words.{option_map_or, session_with, spare_at, spare_with_link, unhandled_after, unhandled_in, view_with_link, waiting_at}
+use Rattle.lone_laws.proofs.Words.{AllByRecursion, AllByRecursion-append, AreAlong, BeginWithTurn, Bool, ComesTo, Control, Core, End, Entry, ErrorCount}
+use Rattle.lone_laws.proofs.Words.{IsBehind, LinkInput, List, Lone, LoneCause, Message, None, Option, Port, Running, Some, Work, [], ap, append-nil}
+use Rattle.lone_laws.proofs.Words.{append_assoc, ap₂, cond, core_noted, core_since, deeds_for, emits_behind, end_of_node, end_of_node_alone, end_of_number, eqb}
+use Rattle.lone_laws.proofs.Words.{errors_found, errors_since, false, first_lack, fold, fold-append, frames_behind, is_held_at, is_left_lacking, is_none}
+use Rattle.lone_laws.proofs.Words.{is_some, is_up_read, lack_since, links_of_turns, lone_input, lpdu_of, map, needs, oldest, option_and_then, option_map_or}
+use Rattle.lone_laws.proofs.Words.{refl, session_with, spare_at, spare_with_link, subst, sym, true, unhandled_after, unhandled_in, view_with_link, waiting_at}
+use Rattle.lone_laws.proofs.Words.{ℕ, ◌++◌, ◌||◌, ◌∙◌, ◌∷◌, ◌≡◌, ◌≤◌}
 use Rattle.trace_model.specs.declared.entry.Entry.TheVariants as entry
-use Rattle.node_machine.specs.Carrying.{end_of_number}
-use Rattle.node_laws.specs.passes.Passing.{AreAlong, links_of_turns, IsBehind, Stays, is_held_at}
-use Rattle.lone_laws.specs.alone.Known.{errors_since}
-use Rattle.lone_laws.specs.alone.Answers.{is_left_lacking}
+use Rattle.node_laws.specs.passes.Passing.{Stays}
 use Rattle.lone_laws.proofs.answered.Reading.{eqb_same, Read, Alone, left_is}
 use Rattle.lone_laws.proofs.answered.Sessions.{IsSilent, AreSilent, sessions_same, spares_same}
 use Rattle.lone_laws.proofs.answered.Ordered.{begin_read, begun, ended, was_on, left_so}

@@ -1,14 +1,11 @@
 -- A node with one link keeps over each event what is read.
-use Rattle.std.proofs.Common.{◌≡◌, ℕ, ◌≤◌, Bool, true, false, List, [], ◌∷◌, refl, sym, subst, ◌∙◌, append-nil, Some, Result, Ok, Err}
-use Rattle.lone_laws.proofs.Words.{AllByRecursion, ComesTo, Commits, Control, Core, End, Entry, FrameComes, FrameIsRefused, IsCommand, LinkInput, LoneCause}
-use Rattle.lone_laws.proofs.Words.{LpduFault, NodeInput, Port, ResetComes, StartComes, StopComes, TickComes, Work, all_come, all_do, all_done, by_option}
-use Rattle.lone_laws.proofs.Words.{comes_to_pass, cond_both, control_of, end_of_node_alone, flat_map, hosts_of_ends, input_at, lone_input, lpdu_input}
-use Rattle.lone_laws.proofs.Words.{node_input, passes, report, steps, steps_are, synced, syncs_in, true≢false, unless_cut}
-use Rattle.std.proofs.lemmas.Bool.{and_from, le-leb}
-use Rattle.hci_tables.specs.declared.command.Command.TheVariants.{Sync}
-use Rattle.node_laws.specs.passes.Passing.{ArePassed}
+use Rattle.std.proofs.Common.{Result, Ok, Err}
+use Rattle.lone_laws.proofs.Words.{AllByRecursion, ArePassed, Bool, ComesTo, Commits, Control, Core, End, Entry, FrameComes, FrameIsRefused, IsCommand}
+use Rattle.lone_laws.proofs.Words.{LinkInput, List, LoneCause, LpduFault, NodeInput, Port, ResetComes, Some, StartComes, StopComes, Sync, TickComes, Work, []}
+use Rattle.lone_laws.proofs.Words.{all_come, all_do, all_done, and_from, append-nil, by_option, comes_lasts, comes_to_pass, cond_both, control_of}
+use Rattle.lone_laws.proofs.Words.{end_of_node_alone, false, flat_map, hosts_of_ends, input_at, le-leb, lone_input, lpdu_input, node_input, passes, refl}
+use Rattle.lone_laws.proofs.Words.{report, steps, steps_are, subst, sym, synced, syncs_in, through, true, true≢false, unless_cut, ℕ, ◌∙◌, ◌∷◌, ◌≡◌, ◌≤◌}
 use Rattle.node_laws.specs.passes.Passing.ComesTo.{Begins}
-use Rattle.node_laws.proofs.passes.Passing.{through, comes_lasts}
 use Rattle.lone_laws.proofs.answered.Own.{IsOwnDeed}
 use Rattle.lone_laws.proofs.answered.Reading.{Read, Alone, alone_does}
 use Rattle.lone_laws.proofs.answered.Turning.{alone_at}

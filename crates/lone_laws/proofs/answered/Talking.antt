@@ -1,19 +1,13 @@
 -- The session of an end, the messages sent in it and how many of them are acknowledged are what is read, over what comes to it.
-use Rattle.std.proofs.Common.{◌≡◌, ℕ, ◌<◌, ◌≤◌, ◌-◌, Bool, true, false, cond, List, [], ◌∷◌, ◌++◌, map, refl, sym, ap, ap₂, subst, ◌∙◌, append_assoc}
-use Rattle.std.proofs.Common.{append-nil, arith, nat_lt, Option, Some, None, is_some, option_to_list, ltb-true, ltb-false}
-use Rattle.lone_laws.proofs.Words.{Acked, Act, ActEvent, Active, Down, End, EndState, Entry, GaveUp, Got, LinkEnd, LinkInput, LinkState, Message, Report, Reset}
-use Rattle.lone_laws.proofs.Words.{Sound, Start, Stop, Take, TakeUnknown, Tick, Up, act_answer, activated, after_input, began_by, by_option, by_test, end_of}
-use Rattle.lone_laws.proofs.Words.{entries_for, if_so, is_up, moved, put_down, report, role_after, same_end, told, whole_acked, with_act}
+use Rattle.std.proofs.Common.{option_to_list}
 use Rattle.std.proofs.lemmas.List.Concat.{flat_map-append}
-use Rattle.swp_base.specs.declared.link_terms.Cause.{Cause as EndedBy}
-use Rattle.shdlc_core.specs.declared.answers.LinkState.TheVariants.{Down as IsDown, Waiting as IsWaitingNow, Up as IsUpNow}
-use Rattle.link_laws.specs.machine.Machine.{ended_by, got_by, whole_among}
-use Rattle.link_laws.proofs.machine.Shifts.{Shift, IsNotUp}
-use Rattle.link_laws.proofs.machine.Shifts.Shift.{Stays, Ends, Renews, Begins, Rests}
-use Rattle.link_laws.proofs.machine.Sound.{Data, SentAfter, whole_more}
-use Rattle.link_laws.proofs.machine.Reports.{Becomes, take_so, tick_so, reset_so, start_so, stop_so}
-use Rattle.link_laws.specs.entries.Entries.{End as Side, Entry as Noted}
-use Rattle.history.specs.Steps.{entry_of}
+use Rattle.lone_laws.proofs.Words.{Acked, Act, ActEvent, Active, Becomes, Begins, Bool, Data, Down, End, EndedBy, Ends, Entry, GaveUp, Got, IsNotUp, IsUpNow}
+use Rattle.lone_laws.proofs.Words.{LinkEnd, LinkInput, LinkState, List, Message, None, Noted, Option, Renews, Report, Reset, Rests, SentAfter, Shift, Side}
+use Rattle.lone_laws.proofs.Words.{Some, Sound, Start, Stays, Stop, Take, TakeUnknown, Tick, Up, [], act_answer, activated, after_input, ap, append-nil}
+use Rattle.lone_laws.proofs.Words.{append_assoc, ap₂, arith, began_by, by_option, by_test, cond, end_of, ended_by, entries_for, entry_of, false, got_by, if_so}
+use Rattle.lone_laws.proofs.Words.{is_some, is_up, ltb-false, ltb-true, map, moved_aside, nat_lt, put_down, refl, report, reset_so, role_after, same_end}
+use Rattle.lone_laws.proofs.Words.{start_so, stop_so, subst, sym, take_so, tick_so, told, true, whole_acked, whole_among, whole_more, with_act, ℕ, ◌++◌, ◌-◌}
+use Rattle.lone_laws.proofs.Words.{◌<◌, ◌∙◌, ◌∷◌, ◌≡◌, ◌≤◌}
 use Rattle.lone_laws.proofs.answered.Coming.{IsLoneInput}
 use Rattle.lone_laws.proofs.answered.Roles.{input_keeps}
 use Rattle.lone_laws.proofs.answered.Sessions.{Talk, no_session_now, AreSilent, Reads, reads_silent, reads_down, reads_up, reads_acked}
@@ -110,8 +104,7 @@ grown_acked a c x q low = by_test (nat_lt 0 (c - a))
 
 not_up : (p : LinkState) → (p ≡ IsUpNow → ⊥) → is_up p ≡ false
 not_up IsUpNow f = absurd (f refl)
-not_up IsWaitingNow f = refl
-not_up IsDown f = refl
+not_up _ f = refl
 
 none_whole : (s : LinkEnd) → s.sent ≡ [] → whole_acked s ≡ 0
 none_whole s q = rw q refl
@@ -251,10 +244,6 @@ input_grows s _ may sound k m number z = absurd may
 act_aside : (o : Option Act) (e : LinkEnd) → (with_act o e).aside ≡ e.aside
 act_aside None e = refl
 act_aside (Some act) e = refl
-
-moved_aside : (e : LinkEnd) (b : Bool) (s : EndState) → (moved e b s).aside ≡ e.aside
-moved_aside e true s = refl
-moved_aside e false s = refl
 
 down_aside : (b : Bool) (e : LinkEnd) → (put_down b e).aside ≡ e.aside
 down_aside false e = refl

@@ -1,14 +1,11 @@
 -- What is noted of the deeds of a node alone, one after another, are the entries of a reply of such a node among others.
-use Rattle.std.proofs.Common.{◌≡◌, ℕ, Bool, true, false, cond, eqb, List, [], ◌∷◌, ◌++◌, map, refl, sym, ap, ◌∙◌, Option, Some, None}
-use Rattle.lone_laws.proofs.Words.{Command, Commits, Core, Deed, Drops, End, Entry, Message, SaysOk, Sends, by_test, core_noted, core_since, core_with}
-use Rattle.lone_laws.proofs.Words.{count_of, end_of_node_alone, eqb-true, fold, option_map_or}
+use Rattle.lone_laws.proofs.Words.{Bool, Command, Commits, Core, Deed, Drops, End, Entry, List, Message, None, Option, SaysOk, Sends, Some, [], ap, by_test}
+use Rattle.lone_laws.proofs.Words.{cond, core_noted, core_since, core_with, count_of, end_of_node_alone, end_of_number, entries_of_reply, eqb, eqb-true, false}
+use Rattle.lone_laws.proofs.Words.{fold, map, next_count, option_map_or, refl, sent_in_session, sym, telling_count, true, ℕ, ◌++◌, ◌∙◌, ◌∷◌, ◌≡◌}
 use Rattle.trace_model.specs.declared.entry.Entry.TheVariants as entry
-use Rattle.node_machine.specs.Carrying.{end_of_number}
-use Rattle.node_laws.specs.passes.Noting.{entries_of_reply, next_count, sent_in_session}
-use Rattle.lone_laws.specs.alone.Answers.{telling_count}
 use Rattle.lone_laws.proofs.answered.Reading.{eqb_same}
 use Rattle.lone_laws.proofs.answered.Shapes.{IsLoneReply}
-use Rattle.lone_laws.proofs.answered.Shapes.IsLoneReply.{IsNone, IsDrop, IsSend, IsCommit, IsSet, IsHeard}
+use Rattle.lone_laws.proofs.answered.Shapes.IsLoneReply.{IsDrop, IsSend, IsCommit, IsSet}
 
 -- What deeds note of a node that keeps this, one after another, where its end has this session: as they are done, the count is the journal's.
 abbrev pub entries_of_deeds : Core → End → Option ℕ → List Deed → List Entry
@@ -77,11 +74,9 @@ module _ (number h : ℕ) (session : Option ℕ) where
 
     -- a reply of a node alone
     pub reply_told : (count : ℕ) (deeds : List Deed) → IsLoneReply deeds → noted_as_reply core count deeds ≡ entries_of_deeds core e session deeds
-    reply_told count _ IsNone = refl
     reply_told count _ (IsDrop pid) = ap (λ (f : End). entry.Dropped f pid ∷ []) (same_number number h)
     reply_told count _ (IsSend to m) = sends_told to m
     reply_told count _ (IsSet v to m) = sends_told to m
-    reply_told count _ IsHeard = refl
     reply_told count _ (IsCommit c to m) =
         let last : List Entry = entry.AnyOk number (next_count count) ∷ [] in
         ap (λ s. map (telling_count (fold core_noted (core_noted core (entry.Command number c)) (s ++ last))) (entry.Command number c ∷ (s ++ last)))
@@ -90,6 +85,7 @@ module _ (number h : ℕ) (session : Option ℕ) where
         ∙ (ap (λ d. map (telling_count d) (entry.Command number c ∷ (sent to m ++ last))) (sent_kept (core_with core c) to m last)
         ∙ (ap (λ es. entry.Command number c ∷ es) (sent_told (core_with core c) to m last)
         ∙ ap (λ k. entry.Command k c ∷ (sent to m ++ entry.AnyOk k (count_of (core_with core c).journal) ∷ [])) (sym node))))
+    reply_told count _ _ = refl
 
     -- a commit that is due
     pub commit_told : (count : ℕ) (c : Command) → noted_as_reply core count (Commits c ∷ []) ≡ entries_of_deeds core e session (Commits c ∷ [])

@@ -1,18 +1,13 @@
 -- What a node with one link keeps is read over each turn of its pass.
-use Rattle.std.proofs.Common.{◌≡◌, ℕ, ◌≤◌, Bool, true, false, cond, eqb, ◌&&◌, List, [], ◌∷◌, ◌++◌, refl, sym, ap, subst, ◌∙◌, Some, None, drop}
-use Rattle.lone_laws.proofs.Words.{AreTables, ComesTo, Core, End, Entry, FetchMessage, Hold, JoinTwo, LastsOverTurns, Message, Port, Work, after_turn, all_do}
-use Rattle.lone_laws.proofs.Words.{by_test, changed_if, deeds_of, end_of_node, end_of_node_alone, eqb-true, handles, holds_back, lets, noting, option_map_or}
-use Rattle.lone_laws.proofs.Words.{port_at, same_end, takes_up, waiting_at, with_desk, with_port}
+use Rattle.lone_laws.proofs.Words.{AreTables, Bool, ComesTo, Core, End, Entry, FetchMessage, Hold, JoinTwo, LastsOverTurns, List, Message, None, Port, Some}
+use Rattle.lone_laws.proofs.Words.{Work, [], after_turn, all_do, ap, by_test, changed_if, comes_so, cond, deeds_of, drop, end_of_node, end_of_node_alone, eqb}
+use Rattle.lone_laws.proofs.Words.{eqb-true, false, handles, holds_back, lets, noting, option_map_or, port_at, refl, same_end, same_end_itself, subst, sym}
+use Rattle.lone_laws.proofs.Words.{takes_entries, takes_up, true, waiting_at, with_desk, with_port, ℕ, ◌++◌, ◌∙◌, ◌∷◌, ◌≡◌, ◌≤◌}
 use Rattle.trace_model.specs.declared.entry.Entry.TheVariants as entry
-use Rattle.history.specs.Filters.{same_side}
-use Rattle.node_laws.proofs.passes.Passing.{comes_so, takes_entries}
 use Rattle.lone_laws.proofs.answered.Own.{IsOwnDeed, AreOwnDeeds, controller_own, host_own}
-use Rattle.lone_laws.proofs.answered.Reading.{eqb_same, Read, read_all, reads_of, Alone, read_more, alone_turn, alone_does, alone_as}
+use Rattle.lone_laws.proofs.answered.Reading.{Read, read_all, reads_of, Alone, read_more, alone_turn, alone_does, alone_as}
 
 -- ## Its end
-
-pub same_self : (e : End) → same_end e e ≡ true
-same_self e = ap (λ b. b && same_side e.at_host e.at_host) (eqb_same e.link) ∙ by_test e.at_host (λ q. rw q refl) (λ q. rw q refl)
 
 -- the end of a node with this number
 pub own_end : (core : Core) (number h k : ℕ) → core.node ≡ number → k ≡ h → end_of_node core k ≡ end_of_node_alone number h
@@ -71,7 +66,7 @@ module _ (number h : ℕ) (some : 1 ≤ h) (most : h ≤ 7) (r : Read) (t : List
       let two : with_port k g (f a.port ∷ []) ≡ g (f a.port) ∷ [] = ap (λ b. changed_if b g (f a.port) ∷ []) here.own in
       let turned : List Entry = entry.Turn (end_of_node w.core k) m.0 m.1 ∷ [] in
       let its : end_of_node w.core k ≡ e = own_end w.core number h k a.node (link_is k a.port a.host here.own) in
-      let own : same_end (end_of_node w.core k) e ≡ true = ap (λ x. same_end x e) its ∙ same_self e in
+      let own : same_end (end_of_node w.core k) e ≡ true = ap (λ x. same_end x e) its ∙ same_end_itself e in
       let R : Read = reads_of w.core a.port in
       alone_as a (g (f a.port)) (takes_up k m w).ports (takes_up k m w).entries
       (ap (λ ps. with_port k g (with_port k f ps)) a.ports_are ∙ (ap (with_port k g) one ∙ two)) a.host a.none
@@ -99,7 +94,7 @@ module _ (number h : ℕ) (some : 1 ≤ h) (most : h ≤ 7) (r : Read) (t : List
       let one : with_port k g (a.port ∷ []) ≡ g a.port ∷ [] = ap (λ b. changed_if b g a.port ∷ []) here.own in
       let held : List Entry = entry.Held (end_of_node w.core k) need spare ∷ [] in
       let its : end_of_node w.core k ≡ e = own_end w.core number h k a.node (link_is k a.port a.host here.own) in
-      let own : same_end (end_of_node w.core k) e ≡ true = ap (λ x. same_end x e) its ∙ same_self e in
+      let own : same_end (end_of_node w.core k) e ≡ true = ap (λ x. same_end x e) its ∙ same_end_itself e in
       let R : Read = reads_of w.core a.port in
       alone_as a (g a.port) (with_port k g w.ports) (w.entries ++ held) (ap (with_port k g) a.ports_are ∙ one) a.host a.none
       (read_more number h r t w held R (reads_of w.core (g a.port)) a.read (ap (λ b. record R { held = cond b true R.held }) own))

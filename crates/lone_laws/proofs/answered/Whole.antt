@@ -1,35 +1,22 @@
 -- Every history of a node alone answers as is read.
-use Rattle.std.proofs.Common.{◌≡◌, ℕ, ◌≤◌, Bool, true, false, cond, eqb, ◌&&◌, ◌||◌, List, [], ◌∷◌, ◌++◌, map, refl, sym, ap, ap₂, subst, ◌∙◌, arith}
 use Rattle.std.specs.Prelude.{◌+◌, min, not, Option, Some, None, is_some, is_none, length}
-use Rattle.lone_laws.proofs.Words.{AllByRecursion, AllByRecursion-append, AnsweredAlone, AreInTurn, AreNoTurns, AreTables, AreTables-apply, AtEachNoted}
-use Rattle.lone_laws.proofs.Words.{Command, Core, Desk, End, Entry, ErrorCount, FrameIsRefused, HciTables, HearsFirstAlone, IsCommand, IsDueAlone, IsFirstThere}
-use Rattle.lone_laws.proofs.Words.{IsHeldAlone, IsNoBoot, IsRepliedAlone, IsResetAlone, JoinTwo, LinkInput, Lone, LoneCause, LoneEvent, Memory, Running, Work}
-use Rattle.lone_laws.proofs.Words.{apply, boot_writes, by_option, by_test, changed_if, close, does_by_power, emits_behind, entries_of_events_alone}
-use Rattle.lone_laws.proofs.Words.{errors_found, fails_within, fold, fold-append, found, frames_behind, link_of_turn, list_any, lone_arrival, lone_behind_step}
-use Rattle.lone_laws.proofs.Words.{lone_end, lone_events, lone_input, lone_step, lone_work, node_input, noted_of_refused, oldest, option_map_or, records}
-use Rattle.lone_laws.proofs.Words.{tables_of, true≢false, unhandled_after, with_refusal}
-use Rattle.swp_base.specs.declared.link_terms.FrameFault.{FrameFault}
-use Rattle.swp_base.specs.declared.link_terms.FrameFault.TheVariants as fault
+use Rattle.lone_laws.proofs.Words.{AllByRecursion, AllByRecursion-append, AnsweredAlone, AreInTurn, AreNoTurns, AreOwn, AreTables, AreTables-apply}
+use Rattle.lone_laws.proofs.Words.{AreTables-close, AreTables-none, AtEachLoneEvent, AtEachNoted, Bool, Command, Core, Desk, End, Entry, ErrorCount}
+use Rattle.lone_laws.proofs.Words.{FrameIsRefused, HciTables, HearsFirstAlone, IsCommand, IsDueAlone, IsFirstThere, IsHeldAlone, IsNoBoot, IsRepliedAlone}
+use Rattle.lone_laws.proofs.Words.{IsResetAlone, JoinTwo, JoinTwo-after, JoinTwo-closed, LinkInput, List, Lone, LoneCause, LoneEvent, Memory, Running}
+use Rattle.lone_laws.proofs.Words.{TurnsAscendAlone, Work, [], ap, applied, apply, ap₂, arith, boot_writes, by_option, by_test, changed_if, close, command_of}
+use Rattle.lone_laws.proofs.Words.{command_read, cond, does_by_power, emits_behind, entries_of_events_alone, eqb, errors_found, fails_within, false, fold}
+use Rattle.lone_laws.proofs.Words.{fold-append, found, frames_behind, goes_through_end, holds_after, is_answer_of, is_at_rest, is_cut_of, is_done_alone}
+use Rattle.lone_laws.proofs.Words.{is_left_lacking, is_short_alone, link_of_turn, list_any, lone_arrival, lone_behind_step, lone_booted, lone_end, lone_events}
+use Rattle.lone_laws.proofs.Words.{lone_input, lone_step, lone_work, lost_as, map, new_desk, new_sound, no_tables, node_input, noted_of_refused, oldest}
+use Rattle.lone_laws.proofs.Words.{option_map_or, records, refl, role_alone, runs_behind, same_end_itself, spelled_by, subst, sym, tables_of, true, true≢false}
+use Rattle.lone_laws.proofs.Words.{unhandled_after, was_refused, with_error, with_refusal, ℕ, ◌&&◌, ◌++◌, ◌||◌, ◌∙◌, ◌∷◌, ◌≡◌, ◌≤◌}
 use Rattle.trace_model.specs.declared.entry.Entry.TheVariants as entry
-use Rattle.hci_tables.specs.Bodies.{spelled_by, command_of}
-use Rattle.hci_tables.specs.Tables.{no_tables}
-use Rattle.tables_laws.proofs.tables.SortedTables.{AreTables-close, AreTables-none}
-use Rattle.tables_laws.proofs.tables.TwoHosts.{JoinTwo-after, JoinTwo-closed}
-use Rattle.hci_store.specs.Image.{applied}
-use Rattle.node_laws.specs.answers.Moments.{holds_after}
-use Rattle.node_laws.proofs.kept.Booting.{command_read}
+use Rattle.swp_base.specs.declared.link_terms.FrameFault.TheVariants as fault
+use Rattle.swp_base.specs.declared.link_terms.FrameFault.{FrameFault}
 use Rattle.link_laws.specs.messages.Links.Loss.{Broken}
-use Rattle.history.specs.Steps.{lost_as}
-use Rattle.link_laws.proofs.machine.Runs.{new_sound}
-use Rattle.node_machine.specs.Node.{new_desk, with_error}
-use Rattle.node_machine.specs.world.NodeFilters.{was_refused}
-use Rattle.node_laws.specs.answers.Order.{is_answer_of}
-use Rattle.lone_laws.specs.alone.Lone.{lone_booted, role_alone}
-use Rattle.lone_laws.specs.alone.Answers.{AtEachLoneEvent, runs_behind, is_at_rest, is_left_lacking, is_done_alone, is_short_alone, goes_through_end}
-use Rattle.lone_laws.specs.alone.Answers.{TurnsAscendAlone}
 use Rattle.lone_laws.proofs.answered.Mine.{cut_same, due_is, own_behind, replied_is, step_own}
 use Rattle.lone_laws.proofs.answered.Reading.{eqb_same}
-use Rattle.lone_laws.proofs.answered.Turning.{same_self}
 use Rattle.lone_laws.proofs.answered.Lasting.{LoneKeeps, IfKeeps, step_is, keeps_step}
 use Rattle.lone_laws.proofs.answered.Events.{at_each, none_at}
 use Rattle.lone_laws.proofs.answered.Powers.{cut_noted, any_more}
@@ -42,8 +29,6 @@ use Rattle.lone_laws.proofs.answered.Keeping.{core_of, errors_of, KeepsAll, all_
 use Rattle.lone_laws.proofs.answered.Shorting.{short_behind}
 use Rattle.lone_laws.proofs.answered.Dues.{due_in_step}
 use Rattle.lone_laws.proofs.answered.Resets.{reset_in_step}
-use Rattle.node_laws.specs.kept.Reckonings.{is_cut_of}
-use Rattle.node_laws.proofs.power.Parts.{AreOwn}
 use Rattle.lone_laws.proofs.answered.Queued.{are_in_turn}
 use Rattle.lone_laws.proofs.answered.Rising.{heard_in_step, own_ascend}
 
@@ -180,7 +165,7 @@ module _ (rest : Core) (t : List Entry) (l : Lone) (n : Running) (on : l.node �
       let x : ErrorCount = errs_all e (errors_found J) t in
       let g : Desk → Desk = λ d. record d { errors = min 65535 (d.errors + 1) } in
       ap (λ (r : ErrorCount). r.errors) (errs-append e (errors_found J) t lost)
-      ∙ (ap₂ (λ a b. cond (a && b) (min 65535 (x.errors + 1)) x.errors) (same_self e) (refused_true f)
+      ∙ (ap₂ (λ a b. cond (a && b) (min 65535 (x.errors + 1)) x.errors) (same_end_itself e) (refused_true f)
       ∙ (ap (λ z. min 65535 (z + 1)) (k.errs.are ∙ ap errors_of k.keep.desks_are)
       ∙ sym (ap (λ ds. errors_of (with_error l.link ds)) k.keep.desks_are
       ∙ ap (λ b. (changed_if b g k.keep.desk).errors) (ap (λ z. eqb z l.link) k.keep.host ∙ eqb_same l.link))))
