@@ -1,6 +1,8 @@
 pub mod Ends
 pub mod Wires
+pub mod Linked
 pub mod Links
+pub mod Noting
 pub mod Notes
 pub mod Lines
 pub mod Plays

@@ -1,14 +1,12 @@
 -- The numbers of a world of nodes that is in range are bounded by the RSETs that its links made and the fragments that count as acknowledged at
 -- their ends, whatever it came through.
-use Rattle.std.proofs.Common.{ℕ, ◌≤◌, Bool, true, false, List, [], ◌∷◌, arith}
-use Rattle.told_laws.proofs.Words.{AllByRecursion, FewRsets, FewRsetsOnEach, Link, LinkEnd, NodeWorld, NumberedEnd, Site}
-use Rattle.link_laws.specs.messages.Rsets.{EndIsLow}
+use Rattle.told_laws.proofs.Words.{AllByRecursion, AreAckedWithin, Bool, FewRsets, FewRsetsOnEach, Link, LinkEnd, List, NodeWorld, Site, [], arith, false, true}
+use Rattle.told_laws.proofs.Words.{ℕ, ◌∷◌, ◌≤◌}
 use Rattle.node_laws.specs.acked.InTurn.{IsAckedWithin}
-use Rattle.node_laws.specs.acked.AckedRounds.{AreAckedWithin}
-use Rattle.told_laws.proofs.told.Wires.{wire_within}
+use Rattle.told_laws.proofs.told.Linked.{so_within}
 use Rattle.told_laws.proofs.nodes.Sides.{IsLineFrame}
 use Rattle.told_laws.proofs.nodes.Machines.{SideIn}
-use Rattle.told_laws.proofs.nodes.Linking.{NumberedIn, LinkIn}
+use Rattle.told_laws.proofs.nodes.Linking.{LinkIn}
 use Rattle.told_laws.proofs.nodes.Worlds.{IsSiteIn, IsWorldIn}
 
 -- ## An end
@@ -23,30 +21,12 @@ side_within b n m e h low =
       got = h.got;
     }
 
-numbered_within : (b : Bool) (n m k : ℕ) (h : NumberedEnd) → k ≤ m → NumberedIn b n h → EndIsLow k h → h.side.shdlc.session.acked ≤ m → NumberedIn b m h
-numbered_within b n m k h more is low acked =
-    let e = low.emitted in
-    let t = low.took in
-    record {
-      side = side_within b n m h.side is.side acked;
-      calm = is.calm;
-      emitted = omega (arith, e, more);
-      took = omega (arith, t, more);
-    }
-
 -- ## A link
 
 link_within : (n m : ℕ) (l : Link) → LinkIn false true n l → FewRsets m l → IsAckedWithin m l → LinkIn false true m l
 link_within n m l h few acked =
-    let made = few.made in
-    let low : l.resets ≤ m = omega (arith, made) in
-    record {
-      near = numbered_within false n m l.resets l.controller low h.near few.numbered.controller acked.controller;
-      far = numbered_within true n m l.resets l.host low h.far few.numbered.host acked.host;
-      to_near = wire_within IsLineFrame n m l.resets l.to_controller low h.to_near few.numbered.to_controller;
-      to_far = wire_within IsLineFrame n m l.resets l.to_host low h.to_far few.numbered.to_host;
-      resets = low;
-    }
+    so_within IsLineFrame n m l few (λ s. record { side = side_within false n m l.controller.side s.side acked.controller; calm = s.calm })
+    (λ s. record { side = side_within true n m l.host.side s.side acked.host; calm = s.calm }) h
 
 -- ## A world
 
@@ -65,7 +45,7 @@ world_within n m w h few acked = record { sites = sites_within n m w.sites h.sit
 sites_acked : (n : ℕ) (sites : List Site) → AllByRecursion (IsSiteIn n) sites → AllByRecursion (λ (s : Site). IsAckedWithin n s.link) sites
 sites_acked n [] h = tt
 sites_acked n (s ∷ sites) h =
-    (record { controller = h.0.link.near.side.end.heard.acked; host = h.0.link.far.side.end.heard.acked }, sites_acked n sites h.1)
+    (record { controller = h.0.link.near.side.side.end.heard.acked; host = h.0.link.far.side.side.end.heard.acked }, sites_acked n sites h.1)
 
 pub world_acked : (n : ℕ) (w : NodeWorld) → IsWorldIn n w → AreAckedWithin n w
 world_acked n w h = sites_acked n w.sites h.sites

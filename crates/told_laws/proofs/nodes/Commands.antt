@@ -1,20 +1,14 @@
 -- Commands and tables of a world of nodes are in their ranges.
-use Rattle.std.proofs.Common.{◌≡◌, ℕ, zero, suc, ◌≤◌, ◌<◌, Bool, true, false, cond, nat_lt, List, [], ◌∷◌, length, refl, subst, arith, Some, ◌==◌, IsTrue, take}
-use Rattle.std.proofs.Common.{replicate, nat_le, slice_index, find, fold}
-use Rattle.told_laws.proofs.Words.{AllByRecursion, AllByRecursion-filter, ArePipeRows, Clear, Command, Create, Delete, Entry, HciTables, IsByte, IsSaidCommand}
-use Rattle.told_laws.proofs.Words.{IsSaidValue, PipeRow, RegValue, Set, by_option, cond_both, leb-true, ltb-true, pid_of}
-use Rattle.std.proofs.lemmas.Bool.{and_parts}
-use Rattle.sorted_rows.specs.Rows.{row_of, rows_before, rows_behind, with_row}
-use Rattle.sorted_rows.proofs.RowLemmas.{AreRows-filter, AreRows-map, AreRows-with_row}
-use Rattle.pipe_table.specs.PipeRows.{IsDynamic, as_opened, with_opened, all_closed}
-use Rattle.registry.specs.Values.{value_at, with_value, is_default, default_of, place_of_value, value_place}
-use Rattle.registry.proofs.ValueLemmas.{AllByRecursion-append as each-append, AllByRecursion-take}
-use Rattle.hci_tables.specs.declared.command.Command.TheVariants.{SetOpened, Sync}
-use Rattle.hci_tables.specs.Commands.{is_command, is_dynamic}
-use Rattle.hci_tables.specs.Tables.{no_tables, apply, after_commands, static_place, sync_host, with_static, is_kept_sync, without_identity}
+use Rattle.told_laws.proofs.Words.{AllByRecursion, AllByRecursion-filter, AllByRecursion-take, ArePipeRows, AreRows-filter, AreRows-map, AreRows-with_row, Book}
+use Rattle.told_laws.proofs.Words.{Bool, Clear, Command, Create, Delete, Entry, HciTables, IsByte, IsDynamic, IsSaidCommand, IsSaidPipe, IsSaidStatic}
+use Rattle.told_laws.proofs.Words.{IsSaidSync, IsSaidValue, IsTrue, List, PipeRow, RegValue, Set, SetOpened, Some, Sync, [], after_commands, all_closed}
+use Rattle.told_laws.proofs.Words.{and_parts, apply, arith, as_opened, book_after, by_option, cond, cond_both, default_of, each-append, false, find, fold}
+use Rattle.told_laws.proofs.Words.{is_command, is_default, is_dynamic, is_kept_sync, leb-true, length, ltb-true, nat_le, nat_lt, new_book, no_tables, pid_of}
+use Rattle.told_laws.proofs.Words.{place_of_value, refl, replicate, slice_index, static_place, subst, suc, sync_host, tables_in, take, true, value_at}
+use Rattle.told_laws.proofs.Words.{value_place, with_command, with_found, with_opened, with_static, with_value, without_identity, zero, ℕ, ◌<◌, ◌==◌, ◌∷◌, ◌≡◌}
+use Rattle.told_laws.proofs.Words.{◌≤◌}
 use Rattle.trace_model.specs.declared.entry.Entry.TheVariants as entry
-use Rattle.node_machine.specs.world.NodeFilters.{Book, new_book, with_command, with_found, book_after, tables_in}
-use Rattle.told_laws.specs.texts.Ranges.{IsSaidPipe, IsSaidStatic, IsSaidSync}
+use Rattle.sorted_rows.specs.Rows.{row_of, rows_before, rows_behind, with_row}
 use Rattle.told_laws.proofs.told.Lines.{each_all, all_each}
 use Rattle.told_laws.proofs.nodes.Sides.{AreBytes}
 use Rattle.told_laws.proofs.nodes.Ranges.{IsIn, AreIn, IsShortCommand}
@@ -125,14 +119,13 @@ applied_in (Sync host id) t is short h = record {
 -- the pipes stay sorted and dynamic
 pub rows_applied : (c : Command) (t : HciTables) → IfMade c → ArePipeRows t.rows → ArePipeRows (apply t c).rows
 rows_applied (Create row) t is h = AreRows-with_row pid_of 2 112 (as_opened false row) t.rows h is.0 is.1
-rows_applied (Delete pid) t is h = AreRows-filter pid_of 2 112 _ t.rows h
-rows_applied (Clear host) t is h = AreRows-filter pid_of 2 112 _ t.rows h
 rows_applied (SetOpened host pid opened) t is h =
     cond_both (nat_lt pid 2) _ _ (λ (u : HciTables). ArePipeRows u.rows) (λ _. h)
     (λ _. AreRows-map pid_of (λ row. cond (row.pid == pid) (as_opened opened row) row) 2 112 t.rows
     (λ row. cond_both (row.pid == pid) (as_opened opened row) row (λ (r : PipeRow). r.pid ≡ row.pid) (λ _. refl) (λ _. refl)) h)
 rows_applied (Set host gate param value) t is h = h
 rows_applied (Sync host id) t is h = h
+rows_applied _ t is h = AreRows-filter pid_of 2 112 _ t.rows h
 
 -- ## What is read of a node
 

@@ -1,41 +1,26 @@
 -- What nodes do with a message is in its range: what they send and tell are bytes, and what they commit can be told.
-use Rattle.std.proofs.Common.{◌≡◌, ℕ, ◌≤◌, ◌<◌, Bool, true, false, cond, eqb, List, [], ◌∷◌, length, refl, ap, subst, arith, Option, Some, None, drop, ◌==◌}
-use Rattle.std.proofs.Common.{◌&&◌, nat_lt, not, Result, Ok, Err, filter}
-use Rattle.told_laws.proofs.Words.{AllByRecursion, AllByRecursion-filter, ArePipeRows, Clear, Command, Commits, Core, Create, Deed, Delete, Desk, Ends, GoesOn}
-use Rattle.told_laws.proofs.Words.{HciTables, IsByte, IsSaidCommand, Message, Orders, PipeRow, Port, Sends, Set, answer_of, by_option, by_test, cond_both}
-use Rattle.told_laws.proofs.Words.{option_map_or, pid_of, port_at}
-use Rattle.std.proofs.lemmas.List.Sums.{count_by-le-length}
-use Rattle.sorted_rows.proofs.RowLemmas.{length-rows}
-use Rattle.pipe_table.specs.PipeRows.{opened_on, ends_at}
-use Rattle.hcp_packet.specs.declared.MessageKind.{MessageKind}
-use Rattle.hcp_packet.specs.declared.MessageKind.TheVariants.{Command as IsCommand, Event as IsEvent, Response as IsResponse}
-use Rattle.hcp_packet.specs.declared.MessageFault.{MessageFault}
-use Rattle.hcp_packet.specs.MessageHeader.{header_of}
-use Rattle.registry.specs.Values.{value_at}
-use Rattle.hci_tables.specs.declared.command.Command.TheVariants.{SetOpened}
-use Rattle.hci_tables.specs.Tables.{is_opened}
-use Rattle.gate_answers.specs.declared.response.Response.{Response}
+use Rattle.told_laws.proofs.Words.{AllByRecursion, AllByRecursion-filter, ArePipeRows, Asks, Bool, Clear, Command, Commits, Core, Create, Creation, Deed}
+use Rattle.told_laws.proofs.Words.{Delete, Desk, Drops, Ends, Err, GoesOn, HciTables, Init, IsByte, IsCommand, IsEvent, IsResponse, IsSaidCommand, List}
+use Rattle.told_laws.proofs.Words.{Message, MessageFault, MessageKind, None, Ok, Option, Orders, PipeRow, Port, Result, Sends, Set, SetOpened, SetsErrors, Some}
+use Rattle.told_laws.proofs.Words.{Tells, [], about_at, agreed, answer_of, answers_on, anyone, ap, arith, asks_for, body_in, by_option, by_test, code_of}
+use Rattle.told_laws.proofs.Words.{commit_deeds, cond, cond_both, controller_deeds, count_by-le-length, count_bytes, count_in, creation_deeds, creation_in}
+use Rattle.told_laws.proofs.Words.{decision_deeds, drop, ends_at, eqb, false, filter, finds_room, first_of, gates, goes_through, has_link, header_of}
+use Rattle.told_laws.proofs.Words.{identity_served, identity_unless, identity_value, is_command_message, is_opened, kind_deeds, length, length-rows, link_deeds}
+use Rattle.told_laws.proofs.Words.{link_served, link_unless, nat_lt, not, notice_deeds, opened_on, option_map_or, own_gate, own_view, param_in, pid_of, port_at}
+use Rattle.told_laws.proofs.Words.{refl, relay_deeds, relayed_to, served_at, subst, tests_to_get, tests_to_set, tests_to_set_errors, told_hold, true, value_at}
+use Rattle.told_laws.proofs.Words.{value_behind, view_for, view_of, ℕ, ◌&&◌, ◌<◌, ◌==◌, ◌∷◌, ◌≡◌, ◌≤◌}
 use Rattle.gate_answers.specs.declared.response.Response.TheVariants as response
-use Rattle.gate_answers.specs.Answers.{code_of, first_of, tests_to_set, tests_to_get, param_in, value_in as value_behind, body_in}
+use Rattle.gate_answers.specs.declared.response.Response.{Response}
 use Rattle.gate_admin.specs.declared.view.LinkView.{LinkView}
 use Rattle.gate_admin.specs.declared.decision.Decision.{Decision}
 use Rattle.gate_admin.specs.declared.decision.Decision.TheVariants.{Answer, Commit, Ask}
 use Rattle.gate_admin.specs.View.{has, hosts_where, mask_of, is_configured}
-use Rattle.gate_admin.specs.Decide.{answers, commits, tests_of_pipe, tests_to_open, tests_to_set_it, tests_to_create, tests_to_delete, creation}
-use Rattle.gate_admin.specs.Decide.{tests_to_clear, opening, closing, setting, getting, creating, deleting, clearing, carried_out, decided, value_of, dest_in}
-use Rattle.gate_admin.specs.Decide.{others_opened, ends_of, commits_and_tells, told_of_deletion, told_of_clearing, far_end}
+use Rattle.gate_admin.specs.Decide.{answers, commits, tests_of_pipe, tests_to_open, tests_to_set_it, tests_to_create, tests_to_delete, creation, tests_to_clear}
+use Rattle.gate_admin.specs.Decide.{opening, closing, setting, getting, creating, deleting, clearing, carried_out, decided, value_of, dest_in, others_opened}
+use Rattle.gate_admin.specs.Decide.{ends_of, commits_and_tells, told_of_deletion, told_of_clearing, far_end}
 use Rattle.gate_admin.proofs.CreationLemmas.{creation-recordable}
 use Rattle.tables_laws.proofs.gate.Decisions.{unless, new_row}
-use Rattle.gate_link.specs.Link.{count_bytes, count_in, tests_to_set_errors, link_served, link_unless_refused as link_unless}
-use Rattle.gate_identity.specs.Identity.{identity_value, identity_served, identity_unless_refused as identity_unless}
-use Rattle.node_machine.specs.Parts.{Init, Creation}
-use Rattle.node_machine.specs.Parts.Deed.{Asks, Tells, Drops, SetsErrors}
-use Rattle.node_machine.specs.Carrying.{finds_room, own_view}
-use Rattle.node_machine.specs.Controller.{creation_in, view_for, answers_on, commit_deeds, decision_deeds, link_deeds, gates, agreed, controller_deeds}
-use Rattle.node_machine.specs.Controller.{has_link, is_command_message, relayed_to, served_at, notice_deeds, creation_deeds, kind_deeds, goes_through, own_gate}
-use Rattle.node_machine.specs.Controller.{asks_for, relay_deeds, view_of, about_at}
 use Rattle.node_laws.proofs.steps.Ports.{at_port}
-use Rattle.node_machine.proofs.Walks.{told_hold}
 use Rattle.node_laws.proofs.links.Masking.{nobody}
 use Rattle.told_laws.proofs.told.Lines.{each_all}
 use Rattle.told_laws.proofs.told.Wires.{drop_each}
@@ -125,13 +110,10 @@ IsDecisionIn (Ask dest notice c answer) = (dest < 256) × IsSaying notice.items 
 none_told : (message : List ℕ) → AllByRecursion (λ (x : ℕ). IsSaying message) (hosts_where (has 0))
 none_told message = rw nobody tt
 
-all_told : (message : List ℕ) → IsSaying message → (hosts : List ℕ) → AllByRecursion (λ (x : ℕ). IsSaying message) hosts
-all_told message a [] = tt
-all_told message a (x ∷ hosts) = (a, all_told message a hosts)
-
 tells_in : (c : Command) (told notice : List ℕ) → IsCommandIn c → IsSaying notice → IsDecisionIn (commits_and_tells c told notice)
 tells_in c [] notice is a = (is, answer_in response.Ok [] tt (omega arith), none_told [])
-tells_in c (x ∷ told) notice is a = (is, answer_in response.Ok [] tt (omega arith), all_told notice a (hosts_where (has (mask_of (x ∷ told)))))
+tells_in c (x ∷ told) notice is a =
+    (is, answer_in response.Ok [] tt (omega arith), anyone (λ x. IsSaying notice) (λ x. a) (hosts_where (has (mask_of (x ∷ told)))))
 
 -- at most 110 pipes are opened
 others_low : (t : HciTables) (host pipe : ℕ) → ArePipeRows t.rows → others_opened t host pipe < 256

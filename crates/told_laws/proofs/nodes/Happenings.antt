@@ -1,36 +1,28 @@
 -- Whatever happens to a world of nodes keeps it, and what is noted of it, in range.
-use Rattle.std.proofs.Common.{◌≡◌, ℕ, ◌+◌, ◌≤◌, ◌<◌, ◌==◌, Bool, true, false, List, [], ◌∷◌, ◌++◌, map, subst, arith, Option, Some, None, not, ◌&&◌, min}
-use Rattle.told_laws.proofs.Words.{AllByRecursion, AsksReset, Comes, Controller, CutOff, Deed, Desk, End, Entry, GoesOut, Happening, Host, Link, Lose, Loss}
-use Rattle.told_laws.proofs.Words.{Message, NextFrame, NoInput, NodeWorld, Orders, Reset, Running, Sends, Site, Starts, Step, Takes, Tick, Ticks, Work, aged}
-use Rattle.told_laws.proofs.Words.{aged_entries, at, by_test, changed_if, cond_both, entries_for, exchanged, first_lost, flat_map, happens_at_controller}
-use Rattle.told_laws.proofs.Words.{has_input, link_to, ticks_at_controller, world_step}
-use Rattle.swp_base.specs.InMemory.{Memory}
-use Rattle.shdlc_core.specs.Machine.{is_waiting}
-use Rattle.journal_laws.specs.Planned.{after_planned}
-use Rattle.link_laws.specs.messages.Links.{happens}
-use Rattle.link_laws.specs.messages.Links.Loss.{Broken}
+use Rattle.told_laws.proofs.Words.{Activates, AllByRecursion, Arms, AsksReset, AtEnd, Bool, Boots, Broken, Comes, Controller, CutOff, Deed, Desk, End, Entry}
+use Rattle.told_laws.proofs.Words.{Gives, GoesOut, Happening, Host, Inits, IsCut, Link, List, Lose, Loses, Loss, Memory, Message, NextFrame, NoInput, NodeWorld}
+use Rattle.told_laws.proofs.Words.{None, Option, Orders, Reset, Resets, Running, Sends, Site, Some, Starts, Step, Takes, Tick, Ticks, TimePasses, Work, []}
+use Rattle.told_laws.proofs.Words.{activates, after_planned, aged, aged_entries, all_aged, all_changed, all_map, arith, at, beginning, begins_with, boot_found}
+use Rattle.told_laws.proofs.Words.{boot_writes, boot_written, boots, by_boot, by_coming, by_controller, by_controller_tick, by_host_tick, by_loss, by_memory}
+use Rattle.told_laws.proofs.Words.{by_power, by_running, by_test, comes_at, cond_both, controller_does, controller_ticks, controller_work, counts, each-append}
+use Rattle.told_laws.proofs.Words.{end_c, end_h, ending_of, entries_for, exchanged, false, first_lost, flat_map, frame_lost, frames_noted, happens}
+use Rattle.told_laws.proofs.Words.{happens_at_controller, has_input, host_cut, host_does, host_tick, host_ticks, hosts_tick, is_command_message, is_late_at}
+use Rattle.told_laws.proofs.Words.{is_waiting, link_after_controller, link_to, links_of, loses_power_at, map, memory_at, min, near_tick, new_desk, not, sending}
+use Rattle.told_laws.proofs.Words.{site_lost, steps, subst, ticked_so, ticks_at_controller, true, turns_at, with_memory, with_node, work_of, world_step}
+use Rattle.told_laws.proofs.Words.{world_ticks, ℕ, ◌&&◌, ◌++◌, ◌+◌, ◌<◌, ◌==◌, ◌∷◌, ◌≡◌, ◌≤◌}
 use Rattle.link_laws.specs.messages.Links.LinkEvent.{AtController}
-use Rattle.registry.proofs.ValueLemmas.{AllByRecursion-append as each-append}
-use Rattle.node_machine.specs.Controller.{is_command_message}
-use Rattle.node_machine.specs.Node.{steps, begins_with, new_desk, with_error, boot_writes}
-use Rattle.node_machine.specs.Node.NodeInput.{AtEnd, TimePasses}
-use Rattle.node_machine.specs.world.World.{ending_of, turns_at, work_of, frames_noted, controller_does, host_does, host_cut, loses_power_at, memory_at}
-use Rattle.node_machine.specs.world.World.{with_memory, with_node, links_of, boots, counts, frame_lost, all_aged, is_late_at, ticked_so, controller_ticks}
-use Rattle.node_machine.specs.world.World.{host_ticks, hosts_tick, world_ticks, sending, beginning, comes_at, end_c, end_h, activates, link_after_controller}
-use Rattle.node_machine.specs.world.World.{controller_work}
-use Rattle.node_machine.specs.world.World.Happening.{Boots, IsCut, Gives, Inits, Loses, Resets, Activates, Arms}
-use Rattle.node_machine.proofs.world.Cases.{by_controller, by_coming, by_power, by_memory, by_running, boot_written, boot_found, site_lost, by_boot, by_loss}
-use Rattle.node_machine.proofs.world.Cases.{near_tick, by_controller_tick, host_tick, by_host_tick}
 use Rattle.told_laws.proofs.told.Links.{IsLowWindow}
-use Rattle.told_laws.proofs.nodes.Sides.{IsMail}
+use Rattle.told_laws.proofs.nodes.Sides.{IsMail, IsLineFrame}
 use Rattle.told_laws.proofs.nodes.Machines.{AreTurnsIn}
-use Rattle.told_laws.proofs.nodes.Ranges.{IsNotedIn, AreIn, in-append, all_in_more, all_entries_in, first_lost_in, aged_in}
-use Rattle.told_laws.proofs.nodes.Linking.{LinkIn, ComesIn, link_exchanged, link_in_aged, link_has_input, link_steps, link_loses}
+use Rattle.told_laws.proofs.nodes.Ranges.{IsNotedIn, AreIn, each_in, in-append, all_in_more, all_entries_in}
+use Rattle.told_laws.proofs.told.Noting.{frames_on, noted_aged, noted_first}
+use Rattle.told_laws.proofs.told.Linked.{so_aged, so_lost}
+use Rattle.told_laws.proofs.nodes.Linking.{LinkIn, ComesIn, link_exchanged, link_has_input, link_steps}
 use Rattle.told_laws.proofs.nodes.Deeds.{IsInitIn, IsDeskIn, AreDeedsIn}
 use Rattle.told_laws.proofs.nodes.Works.{IsWorkIn, steps_in, begins_in}
-use Rattle.told_laws.proofs.nodes.Worlds.{IsNodeIn, IfNodeIn, IsSiteIn, IsWorldIn, IfTables, SitesHave, world_more, sites_more, sites_map, site_changed}
-use Rattle.told_laws.proofs.nodes.Worlds.{link_there, on_wire, noted_frames, turns_of, still_runs, work_begins, comes_input, IsStepIn, nothing_done}
-use Rattle.told_laws.proofs.nodes.Worlds.{controller_step, host_step, work_more}
+use Rattle.told_laws.proofs.nodes.Worlds.{IsNodeIn, IfNodeIn, IsSiteIn, IsWorldIn, IfTables, SitesHave, world_more, sites_more, site_changed, link_there}
+use Rattle.told_laws.proofs.nodes.Worlds.{noted_frames, turns_of, still_runs, work_begins, comes_input, IsStepIn, nothing_done, controller_step, host_step}
+use Rattle.told_laws.proofs.nodes.Worlds.{work_more}
 
 -- ## What comes to an end
 
@@ -84,7 +76,8 @@ module _ (n : ℕ) where
   power_in k w is =
       by_power (IsWorldIn (n + 13)) k w
       (λ z. record {
-        sites = sites_map n (n + 13) (λ (s : Site). record s { link = happens s.link (AtController (Step NoInput [] CutOff)) }) cut_link w.sites is.sites;
+        sites = all_map (IsSiteIn n) (IsSiteIn (n + 13)) (λ (s : Site). record s { link = happens s.link (AtController (Step NoInput [] CutOff)) })
+            cut_link w.sites is.sites;
         controller = tt;
       })
       (λ z. record { sites = site_changed n (n + 13) (omega arith) k host_cut cut_host w.sites is.sites; controller = is.controller })
@@ -106,17 +99,10 @@ module _ (n : ℕ) where
         controller = is.controller;
       })
 
-  new_desks : (hosts : List ℕ) → AllByRecursion (λ (h : ℕ). h ≤ 7) hosts → AllByRecursion IsDeskIn (map new_desk hosts)
-  new_desks [] a = tt
-  new_desks (h ∷ hosts) a = (record { host = a.0; creation = tt; errors = omega arith }, new_desks hosts a.1)
-
-  hosts_low : (sites : List Site) → AllByRecursion (IsSiteIn n) sites → AllByRecursion (λ (h : ℕ). h ≤ 7) (map (λ (s : Site). s.host) sites)
-  hosts_low [] a = tt
-  hosts_low (s ∷ sites) a = (a.0.host, hosts_low sites a.1)
-
   links_low : (w : NodeWorld) (k : ℕ) → k ≤ 7 → IsWorldIn n w → AllByRecursion (λ (h : ℕ). h ≤ 7) (links_of w k)
   links_low w k small is =
-      cond_both (k == 0) (map (λ (s : Site). s.host) w.sites) (k ∷ []) (AllByRecursion (λ (h : ℕ). h ≤ 7)) (λ _. hosts_low w.sites is.sites) (λ _. (small, tt))
+      cond_both (k == 0) (map (λ (s : Site). s.host) w.sites) (k ∷ []) (AllByRecursion (λ (h : ℕ). h ≤ 7))
+      (λ _. all_map (IsSiteIn n) (λ (h : ℕ). h ≤ 7) (λ (s : Site). s.host) (λ s is. is.host) w.sites is.sites) (λ _. (small, tt))
 
   boots_in : (w : NodeWorld) (k : ℕ) → k ≤ 7 → IsWorldIn n w → IsStepIn (n + 13) (boots w k)
   boots_in w k small is =
@@ -126,26 +112,26 @@ module _ (n : ℕ) where
       (record {
         world = world_more n (n + 13) _ (omega arith)
             (node_in k (boot_found w k) (boot_written w k)
-            (record { number = small; command = tt; init = tt; desks = new_desks (links_of w k) (links_low w k small is) }) kept);
+            (record { number = small; command = tt; init = tt; desks = desks }) kept);
         noted = (omega (arith, small), tt);
       })
+    where
+      desks : AllByRecursion IsDeskIn (map new_desk (links_of w k))
+      desks =
+          all_map (λ (h : ℕ). h ≤ 7) IsDeskIn new_desk (λ h low. record { host = low; creation = tt; errors = omega arith }) (links_of w k)
+          (links_low w k small is)
 
 -- ## Losses
 
-errors_in : (h : ℕ) (desks : List Desk) → AllByRecursion IsDeskIn desks → AllByRecursion IsDeskIn (with_error h desks)
-errors_in h [] a = tt
-errors_in h (d ∷ desks) a = (go (d.host == h), errors_in h desks a.1)
-  where
-    more : Desk → Desk
-    more x = record x { errors = min 65535 (x.errors + 1) }
-
-    go : (b : Bool) → IsDeskIn (changed_if b more d)
-    go true = record { host = a.0.host; creation = a.0.creation; errors = omega arith }
-    go false = a.0
-
 counts_in : (why : Loss) (h : ℕ) (o : Option Running) → IfNodeIn o → IfNodeIn (counts why h o)
 counts_in (Broken fault) h None a = tt
-counts_in (Broken fault) h (Some r) a = record { number = a.number; command = a.command; init = a.init; desks = errors_in h r.desks a.desks }
+counts_in (Broken fault) h (Some r) a = record {
+  number = a.number;
+  command = a.command;
+  init = a.init;
+  desks = all_changed IsDeskIn (λ (d : Desk). d.host == h) (λ d. record d { errors = min 65535 (d.errors + 1) })
+      (λ d is. record { host = is.host; creation = is.creation; errors = omega arith }) r.desks a.desks;
+}
 counts_in _ h o a = a
 
 lost_in : (n : ℕ) (w : NodeWorld) (e : End) (why : Loss) → e.link ≤ 7 → IsWorldIn n w → IsStepIn n (frame_lost w e why)
@@ -159,7 +145,8 @@ lost_in n w e why small is =
         controller = is.controller;
       };
       noted = all_entries_in e.link n (omega (arith, small)) (first_lost Host why (link_to w.sites e.link).to_host)
-          (first_lost_in n Host why (link_to w.sites e.link).to_host (on_wire n (link_to w.sites e.link).to_host l.to_far.frames));
+          (noted_first IsLineFrame IsMail IsMail n Host why (link_to w.sites e.link).to_host
+          (frames_on IsLineFrame n (link_to w.sites e.link).to_host l.to_far.frames));
     })
     (λ side. record {
       world = record {
@@ -167,26 +154,26 @@ lost_in n w e why small is =
         controller = counts_in why e.link w.controller is.controller;
       };
       noted = all_entries_in e.link n (omega (arith, small)) (first_lost Controller why (link_to w.sites e.link).to_controller)
-          (first_lost_in n Controller why (link_to w.sites e.link).to_controller (on_wire n (link_to w.sites e.link).to_controller l.to_near.frames));
+          (noted_first IsLineFrame IsMail IsMail n Controller why (link_to w.sites e.link).to_controller
+          (frames_on IsLineFrame n (link_to w.sites e.link).to_controller l.to_near.frames));
     })
   where
     loses : (s : Site) → IsSiteIn n s → LinkIn false true n (happens s.link (at e (Lose why)))
     loses s a = by_test e.at_host
         (λ q. rw q (link_exchanged true false n (happens_at_controller (exchanged s.link) (Lose why))
-        (link_loses true false n (exchanged s.link) why (link_exchanged false true n s.link a.link))))
-        (λ q. rw q (link_loses false true n s.link why a.link))
+        (so_lost IsLineFrame n (exchanged s.link) why (link_exchanged false true n s.link a.link))))
+        (λ q. rw q (so_lost IsLineFrame n s.link why a.link))
 
 -- ## Activation
 
 -- a step of the controller leaves the nodes of hosts as they are
-nodes_left : (h : ℕ) (comes : Comes) (k : Work) (sites : List Site) → SitesHave sites → SitesHave (map (link_after_controller h comes k) sites)
-nodes_left h comes k [] a = tt
-nodes_left h comes k (s ∷ sites) a = (a.0, nodes_left h comes k sites a.1)
+abbrev IfTablesAt : Site → Type 0
+IfTablesAt s = IfTables s.node
 
 controller_leaves : (w : NodeWorld) (h : ℕ) (comes : Comes) (f : Work → Work) → SitesHave w.sites → SitesHave (controller_does w h comes f).0.sites
 controller_leaves w h comes f has =
     by_controller (λ p. SitesHave p.0.sites) w h comes f has
-    (λ r q. nodes_left h comes (controller_work w r h comes f) w.sites has)
+    (λ r q. all_map IfTablesAt IfTablesAt (link_after_controller h comes (controller_work w r h comes f)) (λ s is. is) w.sites has)
 
 module _ (n : ℕ) (w : NodeWorld) (is : IsWorldIn n w) (has : WorldHas w) where
   near_leaves : (h power : ℕ) → SitesHave (comes_at w (end_c h) (Starts power)).0.sites
@@ -224,26 +211,20 @@ module _ (n : ℕ) (w : NodeWorld) (is : IsWorldIn n w) (has : WorldHas w) where
 
 -- ## Time
 
+-- a change of links leaves the nodes of hosts as they are
+same_have : (f : Site → Link) (sites : List Site) → SitesHave sites → SitesHave (map (λ (s : Site). record s { link = f s }) sites)
+same_have f sites a = all_map IfTablesAt IfTablesAt (λ (s : Site). record s { link = f s }) (λ s is. is) sites a
+
 module _ (n : ℕ) where
-  old_sites : (sites : List Site) → AllByRecursion (IsSiteIn n) sites → AllByRecursion (IsSiteIn n) (map (λ (s : Site). record s { link = aged s.link }) sites)
-  old_sites [] a = tt
-  old_sites (s ∷ sites) a = (record { host = a.0.host; link = link_in_aged false true n s.link a.0.link; node = a.0.node }, old_sites sites a.1)
-
-  old_have : (sites : List Site) → SitesHave sites → SitesHave (map (λ (s : Site). record s { link = aged s.link }) sites)
-  old_have [] a = tt
-  old_have (s ∷ sites) a = (a.0, old_have sites a.1)
-
   old_noted : (sites : List Site) → AllByRecursion (IsSiteIn n) sites → AreIn n
       (flat_map (λ (s : Site). entries_for s.host (aged_entries Controller s.link.to_controller ++ aged_entries Host s.link.to_host)) sites)
-  old_noted [] a = tt
-  old_noted (s ∷ sites) a =
-      let small = a.0.host in
-      in-append n (entries_for s.host (aged_entries Controller s.link.to_controller ++ aged_entries Host s.link.to_host)) _
-      (all_entries_in s.host n (omega (arith, small)) (aged_entries Controller s.link.to_controller ++ aged_entries Host s.link.to_host)
+  old_noted sites a =
+      each_in n (IsSiteIn n) (λ (s : Site). entries_for s.host (aged_entries Controller s.link.to_controller ++ aged_entries Host s.link.to_host))
+      (λ s x. let small = x.host in
+      all_entries_in s.host n (omega (arith, small)) (aged_entries Controller s.link.to_controller ++ aged_entries Host s.link.to_host)
       (each-append (IsNotedIn n) (aged_entries Controller s.link.to_controller) (aged_entries Host s.link.to_host)
-      (aged_in n Controller s.link.to_controller (on_wire n s.link.to_controller a.0.link.to_near.frames))
-      (aged_in n Host s.link.to_host (on_wire n s.link.to_host a.0.link.to_far.frames))))
-      (old_noted sites a.1)
+      (noted_aged IsLineFrame IsMail IsMail n Controller s.link.to_controller (frames_on IsLineFrame n s.link.to_controller x.link.to_near.frames))
+      (noted_aged IsLineFrame IsMail IsMail n Host s.link.to_host (frames_on IsLineFrame n s.link.to_host x.link.to_far.frames)))) sites a
 
   ticked_link : (l : Link) (late : Bool) (k : Work) (h : ℕ) → AreTurnsIn (turns_at k h) → LinkIn false true n l
       → LinkIn false true (n + 13) (ticked_so l late (turns_at k h) (ending_of k))
@@ -257,24 +238,13 @@ record IsNearStep (n : ℕ) (p : NodeWorld × List Entry) : Type 0 where
   step : IsStepIn n p
   have : SitesHave p.0.sites
 
-same_have : (f : Site → Link) (sites : List Site) → SitesHave sites → SitesHave (map (λ (s : Site). record s { link = f s }) sites)
-same_have f [] a = tt
-same_have f (s ∷ sites) a = (a.0, same_have f sites a.1)
-
-frames_ticked : (n : ℕ) (k : Work) → IsWorkIn false (n + 8) k → (sites : List Site) → AllByRecursion (IsSiteIn n) sites
-    → AreIn (n + 8) (flat_map (λ (s : Site). frames_noted Controller s.host s.link k) sites)
-frames_ticked n k a [] h = tt
-frames_ticked n k a (s ∷ sites) h =
-    in-append (n + 8) (frames_noted Controller s.host s.link k) (flat_map (λ (s : Site). frames_noted Controller s.host s.link k) sites)
-    (noted_frames false (n + 8) k a Controller s.host s.link h.0.host (on_wire n s.link.to_host h.0.link.to_far.frames)) (frames_ticked n k a sites h.1)
-
 near_ticks : (n : ℕ) (w : NodeWorld) → IsWorldIn n w → WorldHas w → IsNearStep (n + 13) (controller_ticks w)
 near_ticks n w is has =
     by_controller_tick (IsNearStep (n + 13)) w
     (λ q. record {
       step = record {
         world = record {
-          sites = sites_map n (n + 13) (λ (s : Site). record s { link = ticks_at_controller s.link [] GoesOut })
+          sites = all_map (IsSiteIn n) (IsSiteIn (n + 13)) (λ (s : Site). record s { link = ticks_at_controller s.link [] GoesOut })
               (λ s a. record { host = a.host; link = link_has_input false true n s.link Tick [] GoesOut tt tt a.link; node = a.node }) w.sites is.sites;
           controller = is.controller;
         };
@@ -291,7 +261,8 @@ near_ticks n w is has =
     record {
       step = record {
         world = record {
-          sites = sites_map n (n + 13) (λ (s : Site). record s { link = ticked_so s.link (is_late_at k s.host) (turns_at k s.host) (ending_of k) })
+          sites = all_map (IsSiteIn n) (IsSiteIn (n + 13))
+              (λ (s : Site). record s { link = ticked_so s.link (is_late_at k s.host) (turns_at k s.host) (ending_of k) })
               (λ s x. record {
                 host = x.host;
                 link = ticked_link n s.link (is_late_at k s.host) k s.host (turns_of false (n + 8) k a s.host) x.link;
@@ -299,7 +270,10 @@ near_ticks n w is has =
               }) w.sites is.sites;
           controller = still_runs false (n + 8) k a;
         };
-        noted = all_in_more (n + 8) (n + 13) _ (omega arith) (in-append (n + 8) k.entries _ a.entries (frames_ticked n k a w.sites is.sites));
+        noted = all_in_more (n + 8) (n + 13) _ (omega arith) (in-append (n + 8) k.entries _ a.entries
+            (each_in (n + 8) (IsSiteIn n) (λ (s : Site). frames_noted Controller s.host s.link k)
+            (λ s x. noted_frames false (n + 8) k a Controller s.host s.link x.host (frames_on IsLineFrame n s.link.to_host x.link.to_far.frames))
+            w.sites is.sites));
       };
       have = same_have (λ s. ticked_so s.link (is_late_at k s.host) (turns_at k s.host) (ending_of k)) w.sites has.sites;
     })
@@ -335,7 +309,7 @@ far_tick n s is has =
       };
       noted = all_in_more (n + 8) (n + 13) _ (omega arith)
           (in-append (n + 8) k.entries _ a.entries
-          (noted_frames true (n + 8) k a Host s.host (exchanged s.link) is.host (on_wire n s.link.to_controller is.link.to_near.frames)));
+          (noted_frames true (n + 8) k a Host s.host (exchanged s.link) is.host (frames_on IsLineFrame n s.link.to_controller is.link.to_near.frames)));
     })
 
 record AreFarSteps (n : ℕ) (p : List Site × List Entry) : Type 0 where
@@ -351,8 +325,12 @@ far_ticks n (s ∷ sites) is has =
 
 ticks_in : (n : ℕ) (w : NodeWorld) → IsWorldIn n w → WorldHas w → IsStepIn (n + 26) (world_ticks w)
 ticks_in n w is has =
-    let old : IsWorldIn n (all_aged w).0 = record { sites = old_sites n w.sites is.sites; controller = is.controller } in
-    let near = near_ticks n (all_aged w).0 old (record { controller = has.controller; sites = old_have n w.sites has.sites }) in
+    let old : IsWorldIn n (all_aged w).0 = record {
+      sites = all_map (IsSiteIn n) (IsSiteIn n) (λ (s : Site). record s { link = aged s.link })
+          (λ s a. record { host = a.host; link = so_aged IsLineFrame n s.link a.link; node = a.node }) w.sites is.sites;
+      controller = is.controller;
+    } in
+    let near = near_ticks n (all_aged w).0 old (record { controller = has.controller; sites = same_have (λ s. aged s.link) w.sites has.sites }) in
     let far = far_ticks (n + 13) (controller_ticks (all_aged w).0).0.sites near.step.world.sites near.have in
     record {
       world = record {
@@ -374,10 +352,9 @@ HappensIn (Gives e m) = (e.link ≤ 7) × IsMail m
 HappensIn (Inits e identity pipes) = (e.link ≤ 7) × IsInitIn (record { identity = identity; pipes = pipes; answered = 0 })
 HappensIn (Takes e) = e.link ≤ 7
 HappensIn (Loses e why) = e.link ≤ 7
-HappensIn Ticks = Unit {0}
 HappensIn (Resets e window) = (e.link ≤ 7) × IsLowWindow window
 HappensIn (Activates h sync power) = (h ≤ 7) × (sync < 65536) × (power < 256)
-HappensIn (Arms k plan) = Unit {0}
+HappensIn _ = Unit {0}
 
 pub happens_in : (n : ℕ) (w : NodeWorld) (c : Happening) → HappensIn c → IsWorldIn n w → WorldHas w → IsStepIn (n + 26) (world_step w c)
 happens_in n w (Boots k) may is has = step_more (n + 13) (n + 26) (boots w k) (omega arith) (boots_in n w k may is)

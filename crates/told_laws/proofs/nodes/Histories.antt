@@ -1,25 +1,16 @@
 -- All that is told of a history of nodes is in its range.
-use Rattle.std.proofs.Common.{◌≡◌, inl, inr, ℕ, ◌+◌, ◌-◌, ◌*◌, ◌^◌, ◌≤◌, ◌<◌, Bool, true, false, List, [], ◌∷◌, ◌++◌, length, refl, sym}
-use Rattle.std.proofs.Common.{subst, arith, append_assoc, append-nil, Option, Some, None}
-use Rattle.told_laws.proofs.Words.{AllByRecursion, Entry, FewRsetsOnEach, Happening, IsFew, NodeWorld, Occurrence, Running, Site, all_happen, entries_in}
-use Rattle.told_laws.proofs.Words.{few_front, world_step}
-use Rattle.hci_tables.specs.Tables.{AreTables}
+use Rattle.told_laws.proofs.Words.{AllByRecursion, AllKeep, AreHosts, AreTables, Bool, Boots, Entry, FewRsetsOnEach, Happening, IfRuns, IsFew, List}
+use Rattle.told_laws.proofs.Words.{MayAllHappen, MayHappen, NodeWorld, None, Occurrence, Option, Running, Site, SiteKeeps, Some, [], all_happen, all_mapped}
+use Rattle.told_laws.proofs.Words.{append-nil, append_assoc, arith, can_happen, commands_in, each-append, each_longer, entries_in, false, few_behind_step}
+use Rattle.told_laws.proofs.Words.{few_front, inl, inr, length, refl, rsets_by, subst, sym, true, world_goes, world_step, ℕ, ◌*◌, ◌++◌, ◌+◌, ◌-◌, ◌<◌, ◌^◌, ◌∷◌}
+use Rattle.told_laws.proofs.Words.{◌≡◌, ◌≤◌}
 use Rattle.trace_model.specs.declared.entry.Entry.TheVariants as entry
-use Rattle.registry.proofs.ValueLemmas.{AllByRecursion-append as each-append}
-use Rattle.node_machine.specs.world.World.Happening.{Boots}
-use Rattle.node_machine.specs.world.Lines.{can_happen}
-use Rattle.node_machine.specs.world.NodeFilters.{commands_in}
 use Rattle.node_machine.specs.world.NodeLegal.{FindsCommands}
-use Rattle.node_laws.specs.kept.Hosts.{AreHosts}
 use Rattle.node_laws.specs.kept.Books.{IsTold, AreToldBehind}
-use Rattle.node_laws.specs.kept.Worlds.{IfRuns, SiteKeeps, AllKeep, MayHappen}
-use Rattle.node_laws.proofs.kept.Lines.{MayAllHappen, world_goes}
-use Rattle.node_laws.specs.rsets.Causes.{rsets_by}
-use Rattle.node_laws.proofs.rsets.InWorlds.{each_longer, few_behind_step}
 use Rattle.told_laws.proofs.told.Lines.{top}
 use Rattle.told_laws.proofs.nodes.Ranges.{AreIn, in-append, all_in_more}
 use Rattle.told_laws.proofs.nodes.Commands.{AreTablesIn, tables_read_in}
-use Rattle.told_laws.proofs.nodes.Worlds.{IsWorldIn, IfTables, SitesHave, world_more}
+use Rattle.told_laws.proofs.nodes.Worlds.{IsWorldIn, IfTables, world_more}
 use Rattle.told_laws.proofs.nodes.Happenings.{WorldHas, HappensIn, happens_in}
 
 -- ## Counts
@@ -100,12 +91,11 @@ module _ (hosts : List ℕ) (are : AreHosts hosts) where
     sites = sites_full top t w.sites s.noted s.keep.sites;
   }
 
-  sites_have : (sites : List Site) → AllByRecursion (λ (s : Site). IfFull s.node) sites → SitesHave sites
-  sites_have [] h = tt
-  sites_have (s ∷ sites) h = (has_tables s.node h.0, sites_have sites h.1)
-
   world_has : (w : NodeWorld) → AllFull w → WorldHas w
-  world_has w h = record { controller = has_tables w.controller h.controller; sites = sites_have w.sites h.sites }
+  world_has w h = record {
+    controller = has_tables w.controller h.controller;
+    sites = all_mapped Site (λ (s : Site). IfFull s.node) (λ (s : Site). IfTables s.node) w.sites (λ s full. has_tables s.node full) h.sites;
+  }
 
   -- ## Events
 

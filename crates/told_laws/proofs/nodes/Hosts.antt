@@ -1,31 +1,16 @@
 -- What hosts do with a message is in its range.
-use Rattle.std.proofs.Common.{◌≡◌, ℕ, ◌+◌, ◌%◌, ◌≤◌, ◌<◌, Bool, true, false, cond, eqb, List, [], ◌∷◌, ◌++◌, length, map, refl, subst, arith, Option, Some}
-use Rattle.std.proofs.Common.{None, slice_get, ◌^◌, ◌/◌, ◌&&◌, nat_lt, nat_le, is_some, Result, Ok, Err}
-use Rattle.told_laws.proofs.Words.{AllByRecursion, ArePipeRows, Clear, Command, Commits, Core, Create, Deed, Delete, Ends, GoesOn, IsByte, IsEnd, IsSaidCommand}
-use Rattle.told_laws.proofs.Words.{Message, Orders, PipeRow, Port, Sends, Set, answer_of, cond_both, leb-true, ltb-true, option_map_or, pid_of}
-use Rattle.std.proofs.lemmas.Bool.{and_parts}
-use Rattle.sorted_rows.proofs.RowLemmas.{row_of-within}
-use Rattle.pipe_table.specs.PipeRows.{IsDynamic, pipe_at}
-use Rattle.hcp_packet.specs.declared.MessageKind.{MessageKind}
-use Rattle.hcp_packet.specs.declared.MessageKind.TheVariants.{Command as IsCommand, Event as IsEvent, Response as IsResponse}
-use Rattle.hcp_packet.specs.declared.MessageFault.{MessageFault}
-use Rattle.hcp_packet.specs.declared.MessageFault.TheVariants.{ReservedType as Reserved}
-use Rattle.hcp_packet.specs.MessageHeader.{header_of}
-use Rattle.registry.proofs.ValueLemmas.{AllByRecursion-append as each-append, AllByRecursion-get}
-use Rattle.hci_tables.specs.Commands.{is_command, is_host, is_dynamic}
+use Rattle.told_laws.proofs.Words.{AllByRecursion, AllByRecursion-get, ArePipeRows, Bool, Clear, Command, Commits, Core, Create, Deed, Delete, Ends, Err}
+use Rattle.told_laws.proofs.Words.{GoesOn, Init, InitFailed, InitMade, InitSame, IsByte, IsCommand, IsDynamic, IsEnd, IsEvent, IsResponse, IsSaidCommand, List}
+use Rattle.told_laws.proofs.Words.{Message, MessageFault, MessageKind, None, Ok, Option, Orders, PipeRow, Port, Result, Sends, Set, Some, [], and_parts}
+use Rattle.told_laws.proofs.Words.{answer_of, arith, body_in, cond, cond_both, each-append, end_of_node, end_view, eqb, false, finds_room, gates, header_of}
+use Rattle.told_laws.proofs.Words.{identity_served, instruction_in, is_command, is_dynamic, is_host, is_some, is_up, leb-true, length, link_served, ltb-true}
+use Rattle.told_laws.proofs.Words.{map, nat_le, nat_lt, option_map_or, ordered_holds, own_side, own_view, pid_of, pipe_at, refl, row_of-within, slice_get}
+use Rattle.told_laws.proofs.Words.{subst, true, ℕ, ◌%◌, ◌&&◌, ◌++◌, ◌+◌, ◌/◌, ◌<◌, ◌^◌, ◌∷◌, ◌≡◌, ◌≤◌}
 use Rattle.gate_answers.specs.declared.response.Response.TheVariants as response
-use Rattle.gate_answers.specs.Answers.{body_in, instruction_in}
-use Rattle.gate_link.specs.Link.{link_served}
-use Rattle.gate_identity.specs.Identity.{identity_served}
+use Rattle.hcp_packet.specs.declared.MessageFault.TheVariants.{ReservedType as Reserved}
 use Rattle.gate_loopback.specs.Loopback.{posts_back}
-use Rattle.link_laws.specs.sessions.Sessions.{is_up}
-use Rattle.trace_model.specs.declared.entry.Entry.TheVariants.{InitSame, InitMade, InitFailed}
-use Rattle.node_machine.specs.Parts.{Init}
-use Rattle.node_machine.specs.Carrying.{own_side, end_of_node, finds_room, own_view, end_view}
-use Rattle.node_machine.specs.Controller.{gates}
 use Rattle.node_machine.specs.HostReplies.{accepts, pipe_named_in, orders_of, is_same, learns, init_agreed, init_deeds, deleted_by, created_by, learned}
 use Rattle.node_machine.specs.HostReplies.{response_deeds, is_gate, gate_of_pipe, ordered_deeds, host_deeds}
-use Rattle.node_machine.proofs.Walks.{ordered_holds}
 use Rattle.told_laws.proofs.told.Lines.{end_in, each_all}
 use Rattle.told_laws.proofs.nodes.Sides.{AreBytes, IsMail}
 use Rattle.told_laws.proofs.nodes.Ranges.{IsShortCommand}

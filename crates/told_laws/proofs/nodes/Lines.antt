@@ -1,28 +1,14 @@
 -- What is told of the lines of a schedule of nodes is in its range.
-use Rattle.std.proofs.Common.{◌≡◌, inr, ℕ, zero, suc, ◌≤◌, Bool, true, false, cond, List, [], ◌∷◌, length, refl, subst, arith, Option, Some, None, All, nat_lt}
-use Rattle.std.proofs.Common.{Contains, replicate, unwrap_or}
-use Rattle.told_laws.proofs.Words.{AllByRecursion, Down, End, Happening, HciTables, Header, IsByte, IsHost, IsSaidValue, Line, LinkEnd, LinkState, Message}
-use Rattle.told_laws.proofs.Words.{NoCause, NodeWorld, OnWire, Refused, RegValue, Takes, Ticks, Up, Waiting, by_test, cond_both, frames_at, give_refusal}
-use Rattle.told_laws.proofs.Words.{header_hosts, link_to, lpdu_of, ltb-false, need, pid_of, reset_refusal, spare}
-use Rattle.std.proofs.lemmas.List.{length-replicate}
 use Rattle.std.proofs.lemmas.List.Elements.{recursion_from_All}
-use Rattle.swp_frame.specs.Stuffing.{frame_of}
-use Rattle.sorted_rows.proofs.RowLemmas.{length-rows}
-use Rattle.registry.specs.Values.{place_of_value}
-use Rattle.hci_tables.specs.Tables.{AreTables, static_place, sync_host}
-use Rattle.trace_model.specs.declared.entry.NoCause.TheVariants as no
+use Rattle.told_laws.proofs.Words.{All, AllByRecursion, AreSaidTables, AreTables, Bool, Contains, End, Full, Happening, HciTables, Header, IsByte, IsEndOf}
+use Rattle.told_laws.proofs.Words.{IsHost, IsNodeHeader, IsNodeLineOf, IsNodeOf, IsSaidValue, Line, LinkEnd, LinkState, List, LostFor, Message, NoCause}
+use Rattle.told_laws.proofs.Words.{NodeWorld, None, NotUp, OnWire, Option, Refused, RegValue, Same, Some, Takes, Ticks, TooLong, Undetected, Up, Verdict, []}
+use Rattle.told_laws.proofs.Words.{all_mapped, arith, as_noted, by_test, cond, cond_both, false, first_cause, first_none, first_verdict, frame_of, frames_at}
+use Rattle.told_laws.proofs.Words.{give_refusal, happenings, happens_by, header_hosts, if_empty, if_not_sent, if_off, if_out_of_reach, if_waiting, inr}
+use Rattle.told_laws.proofs.Words.{is_running, length, length-replicate, length-rows, link_to, lpdu_of, ltb-false, machine_in, nat_lt, need, node_fits, node_of}
+use Rattle.told_laws.proofs.Words.{pid_of, place_of_value, refl, refusal_in, replicate, reset_refusal, spare, static_place, subst, suc, sync_host, taken_of}
+use Rattle.told_laws.proofs.Words.{true, unwrap_or, zero, ℕ, ◌∷◌, ◌≡◌, ◌≤◌}
 use Rattle.trace_model.specs.declared.line.Line.TheVariants as line
-use Rattle.trace_model.specs.Lines.{IsNodeHeader, IsEndOf, IsNodeOf}
-use Rattle.schedule_text.proofs.ReadAgainLemmas.{node_fits}
-use Rattle.told_laws.specs.texts.Ranges.{AreSaidTables}
-use Rattle.link_laws.specs.machine.Machine.Refused.{NotUp, TooLong, Full}
-use Rattle.history.specs.Damage.{Verdict}
-use Rattle.history.specs.Damage.Verdict.{Same, LostFor, Undetected}
-use Rattle.history.specs.Follows.{as_noted, if_empty, if_out_of_reach, taken_of, first_verdict}
-use Rattle.node_machine.specs.world.World.{node_of}
-use Rattle.node_machine.specs.world.Lines.{first_cause, is_running, if_off, machine_in, if_waiting, if_not_sent, refusal_in, happens_by, happenings}
-use Rattle.node_laws.proofs.kept.Lines.{first_none}
-use Rattle.node_laws.specs.schedules.Ranges.{IsNodeLineOf}
 use Rattle.told_laws.proofs.told.Wires.{WireIs}
 use Rattle.told_laws.proofs.told.Lines.{each_all, all_each, IfCause, give_in, reset_in, empty_in, beyond_in, frame_few}
 use Rattle.told_laws.proofs.nodes.Sides.{AreBytes, IsLineFrame}
@@ -31,6 +17,7 @@ use Rattle.told_laws.proofs.nodes.Linking.{LinkIn}
 use Rattle.told_laws.proofs.nodes.Commands.{AreTablesIn, IsValueIn}
 use Rattle.told_laws.proofs.nodes.Worlds.{IsWorldIn, link_there}
 use Rattle.told_laws.proofs.nodes.Happenings.{HappensIn}
+use Rattle.trace_model.specs.declared.entry.NoCause.TheVariants as no
 
 -- ## Lines
 
@@ -56,9 +43,8 @@ unrefused_short e m q = go e.shdlc.phase refl
     by_tests false b z none = ltb-false 4096 (length m.1) z
 
     go : (p : LinkState) → e.shdlc.phase ≡ p → length m.1 ≤ 4096
-    go Down z = absurd (let none : Some NotUp ≡ None = rw z at q in cc none)
-    go Waiting z = absurd (let none : Some NotUp ≡ None = rw z at q in cc none)
     go Up z = by_tests (nat_lt 4096 (length m.1)) (nat_lt (spare e) (need m.1)) refl (rw z at q)
+    go _ z = absurd (let none : Some NotUp ≡ None = rw z at q in cc none)
 
 none_waits : (waits : Bool) (o : Option Refused) → if_waiting waits o ≡ None → o ≡ None
 none_waits b (Some NotUp) q = absurd (cc q)
@@ -138,9 +124,8 @@ module _ (header : Header) (nodes : IsNodeHeader header) where
   few_taken (Some k) w few = omega (arith, few)
 
   few_damaged : (e : End) (v : Option Verdict) → length (happens_by e v) ≤ 100
-  few_damaged e None = omega arith
   few_damaged e (Some Same) = omega arith
-  few_damaged e (Some _) = omega arith
+  few_damaged e _ = omega arith
 
   pub few_caused : (n : ℕ) (w : NodeWorld) (l : Line) → IsNodeLineOf header l → IsWorldIn n w → length (happenings w l) ≤ 100
   few_caused n w (line.Deliver e count) is h =
@@ -198,10 +183,6 @@ module _ (header : Header) (nodes : IsNodeHeader header) where
 
 -- ## Tables
 
-values_said : (values : List RegValue) → AllByRecursion IsValueIn values → AllByRecursion IsSaidValue values
-values_said [] h = tt
-values_said (v ∷ values) h = (h.0.0, values_said values h.1)
-
 pub said_tables : (t : HciTables) → AreTables t → AreTablesIn t → AreSaidTables t
 said_tables t sorted is =
     let a = length-rows pid_of 2 112 t.rows sorted.rows in
@@ -212,6 +193,6 @@ said_tables t sorted is =
       counts = (omega (arith, a), omega (arith, b), omega (arith, c), omega (arith, d));
       pipes = each_all _ t.rows is.pipes;
       statics = each_all _ t.statics is.statics;
-      values = each_all _ t.values (values_said t.values is.values);
+      values = each_all _ t.values (all_mapped RegValue IsValueIn IsSaidValue t.values (λ v h. h.0) is.values);
       syncs = each_all _ t.syncs is.syncs;
     }

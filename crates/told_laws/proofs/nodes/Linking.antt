@@ -1,28 +1,20 @@
 -- The link of a host is in its range over each step at one of its ends.
-use Rattle.std.proofs.Common.{◌≡◌, ℕ, zero, suc, ◌+◌, ◌-◌, ◌≤◌, Bool, true, false, cond, List, [], ◌∷◌, length, take, drop, map, refl, ap, subst, arith, Option}
-use Rattle.std.proofs.Common.{Some, None, length-append, is_some}
-use Rattle.std.proofs.lemmas.List.{length-map}
-use Rattle.told_laws.proofs.Words.{Act, Asked, AsksReset, Bare, Clt, Comes, Control, CutOff, EndState, Give, GoesOut, I, Link, LinkEnd, LinkInput, LinkState}
-use Rattle.told_laws.proofs.Words.{Lose, Loss, NextFrame, NoInput, NumberedEnd, OnWire, Refused, Reset, Rset, S, SetAside, Start, Starts, Stop, Take, Tick}
-use Rattle.told_laws.proofs.Words.{Turn, Ua, Up, act_answer, activated, after_input, aged, all_frames, among, by_test, cond_both, ended_by, exchanged}
-use Rattle.told_laws.proofs.Words.{frames_out, give_refusal, given, happens_at_controller, has_input, heard, if_up, in_front, is_faulty, is_open, is_rset}
-use Rattle.told_laws.proofs.Words.{moved, put, put_down, reset_by, reset_refusal, reset_with, sent_all, stopped, take_answer, taken, tick_answer, ticked, took}
-use Rattle.told_laws.proofs.Words.{took_with, turn, unless, window_of, with_ended}
-use Rattle.swp_base.specs.declared.control_frames.Control.TheVariants.{Act as ActFrame}
-use Rattle.swp_act.specs.declared.ActEvent.{ActEvent}
-use Rattle.swp_act.specs.declared.ActEvent.TheVariants.{Start as ActStart, Take as ActTake, Tick as ActTick, Stop as ActStop}
-use Rattle.swp_act.specs.Activation.{new_clf, new_uicc}
-use Rattle.link_laws.specs.sessions.Sessions.{is_up}
-use Rattle.link_laws.specs.machine.Machine.{Role, ActDue, role_after, with_act, aside_refusal, turned, renewed, new_link_end}
-use Rattle.link_laws.specs.machine.Machine.Role.{Clf, Uicc}
-use Rattle.link_laws.specs.messages.Links.{Ending, new_link, put_all, with_controller, silent, cut, finished, has_taken, has_restarted, steps_at_controller}
-use Rattle.link_laws.specs.messages.Links.Comes.{Stops}
+use Rattle.told_laws.proofs.Words.{Act, ActDue, ActEvent, ActFrame, ActStart, ActStop, ActTake, ActTick, Asked, AsksReset, Bare, Bool, Clf, Clt, Comes, Control}
+use Rattle.told_laws.proofs.Words.{CutOff, EndState, Ending, Give, GoesOut, Link, LinkEnd, LinkInput, LinkState, List, NextFrame, NoInput, None, NumberedEnd}
+use Rattle.told_laws.proofs.Words.{OnWire, Option, Refused, Reset, Role, SetAside, Some, Start, Starts, Stop, Stops, Take, Tick, Turn, Uicc, Up, [], act_answer}
+use Rattle.told_laws.proofs.Words.{activated, after_input, all_frames, among, ap, arith, aside_refusal, cond, cond_both, cut, drop, ended_by, exchanged, false}
+use Rattle.told_laws.proofs.Words.{finished, frames_out, give_refusal, given, has_input, has_restarted, has_taken, heard, if_up, in_front, is_faulty, is_open}
+use Rattle.told_laws.proofs.Words.{is_some, length, length-append, length-map, map, moved, new_clf, new_link, new_link_end, new_uicc, put_down, refl, renewed}
+use Rattle.told_laws.proofs.Words.{reset_by, reset_refusal, reset_with, role_after, sent_all, silent, steps_at_controller, stopped, subst, suc, take}
+use Rattle.told_laws.proofs.Words.{take_answer, taken, tick_answer, ticked, took, true, turn, turned, unless, window_of, with_act, with_controller, with_ended}
+use Rattle.told_laws.proofs.Words.{zero, ℕ, ◌+◌, ◌-◌, ◌∷◌, ◌≡◌, ◌≤◌}
 use Rattle.told_laws.proofs.told.Ends.{frames_few}
-use Rattle.told_laws.proofs.told.Links.{IsLowWindow, took_low}
-use Rattle.told_laws.proofs.told.Wires.{WireIs, wire_more, wire_dropped, wire_put, wire_aged}
+use Rattle.told_laws.proofs.told.Links.{IsLowWindow}
+use Rattle.told_laws.proofs.told.Linked.{LinkSo, NumberedSo, left_with, no_wire, so_becomes, so_ended, so_exchanged, so_left, so_longer, so_more, so_silent}
+use Rattle.told_laws.proofs.told.Linked.{so_with}
+use Rattle.told_laws.proofs.told.Wires.{WireIs}
 use Rattle.told_laws.proofs.nodes.Sides.{IsLineFrame}
-use Rattle.told_laws.proofs.nodes.Machines.{IsRoleIn, IsStartIn, SideIn, side_more, side_input, side_turned, side_sent, AreTurnsIn}
-use Rattle.told_laws.proofs.nodes.Machines.{IsInputIn, AreFramesIn, out_in}
+use Rattle.told_laws.proofs.nodes.Machines.{IsRoleIn, IsStartIn, SideIn, side_more, side_input, side_turned, side_sent, AreTurnsIn, IsInputIn, out_in}
 
 -- ## How many frames go out
 
@@ -82,10 +74,7 @@ opened_acts e c =
 took_acts : (e : LinkEnd) (c : Control) → length (took e c).acts ≤ length e.acts + 1
 took_acts e (ActFrame act again) = activated_acts e (ActTake act again)
 took_acts e Clt = omega arith
-took_acts e (I ns nr info) = opened_acts e (I ns nr info)
-took_acts e (S kind nr) = opened_acts e (S kind nr)
-took_acts e (Rset window caps) = opened_acts e (Rset window caps)
-took_acts e Ua = opened_acts e Ua
+took_acts e c = opened_acts e c
 
 unless_acts : (o : Option Refused) (e f : LinkEnd) → length f.acts ≤ length e.acts → length (unless o e f).acts ≤ length e.acts
 unless_acts None e f h = h
@@ -122,123 +111,34 @@ turned_acts (t ∷ ts) e = let one = turn_acts e t in let later = turned_acts ts
 -- ## A link
 
 -- the end of a controller or of a host between two steps: no frame of activation is due
-pub record NumberedIn (b : Bool) (n : ℕ) (h : NumberedEnd) : Type 0 where
-  pub side : SideIn b n h.side
-  pub calm : h.side.acts ≡ []
-  pub emitted : h.emitted ≤ n
-  pub took : h.took ≤ n
+pub record RestsIn (b : Bool) (n : ℕ) (e : LinkEnd) : Type 0 where
+  pub side : SideIn b n e
+  pub calm : e.acts ≡ []
+
+-- with its numbers
+abbrev pub NumberedIn : Bool → ℕ → NumberedEnd → Type 0
+NumberedIn b n h = NumberedSo (RestsIn b n) n h
 
 -- the link of a host seen from one end, where no number is above n
-pub record LinkIn (b c : Bool) (n : ℕ) (l : Link) : Type 0 where
-  pub near : NumberedIn b n l.controller
-  pub far : NumberedIn c n l.host
-  pub to_near : WireIs IsLineFrame n l.to_controller
-  pub to_far : WireIs IsLineFrame n l.to_host
-  pub resets : l.resets ≤ n
+abbrev pub LinkIn : Bool → Bool → ℕ → Link → Type 0
+LinkIn b c n l = LinkSo IsLineFrame (RestsIn b n) (RestsIn c n) n l
 
 -- all of it but the near end itself
-record AllBut (c : Bool) (n : ℕ) (l : Link) : Type 0 where
-  emitted : l.controller.emitted ≤ n
-  took : l.controller.took ≤ n
-  far : NumberedIn c n l.host
-  to_near : WireIs IsLineFrame n l.to_controller
-  to_far : WireIs IsLineFrame n l.to_host
-  resets : l.resets ≤ n
+abbrev AllBut : Bool → ℕ → ℕ → Link → Type 0
+AllBut c m n l = LinkSo IsLineFrame (λ e. Unit {0}) (RestsIn c m) n l
 
-pub numbered_more : (b : Bool) (n k : ℕ) (h : NumberedEnd) → n ≤ k → NumberedIn b n h → NumberedIn b k h
-numbered_more b n k h more is =
-    let a = is.emitted in
-    let t = is.took in
-    record { side = side_more b n k h.side more is.side; calm = is.calm; emitted = omega (arith, a, more); took = omega (arith, t, more) }
+rests_more : (b : Bool) (n k : ℕ) (e : LinkEnd) → n ≤ k → RestsIn b n e → RestsIn b k e
+rests_more b n k e more is = record { side = side_more b n k e more is.side; calm = is.calm }
 
 pub link_in_more : (b c : Bool) (n k : ℕ) (l : Link) → n ≤ k → LinkIn b c n l → LinkIn b c k l
 link_in_more b c n k l more h =
-    let r = h.resets in
-    record {
-      near = numbered_more b n k l.controller more h.near;
-      far = numbered_more c n k l.host more h.far;
-      to_near = wire_more IsLineFrame n k l.to_controller more h.to_near;
-      to_far = wire_more IsLineFrame n k l.to_host more h.to_far;
-      resets = omega (arith, r, more);
-    }
+    so_more IsLineFrame n k l more (rests_more b n k l.controller.side more) (rests_more c n k l.host.side more) h
 
-but_more : (c : Bool) (n k : ℕ) (l : Link) → n ≤ k → AllBut c n l → AllBut c k l
-but_more c n k l more h =
-    let r = h.resets in
-    let e = h.emitted in
-    let t = h.took in
-    record {
-      emitted = omega (arith, e, more);
-      took = omega (arith, t, more);
-      far = numbered_more c n k l.host more h.far;
-      to_near = wire_more IsLineFrame n k l.to_controller more h.to_near;
-      to_far = wire_more IsLineFrame n k l.to_host more h.to_far;
-      resets = omega (arith, r, more);
-    }
-
-but : (b c : Bool) (n : ℕ) (l : Link) → LinkIn b c n l → AllBut c n l
-but b c n l h =
-    record { emitted = h.near.emitted; took = h.near.took; far = h.far; to_near = h.to_near; to_far = h.to_far; resets = h.resets }
+but : (b c : Bool) (n : ℕ) (l : Link) → LinkIn b c n l → AllBut c n n l
+but b c n l h = so_more IsLineFrame n n l (omega arith) (λ s. tt) (λ s. s) h
 
 pub link_exchanged : (b c : Bool) (n : ℕ) (l : Link) → LinkIn b c n l → LinkIn c b n (exchanged l)
-link_exchanged b c n l h = record { near = h.far; far = h.near; to_near = h.to_far; to_far = h.to_near; resets = h.resets }
-
-pub link_in_aged : (b c : Bool) (n : ℕ) (l : Link) → LinkIn b c n l → LinkIn b c n (aged l)
-link_in_aged b c n l h =
-    record {
-      near = h.near;
-      far = h.far;
-      to_near = wire_aged IsLineFrame n l.to_controller h.to_near;
-      to_far = wire_aged IsLineFrame n l.to_host h.to_far;
-      resets = h.resets;
-    }
-
--- ## Frames go out
-
-put_in : (c : Bool) (n : ℕ) (l : Link) (x : Control) → IsLineFrame x → AllBut c n l → AllBut c (n + 1) (put l x)
-put_in c n l x is h = by_test (is_rset x)
-    (λ q. let r = h.resets in
-    let y : OnWire = record { frame = x; age = 0; number = l.resets + 1 } in
-    rw q (record {
-      emitted = omega (arith, r);
-      took = up.took;
-      far = up.far;
-      to_near = up.to_near;
-      to_far = wire_put IsLineFrame (n + 1) l.to_host y up.to_far (record { frame = is; number = omega (arith, r) });
-      resets = omega (arith, r);
-    }))
-    (λ q. let y : OnWire = record { frame = x; age = 0; number = 0 } in
-    rw q (record {
-      emitted = up.emitted;
-      took = up.took;
-      far = up.far;
-      to_near = up.to_near;
-      to_far = wire_put IsLineFrame (n + 1) l.to_host y up.to_far (record { frame = is; number = omega arith });
-      resets = up.resets;
-    }))
-  where
-    up : AllBut c (n + 1) l
-    up = but_more c n (n + 1) l (omega arith) h
-
-puts_in : (c : Bool) (xs : List Control) (n : ℕ) (l : Link) → AreFramesIn xs → AllBut c n l → AllBut c (n + length xs) (put_all l xs)
-puts_in c [] n l is h = but_more c n (n + 0) l (omega arith) h
-puts_in c (x ∷ xs) n l is h =
-    but_more c ((n + 1) + length xs) (n + length (x ∷ xs)) (put_all (put l x) xs) (omega arith)
-    (puts_in c xs (n + 1) (put l x) is.1 (put_in c n l x is.0 h))
-
-ended_in : (c : Bool) (n : ℕ) (l : Link) (ends : Bool) → AllBut c n l → AllBut c n (with_ended l ends)
-ended_in c n l false h = h
-ended_in c n l true h =
-    record { emitted = h.emitted; took = h.took; far = h.far; to_near = h.to_near; to_far = h.to_far; resets = h.resets }
-
--- nothing is on its way
-no_wire : (n : ℕ) → WireIs IsLineFrame n []
-no_wire n = record { frames = tt; few = omega arith }
-
-silent_in : (c : Bool) (n : ℕ) (l : Link) (e : LinkEnd) → AllBut c n l → AllBut c n (silent l e)
-silent_in c n l e h =
-    let m = ended_in c n l (is_up l.controller.side.shdlc.phase) h in
-    record { emitted = m.emitted; took = m.took; far = m.far; to_near = no_wire n; to_far = no_wire n; resets = m.resets }
+link_exchanged b c n l h = so_exchanged IsLineFrame n l h
 
 -- a new end
 pub new_side : (b : Bool) (n : ℕ) (r : Role) → IsRoleIn b r → SideIn b n (new_link_end (renewed r))
@@ -271,37 +171,22 @@ new_calm Bare = refl
 new_calm _ = refl
 
 -- the near end has become e, and the step ends
-finish_in : (b c : Bool) (n : ℕ) (l : Link) (e : LinkEnd) (ending : Ending) → SideIn b (n + 8) e → length e.acts ≤ 1 → AllBut c n l
+finish_in : (b c : Bool) (n : ℕ) (l : Link) (e : LinkEnd) (ending : Ending) → SideIn b (n + 8) e → length e.acts ≤ 1 → AllBut c n n l
     → LinkIn b c (n + 13) (finished l e ending)
-finish_in b c n l e GoesOut is few h =
-    let out = out_few e in
-    let m : Link = put_all l (frames_out e) in
-    let p : AllBut c (n + 13) m =
-    but_more c (n + length (frames_out e)) (n + 13) m (omega (arith, out, few)) (puts_in c (frames_out e) n l (out_in b (n + 8) e is) h) in
-    record {
-      near = record {
-        side = side_more b (n + 8) (n + 13) (sent_all e) (omega arith) (side_sent b (n + 8) e is);
-        calm = refl;
-        emitted = p.emitted;
-        took = p.took;
-      };
-      far = p.far;
-      to_near = p.to_near;
-      to_far = p.to_far;
-      resets = p.resets;
-    }
-finish_in b c n l e CutOff is few h =
-    let m : Link = with_controller l (sent_all e) in
-    let up : AllBut c (n + 13) m = but_more c n (n + 13) m (omega arith)
-    (record { emitted = h.emitted; took = h.took; far = h.far; to_near = h.to_near; to_far = h.to_far; resets = h.resets }) in
-    let p : AllBut c (n + 13) (cut m) = silent_in c (n + 13) m (new_link_end (renewed e.role)) up in
-    record {
-      near = record { side = new_side b (n + 13) e.role is.role; calm = new_calm e.role; emitted = p.emitted; took = p.took };
-      far = p.far;
-      to_near = p.to_near;
-      to_far = p.to_far;
-      resets = p.resets;
-    }
+finish_in b c n l e ending is few h = by ending (so_more IsLineFrame n n l (omega arith) (λ s. s) (rests_more c n (n + 13) l.host.side (omega arith)) h)
+  where
+    by : (ending : Ending) → AllBut c (n + 13) n l → LinkIn b c (n + 13) (finished l e ending)
+    by GoesOut up =
+        let out = out_few e in
+        so_becomes IsLineFrame n (n + 13) l e (out_in b (n + 8) e is) (omega (arith, out, few))
+        (record { side = side_more b (n + 8) (n + 13) (sent_all e) (omega arith) (side_sent b (n + 8) e is); calm = refl }) up
+    by CutOff up =
+        let m : Link = with_controller l (sent_all e) in
+        let old : AllBut c (n + 13) n m = so_with IsLineFrame n l (sent_all e) tt up in
+        let new : RestsIn b (n + 13) (new_link_end (renewed e.role)) = record { side = new_side b (n + 13) e.role is.role; calm = new_calm e.role } in
+        let last : LinkSo IsLineFrame (RestsIn b (n + 13)) (RestsIn c (n + 13)) n (cut m) =
+        so_silent IsLineFrame n m (new_link_end (renewed e.role)) new old in
+        so_longer IsLineFrame n (n + 13) (cut m) (omega arith) last
 
 -- ## Steps
 
@@ -314,55 +199,33 @@ ComesIn b _ = Unit {0}
 module _ (b c : Bool) (n : ℕ) where
   acts_after : (l : Link) (i : LinkInput) (ts : List Turn) → IsInputIn b i → LinkIn b c n l → length (turned (after_input l.controller.side i) ts).acts ≤ 1
   acts_after l i ts is h =
-      let none = ap length h.near.calm in
+      let none = ap length h.near.side.calm in
       let one = input_acts b l.controller.side i is in
       let later = turned_acts ts (after_input l.controller.side i) in omega (arith, none, one, later)
 
   side_after : (l : Link) (i : LinkInput) (ts : List Turn) → IsInputIn b i → AreTurnsIn ts → LinkIn b c n l
       → SideIn b (n + 8) (turned (after_input l.controller.side i) ts)
-  side_after l i ts is turns h = side_turned b (n + 8) ts (after_input l.controller.side i) turns (side_input b n l.controller.side i is h.near.side)
+  side_after l i ts is turns h = side_turned b (n + 8) ts (after_input l.controller.side i) turns (side_input b n l.controller.side i is h.near.side.side)
 
   pub link_has_input : (l : Link) (i : LinkInput) (ts : List Turn) (ending : Ending) → IsInputIn b i → AreTurnsIn ts → LinkIn b c n l
       → LinkIn b c (n + 13) (has_input l i ts ending)
   link_has_input l i ts ending is turns h =
       finish_in b c n (with_ended l (is_some (ended_by l.controller.side i))) (turned (after_input l.controller.side i) ts) ending
-      (side_after l i ts is turns h) (acts_after l i ts is h) (ended_in c n l (is_some (ended_by l.controller.side i)) (but b c n l h))
+      (side_after l i ts is turns h) (acts_after l i ts is h) (so_ended IsLineFrame n l (is_some (ended_by l.controller.side i)) (but b c n l h))
 
   link_restarted : (l : Link) (i : LinkInput) (ts : List Turn) (ending : Ending) → IsInputIn b i → AreTurnsIn ts → LinkIn b c n l
       → LinkIn b c (n + 13) (has_restarted l (after_input l.controller.side i) ts ending)
   link_restarted l i ts ending is turns h =
       finish_in b c n (silent l (after_input l.controller.side i)) (turned (after_input l.controller.side i) ts) ending (side_after l i ts is turns h)
-      (acts_after l i ts is h) (silent_in c n l (after_input l.controller.side i) (but b c n l h))
+      (acts_after l i ts is h) (so_silent IsLineFrame n l (after_input l.controller.side i) tt (but b c n l h))
 
   link_has_taken : (l : Link) (x : OnWire) (xs : List OnWire) (ts : List Turn) (ending : Ending) → l.to_controller ≡ x ∷ xs → AreTurnsIn ts
       → LinkIn b c n l → LinkIn b c (n + 13) (has_taken l x xs ts ending)
   link_has_taken l x xs ts ending q turns h =
       let wire : WireIs IsLineFrame n (x ∷ xs) = subst (WireIs IsLineFrame n) q h.to_near in
-      let few = wire.few in
-      let left : Link = record l { to_controller = xs } in
-      let all : AllBut c n left =
-      record {
-        emitted = h.near.emitted;
-        took = h.near.took;
-        far = h.far;
-        to_near = record { frames = wire.frames.1; few = omega (arith, few) };
-        to_far = h.to_far;
-        resets = h.resets;
-      } in
-      let ends : Bool = is_some (ended_by l.controller.side (Take x.frame)) in
-      let m : Link = with_ended left ends in
-      let a : AllBut c n m = ended_in c n left ends all in
-      finish_in b c n (record m { controller = record m.controller { took = took_with l.controller.took x } })
-      (turned (after_input l.controller.side (Take x.frame)) ts) ending (side_after l (Take x.frame) ts wire.frames.0.frame turns h)
-      (acts_after l (Take x.frame) ts wire.frames.0.frame h)
-      (record {
-        emitted = a.emitted;
-        took = took_low n l.controller.took x h.near.took wire.frames.0.number;
-        far = a.far;
-        to_near = a.to_near;
-        to_far = a.to_far;
-        resets = a.resets;
-      })
+      finish_in b c n (left_with l x xs) (turned (after_input l.controller.side (Take x.frame)) ts) ending
+      (side_after l (Take x.frame) ts wire.frames.0.frame turns h) (acts_after l (Take x.frame) ts wire.frames.0.frame h)
+      (so_left IsLineFrame n l x xs q (but b c n l h))
 
   pub link_steps : (l : Link) (comes : Comes) (ts : List Turn) (ending : Ending) → ComesIn b comes → AreTurnsIn ts → LinkIn b c n l
       → LinkIn b c (n + 13) (steps_at_controller l comes ts ending)
@@ -379,38 +242,28 @@ module _ (b c : Bool) (n : ℕ) where
   link_steps l (Starts value) ts ending is turns h = link_restarted l (Start value) ts ending is turns h
   link_steps l Stops ts ending is turns h = link_restarted l Stop ts ending tt turns h
   link_steps l NoInput ts ending is turns h =
-      let none = ap length h.near.calm in
+      let none = ap length h.near.side.calm in
       let later = turned_acts ts l.controller.side in
       finish_in b c n l (turned l.controller.side ts) ending
-      (side_turned b (n + 8) ts l.controller.side turns (side_more b n (n + 8) l.controller.side (omega arith) h.near.side)) (omega (arith, none, later))
+      (side_turned b (n + 8) ts l.controller.side turns (side_more b n (n + 8) l.controller.side (omega arith) h.near.side.side)) (omega (arith, none, later))
       (but b c n l h)
-
-  pub link_loses : (l : Link) (why : Loss) → LinkIn b c n l → LinkIn b c n (happens_at_controller l (Lose why))
-  link_loses l why h =
-      record {
-        near = h.near;
-        far = h.far;
-        to_near = wire_dropped IsLineFrame n l.to_controller h.to_near;
-        to_far = h.to_far;
-        resets = h.resets;
-      }
 
 -- a new link of a controller and a host
 pub new_link_in : LinkIn false true 0 (new_link (Clf new_clf) (Uicc new_uicc))
 new_link_in = record {
-  near = record { side = new_side false 0 (Clf new_clf) (tt, omega arith); calm = refl; emitted = omega arith; took = omega arith };
-  far = record { side = new_side true 0 (Uicc new_uicc) tt; calm = refl; emitted = omega arith; took = omega arith };
-  to_near = no_wire 0;
-  to_far = no_wire 0;
+  near = record { side = record { side = new_side false 0 (Clf new_clf) (tt, omega arith); calm = refl }; emitted = omega arith; took = omega arith };
+  far = record { side = record { side = new_side true 0 (Uicc new_uicc) tt; calm = refl }; emitted = omega arith; took = omega arith };
+  to_near = no_wire IsLineFrame 0;
+  to_far = no_wire IsLineFrame 0;
   resets = omega arith;
 }
 
 -- where there is no link
 pub no_link_in : (b c : Bool) → LinkIn b c 0 (new_link Bare Bare)
 no_link_in b c = record {
-  near = record { side = new_side b 0 Bare tt; calm = refl; emitted = omega arith; took = omega arith };
-  far = record { side = new_side c 0 Bare tt; calm = refl; emitted = omega arith; took = omega arith };
-  to_near = no_wire 0;
-  to_far = no_wire 0;
+  near = record { side = record { side = new_side b 0 Bare tt; calm = refl }; emitted = omega arith; took = omega arith };
+  far = record { side = record { side = new_side c 0 Bare tt; calm = refl }; emitted = omega arith; took = omega arith };
+  to_near = no_wire IsLineFrame 0;
+  to_far = no_wire IsLineFrame 0;
   resets = omega arith;
 }

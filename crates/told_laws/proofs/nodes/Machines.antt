@@ -1,31 +1,23 @@
 -- An end of a link of a world of nodes with its activation and its messages is in its range, whatever comes to it and whatever its node does to it.
-use Rattle.std.proofs.Common.{◌≡◌, ℕ, ◌+◌, ◌≤◌, ◌<◌, Bool, true, false, cond, List, [], ◌∷◌, length, drop, map, refl, arith, zero, suc, take, ◌-◌, Option, Some}
-use Rattle.std.proofs.Common.{None, is_some, nat_le, not}
-use Rattle.told_laws.proofs.Words.{Act, AllByRecursion, Asked, Bare, Clt, Control, Down, EndState, FetchMessage, Give, Hold, I, LinkEnd, LinkInput, LinkState}
-use Rattle.told_laws.proofs.Words.{PowerMode, Ready, Refused, Report, Reset, Rset, S, SetAside, Start, Stop, SyncId, Take, Tick, Turn, Ua, Up, Waiting}
-use Rattle.told_laws.proofs.Words.{act_answer, activated, after_input, all_frames, among, by_test, cond_both, frames_out, give_refusal, given, heard, if_up}
-use Rattle.told_laws.proofs.Words.{in_front, is_faulty, is_open, moved, put_down, report, reset_by, reset_refusal, reset_with, sent_all, stopped, take_answer}
-use Rattle.told_laws.proofs.Words.{taken, tick_answer, ticked, took, turn, unless, whole_acked, window_of}
-use Rattle.swp_base.specs.declared.control_frames.Control.TheVariants.{Act as ActFrame}
-use Rattle.swp_act.specs.declared.ActEvent.{ActEvent}
-use Rattle.swp_act.specs.declared.ActEvent.TheVariants.{Start as ActStart, Take as ActTake, Tick as ActTick, Stop as ActStop}
+use Rattle.told_laws.proofs.Words.{Act, ActDue, ActEvent, ActFrame, ActStart, ActStop, ActTake, ActTick, AllByRecursion, AllByRecursion-take, Asked, Bare, Bool}
+use Rattle.told_laws.proofs.Words.{Clf, Clt, Control, Down, EndState, FetchMessage, Give, Hold, I, LinkEnd, LinkInput, LinkState, List, None, Option, PowerMode}
+use Rattle.told_laws.proofs.Words.{Ready, Refused, Release, Report, Reset, Role, Rset, S, SetAside, Some, Start, Stop, SyncId, Take, Tick, Turn, Ua, Uicc, Up}
+use Rattle.told_laws.proofs.Words.{Waiting, [], act_answer, activated, after_input, all_frames, all_map, all_mapped, among, arith, aside_refusal, brought}
+use Rattle.told_laws.proofs.Words.{by_test, cond, cond_both, deactivated, drop, each-append, false, frames_out, give_refusal, given, had_tick, heard, if_up}
+use Rattle.told_laws.proofs.Words.{in_front, is_faulty, is_open, is_some, length, map, messages_got, moved, nat_le, news, no_act_out, not, out_ticked}
+use Rattle.told_laws.proofs.Words.{packet_bytes, packets_of, put_down, refl, report, reset_by, reset_refusal, reset_with, role_after, sends, sent_all, started}
+use Rattle.told_laws.proofs.Words.{stopped, take, take_answer, taken, tick_answer, ticked, took, true, turn, turned, uicc_powered, unless, whole_acked}
+use Rattle.told_laws.proofs.Words.{window_of, with_act, ℕ, ◌+◌, ◌-◌, ◌<◌, ◌∷◌, ◌≡◌, ◌≤◌}
 use Rattle.swp_act.specs.declared.ActOut.{ActOut}
 use Rattle.swp_act.specs.declared.Phase.{Phase}
 use Rattle.swp_act.specs.declared.Phase.TheVariants.{Inactive, Awaiting, Active}
 use Rattle.swp_act.specs.declared.uicc.UiccAct.{UiccAct}
 use Rattle.swp_act.specs.declared.clf.ClfAct.{ClfAct}
-use Rattle.swp_act.specs.Activation.{out_ticked, no_act_out, uicc_powered, sends}
-use Rattle.hcp_packet.specs.Packets.{packet_bytes, packets_of}
-use Rattle.registry.proofs.ValueLemmas.{AllByRecursion-append as each-append}
 use Rattle.told_laws.proofs.told.Ends.{IsFrame, IfTries, few_tries, frames_in}
 use Rattle.told_laws.proofs.told.Links.{IsLowWindow, fragments_in}
 use Rattle.told_laws.proofs.told.Wires.{drop_each}
-use Rattle.link_laws.specs.machine.Machine.{Role, ActDue, messages_got, role_after, with_act, started, deactivated, news, aside_refusal, turned, had_tick}
-use Rattle.link_laws.specs.machine.Machine.{brought}
-use Rattle.link_laws.specs.machine.Machine.Role.{Clf, Uicc}
-use Rattle.link_laws.specs.machine.Machine.Turn.{Release}
-use Rattle.told_laws.proofs.nodes.Sides.{IsAct, IsLineFrame, plain_frame, EndIn, end_taken, end_ticked, end_reset, end_stopped, end_readied, end_out}
-use Rattle.told_laws.proofs.nodes.Sides.{end_sent, end_more, IsMail, mail_told, AreMail, got_in, whole_low}
+use Rattle.told_laws.proofs.nodes.Sides.{IsAct, IsLineFrame, plain_frame, EndIn, end_taken, end_ticked, end_reset, end_stopped, end_readied, end_out, end_sent}
+use Rattle.told_laws.proofs.nodes.Sides.{end_more, IsMail, mail_told, AreMail, got_in, whole_low}
 
 -- ## Activation
 
@@ -54,8 +46,7 @@ IsStartIn false value = value < 256
 abbrev pub IsActEventIn : Bool → ActEvent → Type 0
 IsActEventIn b (ActStart value) = IsStartIn b value
 IsActEventIn b (ActTake act again) = IsAct act
-IsActEventIn b ActTick = Unit {0}
-IsActEventIn b ActStop = Unit {0}
+IsActEventIn b _ = Unit {0}
 
 pub record IsOutIn (out : ActOut) : Type 0 where
   pub send : IfAct out.send
@@ -69,12 +60,11 @@ out_last : (o : Option Act) → IfAct o → IsOutIn (sends o)
 out_last o h = record { send = h; sync = tt; tries = tt }
 
 out_tick : (p : Phase) (o : Option Act) → IfAct o → IsOutIn (out_ticked p o)
-out_tick Inactive o h = out_none
-out_tick Active o h = out_none
 out_tick (Awaiting tries ticks) o h =
     cond_both (nat_le 10 (ticks + 1)) _ no_act_out IsOutIn
     (λ _. cond_both (nat_le 3 tries) _ (sends o) IsOutIn (λ _. record { send = tt; sync = tt; tries = omega arith }) (λ _. out_last o h))
     (λ _. out_none)
+out_tick _ o h = out_none
 
 -- a step of activation
 record IsStepIn (b : Bool) (r : Role) (event : ActEvent) : Type 0 where
@@ -87,15 +77,13 @@ clf_in s (ActTake act true) is last power = record { role = (last, power); out =
 clf_in s (ActTake Ready false) is last power = by s.phase refl
   where
     by : (p : Phase) → s.phase ≡ p → IsStepIn false (Clf s) (ActTake Ready false)
-    by Inactive q = record { role = rw q (last, power); out = rw q out_none }
-    by Active q = record { role = rw q (last, power); out = rw q out_none }
     by (Awaiting tries ticks) q = record { role = rw q (last, power); out = rw q (record { send = tt; sync = tt; tries = tt }) }
+    by _ q = record { role = rw q (last, power); out = rw q out_none }
 clf_in s (ActTake (SyncId id) false) is last power = by s.phase refl
   where
     by : (p : Phase) → s.phase ≡ p → IsStepIn false (Clf s) (ActTake (SyncId id) false)
-    by Inactive q = record { role = rw q (power, power); out = rw q (record { send = power; sync = is; tries = tt }) }
-    by Active q = record { role = rw q (power, power); out = rw q (record { send = power; sync = is; tries = tt }) }
     by (Awaiting tries ticks) q = record { role = rw q (power, power); out = rw q (record { send = power; sync = is; tries = tt }) }
+    by _ q = record { role = rw q (power, power); out = rw q (record { send = power; sync = is; tries = tt }) }
 clf_in s (ActTake (PowerMode code) false) is last power = record { role = (last, power); out = out_none }
 clf_in s ActTick is last power = record { role = (last, power); out = out_tick s.phase s.last last }
 clf_in s ActStop is last power = record { role = (last, power); out = record { send = tt; sync = tt; tries = tt } }
@@ -129,8 +117,11 @@ step_in false (Uicc s) event is h = absurd h
 
 -- ## An end
 
+abbrev IsActDue : ActDue → Type 0
+IsActDue a = IsAct a.frame
+
 abbrev pub AreActs : List ActDue → Type 0
-AreActs acts = AllByRecursion (λ (a : ActDue). IsAct a.frame) acts
+AreActs acts = AllByRecursion IsActDue acts
 
 -- an end of a controller, or of a host
 pub record SideIn (b : Bool) (n : ℕ) (e : LinkEnd) : Type 0 where
@@ -143,13 +134,10 @@ pub record SideIn (b : Bool) (n : ℕ) (e : LinkEnd) : Type 0 where
 pub side_more : (b : Bool) (n k : ℕ) (e : LinkEnd) → n ≤ k → SideIn b n e → SideIn b k e
 side_more b n k e more h = record { role = h.role; end = end_more n k e.shdlc more h.end; sent = h.sent; acts = h.acts; got = h.got }
 
-acts_front : (acts : List ActDue) → AreActs acts → AreActs (map in_front acts)
-acts_front [] h = tt
-acts_front (a ∷ acts) h = (h.0, acts_front acts h.1)
-
 side_moved : (b : Bool) (n k : ℕ) (e : LinkEnd) (ends : Bool) (s : EndState) → EndIn k s → SideIn b n e → SideIn b k (moved e ends s)
 side_moved b n k e false s is h = record { role = h.role; end = is; sent = h.sent; acts = h.acts; got = h.got }
-side_moved b n k e true s is h = record { role = h.role; end = is; sent = tt; acts = acts_front e.acts h.acts; got = h.got }
+side_moved b n k e true s is h =
+    record { role = h.role; end = is; sent = tt; acts = all_map IsActDue IsActDue in_front (λ a is. is) e.acts h.acts; got = h.got }
 
 side_down : (b : Bool) (n : ℕ) (e : LinkEnd) (ends : Bool) → SideIn b n e → SideIn b n (put_down ends e)
 side_down b n e false h = h
@@ -169,7 +157,7 @@ side_down b n e true h = by e.shdlc.phase refl
             heard = record { acc = h.end.heard.acc; acked = h.end.heard.acked };
           };
           sent = h.sent;
-          acts = acts_front e.acts h.acts;
+          acts = all_map IsActDue IsActDue in_front (λ a is. is) e.acts h.acts;
           got = h.got;
         })
 
@@ -212,14 +200,11 @@ module _ (b : Bool) (n : ℕ) where
       cond_both (is_open e.role) (heard e c) e (SideIn b (n + 8)) (λ _. side_heard e c is h) (λ _. side_more b n (n + 8) e (omega arith) h)
 
   side_took : (e : LinkEnd) (c : Control) → IsLineFrame c → SideIn b n e → SideIn b (n + 8) (took e c)
-  side_took e (I ns nr info) is h = side_opened e (I ns nr info) is h
-  side_took e (S kind nr) is h = side_opened e (S kind nr) is h
-  side_took e (Rset window caps) is h = side_opened e (Rset window caps) is h
-  side_took e Ua is h = side_opened e Ua is h
   side_took e (ActFrame act again) is h =
       side_more b n (n + 8) (activated e (ActTake act again)) (omega arith) (side_activated b n e (ActTake act again) is h)
   side_took e Clt is h =
       let m = end_more n (n + 8) e.shdlc (omega arith) h.end in record { role = h.role; end = m; sent = h.sent; acts = h.acts; got = h.got }
+  side_took e c is h = side_opened e c is h
 
   side_ticked : (e : LinkEnd) → SideIn b n e → SideIn b n (had_tick e)
   side_ticked e h =
@@ -309,18 +294,9 @@ pub record ReportIn (r : Report) : Type 0 where
 brought_in : (b : Bool) (n : ℕ) (e : LinkEnd) (c : Control) → IsLineFrame c → SideIn b n e → AreMail (brought e c)
 brought_in b n e (ActFrame act again) is h = tt
 brought_in b n e Clt is h = tt
-brought_in b n e (I ns nr info) is h =
+brought_in b n e c is h =
     cond_both (is_open e.role) _ [] AreMail
-    (λ _. cond_both (is_faulty (taken e.shdlc (I ns nr info)).session) [] _ AreMail (λ _. tt) (λ _. news_in b n e (I ns nr info) is h)) (λ _. tt)
-brought_in b n e (S kind nr) is h =
-    cond_both (is_open e.role) _ [] AreMail
-    (λ _. cond_both (is_faulty (taken e.shdlc (S kind nr)).session) [] _ AreMail (λ _. tt) (λ _. news_in b n e (S kind nr) is h)) (λ _. tt)
-brought_in b n e (Rset window caps) is h =
-    cond_both (is_open e.role) _ [] AreMail
-    (λ _. cond_both (is_faulty (taken e.shdlc (Rset window caps)).session) [] _ AreMail (λ _. tt) (λ _. news_in b n e (Rset window caps) is h)) (λ _. tt)
-brought_in b n e Ua is h =
-    cond_both (is_open e.role) _ [] AreMail
-    (λ _. cond_both (is_faulty (taken e.shdlc Ua).session) [] _ AreMail (λ _. tt) (λ _. news_in b n e Ua is h)) (λ _. tt)
+    (λ _. cond_both (is_faulty (taken e.shdlc c).session) [] _ AreMail (λ _. tt) (λ _. news_in b n e c is h)) (λ _. tt)
 
 pub report_in : (b : Bool) (n : ℕ) (e : LinkEnd) (i : LinkInput) → IsInputIn b i → SideIn b n e → ReportIn (report e i)
 report_in b n e (Take (ActFrame act again)) is h = record { got = tt; tries = tt; sync = (step_in b e.role (ActTake act again) is h.role).out.sync }
@@ -345,23 +321,16 @@ acked_in b n e h = let w = whole_low e.sent e.shdlc.session.acked h.sent in let 
 abbrev pub AreFramesIn : List Control → Type 0
 AreFramesIn cs = AllByRecursion IsLineFrame cs
 
-all_plain : (cs : List Control) → AllByRecursion IsFrame cs → AreFramesIn cs
-all_plain [] h = tt
-all_plain (c ∷ cs) h = (plain_frame c h.0, all_plain cs h.1)
-
-take_each : (k : ℕ) (cs : List Control) → AreFramesIn cs → AreFramesIn (take k cs)
-take_each zero cs h = tt
-take_each (suc k) [] h = tt
-take_each (suc k) (c ∷ cs) h = (h.0, take_each k cs h.1)
-
 among_in : (n : ℕ) (acts : List ActDue) (cs : List Control) → AreActs acts → AreFramesIn cs → AreFramesIn (among n acts cs)
 among_in n [] cs a h = h
 among_in n (x ∷ acts) cs a h =
-    each-append IsLineFrame (take (x.behind - n) cs) (ActFrame x.frame false ∷ among x.behind acts (drop (x.behind - n) cs)) (take_each (x.behind - n) cs h)
+    each-append IsLineFrame (take (x.behind - n) cs) (ActFrame x.frame false ∷ among x.behind acts (drop (x.behind - n) cs))
+    (AllByRecursion-take IsLineFrame (x.behind - n) cs h)
     (a.0, among_in x.behind acts (drop (x.behind - n) cs) a.1 (drop_each IsLineFrame (x.behind - n) cs h))
 
 pub out_in : (b : Bool) (n : ℕ) (e : LinkEnd) → SideIn b n e → AreFramesIn (frames_out e)
-out_in b n e h = among_in 0 e.acts (all_frames e.shdlc) h.acts (all_plain (all_frames e.shdlc) (frames_in 12 e.shdlc h.end.ranged))
+out_in b n e h = among_in 0 e.acts (all_frames e.shdlc) h.acts
+    (all_mapped Control IsFrame IsLineFrame (all_frames e.shdlc) plain_frame (frames_in 12 e.shdlc h.end.ranged))
 
 pub side_sent : (b : Bool) (n : ℕ) (e : LinkEnd) → SideIn b n e → SideIn b n (sent_all e)
 side_sent b n e h = record { role = h.role; end = end_sent n 12 e.shdlc h.end; sent = h.sent; acts = tt; got = h.got }

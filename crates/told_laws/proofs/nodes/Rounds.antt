@@ -1,17 +1,10 @@
 -- A world of nodes stays in range over a round, in which at most four fragments more count as acknowledged at each end of its links, and at most
 -- two RSETs more are made on each; so does what is noted of it.
-use Rattle.std.proofs.Common.{◌≡◌, ℕ, zero, suc, ◌+◌, ◌*◌, ◌≤◌, Bool, true, false, List, [], ◌∷◌, ◌++◌, length, refl, sym, subst, ap, ◌∙◌, arith, append_assoc}
-use Rattle.std.proofs.Common.{append-nil, replicate}
-use Rattle.told_laws.proofs.Words.{AllByRecursion, End, Entry, FewRsetsOnEach, Happening, IsFew, NodeWorld, Occurrence, Site, Takes, Ticks, all_happen, by_test}
-use Rattle.told_laws.proofs.Words.{entries_in, few_front, flat_map, flat_map-append, frames_at, true≢false, world_step}
-use Rattle.node_machine.specs.world.World.{end_c, end_h}
-use Rattle.node_machine.specs.world.Lines.{can_happen}
-use Rattle.node_machine.specs.world.Rounds.{ends_in_order, end_takes_all, ends_take_all, world_round}
-use Rattle.node_laws.specs.kept.Hosts.{AreHosts}
-use Rattle.node_laws.specs.kept.Worlds.{MayHappen}
-use Rattle.node_laws.specs.acked.AckedRounds.{AreAckedWithin, amid_round}
-use Rattle.node_laws.proofs.acked.AckedRounds.{IsSound, each_amid, each_rounds}
-use Rattle.node_laws.proofs.rsets.InWorlds.{few_behind_step, each_longer}
+use Rattle.told_laws.proofs.Words.{AllByRecursion, AreAckedWithin, AreHosts, Bool, End, Entry, FewRsetsOnEach, Happening, IsFew, IsSound, List, MayHappen}
+use Rattle.told_laws.proofs.Words.{NodeWorld, Occurrence, Site, Takes, Ticks, [], all_happen, amid_round, ap, append-nil, append_assoc, arith, by_test}
+use Rattle.told_laws.proofs.Words.{can_happen, each_amid, each_longer, each_rounds, end_c, end_h, end_takes_all, ends_in_order, ends_take_all, entries_in}
+use Rattle.told_laws.proofs.Words.{false, few_behind_step, few_front, flat_map, flat_map-append, frames_at, length, refl, replicate, subst, suc, sym, true}
+use Rattle.told_laws.proofs.Words.{true≢false, world_round, world_step, zero, ℕ, ◌*◌, ◌++◌, ◌+◌, ◌∙◌, ◌∷◌, ◌≡◌, ◌≤◌}
 use Rattle.told_laws.proofs.told.Lines.{top}
 use Rattle.told_laws.proofs.nodes.Worlds.{IsSiteIn}
 use Rattle.told_laws.proofs.nodes.Happenings.{HappensIn}

@@ -1,38 +1,25 @@
 -- All that is told of plays in a world of nodes is in its range, and so is all that is told of a history that follows their lines.
-use Rattle.std.proofs.Common.{◌≡◌, inr, ℕ, zero, suc, ◌+◌, ◌*◌, ◌≤◌, Bool, true, false, eqb, List, [], ◌∷◌, ◌++◌, length, map, refl, sym, subst, ap, ◌∙◌, arith}
-use Rattle.std.proofs.Common.{append_assoc, append-nil, Option, Some, None, All, replicate, if◌then◌else◌, not, ◌&&◌}
-use Rattle.told_laws.proofs.Words.{AllByRecursion, AreFewPlays, End, Entry, Happening, Header, IsByte, IsEntry, IsFew, IsHost, IsPlayFor, Line, MayBegin}
-use Rattle.told_laws.proofs.Words.{NoCause, NodeWorld, Occurrence, OnWire, Play, Round, Running, Said, Site, Takes, Ticks, all_happen, all_mapped, by_test}
-use Rattle.told_laws.proofs.Words.{cond_both, entries_in, few_front, flat_map, flat_map-append, frames_at, hosts_stay_behind, lines_of_play, lines_played}
-use Rattle.told_laws.proofs.Words.{played_more, true≢false}
+use Rattle.told_laws.proofs.Words.{All, AllByRecursion, AreDifferent, AreFewPlays, AreNodeLinesOf, Bool, End, Entry, FollowsNodes, Happening, Header, IsByte}
+use Rattle.told_laws.proofs.Words.{IsEntry, IsFew, IsHost, IsNodeHeader, IsNodeLineOf, IsPlayFor, IsPlayedLine, IsRoundLine, IsSentByHost, IsSound, Line}
+use Rattle.told_laws.proofs.Words.{LineOutcome, LineStep, List, MayAllHappen, MayBegin, NoCause, NodeHistory, NodeWorld, None, NoneIsMisread, Occurrence}
+use Rattle.told_laws.proofs.Words.{OnWire, Option, Play, Round, Running, Said, Site, Some, Takes, Ticks, [], after-append, all_happen, all_joined, all_map}
+use Rattle.told_laws.proofs.Words.{all_mapped, ap, append-nil, append_assoc, arith, by_test, cond_both, each-append, end_takes_all, ends_in_order}
+use Rattle.told_laws.proofs.Words.{ends_take_all, entries_below, entries_in, eqb, false, few_front, few_in_new_world, flat_map, flat_map-append, for_with}
+use Rattle.told_laws.proofs.Words.{frames_at, goes_on, happenings, hosts_stay, hosts_stay_behind, if◌then◌else◌, inr, is_clear, is_running, is_settling, length}
+use Rattle.told_laws.proofs.Words.{line_may, line_step, lines_asking, lines_may_be_played, lines_of_play, lines_played, lines_said, new_site, new_world}
+use Rattle.told_laws.proofs.Words.{node_at, node_of, nodes_behind, not, noted_below, occurrences_of, played-append, played_more, refl, refusal_in, replicate}
+use Rattle.told_laws.proofs.Words.{round_behind, round_in, round_is, round_known, round_lines, round_told, rounds_played, said-append, site_at, sound_new}
+use Rattle.told_laws.proofs.Words.{steps_from, subst, suc, sym, tables_told, takes_so, taking_in, told-append, told_in, true, true≢false, world_after}
+use Rattle.told_laws.proofs.Words.{world_round, zero, ℕ, ◌&&◌, ◌*◌, ◌++◌, ◌+◌, ◌∙◌, ◌∷◌, ◌≡◌, ◌≤◌}
 use Rattle.trace_model.specs.declared.entry.Entry.TheVariants as entry
 use Rattle.trace_model.specs.declared.line.Line.TheVariants as line
-use Rattle.trace_model.specs.Lines.{IsNodeHeader}
 use Rattle.told_laws.proofs.texts.ReadLemmas.{said_in}
-use Rattle.link_laws.specs.messages.Rest.{is_clear}
-use Rattle.registry.proofs.ValueLemmas.{AllByRecursion-append as each-append}
-use Rattle.node_machine.specs.world.World.{node_at, node_of, site_at, new_world, new_site}
-use Rattle.node_machine.specs.world.Lines.{refusal_in, happenings, is_running, LineOutcome, tables_told, goes_on, line_step, noted_below}
 use Rattle.node_machine.specs.world.Lines.LineOutcome.{WasRefused, Occurred}
-use Rattle.node_machine.specs.world.NodeHistories.{LineStep, NodeHistory, FollowsNodes, NoneIsMisread, steps_from, occurrences_of, world_after}
-use Rattle.node_machine.specs.world.Rounds.{ends_in_order, end_takes_all, ends_take_all, world_round}
-use Rattle.node_laws.specs.kept.Hosts.{AreDifferent, IsSentByHost}
-use Rattle.node_laws.proofs.kept.Lines.{MayAllHappen, line_may}
 use Rattle.node_laws.proofs.kept.Kept.{all_begin}
-use Rattle.node_laws.proofs.acked.AckedRounds.{IsSound, sound_new}
-use Rattle.node_laws.proofs.order.HostsStay.{hosts_stay}
 use Rattle.node_laws.proofs.links.Playing.{world_fine}
-use Rattle.node_laws.proofs.rsets.InWorlds.{few_in_new_world}
-use Rattle.node_laws.specs.schedules.Ranges.{IsNodeLineOf, AreNodeLinesOf, lines_asking}
 use Rattle.node_laws.proofs.bounds.Lines.{asking-append, asking_few}
 use Rattle.node_laws.proofs.schedules.Ranges.{hosts_are, in_range, playable, sent_by_hosts}
 use Rattle.node_laws.proofs.schedules.Few.{are_few}
-use Rattle.lines_told.specs.lines.Below.{IsPlayedLine, entries_below, is_settling, nodes_behind}
-use Rattle.lines_told.specs.lines.Plays.{lines_said, rounds_played, round_behind, round_in, taking_in}
-use Rattle.lines_told.specs.lines.RoundLines.{IsRoundLine}
-use Rattle.lines_told.proofs.lines.Lines.{lines_may_be_played, round_known}
-use Rattle.lines_told.proofs.lines.NodeRounds.{told_in, after-append, told-append, takes_so, round_is, round_told, round_lines}
-use Rattle.lines_told.proofs.lines.Plays.{said-append, played-append, for_with}
 use Rattle.told_laws.specs.told.NodesTold.{line_told, nodes_told}
 use Rattle.told_laws.proofs.told.Lines.{each_all, IfCause, top}
 use Rattle.told_laws.proofs.told.Coming.{front_each, back_each}
@@ -43,7 +30,6 @@ use Rattle.told_laws.proofs.nodes.Worlds.{IsSiteIn}
 use Rattle.told_laws.proofs.nodes.Happenings.{HappensIn}
 use Rattle.told_laws.proofs.nodes.Histories.{IsCounted, IsFull, IfFull, AllFull, Stands, all_full, events_in, stands_more}
 use Rattle.told_laws.proofs.nodes.Rounds.{round_stands}
-use Rattle.block_pool.proofs.HoldingLemmas.{all_joined}
 use Rattle.told_laws.proofs.nodes.Lines.{number_low, caused_in, few_caused, refused_in, said_tables}
 
 -- an entry is in its range, and what it counts is a number of a text
@@ -138,20 +124,8 @@ module _ (header : Header) (nodes : IsNodeHeader header) where
       → n + 2600 ≤ top
       → IsFew (t ++ entries_in (occurrences_of (goes_on w l).1)) → LineIn (n + 2600) t (goes_on w l)
   goes_in n t w (line.Tables k) is side none s big few = tells_in n t w k (number_low header nodes k is) s (node_at w k) refl
-  goes_in n t w (line.Send e pid message) is side none s big few = caused n t w (line.Send e pid message) is side none s big few
-  goes_in n t w (line.Deliver e count) is side none s big few = caused n t w (line.Deliver e count) is side none s big few
-  goes_in n t w (line.Lose e) is side none s big few = caused n t w (line.Lose e) is side none s big few
-  goes_in n t w (line.Damage e places) is side none s big few = caused n t w (line.Damage e places) is side none s big few
-  goes_in n t w (line.Tick times) is side none s big few = caused n t w (line.Tick times) is side none s big few
-  goes_in n t w (line.Reset e window) is side none s big few = caused n t w (line.Reset e window) is side none s big few
-  goes_in n t w (line.Busy e) is side none s big few = caused n t w (line.Busy e) is side none s big few
-  goes_in n t w (line.Ready e) is side none s big few = caused n t w (line.Ready e) is side none s big few
-  goes_in n t w (line.Boot node) is side none s big few = caused n t w (line.Boot node) is side none s big few
-  goes_in n t w (line.Cut node) is side none s big few = caused n t w (line.Cut node) is side none s big few
-  goes_in n t w (line.Activate host sync power) is side none s big few = caused n t w (line.Activate host sync power) is side none s big few
-  goes_in n t w (line.Arm node nth fill) is side none s big few = caused n t w (line.Arm node nth fill) is side none s big few
-  goes_in n t w (line.Init e identity pipes) is side none s big few = caused n t w (line.Init e identity pipes) is side none s big few
   goes_in n t w (line.Settle rounds) is side none s big few = absurd is
+  goes_in n t w l is side none s big few = caused n t w l is side none s big few
 
   line_in : (n : ℕ) (t : List Entry) (w : NodeWorld) (l : Line) → IsNodeLineOf header l → IsSentByHost l → StandsIn n t w → n + 2600 ≤ top
       → IsFew (t ++ entries_in (occurrences_of (line_step w l).1)) → LineIn (n + 2600) t (line_step w l)
@@ -275,12 +249,10 @@ module _ (header : Header) (nodes : IsNodeHeader header) where
       in_range header l may.may_follow
       (λ rounds q. absurd (true≢false (let settles : is_settling l ≡ true = ap is_settling q in sym settles ∙ may.settles_not)))
 
-  node_lines : (lines : List Line) → AllByRecursion (IsPlayedLine header) lines → AreNodeLinesOf header lines
-  node_lines [] may = tt
-  node_lines (l ∷ lines) may = (node_line l may.0, node_lines lines may.1)
-
   plays_lines : (plays : List Play) → AllByRecursion (IsPlayFor header) plays → AreNodeLinesOf header (lines_played header plays)
-  plays_lines plays may = node_lines (lines_played header plays) (lines_may_be_played header (inr nodes) (hosts_stay_behind header) plays may)
+  plays_lines plays may =
+      all_mapped Line (IsPlayedLine header) (IsNodeLineOf header) (lines_played header plays) node_line
+      (lines_may_be_played header (inr nodes) (hosts_stay_behind header) plays may)
 
   sound_behind : (lines : List Line) → AreNodeLinesOf header lines → IsSound (nodes_behind header lines)
   sound_behind lines is =
@@ -368,13 +340,13 @@ module _ (header : Header) (nodes : IsNodeHeader header) where
       let said = said-append (p ∷ []) plays in
       omega (arith, now, later, both, said)
 
-  sites_begin : (content : List ℕ) (hs : List ℕ) → AllByRecursion IsHost hs → AllByRecursion (IsSiteIn 0) (map (new_site content) hs)
-  sites_begin content [] h = tt
-  sites_begin content (x ∷ hs) h = (record { host = h.0.1; link = new_link_in; node = tt }, sites_begin content hs h.1)
-
   begins : StandsIn 0 [] (new_world hosts)
   begins = record {
-    world = record { sites = sites_begin (replicate 65536 255) hosts (hosts_are header nodes).all; controller = tt };
+    world = record {
+      sites = all_map IsHost (IsSiteIn 0) (new_site (replicate 65536 255)) (λ h low. record { host = low.1; link = new_link_in; node = tt }) hosts
+          (hosts_are header nodes).all;
+      controller = tt;
+    };
     rsets = few_in_new_world hosts;
     noted = tt;
     counted = tt;

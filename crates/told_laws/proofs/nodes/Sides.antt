@@ -1,24 +1,15 @@
 -- The ends of the links of a world of nodes are in their ranges, whatever comes to them: frames and messages are bytes, and no count is above
 -- a bound.
-use Rattle.std.proofs.Common.{◌≡◌, ℕ, zero, suc, ◌+◌, ◌-◌, ◌%◌, ◌≤◌, ◌<◌, Bool, true, false, nat_lt, List, [], ◌∷◌, length, refl, sym, arith, Option, Some}
-use Rattle.std.proofs.Common.{None, nat_le, not, ◌==◌}
-use Rattle.told_laws.proofs.Words.{Act, AllByRecursion, AllByRecursion-filter, Clt, Control, Down, EndState, I, IsByte, LinkState, Message, PowerMode, Ready}
-use Rattle.told_laws.proofs.Words.{Rset, S, Srej, SyncId, Ua, Up, Waiting, by_test, cond_both, leb-true, ltb-false, ltb-true, reset_with, stopped, taken}
-use Rattle.told_laws.proofs.Words.{ticked, true≢false}
-use Rattle.swp_base.specs.declared.control_frames.Control.TheVariants.{Act as ActFrame}
-use Rattle.swp_base.specs.declared.control_frames.Kind.{Kind}
-use Rattle.shdlc_core.specs.declared.answers.Due.{Due}
-use Rattle.shdlc_core.specs.Machine.{Timed, timed, runs_timer, Fragment, Session, place_of, received, accepted, gap_found, repeated, discarded, ahead}
-use Rattle.shdlc_core.specs.Machine.{acknowledged, with_ready, put_out, fragment_due, fetched, after_frames}
-use Rattle.shdlc_core.specs.Machine.Timed.{Runs, Over, Spent}
-use Rattle.shdlc_core.proofs.Histories.{in_phase}
+use Rattle.told_laws.proofs.Words.{Act, ActFrame, AllByRecursion, AllByRecursion-filter, Bool, Clt, Control, Down, Due, EndState, Fragment, I, IsByte, Kind}
+use Rattle.told_laws.proofs.Words.{LinkState, List, Message, None, Option, Over, PowerMode, Ready, Rset, Runs, S, Session, Some, Spent, Srej, SyncId, Timed, Ua}
+use Rattle.told_laws.proofs.Words.{Up, Waiting, [], accepted, acknowledged, after_frames, ahead, arith, by_test, cond_both, discarded, each-append, false}
+use Rattle.told_laws.proofs.Words.{fetched, fragment_due, gap_found, good_of, in_phase, is_good, leb-true, length, ltb-false, ltb-true, messages_got, nat_le}
+use Rattle.told_laws.proofs.Words.{nat_lt, not, packet_count, packets_in, place_of, put_out, received, refl, repeated, reset_with, runs_timer, stopped, suc}
+use Rattle.told_laws.proofs.Words.{sym, taken, ticked, timed, true, true≢false, whole_among, with_ready, zero, ℕ, ◌%◌, ◌+◌, ◌-◌, ◌<◌, ◌==◌, ◌∷◌, ◌≡◌, ◌≤◌}
 use Rattle.hcp_packet.specs.declared.Packet.{Packet}
-use Rattle.hcp_packet.specs.Packets.{packets_in, packet_count, is_good, good_of}
 use Rattle.hcp_chain.specs.Joining.{join_step, message_in, given_by, is_fifth, grown, so_far, others}
-use Rattle.registry.proofs.ValueLemmas.{AllByRecursion-append as each-append}
 use Rattle.told_laws.proofs.told.Ends.{IsFragment, IsFrame, Ranged, ranged_taken, ranged_ticked, ranged_reset, ranged_stopped, ranged_ready, ranged_out}
 use Rattle.told_laws.proofs.told.Ends.{ranged_after}
-use Rattle.link_laws.specs.machine.Machine.{messages_got, whole_among}
 use Rattle.told_laws.proofs.told.Links.{IsTellable}
 
 -- ## Frames
@@ -116,9 +107,8 @@ module _ (n : ℕ) where
   tick_heard e Down h = record { acc = h.acc; acked = h.acked }
 
   asks_heard : (e : EndState) (p : LinkState) (w : ℕ) → HeardIn n e → HeardIn n (reset_with (in_phase p e) w)
-  asks_heard e Up w h = record { acc = tt; acked = omega arith }
-  asks_heard e Down w h = record { acc = tt; acked = omega arith }
   asks_heard e Waiting w h = record { acc = h.acc; acked = h.acked }
+  asks_heard e _ w h = record { acc = tt; acked = omega arith }
 
   ready_heard : (e : EndState) (before after answered : Bool) → e.ready ≡ before → e.session.answered_rnr ≡ answered → HeardIn n e
       → HeardIn n (with_ready e after)

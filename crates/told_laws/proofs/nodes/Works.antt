@@ -1,37 +1,27 @@
 -- A node in a step, whatever comes to it: its ends, what it keeps and what it notes are in their ranges.
-use Rattle.std.proofs.Common.{◌≡◌, ℕ, ◌+◌, ◌≤◌, ◌<◌, ◌==◌, Bool, true, false, eqb, nat_lt, List, [], ◌∷◌, ◌++◌, length, map, refl, subst, arith, Option, Some}
-use Rattle.std.proofs.Common.{None, eqb-true}
-use Rattle.told_laws.proofs.Words.{AllByRecursion, Command, Commits, Core, Deed, Desk, Ends, Entry, FetchMessage, Give, GoesOn, Hold, IsByte, LinkEnd}
-use Rattle.told_laws.proofs.Words.{LinkInput, Message, Orders, Port, Reset, Sends, SetAside, Turn, Work, after_input, answer_of, by_option, by_test, changed_if}
-use Rattle.told_laws.proofs.Words.{cond_both, flat_map, give_refusal, need, option_map_or, port_at, report, spare, told, whole_acked}
-use Rattle.std.specs.List.{list_any}
+use Rattle.told_laws.proofs.Words.{About, AllByRecursion, Asks, AtEnd, Bool, Command, Commits, Core, Deed, Desk, Drops, Ends, Entry, FetchMessage, Give, GoesOn}
+use Rattle.told_laws.proofs.Words.{Hears, Hold, IsAnswered, IsByte, LinkEnd, LinkInput, List, Message, NodeInput, None, Notice, Option, Orders, Port, Release}
+use Rattle.told_laws.proofs.Words.{Releases, Reset, SaysOk, Sends, SetAside, SetsErrors, Side, Some, Sync, Tells, TimePasses, Turn, Work, [], after_input}
+use Rattle.told_laws.proofs.Words.{after_sessions, after_turn, all_changed, all_come, all_done, all_map, all_mapped, all_owed, all_owed_hold, answer_of}
+use Rattle.told_laws.proofs.Words.{answers_and_passes, arith, asked_at, by_option, by_test, commit, cond_both, creation_in, done, each-append, end_of_node, eqb}
+use Rattle.told_laws.proofs.Words.{eqb-true, fails_within, false, flat_map, forgets, forgotten, forgotten_hold, give_refusal, has_come, input_at, is_forgotten}
+use Rattle.told_laws.proofs.Words.{is_late, is_over, lack, length, list_any, map, nat_lt, need, needs, noted_of, notified, noting, older_notice, option_map_or}
+use Rattle.told_laws.proofs.Words.{own_side, port_at, refl, report, reset_late, sent_unless, spare, steps, subst, synced, times_out, told, told_at, told_late}
+use Rattle.told_laws.proofs.Words.{true, turn_at, turn_entry, unless_cut, whole_acked, with_desk, with_older, with_port, without_notice, ℕ, ◌++◌, ◌+◌, ◌<◌}
+use Rattle.told_laws.proofs.Words.{◌==◌, ◌∷◌, ◌≡◌, ◌≤◌}
 use Rattle.trace_model.specs.declared.entry.Entry.TheVariants as entry
-use Rattle.journal_laws.specs.Planned.{fails_within}
-use Rattle.hci_tables.specs.declared.command.Command.TheVariants.{Sync}
 use Rattle.hci_tables.specs.Bodies.{body_of}
 use Rattle.hci_store.specs.Committing.{commit_writes}
-use Rattle.link_laws.specs.machine.Machine.Turn.{Release}
-use Rattle.link_laws.specs.entries.Entries.{End as Side, turn_entry, sent_unless}
-use Rattle.registry.proofs.ValueLemmas.{AllByRecursion-append as each-append}
-use Rattle.node_machine.specs.Parts.{About, Notice}
-use Rattle.node_machine.specs.Parts.About.{Waits, Forgotten, Removed}
-use Rattle.node_machine.specs.Parts.Deed.{SaysOk, Asks, Releases, Tells, IsAnswered, Drops, SetsErrors, Hears}
-use Rattle.node_machine.specs.Carrying.{own_side, end_of_node, noting, with_port, with_desk, after_turn, noted_of, turn_at, notified, commit, done, all_done}
-use Rattle.node_machine.specs.Carrying.{unless_cut, needs, lack}
-use Rattle.node_machine.specs.Controller.{creation_in, asked_at}
+use Rattle.node_machine.specs.Parts.About.{Waits, Removed}
 use Rattle.node_machine.specs.Turns.{deeds_of, handles, holds_back, lets_go, have_turns, goes_through_ends, passes}
-use Rattle.node_machine.specs.Node.{NodeInput, input_at, has_come, told_at, all_come, older_notice, with_older, is_late, reset_late, told_late, times_out}
-use Rattle.node_machine.specs.Node.{is_over, is_forgotten, forgotten, forgets, all_owed, without_notice, after_sessions, synced, steps, answers_and_passes}
-use Rattle.node_machine.specs.Node.NodeInput.{AtEnd, TimePasses}
 use Rattle.node_laws.proofs.steps.StepWalks.{got_at, unless, lets}
-use Rattle.node_machine.proofs.Walks.{forgotten_hold, all_owed_hold}
 use Rattle.told_laws.proofs.told.Lines.{each_all}
 use Rattle.told_laws.proofs.nodes.Sides.{IsMail, AreMail}
-use Rattle.told_laws.proofs.nodes.Machines.{SideIn, side_more, side_turn, side_input, side_reset_at, IsTurnIn, AreTurnsIn, IsInputIn, IfSync}
-use Rattle.told_laws.proofs.nodes.Machines.{report_in, acked_in}
-use Rattle.told_laws.proofs.nodes.Ranges.{AreIn, in-append, all_in_more, AreNotedIn, all_entries_in, told_in_range}
+use Rattle.told_laws.proofs.nodes.Machines.{SideIn, side_more, side_turn, side_input, side_reset_at, IsTurnIn, AreTurnsIn, IsInputIn, IfSync, report_in}
+use Rattle.told_laws.proofs.nodes.Machines.{acked_in}
+use Rattle.told_laws.proofs.nodes.Ranges.{AreIn, each_in, in-append, all_in_more, AreNotedIn, all_entries_in, told_in_range}
 use Rattle.told_laws.proofs.nodes.Commands.{IsCommandIn, applied_in, rows_applied}
-use Rattle.told_laws.proofs.nodes.Deeds.{IsSaying, saying, answer_in, IfCreation, IsDeskIn, IsDeedIn, AreDeedsIn, AreDesksIn, low, controller_in}
+use Rattle.told_laws.proofs.nodes.Deeds.{IsSaying, saying, answer_in, IfCreation, IsDeskIn, IsDeedIn, AreDeedsIn, low, controller_in}
 use Rattle.told_laws.proofs.nodes.Hosts.{IsCoreIn, own_end, host_in}
 
 -- ## A node at work
@@ -56,18 +46,9 @@ port_more b n k more p h =
     let s = h.session in record { desk = h.desk; side = side_more b n k p.side more h.side; session = omega (arith, s, more); turns = h.turns }
 
 module _ (b : Bool) (n : ℕ) where
-  map_in : (f : Port → Port) → ((p : Port) → IsPortIn b n p → IsPortIn b n (f p)) → (ports : List Port) → ArePortsIn b n ports → ArePortsIn b n (map f ports)
-  map_in f one [] a = tt
-  map_in f one (p ∷ ports) a = (one p a.0, map_in f one ports a.1)
-
-  changed_in : (c : Bool) (f : Port → Port) (p : Port) → ((q : Port) → IsPortIn b n q → IsPortIn b n (f q)) → IsPortIn b n p
-      → IsPortIn b n (changed_if c f p)
-  changed_in true f p one a = one p a
-  changed_in false f p one a = a
-
   port_in : (h : ℕ) (f : Port → Port) → ((q : Port) → IsPortIn b n q → IsPortIn b n (f q)) → (ports : List Port) → ArePortsIn b n ports
       → ArePortsIn b n (with_port h f ports)
-  port_in h f one ports a = map_in (λ (p : Port). changed_if (p.desk.host == h) f p) (λ p is. changed_in (p.desk.host == h) f p one is) ports a
+  port_in h f one ports a = all_changed (IsPortIn b n) (λ (p : Port). p.desk.host == h) f one ports a
 
   -- the end of the link with a host is one of them
   record IsAt (h : ℕ) (p : Port) : Type 0 where
@@ -79,10 +60,6 @@ module _ (b : Bool) (n : ℕ) where
   at_in (x ∷ ports) h p a q =
       cond_both (eqb x.desk.host h) (Some x) (port_at ports h) (λ o. o ≡ Some p → IsAt h p)
       (λ e z. let same : x ≡ p = cc in subst (IsAt h) same (record { is = a.0; host = eqb-true x.desk.host h e })) (λ _ z. at_in ports h p a.1 z) q
-
-  desks_in : (ports : List Port) → ArePortsIn b n ports → AreDesksIn ports
-  desks_in [] a = tt
-  desks_in (p ∷ ports) a = (a.0.desk, desks_in ports a.1)
 
   -- ## Turns
 
@@ -275,7 +252,9 @@ module _ (b : Bool) (n : ℕ) where
   deeds_in w h m small mail a = go (eqb w.core.node 0) (port_at w.ports h) refl refl
     where
       go : (c : Bool) (o : Option Port) → eqb w.core.node 0 ≡ c → port_at w.ports h ≡ o → AreDeedsIn (deeds_of w.core w.ports h m)
-      go true o q r = rw q (controller_in w.core w.ports h m a.core.tables a.core.rows (desks_in w.ports a.ports) small mail)
+      go true o q r =
+          rw q (controller_in w.core w.ports h m a.core.tables a.core.rows
+          (all_mapped Port (IsPortIn b n) (λ (p : Port). IsDeskIn p.desk) w.ports (λ p is. is.desk) a.ports) small mail)
       go false None q r = rw (q, r) tt
       go false (Some p) q r = rw (q, r) (host_in w.core a.core p m (at_in w.ports h p a.ports r).is.desk mail)
 
@@ -309,12 +288,10 @@ module _ (b : Bool) (n : ℕ) where
       unless J (goes_through_ends hosts) (have_turns h (got_at h w) w) (λ v c. going_in hosts v small.1 c)
       (having_in h (got_at h w) w small.0 (come_in h w a) a)
 
-  hosts_of : (ports : List Port) → ArePortsIn b n ports → AllByRecursion IsHostNumber (map (λ (p : Port). p.desk.host) ports)
-  hosts_of [] a = tt
-  hosts_of (p ∷ ports) a = (a.0.desk.host, hosts_of ports a.1)
-
   passes_in : (w : Work) → J w → J (passes w)
-  passes_in w a = going_in (map (λ (p : Port). p.desk.host) w.ports) w (hosts_of w.ports a.ports) a
+  passes_in w a =
+      going_in (map (λ (p : Port). p.desk.host) w.ports) w
+      (all_map (IsPortIn b n) IsHostNumber (λ (p : Port). p.desk.host) (λ p is. is.desk.host) w.ports a.ports) a
 
   rest_in : (freed syncs owing : List Deed) (w : Work) → AreDeedsIn freed → AreDeedsIn syncs → AreDeedsIn owing → J w
       → J (answers_and_passes freed syncs owing w)
@@ -334,8 +311,7 @@ module _ (b : Bool) (n : ℕ) where
         where
           by : (about : About) → x.about ≡ about → IfCreation (creation_in (Some (older_notice x)))
           by (Waits c) q = rw q (rw q at h)
-          by Forgotten q = rw q tt
-          by Removed q = rw q tt
+          by _ q = rw q tt
 
       go : (o : Option Notice) → p.desk.notice ≡ o → IsDeskIn (with_older p).desk
       go None q = record { host = a.desk.host; creation = rw q tt; errors = a.desk.errors }
@@ -357,17 +333,14 @@ module _ (b : Bool) (n : ℕ) where
       (acked_in b n (after_input p.side (Reset None)) (side_reset_at b n p.side a.side)) (report_in b n p.side (Reset None) tt a.side)))
       (λ _. tt)
 
-  all_late_in : (core : Core) (ports : List Port) → ArePortsIn b n ports → AreIn n (flat_map (told_late core) ports)
-  all_late_in core [] a = tt
-  all_late_in core (p ∷ ports) a = in-append n (told_late core p) (flat_map (told_late core) ports) (told_late_in core p a.0) (all_late_in core ports a.1)
-
   time_in : (input : NodeInput) (w : Work) → J w → J (times_out input w)
   time_in (AtEnd h i) w a = a
   time_in TimePasses w a =
       let ports : List Port = map with_older w.ports in
-      let old : ArePortsIn b n ports = map_in with_older older_in w.ports a.ports in
-      noting_in (flat_map (told_late w.core) ports) (record w { ports = map reset_late ports }) (all_late_in w.core ports old)
-      (record { core = a.core; ports = map_in reset_late late_in ports old; entries = a.entries })
+      let old : ArePortsIn b n ports = all_map (IsPortIn b n) (IsPortIn b n) with_older older_in w.ports a.ports in
+      noting_in (flat_map (told_late w.core) ports) (record w { ports = map reset_late ports })
+      (each_in n (IsPortIn b n) (told_late w.core) (told_late_in w.core) ports old)
+      (record { core = a.core; ports = all_map (IsPortIn b n) (IsPortIn b n) reset_late late_in ports old; entries = a.entries })
 
   without_in : (p : Port) → IsPortIn b n p → IsPortIn b n (without_notice p)
   without_in p a =
@@ -434,23 +407,18 @@ module _ (b : Bool) (n : ℕ) where
       (told_in_range (n + 8) (own_side core) p.session (report p.side i) (whole_acked (after_input p.side i)) (omega (arith, s))
       (acked_in b (n + 8) (after_input p.side i) (side_input b n p.side i is a.side)) (report_in b n p.side i is a.side))
 
-  come_ports : (input : NodeInput) (ports : List Port) → IsNodeInputIn b input → ArePortsIn b n ports
-      → ArePortsIn b (n + 8) (map (λ p. has_come p (input_at input p)) ports)
-  come_ports input [] is a = tt
-  come_ports input (p ∷ ports) is a = (come_port p (input_at input p) (if_input b input p is) a.0, come_ports input ports is a.1)
-
-  told_ports : (input : NodeInput) (core : Core) (ports : List Port) → IsNodeInputIn b input → ArePortsIn b n ports
-      → AreIn (n + 8) (flat_map (λ p. told_at core p (input_at input p)) ports)
-  told_ports input core [] is a = tt
-  told_ports input core (p ∷ ports) is a =
-      in-append (n + 8) (told_at core p (input_at input p)) (flat_map (λ p. told_at core p (input_at input p)) ports)
-      (told_port core p (input_at input p) (if_input b input p is) a.0) (told_ports input core ports is a.1)
-
   all_come_in : (input : NodeInput) (w : Work) → IsNodeInputIn b input → IsWorkIn b n w → IsWorkIn b (n + 8) (all_come input w)
   all_come_in input w is a =
       noting_in b (n + 8) (flat_map (λ p. told_at w.core p (input_at input p)) w.ports)
-      (record w { ports = map (λ p. has_come p (input_at input p)) w.ports }) (told_ports input w.core w.ports is a.ports)
-      (record { core = a.core; ports = come_ports input w.ports is a.ports; entries = all_in_more n (n + 8) w.entries (omega arith) a.entries })
+      (record w { ports = map (λ p. has_come p (input_at input p)) w.ports })
+      (each_in (n + 8) (IsPortIn b n) (λ p. told_at w.core p (input_at input p))
+      (λ p h. told_port w.core p (input_at input p) (if_input b input p is) h) w.ports a.ports)
+      (record {
+        core = a.core;
+        ports = all_map (IsPortIn b n) (IsPortIn b (n + 8)) (λ p. has_come p (input_at input p))
+            (λ p h. come_port p (input_at input p) (if_input b input p is) h) w.ports a.ports;
+        entries = all_in_more n (n + 8) w.entries (omega arith) a.entries;
+      })
 
   sync_in : (core : Core) (input : NodeInput) (p : Port) → IsNodeInputIn b input → IsPortIn b n p → AreDeedsIn (synced core input p)
   sync_in core input p is a = go (input_at input p) (if_input b input p is) refl
@@ -483,8 +451,8 @@ module _ (b : Bool) (n : ℕ) where
       (all_owed_hold IsDeedIn (λ asker. tt) (λ to r. saying 1 (answer_of r []) low (answer_in r [] tt (omega arith))) left)
       (record {
         core = after_in b (n + 8) came.core came.ports now.core;
-        ports = map_in b (n + 8) without_notice (without_in b (n + 8)) left
-            (map_in b (n + 8) (forgets came.ports) (forgets_in b (n + 8) came.ports) came.ports now.ports);
+        ports = all_map (IsPortIn b (n + 8)) (IsPortIn b (n + 8)) without_notice (without_in b (n + 8)) left
+            (all_map (IsPortIn b (n + 8)) (IsPortIn b (n + 8)) (forgets came.ports) (forgets_in b (n + 8) came.ports) came.ports now.ports);
         entries = now.entries;
       })
 

@@ -1,32 +1,21 @@
 -- A world of nodes, whatever happens to it: its links and nodes, and what is noted, are in their ranges.
-use Rattle.std.proofs.Common.{◌≡◌, ℕ, ◌+◌, ◌≤◌, ◌==◌, Bool, true, false, eqb, nat_lt, List, [], ◌∷◌, ◌++◌, length, map, refl, subst, arith}
-use Rattle.std.proofs.Common.{Option, Some, None, drop}
-use Rattle.told_laws.proofs.Words.{AllByRecursion, ArePipeRows, AsksReset, Bare, Comes, Control, Controller, CutOff, Desk, Entry, GoesOut, Host, Link, LinkEnd}
-use Rattle.told_laws.proofs.Words.{LinkInput, NextFrame, NoInput, NodeWorld, NumberedEnd, OnWire, Port, Reset, Running, Site, Start, Starts, Step, Stop, Take}
-use Rattle.told_laws.proofs.Words.{Work, by_option, by_test, changed_if, cond_both, exchanged, first_lost, flat_map, frames_out, happens_at_controller, is_rset}
-use Rattle.told_laws.proofs.Words.{link_to, port_at, put, took_with}
-use Rattle.swp_base.specs.InMemory.{Plan}
-use Rattle.link_laws.specs.sessions.Sessions.{fits}
-use Rattle.link_laws.specs.messages.Links.{Ending, new_link, number_of}
-use Rattle.link_laws.specs.messages.Links.Comes.{Stops}
-use Rattle.link_laws.specs.messages.Links.Loss.{TooMany}
-use Rattle.link_laws.specs.entries.Entries.{End as Side, ending_entries, puts_entries, pushed_out, put_entries, wire_with, far}
-use Rattle.registry.proofs.ValueLemmas.{AllByRecursion-append as each-append}
-use Rattle.node_machine.specs.world.World.{site_at, with_site, ending_of, runs_on, turns_at, input_of, near_end_in, arrival}
-use Rattle.node_machine.specs.world.World.{wires_for, port_for, work_of, frames_noted, comes_to, controller_work, link_after_controller, after_controller}
-use Rattle.node_machine.specs.world.World.{controller_does, host_work, after_host, host_does}
-use Rattle.node_machine.proofs.world.Cases.{by_controller, by_host}
-use Rattle.told_laws.proofs.told.Links.{took_low}
-use Rattle.told_laws.proofs.told.Wires.{FrameIs, WireIs, drop_each}
-use Rattle.told_laws.proofs.nodes.Sides.{IsLineFrame}
-use Rattle.told_laws.proofs.nodes.Machines.{SideIn, AreTurnsIn, IsInputIn, AreFramesIn, out_in}
-use Rattle.told_laws.proofs.nodes.Ranges.{IsNotedIn, AreIn, in-append, all_in_more, AreNotedIn, all_entries_in, first_lost_in}
+use Rattle.told_laws.proofs.Words.{AllByRecursion, ArePipeRows, AsksReset, Bare, Bool, Comes, Controller, CutOff, Desk, Ending, Entry, GoesOut, Host, Link}
+use Rattle.told_laws.proofs.Words.{LinkEnd, LinkInput, List, NextFrame, NoInput, NodeWorld, None, NumberedEnd, OnWire, Option, Plan, Port, Reset, Running, Side}
+use Rattle.told_laws.proofs.Words.{Site, Some, Start, Starts, Step, Stop, Stops, Take, Work, [], after_controller, after_host, all_map, all_mapped, arith}
+use Rattle.told_laws.proofs.Words.{arrival, by_controller, by_host, by_list, by_option, changed_if, comes_to, cond_both, controller_does, controller_work}
+use Rattle.told_laws.proofs.Words.{ending_entries, ending_of, eqb, exchanged, false, far, frames_noted, frames_out, happens_at_controller, host_does, host_work}
+use Rattle.told_laws.proofs.Words.{input_of, link_after_controller, link_to, map, near_end_in, new_link, number_of, port_at, port_for, refl, runs_on, site_at}
+use Rattle.told_laws.proofs.Words.{subst, took_low, took_with, true, turns_at, wires_for, with_site, work_of, ℕ, ◌+◌, ◌==◌, ◌∷◌, ◌≡◌, ◌≤◌}
+use Rattle.told_laws.proofs.told.Wires.{WireIs}
+use Rattle.told_laws.proofs.told.Noting.{AreFrames, frames_on, noted_puts}
+use Rattle.told_laws.proofs.nodes.Sides.{IsLineFrame, IsMail}
+use Rattle.told_laws.proofs.nodes.Machines.{SideIn, AreTurnsIn, IsInputIn, out_in}
+use Rattle.told_laws.proofs.nodes.Ranges.{AreIn, each_in, in-append, all_in_more, AreNotedIn, all_entries_in}
 use Rattle.told_laws.proofs.nodes.Linking.{NumberedIn, LinkIn, ComesIn, link_in_more, link_exchanged, link_steps, no_link_in}
 use Rattle.told_laws.proofs.nodes.Commands.{AreTablesIn}
 use Rattle.told_laws.proofs.nodes.Deeds.{IsDeskIn}
 use Rattle.told_laws.proofs.nodes.Hosts.{IfBytes, IfInit}
 use Rattle.told_laws.proofs.nodes.Works.{port_more, IsPortIn, ArePortsIn, IsWorkIn}
-use Rattle.node_laws.proofs.Cases.{by_list}
 use Rattle.node_laws.proofs.telling.Nodes.{site_host}
 use Rattle.node_laws.proofs.telling.Worlds.{site_is}
 
@@ -67,11 +56,12 @@ SitesHave sites = AllByRecursion (λ (s : Site). IfTables s.node) sites
 -- ## Bounds
 
 pub work_more : (b : Bool) (n k : ℕ) → n ≤ k → (w : Work) → IsWorkIn b n w → IsWorkIn b k w
-work_more b n k more w a = record { core = a.core; ports = ports_more w.ports a.ports; entries = all_in_more n k w.entries more a.entries }
-  where
-    ports_more : (ports : List Port) → ArePortsIn b n ports → ArePortsIn b k ports
-    ports_more [] h = tt
-    ports_more (p ∷ ports) h = (port_more b n k more p h.0, ports_more ports h.1)
+work_more b n k more w a =
+    record {
+      core = a.core;
+      ports = all_mapped Port (IsPortIn b n) (IsPortIn b k) w.ports (port_more b n k more) a.ports;
+      entries = all_in_more n k w.entries more a.entries;
+    }
 
 -- ## Lists
 
@@ -79,21 +69,15 @@ site_in_more : (n k : ℕ) → n ≤ k → (s : Site) → IsSiteIn n s → IsSit
 site_in_more n k more s h = record { host = h.host; link = link_in_more false true n k s.link more h.link; node = h.node }
 
 pub sites_more : (n k : ℕ) → n ≤ k → (sites : List Site) → AllByRecursion (IsSiteIn n) sites → AllByRecursion (IsSiteIn k) sites
-sites_more n k more [] h = tt
-sites_more n k more (s ∷ sites) h = (site_in_more n k more s h.0, sites_more n k more sites h.1)
+sites_more n k more sites h = all_mapped Site (IsSiteIn n) (IsSiteIn k) sites (site_in_more n k more) h
 
 pub world_more : (n k : ℕ) (w : NodeWorld) → n ≤ k → IsWorldIn n w → IsWorldIn k w
 world_more n k w more h = record { sites = sites_more n k more w.sites h.sites; controller = h.controller }
 
-pub sites_map : (n k : ℕ) (f : Site → Site) → ((s : Site) → IsSiteIn n s → IsSiteIn k (f s)) → (sites : List Site) → AllByRecursion (IsSiteIn n) sites
-    → AllByRecursion (IsSiteIn k) (map f sites)
-sites_map n k f one [] a = tt
-sites_map n k f one (s ∷ sites) a = (one s a.0, sites_map n k f one sites a.1)
-
 pub site_changed : (n k : ℕ) → n ≤ k → (h : ℕ) (f : Site → Site) → ((s : Site) → IsSiteIn n s → IsSiteIn k (f s)) → (sites : List Site)
     → AllByRecursion (IsSiteIn n) sites → AllByRecursion (IsSiteIn k) (with_site h f sites)
 site_changed n k more h f one sites a =
-    sites_map n k (λ (s : Site). changed_if (s.host == h) f s) (λ s is. go (s.host == h) s is) sites a
+    all_map (IsSiteIn n) (IsSiteIn k) (λ (s : Site). changed_if (s.host == h) f s) (λ s is. go (s.host == h) s is) sites a
   where
     go : (b : Bool) (s : Site) → IsSiteIn n s → IsSiteIn k (changed_if b f s)
     go true s is = one s is
@@ -106,35 +90,9 @@ link_there n sites h a = by_option (site_at sites h)
 
 -- ## Frames
 
-abbrev pub AreOnWire : List OnWire → Type 0
-AreOnWire w = AllByRecursion (λ (x : OnWire). IsLineFrame x.frame) w
-
-pub on_wire : (n : ℕ) (w : List OnWire) → AllByRecursion (FrameIs IsLineFrame n) w → AreOnWire w
-on_wire n [] h = tt
-on_wire n (x ∷ w) h = (h.0.frame, on_wire n w h.1)
-
-fits_on : (w : List OnWire) → AreOnWire w → AreOnWire (fits w)
-fits_on w h = cond_both (nat_lt 64 (length w)) (drop 1 w) w AreOnWire (λ _. drop_each (λ (x : OnWire). IsLineFrame x.frame) 1 w h) (λ _. h)
-
-module _ (n : ℕ) (who : Side) where
-  pushed_in : (w : List OnWire) → AreOnWire w → AreNotedIn n (pushed_out who w)
-  pushed_in w h = cond_both (nat_lt 64 (length w)) (first_lost who TooMany w) [] (AreNotedIn n) (λ _. first_lost_in n who TooMany w h) (λ _. tt)
-
-wire_after : (l : Link) (c : Control) → AreOnWire (wire_with l c) → AreOnWire (put l c).to_host
-wire_after l c h = by_test (is_rset c)
-    (λ q. let z : AreOnWire (l.to_host ++ record { frame = c; age = 0; number = l.resets + 1 } ∷ []) = rw q at h in rw q (fits_on _ z))
-    (λ q. let z : AreOnWire (l.to_host ++ record { frame = c; age = 0; number = 0 } ∷ []) = rw q at h in rw q (fits_on _ z))
-
-puts_noted : (n : ℕ) (who : Side) (cs : List Control) (l : Link) → AreFramesIn cs → AreOnWire l.to_host → AreNotedIn n (puts_entries who l cs)
-puts_noted n who [] l is h = tt
-puts_noted n who (c ∷ cs) l is h =
-    let more : AreOnWire (wire_with l c) = each-append (λ (x : OnWire). IsLineFrame x.frame) l.to_host _ h (is.0, tt) in
-    each-append (IsNotedIn n) (put_entries who l c) (puts_entries who (put l c) cs)
-    (is.0, pushed_in n (far who) (wire_with l c) more) (puts_noted n who cs (put l c) is.1 (wire_after l c more))
-
-ending_noted : (b : Bool) (n : ℕ) (who : Side) (l : Link) (e : LinkEnd) (ending : Ending) → SideIn b n e → AreOnWire l.to_host
+ending_noted : (b : Bool) (n : ℕ) (who : Side) (l : Link) (e : LinkEnd) (ending : Ending) → SideIn b n e → AreFrames IsLineFrame l.to_host
     → AreNotedIn n (ending_entries who l e ending)
-ending_noted b n who l e GoesOut is h = puts_noted n who (frames_out e) l (out_in b n e is) h
+ending_noted b n who l e GoesOut is h = noted_puts IsLineFrame IsMail IsMail n who (frames_out e) l (out_in b n e is) h
 ending_noted b n who l e CutOff is h = (tt, tt)
 
 -- the end of the link with a host is one of them
@@ -145,7 +103,7 @@ port_found b n (x ∷ ports) h p a q =
     (λ _ z. let same : x ≡ p = cc in subst (IsPortIn b n) same a.0) (λ _ z. port_found b n ports h p a.1 z) q
 
 module _ (b : Bool) (n : ℕ) (k : Work) (a : IsWorkIn b n k) where
-  pub noted_frames : (who : Side) (h : ℕ) (l : Link) → h ≤ 7 → AreOnWire l.to_host → AreIn n (frames_noted who h l k)
+  pub noted_frames : (who : Side) (h : ℕ) (l : Link) → h ≤ 7 → AreFrames IsLineFrame l.to_host → AreIn n (frames_noted who h l k)
   noted_frames who h l small wire = by_option (port_at k.ports h)
       (λ q. rw q tt)
       (λ p q. rw q (all_entries_in h n (omega (arith, small)) (ending_entries who l p.side (ending_of k))
@@ -154,13 +112,12 @@ module _ (b : Bool) (n : ℕ) (k : Work) (a : IsWorkIn b n k) where
   pub turns_of : (h : ℕ) → AreTurnsIn (turns_at k h)
   turns_of h = by_option (port_at k.ports h) (λ q. rw q tt) (λ p q. rw q (port_found b n k.ports h p a.ports q).turns)
 
-  desks_of : (ports : List Port) → ArePortsIn b n ports → AllByRecursion IsDeskIn (map (λ (p : Port). p.desk) ports)
-  desks_of [] h = tt
-  desks_of (p ∷ ports) h = (h.0.desk, desks_of ports h.1)
-
   pub still_runs : IfNodeIn (runs_on k)
   still_runs = cond_both k.cut None (Some (record { core = k.core; desks = map (λ (p : Port). p.desk) k.ports })) IfNodeIn (λ _. tt)
-      (λ _. record { number = a.core.node; command = a.core.command; init = a.core.init; desks = desks_of k.ports a.ports })
+      (λ _. record { number = a.core.node; command = a.core.command; init = a.core.init; desks = desks })
+    where
+      desks : AllByRecursion IsDeskIn (map (λ (p : Port). p.desk) k.ports)
+      desks = all_map (IsPortIn b n) IsDeskIn (λ (p : Port). p.desk) (λ p is. is.desk) k.ports a.ports
 
 -- ## Steps of a node
 
@@ -181,7 +138,6 @@ near_in b c n l NextFrame h = go l.to_controller refl
         let wire : WireIs IsLineFrame n (x ∷ xs) = subst (WireIs IsLineFrame n) q h.to_near in
         record {
           side = h.near.side;
-          calm = h.near.calm;
           emitted = h.near.emitted;
           took = took_low n l.controller.took x h.near.took wire.frames.0.number;
         }
@@ -193,26 +149,19 @@ arrives_in b c n who l NextFrame h = by_list l.to_controller
     (λ x xs q. rw q (let wire : WireIs IsLineFrame n (x ∷ xs) = subst (WireIs IsLineFrame n) q h.to_near in (wire.frames.0.frame, tt)))
 arrives_in b c n who l _ h = tt
 
-ports_begin : (b : Bool) (n : ℕ) (near_ends : ℕ → NumberedEnd) → ((h : ℕ) → NumberedIn b n (near_ends h)) → (desks : List Desk)
-    → AllByRecursion IsDeskIn desks → ArePortsIn b n (map (λ (d : Desk). port_for (near_ends d.host) d) desks)
-ports_begin b n near_ends are [] h = tt
-ports_begin b n near_ends are (d ∷ desks) h = (
-  record { desk = h.0; side = (are d.host).side; session = number_low b n (near_ends d.host) (are d.host); turns = tt },
-  ports_begin b n near_ends are desks h.1,
-)
-
 pub work_begins : (b : Bool) (n : ℕ) (r : Running) (plan : Option Plan) (near_ends : ℕ → NumberedEnd) (t : List Entry) → IsNodeIn r → HasTables r
     → ((h : ℕ) → NumberedIn b n (near_ends h)) → AreIn n t → IsWorkIn b n (work_of r plan near_ends t)
 work_begins b n r plan near_ends t is has are noted = record {
   core = record { node = is.number; tables = has.tables; rows = has.rows; command = is.command; init = is.init };
-  ports = ports_begin b n near_ends are r.desks is.desks;
+  ports = all_map IsDeskIn (IsPortIn b n) (λ (d : Desk). port_for (near_ends d.host) d)
+      (λ d h. record { desk = h; side = (are d.host).side.side; session = number_low b n (near_ends d.host) (are d.host); turns = tt }) r.desks is.desks;
   entries = noted;
 }
 
-wires_on : (b c : Bool) (n : ℕ) (l : Link) (comes : Comes) → LinkIn b c n l → AreOnWire (wires_for l comes).to_host
+wires_on : (b c : Bool) (n : ℕ) (l : Link) (comes : Comes) → LinkIn b c n l → AreFrames IsLineFrame (wires_for l comes).to_host
 wires_on b c n l (Starts value) h = tt
 wires_on b c n l Stops h = tt
-wires_on b c n l _ h = on_wire n l.to_host h.to_far.frames
+wires_on b c n l _ h = frames_on IsLineFrame n l.to_host h.to_far.frames
 
 -- what comes to an end is in its range
 pub comes_input : (b c : Bool) (n : ℕ) (l : Link) (comes : Comes) (i : LinkInput) → ComesIn b comes → LinkIn b c n l → input_of l comes ≡ Some i → IsInputIn b i
@@ -248,17 +197,10 @@ here_comes : (h : ℕ) (comes : Comes) (k : ℕ) → ComesIn false comes → Com
 here_comes h comes k may = cond_both (k == h) comes NoInput (ComesIn false) (λ _. may) (λ _. tt)
 
 module _ (n : ℕ) (w : NodeWorld) (is : IsWorldIn n w) where
-  frames_of_sites : (wire : Site → Link) → ((s : Site) → IsSiteIn n s → AreOnWire (wire s).to_host) → (k : Work) → IsWorkIn false (n + 8) k
-      → (sites : List Site) → AllByRecursion (IsSiteIn n) sites → AreIn (n + 8) (flat_map (λ (s : Site). frames_noted Controller s.host (wire s) k) sites)
-  frames_of_sites wire are k a [] h = tt
-  frames_of_sites wire are k a (s ∷ sites) h =
-      in-append (n + 8) (frames_noted Controller s.host (wire s) k) (flat_map (λ (s : Site). frames_noted Controller s.host (wire s) k) sites)
-      (noted_frames false (n + 8) k a Controller s.host (wire s) h.0.host (are s h.0)) (frames_of_sites wire are k a sites h.1)
-
   after_step : (h : ℕ) (comes : Comes) (k : Work) → ComesIn false comes → IsWorkIn false (n + 8) k → IsStepIn (n + 13) (after_controller w h comes k)
   after_step h comes k may a = record {
     world = record {
-      sites = sites_map n (n + 13) (link_after_controller h comes k)
+      sites = all_map (IsSiteIn n) (IsSiteIn (n + 13)) (link_after_controller h comes k)
           (λ s x. record {
             host = x.host;
             link = link_steps false true n s.link (comes_to h comes s.host) (turns_at k s.host) (ending_of k) (here_comes h comes s.host may)
@@ -269,8 +211,9 @@ module _ (n : ℕ) (w : NodeWorld) (is : IsWorldIn n w) where
     };
     noted = all_in_more (n + 8) (n + 13) _ (omega arith)
         (in-append (n + 8) k.entries _ a.entries
-        (frames_of_sites (λ s. wires_for s.link (comes_to h comes s.host))
-        (λ s x. wires_on false true n s.link (comes_to h comes s.host) x.link) k a w.sites is.sites));
+        (each_in (n + 8) (IsSiteIn n) (λ (s : Site). frames_noted Controller s.host (wires_for s.link (comes_to h comes s.host)) k)
+        (λ s x. noted_frames false (n + 8) k a Controller s.host (wires_for s.link (comes_to h comes s.host)) x.host
+        (wires_on false true n s.link (comes_to h comes s.host) x.link)) w.sites is.sites));
   }
 
   pub nothing_done : IsStepIn (n + 13) (w, [])

@@ -1,22 +1,17 @@
 -- What a fault of a line says of it.
-use Rattle.std.proofs.Common.{◌≡◌, ◌==◌, ◌↔◌, ℕ, Bool, true, false, not, cond, nat_lt, List, [], ◌∷◌, length, refl, sym, subst, Option, Some, None, Ok, Err}
-use Rattle.std.proofs.Common.{IsSome, IsTrue, Contains}
-use Rattle.std.specs.List.{list_any}
-use Rattle.trace_model.specs.declared.line.Header.{Header}
-use Rattle.schedule_text.specs.declared.fault.LineFault.{LineFault}
-use Rattle.schedule_text.specs.declared.fault.LineFault.TheVariants as fault
-use Rattle.schedule_text.specs.declared.read.Read.{Read}
+use Rattle.told_laws.proofs.Words.{Bool, Contains, Err, Header, IsSome, IsTrue, List, None, Ok, Option, Says, Some, [], by_row, by_words, cond, false, found_in}
+use Rattle.told_laws.proofs.Words.{has_nodes, hosts_of, is_comment, length, line_of, list_any, may_stand, nat_lt, not, read_of, refl, says_activate, says_arm}
+use Rattle.told_laws.proofs.Words.{says_boot, says_busy, says_cut, says_damage, says_deliver, says_header, says_init, says_lose, says_nodes, says_ready}
+use Rattle.told_laws.proofs.Words.{says_reset, says_send, says_settle, says_tables, says_tick, subst, sym, true, unless_fault, words, ℕ, ◌==◌, ◌↔◌, ◌∷◌, ◌≡◌}
 use Rattle.schedule_text.specs.declared.read.Read.TheVariants as read
+use Rattle.schedule_text.specs.declared.fault.LineFault.{LineFault}
+use Rattle.schedule_text.specs.declared.read.Read.{Read}
 use Rattle.schedule_text.specs.Forms.{FormRow, rows, row_for, nodes_row, header_row, send_row, deliver_row, lose_row, damage_row, tick_row, reset_row, busy_row}
 use Rattle.schedule_text.specs.Forms.{ready_row, boot_row, cut_row, activate_row, arm_row, init_row, tables_row, settle_row}
 use Rattle.schedule_text.specs.Rules.{words_fault}
-use Rattle.schedule_text.specs.Lines.{read_of, may_stand, has_nodes, hosts_of, unless_fault, by_row, by_words, is_comment, line_of}
-use Rattle.schedule_text.specs.Words.{words}
 use Rattle.schedule_text.proofs.RowsLemmas.{no_fault, row_cases}
-use Rattle.schedule_text.proofs.LinesLemmas.{Says, says_nodes, says_header, says_send, says_deliver, says_lose, says_damage, says_tick, says_reset, says_busy}
-use Rattle.schedule_text.proofs.LinesLemmas.{says_ready, says_boot, says_cut, says_activate, says_arm, says_init, says_tables, says_settle}
 use Rattle.schedule_text.proofs.HostsLemmas.{row_unknown}
-use Rattle.schedule_text.proofs.ReadAgainLemmas.{found_in}
+use Rattle.schedule_text.specs.declared.fault.LineFault.TheVariants as fault
 
 -- a line has a fault exactly where its words have it
 unless_iff : (o : Option LineFault) (said : Option Read) (f : LineFault) → (o ≡ None → IsSome said) → (unless_fault o said ≡ Err f) ↔ (o ≡ Some f)

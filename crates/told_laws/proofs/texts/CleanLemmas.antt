@@ -1,27 +1,21 @@
 -- The words of entries hold no space and no LF.
-use Rattle.std.proofs.Common.{◌≡◌, ◌==◌, ◌&&◌, ℕ, suc, ◌/◌, ◌%◌, ◌<◌, Bool, true, false, not, cond, nat_lt, List, [], ◌∷◌, ◌++◌, length, slice_index, refl, sym}
-use Rattle.std.proofs.Common.{◌∙◌, subst, arith, Option, Some, None, IfSome, All, codes, map, decimal}
-use Rattle.told_laws.proofs.Words.{AllByRecursion, AreOctets, Cause, Command, End, Entry, HciTables, IsCause, IsEntry, IsLineSaid, IsNumber, Line, NoCause}
-use Rattle.told_laws.proofs.Words.{PipeRow, RegValue, byte_text, entry_words, hex_or_dash, line_words, two_bytes_text}
-use Rattle.std.specs.List.{list_all}
 use Rattle.std.specs.Char.{is_ascii_digit}
 use Rattle.std.specs.Str.{all_ascii_digits}
-use Rattle.std.proofs.lemmas.Fmt.{digits_decimal}
 use Rattle.std.proofs.lemmas.Bool.Decides.{nat_tests}
-use Rattle.std.proofs.lemmas.List.Sums.{AllPass-from_list_all}
-use Rattle.std.proofs.lemmas.List.Folds.{list_all-append}
 use Rattle.std.proofs.Math.ListN.{get_or-eq_default}
-use Rattle.hex.specs.Hex.{encode_with, encode_upper, upper_digits}
-use Rattle.swp_base.specs.declared.link_terms.Cause.TheVariants as why
-use Rattle.hci_tables.specs.declared.command.Command.TheVariants as command
-use Rattle.tables_text.specs.Tables.{state_as_word}
-use Rattle.trace_model.specs.declared.line.Line.TheVariants as line
-use Rattle.trace_model.specs.declared.entry.LostCause.{LostCause}
-use Rattle.trace_model.specs.declared.entry.LostCause.TheVariants as lost
+use Rattle.told_laws.proofs.Words.{All, AllByRecursion, AllPass-from_list_all, AreOctets, Bool, Cause, Command, End, Entry, HciTables, IfSome, IsCause, IsEntry}
+use Rattle.told_laws.proofs.Words.{IsLineSaid, IsNumber, IsWord, Line, List, LostCause, NoCause, None, Option, PipeRow, RegValue, Some, [], arith, by_size}
+use Rattle.told_laws.proofs.Words.{byte_text, cause_words, codes, command_words, cond, decimal, digits_decimal, down_word, encode_upper, end_text, end_word}
+use Rattle.told_laws.proofs.Words.{entry_words, false, hex_or_dash, hex_word, length, line_words, list_all, list_all-append, lost_word, map, nat_lt, not}
+use Rattle.told_laws.proofs.Words.{number_word, number_words, own, refl, slice_index, state_as_word, subst, suc, sym, true, two_bytes_text, upper_digits, ℕ}
+use Rattle.told_laws.proofs.Words.{◌%◌, ◌&&◌, ◌++◌, ◌/◌, ◌<◌, ◌==◌, ◌∙◌, ◌∷◌, ◌≡◌}
 use Rattle.trace_model.specs.declared.entry.NoCause.TheVariants as cause
+use Rattle.hci_tables.specs.declared.command.Command.TheVariants as command
 use Rattle.trace_model.specs.declared.entry.Entry.TheVariants as entry
-use Rattle.schedule_text.specs.Entries.{end_text, number_words, down_word, lost_word, cause_words, command_words}
-use Rattle.schedule_text.proofs.AgainLemmas.{IsWord, hex_word, end_word, number_word, by_size, own}
+use Rattle.trace_model.specs.declared.line.Line.TheVariants as line
+use Rattle.trace_model.specs.declared.entry.LostCause.TheVariants as lost
+use Rattle.swp_base.specs.declared.link_terms.Cause.TheVariants as why
+use Rattle.hex.specs.Hex.{encode_with}
 use Rattle.told_laws.proofs.texts.RowLemmas.{pipe_words, static_words, value_words, sync_words, rows_words}
 
 -- no LF

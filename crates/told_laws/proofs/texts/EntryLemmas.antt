@@ -1,9 +1,8 @@
 -- Entries with the same words are the same.
-use Rattle.std.proofs.Common.{◌≡◌, ℕ, ◌≤◌, Bool, true, false, cond, List, [], get_or, refl, sym, ◌∙◌, ap, arith, All, map, codes, bytes_eq}
-use Rattle.told_laws.proofs.Words.{Entry, Header, IsByte, IsEntry, Line, MayBegin, byte_text, entry_words, header_hosts, line_words}
-use Rattle.trace_model.specs.declared.line.Line.TheVariants as line
+use Rattle.told_laws.proofs.Words.{All, Bool, Entry, Header, IsByte, IsEntry, Line, List, MayBegin, [], ap, arith, byte_text, bytes_eq, codes, cond}
+use Rattle.told_laws.proofs.Words.{entry_words, false, get_or, header_hosts, header_words, line_words, map, refl, sym, true, ℕ, ◌∙◌, ◌≡◌, ◌≤◌}
 use Rattle.trace_model.specs.declared.entry.Entry.TheVariants as entry
-use Rattle.schedule_text.specs.Entries.{header_words}
+use Rattle.trace_model.specs.declared.line.Line.TheVariants as line
 use Rattle.told_laws.proofs.texts.SameLemmas.{head, other_word, other_words, same_end, same_byte, same_bytes, same_number, same_lost, same_map, same_down}
 use Rattle.told_laws.proofs.texts.SameLemmas.{same_cause, behind, behind_two, same_command, same_said}
 use Rattle.told_laws.proofs.texts.RowLemmas.{rows_words, same_counts, same_tables}

@@ -1,12 +1,9 @@
 -- A line that is read is in its range.
-use Rattle.std.proofs.Common.{◌≡◌, ℕ, ◌^◌, ◌≤◌, ◌<◌, List, length, get_or, subst, arith, inl, Option, Some, None, Ok, IfSome}
-use Rattle.told_laws.proofs.Words.{End, Header, IsEnd, IsHeader, IsHost, IsLineOf, IsLineSaid, IsNumber, Line, MayBegin, header_hosts}
+use Rattle.told_laws.proofs.Words.{End, Header, IfSome, IsEnd, IsEndOf, IsHeader, IsHost, IsLineOf, IsLineSaid, IsNodeOf, IsNumber, Line, List, MayBegin}
+use Rattle.told_laws.proofs.Words.{MayFollow, MayFollow-line_of, None, Ok, Option, Some, arith, get_or, header_hosts, inl, length, line_of, node_fits, subst, ℕ}
+use Rattle.told_laws.proofs.Words.{◌<◌, ◌^◌, ◌≡◌, ◌≤◌}
 use Rattle.trace_model.specs.declared.line.Line.TheVariants as line
-use Rattle.trace_model.specs.Lines.{IsEndOf, IsNodeOf, MayFollow}
 use Rattle.schedule_text.specs.declared.read.Read.TheVariants as read
-use Rattle.schedule_text.specs.Lines.{line_of}
-use Rattle.schedule_text.proofs.LinesLemmas.{MayFollow-line_of}
-use Rattle.schedule_text.proofs.ReadAgainLemmas.{node_fits}
 
 end_in : (header : Header) → MayBegin header → (e : End) → IsEndOf header e → IsEnd e
 end_in header is e known =

@@ -1,14 +1,11 @@
 -- Tables with the same lines are the same.
-use Rattle.std.proofs.Common.{◌≡◌, ℕ, Bool, true, false, List, [], ◌∷◌, ◌++◌, length, refl, sym, ◌∙◌, ap, arith, map, codes, append_assoc, length-append}
-use Rattle.told_laws.proofs.Words.{HciTables, IsSaidValue, PipeRow, RegValue, byte_text, flat_map, hex_or_dash, two_bytes_text}
 use Rattle.std.proofs.lemmas.Grind.{flat_map-append}
-use Rattle.std.proofs.lemmas.List.{length-map}
-use Rattle.tables_text.specs.Tables.{end_words, state_as_word, pipe_line, static_line, value_line, sync_line, rows_text}
-use Rattle.tables_text.specs.Tables as told
-use Rattle.schedule_text.specs.Words.{spaced}
-use Rattle.schedule_text.specs.Entries.{count_words}
-use Rattle.told_laws.specs.texts.Ranges.{IsSaidPipe, IsSaidStatic, IsSaidSync, AreSaidTables}
+use Rattle.told_laws.proofs.Words.{AreSaidTables, Bool, HciTables, IsSaidPipe, IsSaidStatic, IsSaidSync, IsSaidValue, List, PipeRow, RegValue, [], ap}
+use Rattle.told_laws.proofs.Words.{append_assoc, arith, byte_text, codes, count_words, end_words, false, flat_map, hex_or_dash, length, length-append}
+use Rattle.told_laws.proofs.Words.{length-map, map, pipe_line, refl, rows_text, spaced, state_as_word, static_line, sym, sync_line, true, two_bytes_text}
+use Rattle.told_laws.proofs.Words.{value_line, ℕ, ◌++◌, ◌∙◌, ◌∷◌, ◌≡◌}
 use Rattle.told_laws.proofs.texts.SameLemmas.{other_word, same_map, same_byte, same_number, same_two, same_value, same_row}
+use Rattle.tables_text.specs.Tables as told
 
 -- ## The words of the lines of tables
 

@@ -1,21 +1,16 @@
 -- What says the same words is the same.
-use Rattle.std.proofs.Common.{◌≡◌, ℕ, zero, suc, ◌/◌, ◌%◌, ◌<◌, Bool, true, false, cond, List, [], ◌∷◌, length, refl, sym, ◌∙◌, ap, arith, Option, Some, None}
-use Rattle.std.proofs.Common.{IfSome, All, map, bytes_eq, decimal}
 use Rattle.std.proofs.lemmas.Slice.Eq.{bytes_eq-Decides}
-use Rattle.std.proofs.lemmas.Fmt.{decimal_injective}
-use Rattle.hex.specs.Hex.{encode_upper}
-use Rattle.told_laws.proofs.Words.{AreOctets, Cause, Command, End, IsByte, IsCause, IsEnd, IsLineSaid, IsNumber, IsSaidCommand, Line, NoCause, PipeRow}
-use Rattle.told_laws.proofs.Words.{byte_text, hex_or_dash, line_words, two_bytes_text}
-use Rattle.swp_base.specs.declared.link_terms.Cause.TheVariants as why
+use Rattle.told_laws.proofs.Words.{All, AreOctets, Bool, Cause, Command, End, IfSome, IsByte, IsCause, IsEnd, IsLineSaid, IsNumber, IsSaidCommand, IsTwoBytes}
+use Rattle.told_laws.proofs.Words.{Line, List, LostCause, NoCause, None, Option, PipeRow, Some, [], ap, arith, byte_again, byte_text, bytes_again, bytes_eq}
+use Rattle.told_laws.proofs.Words.{cause_words, command_words, cond, decimal, decimal_injective, down_word, encode_upper, end_again, end_text, false}
+use Rattle.told_laws.proofs.Words.{hex_or_dash, length, length-hex, line_words, lost_word, map, number_words, refl, some_is, suc, sym, true, two_bytes_text}
+use Rattle.told_laws.proofs.Words.{zero, ℕ, ◌%◌, ◌/◌, ◌<◌, ◌∙◌, ◌∷◌, ◌≡◌}
+use Rattle.trace_model.specs.declared.entry.NoCause.TheVariants as cause
 use Rattle.hci_tables.specs.declared.command.Command.TheVariants as command
 use Rattle.trace_model.specs.declared.line.Line.TheVariants as line
-use Rattle.trace_model.specs.declared.entry.LostCause.{LostCause}
 use Rattle.trace_model.specs.declared.entry.LostCause.TheVariants as lost
-use Rattle.trace_model.specs.declared.entry.NoCause.TheVariants as cause
+use Rattle.swp_base.specs.declared.link_terms.Cause.TheVariants as why
 use Rattle.schedule_text.specs.Values.{byte_value, bytes_value, end_value}
-use Rattle.schedule_text.specs.Entries.{end_text, number_words, down_word, lost_word, cause_words, command_words}
-use Rattle.schedule_text.proofs.AgainLemmas.{byte_again, bytes_again, end_again, length-hex}
-use Rattle.told_laws.specs.texts.Ranges.{IsTwoBytes}
 
 -- other words
 abbrev pub head : List (List ℕ) → List ℕ
@@ -32,17 +27,14 @@ other_word u v e h = let same : bytes_eq u v ≡ true = (bytes_eq-Decides u v).1
 pub other_words : (xs ys : List (List ℕ)) → bytes_eq (head xs) (head ys) ≡ false → xs ≡ ys → ⊥
 other_words xs ys e h = other_word (head xs) (head ys) e (ap head h)
 
-unwrapped : {A : Type 0} (a b : A) → Some a ≡ Some b → a ≡ b
-unwrapped a b h = cc
-
 pub same_end : (a b : End) → IsEnd a → IsEnd b → end_text a ≡ end_text b → a ≡ b
-same_end a b ra rb h = unwrapped a b (sym (end_again a ra) ∙ ap end_value h ∙ end_again b rb)
+same_end a b ra rb h = some_is a b (sym (end_again a ra) ∙ ap end_value h ∙ end_again b rb)
 
 pub same_byte : (a b : ℕ) → a < 256 → b < 256 → byte_text a ≡ byte_text b → a ≡ b
-same_byte a b ra rb h = unwrapped a b (sym (byte_again a ra) ∙ ap byte_value h ∙ byte_again b rb)
+same_byte a b ra rb h = some_is a b (sym (byte_again a ra) ∙ ap byte_value h ∙ byte_again b rb)
 
 pub same_bytes : (a b : List ℕ) → AreOctets a → AreOctets b → encode_upper a ≡ encode_upper b → a ≡ b
-same_bytes a b ra rb h = unwrapped a b (sym (bytes_again a ra.1) ∙ ap bytes_value h ∙ bytes_again b rb.1)
+same_bytes a b ra rb h = some_is a b (sym (bytes_again a ra.1) ∙ ap bytes_value h ∙ bytes_again b rb.1)
 
 pub same_number : (a b : ℕ) → IsNumber a → IsNumber b → decimal a ≡ decimal b → a ≡ b
 same_number a b ra rb h = decimal_injective a b (omega arith) (omega arith) h

@@ -1,14 +1,9 @@
 -- The texts of entries end at their first LF.
-use Rattle.std.proofs.Common.{◌≡◌, ◌==◌, ◌&&◌, ℕ, suc, Bool, true, false, not, List, [], ◌∷◌, ◌++◌, length, refl, sym, ◌∙◌, ap, subst, arith, All, append_assoc}
-use Rattle.std.proofs.Common.{length-append, append-nil}
-use Rattle.told_laws.proofs.Words.{AllByRecursion, Entry, IsEntry, entry_words, flat_map}
-use Rattle.std.specs.List.{list_all}
-use Rattle.std.proofs.lemmas.List.Folds.{list_all-append}
-use Rattle.trace_model.specs.declared.entry.Entry.TheVariants as entry
-use Rattle.schedule_text.specs.Words.{words, spaced}
-use Rattle.schedule_text.specs.Entries.{lines_behind, entry_text, entry_line}
-use Rattle.schedule_text.proofs.AgainLemmas.{IsWord, words-spaced}
 use Rattle.std.proofs.lemmas.Grind.{flat_map-append}
+use Rattle.told_laws.proofs.Words.{All, AllByRecursion, Bool, Entry, IsEntry, IsWord, List, [], ap, append-nil, append_assoc, arith, entry_line, entry_text}
+use Rattle.told_laws.proofs.Words.{entry_words, false, flat_map, length, length-append, lines_behind, list_all, list_all-append, not, refl, spaced, subst, suc}
+use Rattle.told_laws.proofs.Words.{sym, true, words, words-spaced, ℕ, ◌&&◌, ◌++◌, ◌==◌, ◌∙◌, ◌∷◌, ◌≡◌}
+use Rattle.trace_model.specs.declared.entry.Entry.TheVariants as entry
 use Rattle.told_laws.proofs.texts.SameLemmas.{other_words}
 use Rattle.told_laws.proofs.texts.RowLemmas.{told_line, rows_told, cut_at, same_counts, rows_length}
 use Rattle.told_laws.proofs.texts.CleanLemmas.{is_inside, IsClean, IsCleanLine, entry_clean, rows_clean}

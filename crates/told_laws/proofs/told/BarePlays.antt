@@ -1,16 +1,8 @@
 -- All that is told of plays in a bare world is in its range.
-use Rattle.std.proofs.Common.{◌≡◌, ℕ, ◌+◌, ◌*◌, ◌≤◌, List, [], ◌∷◌, ◌++◌, refl, ap, arith, inl}
-use Rattle.told_laws.proofs.Words.{AllByRecursion, AreFewPlays, Controller, End, Follows, Header, History, Host, IsEntry, IsHeader, IsPlayFor, Line}
-use Rattle.told_laws.proofs.Words.{Link, Play, Round, Said, by_test, entries_told, host_of, hosts_stay_behind, lines_of_play, lines_played}
-use Rattle.trace_model.specs.declared.line.Line.TheVariants as line
-use Rattle.link_laws.specs.messages.Rest.{is_clear}
-use Rattle.history.specs.Follows.{frames_to, link_after_lines}
-use Rattle.history.specs.Steps.{end_of}
-use Rattle.lines_told.specs.lines.Below.{bare_link_behind}
-use Rattle.lines_told.specs.lines.Plays.{lines_said, rounds_played, round_on, taking_on}
-use Rattle.lines_told.proofs.lines.Lines.{bare_line, bare_lines, lines_may_be_played}
-use Rattle.lines_told.proofs.lines.BareRounds.{bare_round_lines}
-use Rattle.lines_told.proofs.lines.Plays.{said-append, played-append}
+use Rattle.told_laws.proofs.Words.{AllByRecursion, AreFewPlays, Controller, End, Follows, Header, History, Host, IsEntry, IsHeader, IsPlayFor, Line, Link, List}
+use Rattle.told_laws.proofs.Words.{Play, Round, Said, [], ap, arith, bare_line, bare_lines, bare_link_behind, bare_round_lines, by_test, end_of, entries_told}
+use Rattle.told_laws.proofs.Words.{frames_to, host_of, hosts_stay_behind, inl, is_clear, lines_may_be_played, lines_of_play, lines_played, lines_said}
+use Rattle.told_laws.proofs.Words.{link_after_lines, played-append, refl, round_on, rounds_played, said-append, taking_on, ℕ, ◌*◌, ◌++◌, ◌+◌, ◌∷◌, ◌≡◌, ◌≤◌}
 use Rattle.told_laws.proofs.told.Lines.{line_cheap, lines_cost}
 use Rattle.told_laws.proofs.told.Coming.{told_in}
 use Rattle.told_laws.proofs.told.Plays.{lines_from, played_from}

@@ -1,21 +1,18 @@
 -- The messages that came are among those that were sent, so all that is told of a history is in its range.
-use Rattle.std.proofs.Common.{◌≡◌, ℕ, ◌+◌, ◌≤◌, ◌<◌, List, [], ◌∷◌, ◌++◌, refl, sym, ap, subst, arith, inl, Option, Some, None, ◌==◌}
-use Rattle.told_laws.proofs.Words.{AllByRecursion, AreOctets, End, Entry, Follows, Header, History, IsByte, IsEntry, IsHeader, IsLineOf, Line, Message, Outcome}
-use Rattle.told_laws.proofs.Words.{all_mapped, bare_link, by_test, entries_told, flat_map, flat_map-append, host_of, noted, step_told}
-use Rattle.std.specs.List.{cons_option}
-use Rattle.block_pool.proofs.HoldingLemmas.{all_joined}
+use Rattle.told_laws.proofs.Words.{AllByRecursion, AreOctets, Caused, End, Entry, Event, Follows, Header, History, IsByte, IsEntry, IsFrontOf, IsHeader}
+use Rattle.told_laws.proofs.Words.{IsLineOf, Line, List, Message, None, Option, Outcome, Some, [], all_entries, all_events, all_joined, all_mapped, ap, arith}
+use Rattle.told_laws.proofs.Words.{bare_link, by_test, cons_option, each-append, entries_of, entries_told, events_of, flat_map, flat_map-append, good_of}
+use Rattle.told_laws.proofs.Words.{host_of, inl, is_good, noted, other_twice, refl, step_told, subst, sym, ℕ, ◌++◌, ◌+◌, ◌<◌, ◌==◌, ◌∷◌, ◌≡◌, ◌≤◌}
 use Rattle.trace_model.specs.declared.entry.Entry.TheVariants as entry
 use Rattle.trace_model.specs.Ends.{other_end}
-use Rattle.hcp_packet.specs.Packets.{IsFrontOf, good_of, is_good}
 use Rattle.link_laws.proofs.entries.Lasting.{same_number}
-use Rattle.history.specs.Histories.{Event, Step, events_of, entries_of, all_events, all_entries}
-use Rattle.history.specs.Histories.Outcome.{Refused, Caused}
+use Rattle.history.specs.Histories.{Step}
+use Rattle.history.specs.Histories.Outcome.{Refused}
 use Rattle.history.specs.Filters.{Saying, same_end, said, at_end, said_of, sent_by, sent_in, got_in_session, got_in}
 use Rattle.history.specs.Filters.Saying.{Sends}
 use Rattle.history.specs.Legal.{IsInOrder}
 use Rattle.history.proofs.legal.Ordered.{in_order}
 use Rattle.history.proofs.legal.Runs.{events_in}
-use Rattle.registry.proofs.ValueLemmas.{AllByRecursion-append as each-append}
 use Rattle.told_laws.proofs.told.Lines.{IsApart, AreApart, bare_stands, host_low, lines_cost, steps_told, top}
 use Rattle.history.proofs.Filters.{same_end_itself}
 
@@ -91,13 +88,10 @@ good_each (m ∷ ms) h = by_test (is_good m.1) (λ q. rw q (h.0, good_each ms h.
 front_in : (ms all : List Message) → IsFrontOf ms all → AreMessagesIn all → AreMessagesIn ms
 front_in ms all front h = front_each IsMessageIn ms front.0 (subst AreMessagesIn (sym front.1) h)
 
-twice : (e : End) → other_end (other_end e) ≡ e
-twice e = by_test e.at_host (λ q. rw q refl) (λ q. rw q refl)
-
 -- each end has got only what the other sent
 got_all : (t : List Entry) → IsInOrder t → AllByRecursion IsSentIn t → (e : End) (n : ℕ) → AreMessagesIn (got_in t e n)
 got_all t order sent e n =
-    subst (λ x. AreMessagesIn (got_in t x n)) (twice e)
+    subst (λ x. AreMessagesIn (got_in t x n)) (other_twice e)
     (front_in (got_in t (other_end (other_end e)) n) (good_of (sent_in t (other_end e) n)) (order.delivered (other_end e) n)
     (good_each (sent_in t (other_end e) n) (sent_each (other_end e) n t sent)))
 

@@ -1,20 +1,11 @@
 -- The frames of an SHDLC end are in their ranges, whatever comes to it.
-use Rattle.std.proofs.Common.{◌≡◌, ℕ, zero, suc, ◌%◌, ◌≤◌, ◌<◌, Bool, true, false, List, [], ◌∷◌, length, slice_get, refl, sym, subst, arith, Option, Some}
-use Rattle.std.proofs.Common.{None, ◌==◌}
-use Rattle.told_laws.proofs.Words.{AllByRecursion, Clt, Control, Down, EndState, I, IsByte, LinkState, Rset, S, Srej, Ua, Up, Waiting, by_option, reset_with}
-use Rattle.told_laws.proofs.Words.{stopped, taken, tick_answer, ticked}
-use Rattle.std.proofs.lemmas.Grind.{common_steps}
-use Rattle.swp_base.specs.declared.control_frames.Control.TheVariants.{Act}
-use Rattle.swp_base.specs.declared.control_frames.Kind.{Kind}
-use Rattle.swp_base.specs.declared.control_frames.Kind.TheVariants.{Rr, Rej, Rnr}
-use Rattle.shdlc_core.specs.declared.answers.Due.{Due}
+use Rattle.told_laws.proofs.Words.{AllByRecursion, AllByRecursion-get, Bool, Control, Down, Due, EndState, Fragment, I, IsByte, Kind, LinkState, List, None}
+use Rattle.told_laws.proofs.Words.{Option, Over, Rej, Rnr, Rr, Rset, Runs, S, Session, Some, Spent, Srej, Timed, Ua, Up, Waiting, [], acknowledged}
+use Rattle.told_laws.proofs.Words.{after_frames, arith, by_option, common_steps, control_due, each-append, expected, false, fetched, fragment_due, frame_due}
+use Rattle.told_laws.proofs.Words.{frames_of, in_phase, length, place_of, put_out, received, received-sending, refl, reset_with, runs_timer, slice_get, stopped}
+use Rattle.told_laws.proofs.Words.{subst, suc, sym, taken, tick_answer, ticked, timed, true, with_ready, zero, ℕ, ◌%◌, ◌<◌, ◌==◌, ◌∷◌, ◌≡◌, ◌≤◌}
 use Rattle.shdlc_core.specs.declared.answers.Due.TheVariants.{Rset as Rset_due, Ua as Ua_due}
-use Rattle.shdlc_core.specs.Machine.{Timed, timed, runs_timer, Fragment, Session, place_of, received, acknowledged}
-use Rattle.shdlc_core.specs.Machine.{with_ready, put_out, frame_due, fragment_due, control_due, expected, fetched, frames_of, after_frames}
-use Rattle.shdlc_core.specs.Machine.Timed.{Runs, Over, Spent}
-use Rattle.shdlc_core.proofs.Histories.{in_phase, received-sending}
 use Rattle.shdlc_core.proofs.Timers.{grown_tries, timed-over}
-use Rattle.registry.proofs.ValueLemmas.{AllByRecursion-append as each-append, AllByRecursion-get}
 
 -- ## Fragments and frames
 
@@ -28,8 +19,7 @@ IsFrame (I ns nr info) = (ns < 8) × (nr < 8) × IsFragment info
 IsFrame (S kind nr) = nr < 8
 IsFrame (Rset window caps) = IsByte window × IsByte caps
 IsFrame Ua = Unit {0}
-IsFrame (Act act again) = ⊥
-IsFrame Clt = ⊥
+IsFrame _ = ⊥
 
 -- an end that has these fragments to send, this own window and so many tries
 pub record RangedFor (out : List Fragment) (own tries : ℕ) : Type 0 where
@@ -116,9 +106,8 @@ IfTries None = Unit {0}
 IfTries (Some tries) = tries ≤ 5
 
 gives-waiting : (e : EndState) (t : Timed) → timed e ≡ t → Ranged e → IfTries (tick_answer (in_phase Waiting e)).gave_up
-gives-waiting e Runs q h = rw q tt
-gives-waiting e Over q h = rw q tt
 gives-waiting e Spent q h = rw q h.few
+gives-waiting e _ q h = rw q tt
 
 gives-up : (e : EndState) (runs : Bool) (t : Timed) → runs_timer e.session ≡ runs → timed e ≡ t → IfTries (tick_answer (in_phase Up e)).gave_up
 gives-up e false t r q = rw r tt
@@ -136,9 +125,8 @@ few_tries e h = gives-in e e.phase h
 -- ## What the node asks for
 
 reset-in : (e : EndState) (p : LinkState) (w : ℕ) → w ≤ 4 → Ranged e → Ranged (reset_with (in_phase p e) w)
-reset-in e Up w low h = record { fragments = tt; window = low; few = omega arith }
-reset-in e Down w low h = record { fragments = tt; window = low; few = omega arith }
 reset-in e Waiting w low h = h
+reset-in e _ w low h = record { fragments = tt; window = low; few = omega arith }
 
 pub ranged_reset : (e : EndState) (w : ℕ) → w ≤ 4 → Ranged e → Ranged (reset_with e w)
 ranged_reset e w low h = reset-in e e.phase w low h

@@ -1,40 +1,30 @@
 -- What is told of a line of a schedule is in its range, but for the messages that came.
-use Rattle.std.proofs.Common.{◌≡◌, ℕ, zero, suc, ◌+◌, ◌*◌, ◌^◌, ◌/◌, ◌≤◌, ◌<◌, Bool, true, false, cond, nat_lt, List, [], ◌∷◌, ◌++◌, length, replicate, refl}
-use Rattle.std.proofs.Common.{sym, subst, arith, Option, Some, None, All, length-append, unwrap_or, ◌==◌, ◌%◌}
-use Rattle.told_laws.proofs.Words.{Acked, Active, AllByRecursion, AreOctets, Clt, Control, Controller, Down, Emit, End, Entry, FewRsets, GaveUp, Got, Header}
-use Rattle.told_laws.proofs.Words.{Host, I, IsByte, IsCause, IsEnd, IsEntry, IsHeader, IsLineOf, IsNumber, Line, Link, LinkEnd, LinkState, Lost, Message}
-use Rattle.told_laws.proofs.Words.{NoCause, OnWire, Outcome, Rset, S, Sent, Srej, Taken, Ticked, Took, Ua, Up, Waiting, bare_link, by_test, entries_for}
-use Rattle.told_laws.proofs.Words.{flat_map, give_refusal, host_of, is_open, lpdu_of, ltb-false, need, noted, reset_refusal, spare, step_told}
-use Rattle.swp_base.specs.declared.control_frames.Control.TheVariants.{Act}
-use Rattle.swp_base.specs.declared.control_frames.Kind.TheVariants.{Rr, Rej, Rnr}
-use Rattle.swp_base.specs.Bits.{bits_of}
+use Rattle.told_laws.proofs.Words.{Acked, Active, All, AllByRecursion, AreOctets, Begins, Bool, Caused, Control, Controller, Cut, Emit, End, Entry, Event}
+use Rattle.told_laws.proofs.Words.{FewRsets, Full, GaveUp, Got, Header, Host, I, Inactive, IsByte, IsCause, IsEnd, IsEntry, IsHeader, IsLineOf, IsNumber}
+use Rattle.told_laws.proofs.Words.{IsWaiting, Line, LineRefused, Link, LinkEnd, LinkState, List, Lost, LostFor, Message, NoCause, None, Noted, OnWire, Option}
+use Rattle.told_laws.proofs.Words.{Outcome, Rej, Rnr, Rr, Rset, S, Same, Sent, Side, Some, Srej, StepsFollow, Taken, Ticked, TooLong, Took, Ua, Undetected, Up}
+use Rattle.told_laws.proofs.Words.{Verdict, [], arith, as_noted, bare_link, bits_of, by_test, causes_in, causes_of, cond, damage_causes, each-append, end_of}
+use Rattle.told_laws.proofs.Words.{end_of_frame, entries_for, entries_of, entry_of, event_entries, event_of, events_at, false, first_verdict, flat_map}
+use Rattle.told_laws.proofs.Words.{frame_of, frames_to, give_refusal, host_of, if_beyond, if_empty, if_out_of_reach, is_open, is_waiting, length, length-append}
+use Rattle.told_laws.proofs.Words.{link_after, link_after_all, link_after_line, lpdu_of, ltb-false, machine_of, nat_lt, need, noted, outcome_of, refl, refusal}
+use Rattle.told_laws.proofs.Words.{replicate, reset_refusal, spare, start_of_frame, step_told, stuffed, stuffed_after, subst, suc, sym, taken_of, true}
+use Rattle.told_laws.proofs.Words.{unwrap_or, with_crc, zero, ℕ, ◌%◌, ◌*◌, ◌++◌, ◌+◌, ◌/◌, ◌<◌, ◌==◌, ◌^◌, ◌∷◌, ◌≡◌, ◌≤◌}
+use Rattle.trace_model.specs.declared.entry.Entry.TheVariants as entry
+use Rattle.trace_model.specs.declared.line.Line.TheVariants as line
 use Rattle.swp_base.proofs.BitLemmas.{length-bits_of}
 use Rattle.swp_crc.specs.Crc.{crc_of}
-use Rattle.swp_frame.specs.Stuffing.{stuffed_after, stuffed, start_of_frame, end_of_frame, with_crc, frame_of}
-use Rattle.shdlc_core.specs.Machine.{is_waiting}
-use Rattle.trace_model.specs.declared.entry.Entry.TheVariants as entry
-use Rattle.trace_model.specs.declared.entry.NoCause.TheVariants as why
-use Rattle.trace_model.specs.declared.line.Line.TheVariants as line
-use Rattle.link_laws.specs.machine.Machine.Refused.{TooLong, Full, Inactive, IsWaiting}
 use Rattle.link_laws.specs.messages.Links.IsStart.{IsBare}
 use Rattle.link_laws.proofs.messages.RsetNumbers.{start_numbered}
-use Rattle.link_laws.specs.entries.Entries.{End as Side, Entry as Noted, event_entries}
-use Rattle.link_laws.specs.entries.Entries.Entry.{Up as Begins, Down as Ends, Tick, Cut}
-use Rattle.history.specs.Histories.{Cause, Event, Step, entries_of, causes_of}
-use Rattle.history.specs.Histories.Outcome.{Refused as LineRefused, Caused}
+use Rattle.link_laws.specs.entries.Entries.Entry.{Down as Ends, Tick}
+use Rattle.history.specs.Histories.{Cause, Step}
 use Rattle.history.specs.BareRsets.{rsets_by_bare}
 use Rattle.history.proofs.RsetsInBareWorlds.{few_after}
-use Rattle.history.specs.Damage.{Verdict}
-use Rattle.history.specs.Damage.Verdict.{Same, LostFor, Undetected}
-use Rattle.history.specs.Steps.{end_of, entry_of, event_of, events_at, link_after, link_after_all}
-use Rattle.history.specs.Follows.{refusal, as_noted, if_empty, if_beyond, if_out_of_reach, machine_of, frames_to, taken_of, first_verdict, damage_causes}
-use Rattle.history.specs.Follows.{causes_in, outcome_of, link_after_line, StepsFollow}
 use Rattle.told_laws.proofs.texts.ReadLemmas.{bare_said_in}
 use Rattle.told_laws.proofs.told.Ends.{IsFrame}
-use Rattle.registry.proofs.ValueLemmas.{AllByRecursion-append as each-append}
 use Rattle.told_laws.proofs.told.Links.{LinkIs, CanTell, bare_is, given_by, link_more, link_within, link_caused}
 use Rattle.told_laws.proofs.told.Wires.{WireIs}
 use Rattle.told_laws.proofs.told.Notes.{IsNoted, AreNoted, noted_event}
+use Rattle.trace_model.specs.declared.entry.NoCause.TheVariants as why
 
 -- ## Bytes
 
@@ -66,8 +56,7 @@ lpdu_in (S Rnr nr) h = lpdu_by (0xC0 + 8 * 2 + nr) [] (omega (arith, h)) tt (ome
 lpdu_in (S Srej nr) h = lpdu_by (0xC0 + 8 * 3 + nr) [] (omega (arith, h)) tt (omega arith)
 lpdu_in (Rset window caps) h = lpdu_by 0xF9 (window ∷ caps ∷ []) (omega arith) (h.0, (h.1, tt)) (omega arith)
 lpdu_in Ua h = lpdu_by 0xE6 [] (omega arith) tt (omega arith)
-lpdu_in (Act act again) h = absurd h
-lpdu_in Clt h = absurd h
+lpdu_in _ h = absurd h
 
 -- ## Entries
 
@@ -90,7 +79,7 @@ entry_in h n low small (Active who) p = (end_in h who low, tt)
 entry_in h n low small (GaveUp who tries) p = ((end_in h who low, omega (arith, p)), tt)
 entry_in h n low small (Acked who k count) p =
     let a = p.0 in let b = p.1 in ((end_in h who low, omega (arith, small, a), omega (arith, small, b)), tt)
-entry_in h n low small (Got who k m) p = ((end_in h who low, omega (arith, small, p)), tt)
+entry_in h n low small (Got who k m) p = let a = p.0 in ((end_in h who low, omega (arith, small, a)), tt)
 entry_in h n low small (Sent who k m) p =
     let a = p.0 in
     let pipe = p.1.pipe in
@@ -193,9 +182,8 @@ ticks_cost zero = refl
 ticks_cost (suc n) = let rest = ticks_cost n in omega (arith, rest)
 
 damage_cost : (e : End) (v : Option Verdict) → cost_of_all (damage_causes e v) ≡ 0
-damage_cost e None = refl
 damage_cost e (Some Same) = refl
-damage_cost e (Some _) = refl
+damage_cost e _ = refl
 
 -- how much a line may cost
 abbrev pub line_cost : Line → ℕ
@@ -245,9 +233,8 @@ give_in e m = go e.shdlc.phase refl
     by_tests false false q = tt
 
     go : (p : LinkState) → e.shdlc.phase ≡ p → IfCause (as_noted (give_refusal e m))
-    go Down q = rw q tt
-    go Waiting q = rw q tt
     go Up q = rw q (let z = by_tests (nat_lt 4096 (length m.1)) (nat_lt (spare e) (need m.1)) refl in z)
+    go _ q = rw q tt
 
 pub reset_in : (e : LinkEnd) → IfCause (as_noted (reset_refusal e))
 reset_in e = go (is_open e.role) (is_waiting e.shdlc)

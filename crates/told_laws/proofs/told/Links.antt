@@ -1,26 +1,19 @@
 -- The ends of a bare link, and what is on its wires, are in their ranges.
-use Rattle.std.proofs.Common.{◌≡◌, ℕ, zero, suc, ◌+◌, ◌≤◌, ◌<◌, Bool, true, false, cond, List, [], ◌∷◌, ◌++◌, length, take, drop, map, refl, sym, ap, subst}
-use Rattle.std.proofs.Common.{arith, Option, Some, None, length-append, is_some, if◌then◌else◌, ◌==◌, not}
-use Rattle.told_laws.proofs.Words.{AllByRecursion, Asked, AsksReset, Bare, Clt, Control, Down, End, EndState, FetchMessage, FewRsets, Give, GoesOut, Hold, I}
-use Rattle.told_laws.proofs.Words.{IsByte, Link, LinkEnd, LinkInput, LinkState, Lose, Loss, Message, NextFrame, NoInput, NumberedEnd, OnWire, Refused, Reset}
-use Rattle.told_laws.proofs.Words.{Rset, S, Step, Take, Taken, Tick, Ticked, Ua, Up, Waiting, activated, after_input, aged, all_frames, among, at, bare_link}
-use Rattle.told_laws.proofs.Words.{by_test, ended_by, exchanged, frames_out, give_refusal, given, happens_at_controller, has_input, heard, if_up, in_front}
-use Rattle.told_laws.proofs.Words.{is_faulty, is_open, is_rset, moved, put, put_down, reset_by, reset_refusal, reset_with, sent_all, stopped, take_answer}
-use Rattle.told_laws.proofs.Words.{taken, tick_answer, ticked, ticks_at_controller, took, took_with, turn, unless, window_of, with_ended}
-use Rattle.swp_base.specs.declared.control_frames.Control.TheVariants.{Act}
-use Rattle.hcp_packet.specs.Packets.{packets_of, parts_of, packet_count, packet_bytes}
-use Rattle.link_laws.specs.machine.Machine.{news, had_tick}
-use Rattle.swp_act.specs.declared.ActEvent.TheVariants.{Tick as ActTick}
-use Rattle.link_laws.specs.messages.Links.{EndEvent, put_all, becomes, happens}
-use Rattle.link_laws.specs.messages.Rsets.{EndIsLow}
+use Rattle.told_laws.proofs.Words.{ActTick, AllByRecursion, AllByRecursion-take, Asked, AsksReset, Bare, Bool, Control, Down, End, EndEvent, EndState}
+use Rattle.told_laws.proofs.Words.{FetchMessage, FewRsets, Give, Given, GoesOut, Hold, I, IsByte, Link, LinkEnd, LinkInput, LinkState, List, Lose, Message}
+use Rattle.told_laws.proofs.Words.{NextFrame, NoInput, None, Option, Readied, Refused, Reset, Rset, S, Some, Step, Take, Taken, Tick, Ticked, Ua, WasLost}
+use Rattle.told_laws.proofs.Words.{WasReset, [], activated, after_input, aged, all_frames, among, ap, arith, at, bare_link, becomes, by_list, by_test, cond}
+use Rattle.told_laws.proofs.Words.{drop, ended_by, exchanged, false, frames_out, give_refusal, given, had_tick, happens, happens_at_controller, has_input}
+use Rattle.told_laws.proofs.Words.{heard, if_up, in_front, is_faulty, is_open, is_some, length, length-append, link_after, map, moved, news, not, packet_bytes}
+use Rattle.told_laws.proofs.Words.{packet_count, packets_of, parts_of, put_down, refl, reset_by, reset_refusal, reset_with, sent_all, stopped, subst, suc, sym}
+use Rattle.told_laws.proofs.Words.{take, take_answer, taken, tick_answer, ticked, ticks_at_controller, took, true, turn, unless, window_of, with_ended, zero, ℕ}
+use Rattle.told_laws.proofs.Words.{◌++◌, ◌+◌, ◌<◌, ◌==◌, ◌∷◌, ◌≡◌, ◌≤◌}
 use Rattle.history.specs.Histories.{Cause}
-use Rattle.history.specs.Histories.Cause.{Given, WasLost, WasReset, Readied}
-use Rattle.history.specs.Steps.{link_after}
 use Rattle.told_laws.proofs.told.Ends.{IsFragment, IsFrame, Ranged, ranged_taken, ranged_ticked, ranged_reset, ranged_stopped, ranged_ready, ranged_out}
 use Rattle.told_laws.proofs.told.Ends.{ranged_after, frames_in, frames_few}
-use Rattle.registry.proofs.ValueLemmas.{AllByRecursion-take}
-use Rattle.told_laws.proofs.told.Wires.{drop_each, FrameIs, WireIs, wire_more, wire_within, wire_dropped, wire_put, wire_aged}
-use Rattle.node_laws.proofs.Cases.{by_list}
+use Rattle.told_laws.proofs.told.Wires.{drop_each, WireIs}
+use Rattle.told_laws.proofs.told.Linked.{LinkSo, left_with, no_wire, so_aged, so_becomes, so_ended, so_exchanged, so_left, so_longer, so_lost, so_more}
+use Rattle.told_laws.proofs.told.Linked.{so_within}
 
 -- ## Messages
 
@@ -80,9 +73,8 @@ end_down n e h = by e.shdlc.phase refl
     stops = end_moved n e true (stopped e.shdlc) (ranged_stopped e.shdlc h.ranged) h
 
     by : (p : LinkState) → e.shdlc.phase ≡ p → EndIs n (put_down true e)
-    by Up p = rw p stops
-    by Waiting p = rw p stops
     by Down p = rw p (record { bare = h.bare; acts = ap (map in_front) h.acts; few = h.few; ranged = h.ranged })
+    by _ p = rw p stops
 
 end_heard : (n : ℕ) (e : LinkEnd) (c : Control) → EndIs n e → EndIs n (heard e c)
 end_heard n e c h =
@@ -96,8 +88,7 @@ end_took n e (I ns nr info) is h = end_cond n (is_open e.role) (heard e (I ns nr
 end_took n e (S kind nr) is h = end_cond n (is_open e.role) (heard e (S kind nr)) e (end_heard n e (S kind nr) h) h
 end_took n e (Rset window caps) is h = end_cond n (is_open e.role) (heard e (Rset window caps)) e (end_heard n e (Rset window caps) h) h
 end_took n e Ua is h = end_cond n (is_open e.role) (heard e Ua) e (end_heard n e Ua h) h
-end_took n e (Act act again) is h = absurd is
-end_took n e Clt is h = absurd is
+end_took n e _ is h = absurd is
 
 pub opens : (n : ℕ) (e : LinkEnd) → EndIs n e → is_open e.role ≡ true
 opens n e h = ap is_open h.bare
@@ -140,110 +131,16 @@ end_fetched n e h = record { bare = h.bare; acts = h.acts; few = h.few; ranged =
 
 -- ## The link
 
-pub record NumberedIs (most n : ℕ) (h : NumberedEnd) : Type 0 where
-  pub side : EndIs most h.side
-  pub emitted : h.emitted ≤ n
-  pub took : h.took ≤ n
-
 -- the link where no number is above n, and no more than so many messages were given to an end in its session
-pub record LinkIs (most n : ℕ) (l : Link) : Type 0 where
-  pub near : NumberedIs most n l.controller
-  pub far : NumberedIs most n l.host
-  pub to_near : WireIs IsFrame n l.to_controller
-  pub to_far : WireIs IsFrame n l.to_host
-  pub resets : l.resets ≤ n
-
-numbered_more : (most all n k : ℕ) (h : NumberedEnd) → most ≤ all → n ≤ k → NumberedIs most n h → NumberedIs all k h
-numbered_more most all n k h more_given more is =
-    let a = is.emitted in
-    let b = is.took in
-    record { side = end_more most all h.side more_given is.side; emitted = omega (arith, a, more); took = omega (arith, b, more) }
+abbrev pub LinkIs : ℕ → ℕ → Link → Type 0
+LinkIs most n l = LinkSo IsFrame (EndIs most) (EndIs most) n l
 
 pub link_more : (most all n k : ℕ) (l : Link) → most ≤ all → n ≤ k → LinkIs most n l → LinkIs all k l
 link_more most all n k l more_given more h =
-    let r = h.resets in
-    record {
-      near = numbered_more most all n k l.controller more_given more h.near;
-      far = numbered_more most all n k l.host more_given more h.far;
-      to_near = wire_more IsFrame n k l.to_controller more h.to_near;
-      to_far = wire_more IsFrame n k l.to_host more h.to_far;
-      resets = omega (arith, r, more);
-    }
+    so_more IsFrame n k l more (end_more most all l.controller.side more_given) (end_more most all l.host.side more_given) h
 
--- no number is above a greater one
-link_up : (most n k : ℕ) (l : Link) → n ≤ k → LinkIs most n l → LinkIs most k l
-link_up most n k l more h = link_more most most n k l (omega arith) more h
-
--- The numbers of a link are bounded by the RSETs that were made on it, whatever it came through.
 pub link_within : (most n k : ℕ) (l : Link) → FewRsets k l → LinkIs most n l → LinkIs most k l
-link_within most n k l few h =
-    let made = few.made in
-    let low : l.resets ≤ k = omega (arith, made) in
-    record {
-      near = numbered_within l.resets l.controller low few.numbered.controller h.near.side;
-      far = numbered_within l.resets l.host low few.numbered.host h.far.side;
-      to_near = wire_within IsFrame n k l.resets l.to_controller low h.to_near few.numbered.to_controller;
-      to_far = wire_within IsFrame n k l.resets l.to_host low h.to_far few.numbered.to_host;
-      resets = low;
-    }
-  where
-    numbered_within : (r : ℕ) (h : NumberedEnd) → r ≤ k → EndIsLow r h → EndIs most h.side → NumberedIs most k h
-    numbered_within r h more low is =
-        let a = low.emitted in
-        let b = low.took in record { side = is; emitted = omega (arith, a, more); took = omega (arith, b, more) }
-
-pub link_swapped : (most n : ℕ) (l : Link) → LinkIs most n l → LinkIs most n (exchanged l)
-link_swapped most n l h = record { near = h.far; far = h.near; to_near = h.to_far; to_far = h.to_near; resets = h.resets }
-
-pub link_aged : (most n : ℕ) (l : Link) → LinkIs most n l → LinkIs most n (aged l)
-link_aged most n l h =
-    record {
-      near = h.near;
-      far = h.far;
-      to_near = wire_aged IsFrame n l.to_controller h.to_near;
-      to_far = wire_aged IsFrame n l.to_host h.to_far;
-      resets = h.resets;
-    }
-
--- the frame that is put on the wire to the host
-abbrev pub put_frame : Link → Control → OnWire
-put_frame l c = record { frame = c; age = 0; number = if is_rset c then l.resets + 1 else 0 }
-
-pub put_frame_is : (most n : ℕ) (l : Link) (c : Control) → IsFrame c → LinkIs most n l → FrameIs IsFrame (n + 1) (put_frame l c)
-put_frame_is most n l c is h = record { frame = is; number = go (is_rset c) }
-  where
-    go : (b : Bool) → cond b (l.resets + 1) 0 ≤ n + 1
-    go true = let r = h.resets in omega (arith, r)
-    go false = omega arith
-
-pub link_put : (most n : ℕ) (l : Link) (c : Control) → IsFrame c → LinkIs most n l → LinkIs most (n + 1) (put l c)
-link_put most n l c is h = by_test (is_rset c)
-    (λ q. let r = h.resets in
-    let x : OnWire = record { frame = c; age = 0; number = l.resets + 1 } in
-    rw q (record {
-      near = record { side = up.near.side; emitted = omega (arith, r); took = up.near.took };
-      far = up.far;
-      to_near = up.to_near;
-      to_far = wire_put IsFrame (n + 1) l.to_host x up.to_far (record { frame = is; number = omega (arith, r) });
-      resets = omega (arith, r);
-    }))
-    (λ q. let x : OnWire = record { frame = c; age = 0; number = 0 } in
-    rw q (record {
-      near = up.near;
-      far = up.far;
-      to_near = up.to_near;
-      to_far = wire_put IsFrame (n + 1) l.to_host x up.to_far (record { frame = is; number = omega arith });
-      resets = up.resets;
-    }))
-  where
-    up : LinkIs most (n + 1) l
-    up = link_up most n (n + 1) l (omega arith) h
-
-link_puts : (cs : List Control) (most n : ℕ) (l : Link) → AllByRecursion IsFrame cs → LinkIs most n l → LinkIs most (n + length cs) (put_all l cs)
-link_puts [] most n l is h = link_up most n (n + 0) l (omega arith) h
-link_puts (c ∷ cs) most n l is h =
-    link_up most ((n + 1) + length cs) (n + length (c ∷ cs)) (put_all (put l c) cs) (omega arith)
-    (link_puts cs most (n + 1) (put l c) is.1 (link_put most n l c is.0 h))
+link_within most n k l few h = so_within IsFrame n k l few (λ s. s) (λ s. s) h
 
 -- all frames that are due at a bare end
 pub out_is : (n : ℕ) (e : LinkEnd) → EndIs n e → AllByRecursion IsFrame (frames_out e)
@@ -259,70 +156,25 @@ end_sent n e h = record { bare = h.bare; acts = refl; few = h.few; ranged = rang
 -- the controller's end has become e, and all its frames went out
 link_becomes : (most n : ℕ) (l : Link) (e : LinkEnd) → EndIs most e → LinkIs most n l → LinkIs most (n + 12) (becomes l e)
 link_becomes most n l e is h =
-    let few = out_few most e is in
-    let m : Link = put_all l (frames_out e) in
-    let p : LinkIs most (n + 12) m =
-    link_up most (n + length (frames_out e)) (n + 12) m (omega (arith, few)) (link_puts (frames_out e) most n l (out_is most e is) h) in
-    record {
-      near = record { side = end_sent most e is; emitted = p.near.emitted; took = p.near.took };
-      far = p.far;
-      to_near = p.to_near;
-      to_far = p.to_far;
-      resets = p.resets;
-    }
-
-pub link_ended : (most n : ℕ) (l : Link) (b : Bool) → LinkIs most n l → LinkIs most n (with_ended l b)
-link_ended most n l false h = h
-link_ended most n l true h =
-    record {
-      near = record { side = h.near.side; emitted = h.near.emitted; took = h.near.took };
-      far = h.far;
-      to_near = h.to_near;
-      to_far = h.to_far;
-      resets = h.resets;
-    }
+    let few = out_few most e is in so_becomes IsFrame n (n + 12) l e (out_is most e is) (omega (arith, few)) (end_sent most e is) h
 
 link_input : (most n : ℕ) (l : Link) (i : LinkInput) → EndIs most (after_input l.controller.side i) → LinkIs most n l
     → LinkIs most (n + 12) (has_input l i [] GoesOut)
 link_input most n l i is h =
-    let b : Bool = is_some (ended_by l.controller.side i) in link_becomes most n (with_ended l b) (after_input l.controller.side i) is (link_ended most n l b h)
-
-pub took_low : (n t : ℕ) (x : OnWire) → t ≤ n → x.number ≤ n → took_with t x ≤ n
-took_low n t x low is = by_test (is_rset x.frame) (λ q. rw q (omega (arith, low, is))) (λ q. rw q low)
-
--- the link where the controller's end has taken a frame, and these are left
-abbrev pub left_with : Link → OnWire → List OnWire → Link
-left_with l x xs =
-    let m : Link = with_ended (record l { to_controller = xs }) (is_some (ended_by l.controller.side (Take x.frame))) in
-    record m { controller = record m.controller { took = took_with l.controller.took x } }
-
-pub link_left : (most n : ℕ) (l : Link) (x : OnWire) (xs : List OnWire) → l.to_controller ≡ x ∷ xs → LinkIs most n l → LinkIs most n (left_with l x xs)
-link_left most n l x xs q h =
-    let wire : WireIs IsFrame n (x ∷ xs) = subst (WireIs IsFrame n) q h.to_near in
-    let few = wire.few in
-    let one : LinkIs most n (record l { to_controller = xs }) =
-    record { near = h.near; far = h.far; to_near = record { frames = wire.frames.1; few = omega (arith, few) }; to_far = h.to_far; resets = h.resets } in
-    let b : Bool = is_some (ended_by l.controller.side (Take x.frame)) in
-    let two : LinkIs most n (with_ended (record l { to_controller = xs }) b) = link_ended most n (record l { to_controller = xs }) b one in
-    record {
-      near = record { side = two.near.side; emitted = two.near.emitted; took = took_low n l.controller.took x h.near.took wire.frames.0.number };
-      far = two.far;
-      to_near = two.to_near;
-      to_far = two.to_far;
-      resets = two.resets;
-    }
+    let b : Bool = is_some (ended_by l.controller.side i) in
+    link_becomes most n (with_ended l b) (after_input l.controller.side i) is (so_ended IsFrame n l b h)
 
 -- ## What happens at one end
 
 link_taken : (most n : ℕ) (l : Link) → LinkIs most n l → LinkIs most (n + 12) (happens_at_controller l (Step NextFrame (FetchMessage ∷ []) GoesOut))
 link_taken most n l h = by_list l.to_controller
     (λ q. rw q
-    (link_up most n (n + 12) (record l { to_controller = [] }) (omega arith)
-    (record { near = h.near; far = h.far; to_near = record { frames = tt; few = omega arith }; to_far = h.to_far; resets = h.resets })))
+    (so_longer IsFrame n (n + 12) (record l { to_controller = [] }) (omega arith)
+    (record { near = h.near; far = h.far; to_near = no_wire IsFrame n; to_far = h.to_far; resets = h.resets })))
     (λ x xs q. let wire : WireIs IsFrame n (x ∷ xs) = subst (WireIs IsFrame n) q h.to_near in
     let e : LinkEnd = after_input l.controller.side (Take x.frame) in
     rw q (link_becomes most n (left_with l x xs) (turn e FetchMessage)
-    (end_fetched most e (end_took most l.controller.side x.frame wire.frames.0.frame h.near.side)) (link_left most n l x xs q h)))
+    (end_fetched most e (end_took most l.controller.side x.frame wire.frames.0.frame h.near.side)) (so_left IsFrame n l x xs q h)))
 
 pub link_ticked : (most n : ℕ) (l : Link) → LinkIs most n l → LinkIs most (n + 12) (ticks_at_controller l [] GoesOut)
 link_ticked most n l h = link_input most n l Tick (end_ticked most l.controller.side h.near.side) h
@@ -340,15 +192,11 @@ link_given most n m l is h =
     link_becomes (most + 1) n l (turn l.controller.side (Give m)) (end_given most l.controller.side m is h.near.side)
     (link_more most (most + 1) n n l (omega arith) (omega arith) h)
 
-link_lost : (most n : ℕ) (l : Link) (why : Loss) → LinkIs most n l → LinkIs most n (happens_at_controller l (Lose why))
-link_lost most n l why h =
-    record { near = h.near; far = h.far; to_near = wire_dropped IsFrame n l.to_controller h.to_near; to_far = h.to_far; resets = h.resets }
-
 -- it happens at either end
 link_either : (most all n k : ℕ) (l : Link) (e : End) (x : EndEvent) → ((m : Link) → LinkIs most n m → LinkIs all k (happens_at_controller m x))
     → LinkIs most n l → LinkIs all k (happens l (at e x))
 link_either most all n k l e x here h = by_test e.at_host
-    (λ q. rw q (link_swapped all k (happens_at_controller (exchanged l) x) (here (exchanged l) (link_swapped most n l h))))
+    (λ q. rw q (so_exchanged IsFrame k (happens_at_controller (exchanged l) x) (here (exchanged l) (so_exchanged IsFrame n l h))))
     (λ q. rw q (here l h))
 
 -- ## Causes
@@ -366,14 +214,14 @@ given_by _ = 0
 
 pub link_caused : (most n : ℕ) (l : Link) (c : Cause) → CanTell c → LinkIs most n l → LinkIs (most + given_by c) (n + 24) (link_after l c)
 link_caused most n l (Given e m) can h =
-    link_up (most + 1) (n + 12) (n + 24) _ (omega arith)
+    so_longer IsFrame (n + 12) (n + 24) _ (omega arith)
     (link_either most (most + 1) n (n + 12) l e (Step NoInput (Give m ∷ []) GoesOut) (λ k g. link_given most n m k can g) h)
 link_caused most n l (Taken e) can h =
     link_more most (most + 0) (n + 12) (n + 24) _ (omega arith) (omega arith)
     (link_either most most n (n + 12) l e (Step NextFrame (FetchMessage ∷ []) GoesOut) (link_taken most n) h)
 link_caused most n l (WasLost e why) can h =
     link_more most (most + 0) n (n + 24) _ (omega arith) (omega arith)
-    (link_either most most n n l e (Lose why) (λ k g. link_lost most n k why g) h)
+    (link_either most most n n l e (Lose why) (λ k g. so_lost IsFrame n k why g) h)
 link_caused most n l (WasReset e window) can h =
     link_more most (most + 0) (n + 12) (n + 24) _ (omega arith) (omega arith)
     (link_either most most n (n + 12) l e (Step (AsksReset window) [] GoesOut) (λ k g. link_reset most n window k can g) h)
@@ -383,8 +231,8 @@ link_caused most n l (Readied e ready) can h =
 link_caused most n l Ticked can h =
     let near : Link = ticks_at_controller (aged l) [] GoesOut in
     link_more most (most + 0) ((n + 12) + 12) (n + 24) _ (omega arith) (omega arith)
-    (link_swapped most ((n + 12) + 12) (ticks_at_controller (exchanged near) [] GoesOut)
-    (link_ticked most (n + 12) (exchanged near) (link_swapped most (n + 12) near (link_ticked most n (aged l) (link_aged most n l h)))))
+    (so_exchanged IsFrame ((n + 12) + 12) (ticks_at_controller (exchanged near) [] GoesOut)
+    (link_ticked most (n + 12) (exchanged near) (so_exchanged IsFrame (n + 12) near (link_ticked most n (aged l) (so_aged IsFrame n l h)))))
 
 -- nothing has happened yet
 pub bare_is : LinkIs 0 0 bare_link
@@ -394,7 +242,7 @@ bare_is =
     record {
       near = record { side = side; emitted = omega arith; took = omega arith };
       far = record { side = side; emitted = omega arith; took = omega arith };
-      to_near = record { frames = tt; few = omega arith };
-      to_far = record { frames = tt; few = omega arith };
+      to_near = no_wire IsFrame 0;
+      to_far = no_wire IsFrame 0;
       resets = omega arith;
     }

@@ -1,7 +1,6 @@
 -- The lines that plays come to behind other plays.
-use Rattle.std.proofs.Common.{◌≡◌, List, [], ◌∷◌, ◌++◌, sym, ap, ◌∙◌, append-nil, append_assoc}
-use Rattle.told_laws.proofs.Words.{Header, Line, Play, hosts_stay_behind, lines_of_play, lines_played, played_more}
-use Rattle.lines_told.specs.lines.RoundLines.{HostsStay}
+use Rattle.told_laws.proofs.Words.{Header, HostsStay, Line, List, Play, [], ap, append-nil, append_assoc, hosts_stay_behind, lines_of_play, lines_played}
+use Rattle.told_laws.proofs.Words.{played_more, sym, ◌++◌, ◌∙◌, ◌∷◌, ◌≡◌}
 
 -- a world of nodes keeps the hosts of its header
 pub keeps_hosts : (header : Header) → HostsStay header

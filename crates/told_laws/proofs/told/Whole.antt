@@ -1,26 +1,15 @@
 -- All that is told of a schedule is in its range: its header, its opening, and its lines, each with what is noted below it.
-use Rattle.std.proofs.Common.{◌≡◌, inl, inr, ℕ, zero, suc, ◌≤◌, true, false, List, [], ◌∷◌, ◌++◌, length, replicate, None, refl, sym, ap, subst}
-use Rattle.std.proofs.Common.{◌∙◌, arith, append-nil, append_assoc, length-append, All}
-use Rattle.told_laws.proofs.Words.{AllByRecursion, AreFewPlays, Entry, Follows, Header, History, IsEntry, IsPlayFor, Line, Link, MayBegin, NodeWorld, Outcome}
-use Rattle.told_laws.proofs.Words.{Play, Round, Said, bare_link, flat_map, host_of, hosts_stay_behind, lines_played, noted, played_more, step_told}
-use Rattle.registry.proofs.ValueLemmas.{AllByRecursion-append as each-append}
-use Rattle.trace_model.specs.declared.entry.Entry.TheVariants.{Echo}
+use Rattle.told_laws.proofs.Words.{All, AllByRecursion, AreFewPlays, Echo, Entry, Follows, Header, History, IsEntry, IsPlayFor, IsRoundLine, Line, Link, List}
+use Rattle.told_laws.proofs.Words.{MayBegin, MayFollow, NodeWorld, None, NoneIsMisread, Outcome, Play, Round, Said, StepsFollow, [], after-append, ap}
+use Rattle.told_laws.proofs.Words.{append-nil, append_assoc, arith, bare_link, bare_link_behind, each-append, false, flat_map, host_of, hosts_stay_behind, inl}
+use Rattle.told_laws.proofs.Words.{inr, length, length-append, lines-append, lines_played, lines_played_of, link_after_line, misread, misread_below, misread_in}
+use Rattle.told_laws.proofs.Words.{new_world, nodes_behind, noted, opening_of, opening_told, outcome_of, played_more, plays_for, plays_more, plays_of}
+use Rattle.told_laws.proofs.Words.{plays_of_line, refl, replicate, round_behind, round_first, round_known, rounds_to_rest, schedule_told, step_told, subst, suc}
+use Rattle.told_laws.proofs.Words.{sure_below, sym, told_behind, told_below, told_of_line, told_of_lines, told_of_rounds, true, zero, ℕ, ◌++◌, ◌∙◌, ◌∷◌, ◌≡◌}
+use Rattle.told_laws.proofs.Words.{◌≤◌}
 use Rattle.trace_model.specs.declared.line.Line.TheVariants as line
-use Rattle.trace_model.specs.Lines.{MayFollow}
 use Rattle.told_laws.proofs.texts.ReadLemmas.{said_in}
 use Rattle.history.specs.Histories.{Step}
-use Rattle.history.specs.Follows.{StepsFollow, link_after_line, misread, opening_of, outcome_of}
-use Rattle.node_machine.specs.world.Lines.{misread_in}
-use Rattle.node_machine.specs.world.NodeHistories.{NoneIsMisread}
-use Rattle.node_machine.specs.world.World.{new_world}
-use Rattle.lines_told.specs.lines.Below.{bare_link_behind, misread_below, nodes_behind, opening_told, told_below}
-use Rattle.lines_told.specs.lines.Plays.{lines_played_of, plays_of, plays_of_line, round_behind, rounds_to_rest}
-use Rattle.lines_told.specs.lines.Plays.{schedule_told, told_behind, told_of_line, told_of_lines, told_of_rounds}
-use Rattle.lines_told.specs.lines.RoundLines.{IsRoundLine}
-use Rattle.lines_told.proofs.lines.BareRounds.{lines-append}
-use Rattle.lines_told.proofs.lines.Lines.{round_known, sure_below}
-use Rattle.lines_told.proofs.lines.NodeRounds.{after-append}
-use Rattle.lines_told.proofs.lines.Plays.{plays_for, plays_more, round_first}
 use Rattle.lines_told.proofs.lines.Resting.{at_most, few_plays}
 use Rattle.lines_told.proofs.lines.Told.{behind-append, told_nodes}
 use Rattle.told_laws.proofs.told.Lines.{each_all, host_low}
@@ -69,20 +58,7 @@ module _ (header : Header) where
     sure_line : (plays : List Play) (said : Line) → misread_below header (lines_played header plays) said ≡ None → AreSurePlays plays
         → AreSurePlays (plays ++ plays_of_line header plays said)
     sure_line plays (line.Settle n) none sure = sure_rounds (rounds_to_rest header plays n) plays sure
-    sure_line plays (line.Send e pid message) none sure = sure_with plays (line.Send e pid message) none sure
-    sure_line plays (line.Deliver e count) none sure = sure_with plays (line.Deliver e count) none sure
-    sure_line plays (line.Lose e) none sure = sure_with plays (line.Lose e) none sure
-    sure_line plays (line.Damage e places) none sure = sure_with plays (line.Damage e places) none sure
-    sure_line plays (line.Tick times) none sure = sure_with plays (line.Tick times) none sure
-    sure_line plays (line.Reset e window) none sure = sure_with plays (line.Reset e window) none sure
-    sure_line plays (line.Busy e) none sure = sure_with plays (line.Busy e) none sure
-    sure_line plays (line.Ready e) none sure = sure_with plays (line.Ready e) none sure
-    sure_line plays (line.Boot node) none sure = sure_with plays (line.Boot node) none sure
-    sure_line plays (line.Cut node) none sure = sure_with plays (line.Cut node) none sure
-    sure_line plays (line.Activate host sync power) none sure = sure_with plays (line.Activate host sync power) none sure
-    sure_line plays (line.Arm node nth fill) none sure = sure_with plays (line.Arm node nth fill) none sure
-    sure_line plays (line.Init e identity pipes) none sure = sure_with plays (line.Init e identity pipes) none sure
-    sure_line plays (line.Tables node) none sure = sure_with plays (line.Tables node) none sure
+    sure_line plays l none sure = sure_with plays l none sure
 
     -- ## What is told below the lines of plays
 
@@ -184,20 +160,7 @@ module _ (header : Header) where
         let most = may.1 in
         each-append IsEntry (told_of_rounds header before (rounds_to_rest header before n)) _
         (subst (AllByRecursion IsEntry) (sym (rounds_told (rounds_to_rest header before n) before)) told) (omega (arith, few, most), tt)
-    line_told before (line.Send e pid message) may told = said_told before (line.Send e pid message) told
-    line_told before (line.Deliver e count) may told = said_told before (line.Deliver e count) told
-    line_told before (line.Lose e) may told = said_told before (line.Lose e) told
-    line_told before (line.Damage e places) may told = said_told before (line.Damage e places) told
-    line_told before (line.Tick times) may told = said_told before (line.Tick times) told
-    line_told before (line.Reset e window) may told = said_told before (line.Reset e window) told
-    line_told before (line.Busy e) may told = said_told before (line.Busy e) told
-    line_told before (line.Ready e) may told = said_told before (line.Ready e) told
-    line_told before (line.Boot node) may told = said_told before (line.Boot node) told
-    line_told before (line.Cut node) may told = said_told before (line.Cut node) told
-    line_told before (line.Activate host sync power) may told = said_told before (line.Activate host sync power) told
-    line_told before (line.Arm node nth fill) may told = said_told before (line.Arm node nth fill) told
-    line_told before (line.Init e identity pipes) may told = said_told before (line.Init e identity pipes) told
-    line_told before (line.Tables node) may told = said_told before (line.Tables node) told
+    line_told before l may told = said_told before l told
 
     abbrev NoneIsMisreadOf : List Line → Type 0
     NoneIsMisreadOf lines =
@@ -228,14 +191,13 @@ module _ (header : Header) where
         (said_in header begin said may_said, told) (subst (λ (ps : List Play). AllByRecursion IsEntry (told_of_lines header ps lines)) next rest)
 
     opening_in : AllByRecursion IsEntry (opening_told header)
-    opening_in = go begin
-      where
-        go : MayBegin header → AllByRecursion IsEntry (opening_told header)
-        go (inl is) =
-            let low = host_low header is in
-            let same : opening_told header ≡ opening_of (host_of header) = rw is.bare refl in
-            subst (AllByRecursion IsEntry) (sym same) ((low, omega arith), ((low, omega arith), tt))
-        go (inr nodes) = let same : opening_told header ≡ [] = rw nodes.nodes refl in subst (AllByRecursion IsEntry) (sym same) tt
+    opening_in = elim begin [
+      | inl is ↦
+          let low = host_low header is in
+          let same : opening_told header ≡ opening_of (host_of header) = rw is.bare refl in
+          subst (AllByRecursion IsEntry) (sym same) ((low, omega arith), ((low, omega arith), tt))
+      | inr nodes ↦ let same : opening_told header ≡ [] = rw nodes.nodes refl in subst (AllByRecursion IsEntry) (sym same) tt
+    ]
 
     pub schedule_told_in : (lines : List Line) → AllByRecursion (MayFollow header) lines → length lines ≤ 20000 → NoneIsMisreadOf lines
         → All IsEntry (schedule_told header lines)

@@ -1,8 +1,6 @@
 -- The frames on a wire are in their ranges, whichever those are.
-use Rattle.std.proofs.Common.{◌≡◌, ℕ, zero, suc, ◌+◌, ◌≤◌, ◌<◌, nat_lt, List, [], ◌∷◌, ◌++◌, length, drop, arith, length-append}
-use Rattle.told_laws.proofs.Words.{AllByRecursion, Control, OnWire, all_mapped, by_test, ltb-false, ltb-true}
-use Rattle.link_laws.specs.sessions.Sessions.{fits, aged_wire}
-use Rattle.link_laws.specs.messages.Rsets.{WireIsLow}
+use Rattle.told_laws.proofs.Words.{AllByRecursion, Control, List, OnWire, WireIsLow, [], aged_wire, all_mapped, arith, by_test, drop, fits, length}
+use Rattle.told_laws.proofs.Words.{length-append, ltb-false, ltb-true, nat_lt, suc, zero, ℕ, ◌++◌, ◌+◌, ◌<◌, ◌∷◌, ◌≡◌, ◌≤◌}
 
 pub drop_each : {X : Type 0} (P : X → Type 0) (n : ℕ) (xs : List X) → AllByRecursion P xs → AllByRecursion P (drop n xs)
 drop_each P zero xs h = h
