@@ -1,117 +1,218 @@
 -- The words of worlds, links, entries and rounds that these proofs speak in, each from where it is at home.
-pub use Rattle.hcp_packet.specs.Packets.{good_of}
+pub use Rattle.hcp_chain.specs.Joining.{are_taken, given_by}
+pub use Rattle.hcp_packet.specs.Packets.{IsFrontOf, fragments_of, good_of, packet_bytes, packet_count, packets_in, packets_of, parts_of}
+pub use Rattle.history.proofs.Leading.{events_in, lines_lead}
 pub use Rattle.history.proofs.legal.Ordered.{IsRun, is_run, notes_of, run_entries}
-pub use Rattle.history.proofs.legal.Plain.{plain_trace}
-pub use Rattle.history.proofs.legal.Reading.{session-all}
-pub use Rattle.history.proofs.legal.Runs.{link_events, of_allowed, of_can}
+pub use Rattle.history.proofs.legal.Plain.{ArePlain, plain_trace}
+pub use Rattle.history.proofs.legal.Reading.{bytes_on, link_same, session-all, wire-controller, wire-host}
+pub use Rattle.history.proofs.legal.Runs.{AreOf, link_events, of_allowed, of_can, of_front, of_steps}
 pub use Rattle.history.proofs.legal.Sessions.{controller_heard, host_heard}
-pub use Rattle.history.specs.Follows.{Follows, host_of}
-pub use Rattle.history.specs.Histories.{Cause, Event, History, all_entries, all_events, causes_of, entries_of}
-pub use Rattle.history.specs.Histories.Cause.{Taken, Ticked}
-pub use Rattle.history.specs.Steps.{bare_link, end_of, entries_for, event_of, events_at, link_after, link_after_all}
-pub use Rattle.lines_told.proofs.lines.Lines.{lines_may_be_played}
-pub use Rattle.lines_told.proofs.lines.Plays.{all-append, played_more, plays_for, rounds_for}
-pub use Rattle.lines_told.proofs.messages.Projected.{Known, after_events-append, open_up}
+pub use Rattle.history.specs.Filters.{Saying, acked_in, got_in, said, same_end, same_side, sent_in, session_number}
+pub use Rattle.history.specs.Filters.Saying.{Ends, Gets, Loses, Puts}
+pub use Rattle.history.specs.Follows.{Follows, StepsFollow, causes_in, damage_causes, first_verdict, frames_to, host_of, link_after_line, link_after_lines}
+pub use Rattle.history.specs.Follows.{outcome_of, refusal, taken_of}
+pub use Rattle.history.specs.Histories.{Cause, Event, History, Outcome, Step as HistoryStep, all_entries, all_events, causes_of, entries_of, events_of}
+pub use Rattle.history.specs.Histories.Cause.{Given, Readied, Taken, Ticked, WasLost, WasReset}
+pub use Rattle.history.specs.Histories.Outcome.{Caused, Refused}
+pub use Rattle.history.specs.Steps.{bare_link, end_of, entries_for, entry_of, event_at, event_of, events_at, idle, link_after, link_after_all}
+pub use Rattle.lines_told.proofs.fragments.Sends.{sent_same}
+pub use Rattle.lines_told.proofs.fragments.Stretches.{began, ended}
+pub use Rattle.lines_told.proofs.lines.BareRounds.{again, bare_played_rounds, bare_round, bare_round_goes, bare_round_lines, causes_on, lines-append}
+pub use Rattle.lines_told.proofs.lines.BareRounds.{link-append, round_causes, takes_on}
+pub use Rattle.lines_told.proofs.lines.Lines.{bare_lines, lines_may_be_played}
+pub use Rattle.lines_told.proofs.lines.NodeRounds.{none_taken, played_round, played_rounds, round_lines, takes_so}
+pub use Rattle.lines_told.proofs.lines.Plays.{all-append, played_more, plays_for, plays_more, round_first, rounds_for}
+pub use Rattle.lines_told.proofs.lines.Resting.{alike, bare_comes_to_rest, bare_rests, nodes_come_to_rest, nodes_rest}
+pub use Rattle.lines_told.proofs.messages.Law.{fragments_counted, got_by_controller, got_by_host, rest_at_controller, rest_at_host}
+pub use Rattle.lines_told.proofs.messages.Projected.{Known, after_events-append, allowed_parts, in_parts, known_after, open_up}
 pub use Rattle.lines_told.proofs.messages.Rest.{first_rest}
-pub use Rattle.lines_told.specs.lines.Below.{IsPlayedLine, bare_link_behind, nodes_behind}
-pub use Rattle.lines_told.specs.lines.Plays.{IsPlayFor, Play, lines_played, lines_played_of, plays_of, round_behind, rounds_to_rest}
-pub use Rattle.lines_told.specs.lines.Plays.Play.{Round}
-pub use Rattle.lines_told.specs.messages.Recovery.{AreLinkRounds, EarlierGot, IsLinkUndisturbed, fragments_left}
-pub use Rattle.link_laws.proofs.entries.Hearing.{heard, session_up}
-pub use Rattle.link_laws.proofs.entries.Running.{IsUnderWay}
-pub use Rattle.link_laws.proofs.machine.Runs.{opened}
-pub use Rattle.link_laws.proofs.messages.Project.{Now, Tells, beside-put_all, frames_now, mid_moved, turns_mid}
-pub use Rattle.link_laws.proofs.messages.Runs.{event_step, rests_of}
-pub use Rattle.link_laws.proofs.messages.Whole.{start_good, start_reached}
-pub use Rattle.link_laws.proofs.sessions.Data.{Below, none_ended, of_up}
-pub use Rattle.link_laws.proofs.sessions.Sending.{SafeLink}
-pub use Rattle.link_laws.proofs.sessions.Steps.{safe_aged, safe_turns}
-pub use Rattle.link_laws.specs.entries.Entries.{aged_entries, entries, entries_of_events, event_entries, far, first_entries, first_lost, here_entries, if_so}
-pub use Rattle.link_laws.specs.entries.Entries.{left_after, pushed_out, put_entries, puts_entries, rest_entries, step_entries, taken_entries, tick_entries}
-pub use Rattle.link_laws.specs.entries.Entries.{told_of, turn_entries, wire_with}
+pub use Rattle.lines_told.specs.fragments.Rounds.{AreUndisturbed, BothTakeFragments, undelivered}
+pub use Rattle.lines_told.specs.lines.Below.{IsPlayedLine, bare_link_behind, is_settling, nodes_behind}
+pub use Rattle.lines_told.specs.lines.Plays.{IsPlayFor, Play, lines_played, lines_played_of, plays_of, plays_of_line, round_behind, round_in, round_on}
+pub use Rattle.lines_told.specs.lines.Plays.{rounds_to_rest, schedule_told, taking_in, taking_on}
+pub use Rattle.lines_told.specs.lines.Plays.Play.{Round, Said}
+pub use Rattle.lines_told.specs.messages.Recovery.{AllOrdinaryOnLink, AreLinkRounds, EarlierGot, IsLinkRound, IsLinkStretch, IsLinkUndisturbed}
+pub use Rattle.lines_told.specs.messages.Recovery.{come_to_controller, come_to_host, fragments_left, times_among}
+pub use Rattle.link_laws.proofs.entries.Hearing.{heard, heard-append, session_up, up_session}
+pub use Rattle.link_laws.proofs.entries.Lasting.{same_number, taken_noted}
+pub use Rattle.link_laws.proofs.entries.Running.{Before, IsUnderWay, before_here, before_there, goes_on, read_here, read_there, start_under_way}
+pub use Rattle.link_laws.proofs.entries.Sparing.{or_none}
+pub use Rattle.link_laws.proofs.machine.Reports.{shdlc_is as shdlc_moved, take_so}
+pub use Rattle.link_laws.proofs.machine.Runs.{Sound, opened}
+pub use Rattle.link_laws.proofs.messages.Ends.{ticked_keeps}
+pub use Rattle.link_laws.proofs.messages.Finishing.{all_here-append, core_tick_rests, reset_keeps, reset_tells, restart_mid, rests, step_tick, tick_closed}
+pub use Rattle.link_laws.proofs.messages.Finishing.{tick_open, tick_role}
+pub use Rattle.link_laws.proofs.messages.Project.{Mid, Now, Says, Tells, among_now, beside-put_all, due_now, frames_now, host_ended, mid_moved, put-core}
+pub use Rattle.link_laws.proofs.messages.Project.{turns_mid, with_ended-core}
+pub use Rattle.link_laws.proofs.messages.Runs.{Good, Reached, all_step, can_start, clf_starts, event_step, from_controller, from_host, own_here, own_turns}
+pub use Rattle.link_laws.proofs.messages.Runs.{reached_more, rest_both, rests_of, safe_reached, seen, started_clf, step_own, tells_same}
+pub use Rattle.link_laws.proofs.messages.Steps.{ComesFirst, FromHost, Heard, Rests, act_mid, core_first, counted_is, heard_end, heard_is, is_shdlc, mid_counted}
+pub use Rattle.link_laws.proofs.messages.Steps.{no_fault_first, polite, role_closes, tick_closes, took_closed, took_open}
+pub use Rattle.link_laws.proofs.messages.Whole.{allowed, core_starts, start_good, start_reached}
+pub use Rattle.link_laws.proofs.places.Joined.{changed, fetch_cases}
+pub use Rattle.link_laws.proofs.sessions.Data.{Base, Below, IsAnswer, TakenUp, below_more, none_ended, of_begin, of_end, of_none, of_up, of_update, taken_up}
+pub use Rattle.link_laws.proofs.sessions.Hand.{IsRset, NothingIsOut, ahead_not_waiting, idle_out, nothing_out, peer_of, rset_told, ua_told}
+pub use Rattle.link_laws.proofs.sessions.Safe.{Safe, frame_cases, pair_from, session_with}
+pub use Rattle.link_laws.proofs.sessions.Sending.{SafeLink, at_most_one, controls, controls_same, frames_in_order, phase_known, put_all-append, ready_by, room}
+pub use Rattle.link_laws.proofs.sessions.Steps.{act_not_rset, counts, not_rset, passes, passes_act, safe_aged, safe_event, safe_exchanged, safe_start}
+pub use Rattle.link_laws.proofs.sessions.Steps.{safe_turn, safe_turns, tick_if_waiting, tick_or_cut, took_other}
+pub use Rattle.link_laws.proofs.sessions.Wire.{IsData, live, rsets, uas}
+pub use Rattle.link_laws.specs.entries.Entries.{End as Side, Entry as Noted, aged_entries, entries, entries_of_events, event_entries, far, first_entries}
+pub use Rattle.link_laws.specs.entries.Entries.{first_lost, here_entries, if_so, left_after, pushed_out, put_entries, puts_entries, rest_entries}
+pub use Rattle.link_laws.specs.entries.Entries.{restart_entries, step_entries, taken_entries, tick_entries, told, told_of, trace, turn_entries, turn_entry}
+pub use Rattle.link_laws.specs.entries.Entries.{wire_with}
 pub use Rattle.link_laws.specs.entries.Entries.End.{Controller, Host}
-pub use Rattle.link_laws.specs.entries.Entries.Entry.{Acked, Active, Cut, GaveUp, Got, Lost, Restarted}
-pub use Rattle.link_laws.specs.machine.Machine.{LinkEnd, LinkInput, Message, Turn, act_answer, activated, after_input, ended_by, frames_out, give_refusal}
-pub use Rattle.link_laws.specs.machine.Machine.{is_open, moved, new_link_end, report, reset_by, reset_refusal, took, turn, turned, whole_acked, window_of}
-pub use Rattle.link_laws.specs.machine.Machine.LinkInput.{Reset, Take, Tick}
-pub use Rattle.link_laws.specs.machine.Machine.Role.{Clf, Uicc}
-pub use Rattle.link_laws.specs.machine.Machine.Turn.{FetchMessage, Give, Hold}
-pub use Rattle.link_laws.specs.messages.Links.{AllAllowed, AreSendableTurns, Comes, EndEvent, Ending, IsAllowed, IsEvent, IsStart, Link, LinkEvent, Loss, Node}
-pub use Rattle.link_laws.specs.messages.Links.{NumberedEnd, Talk, after_link_events, aged, all_at_controller, exchanged, happens, happens_at_controller}
-pub use Rattle.link_laws.specs.messages.Links.{number_of, put, talk_now, ticks_at_controller, with_ended}
-pub use Rattle.link_laws.specs.messages.Links.Comes.{AsksReset, NextFrame, NoInput, Starts}
-pub use Rattle.link_laws.specs.messages.Links.EndEvent.{Lose, Step}
+pub use Rattle.link_laws.specs.entries.Entries.Entry.{Acked, Active, Cut, GaveUp, Got, Lost, Restarted, Up as NotedUp}
+pub use Rattle.link_laws.specs.entries.Sessions.{IsRead, number_now}
+pub use Rattle.link_laws.specs.machine.Machine.{LinkEnd, LinkInput, Message, Report, Role, Turn, act_answer, activated, after_input, among, aside_refusal}
+pub use Rattle.link_laws.specs.machine.Machine.{began_by, deactivated, ended_by, frames_out, give_refusal, got_by, had_tick, if_up, is_faulty, is_held, is_open}
+pub use Rattle.link_laws.specs.machine.Machine.{messages_got, moved, new_link_end, news, put_down, renewed, report, reset_by, reset_refusal, role_after}
+pub use Rattle.link_laws.specs.machine.Machine.{sent_all, started, took, turn, turned, whole_acked, whole_among, window_of, with_act}
+pub use Rattle.link_laws.specs.machine.Machine.LinkInput.{Reset, Start, Stop, Take, Tick, Tick as HasTick, Tick as InputTick}
+pub use Rattle.link_laws.specs.machine.Machine.Role.{Bare, Clf, Uicc}
+pub use Rattle.link_laws.specs.machine.Machine.Turn.{FetchMessage, Give, Hold, Release, SetAside}
+pub use Rattle.link_laws.specs.messages.Links.{AllAllowed, AreOwn, AreSendableTurns, CanStart, Comes, EndEvent, Ending, IsAllowed, IsEvent, IsNode, IsOwn}
+pub use Rattle.link_laws.specs.messages.Links.{IsStart, IsUicc, Link, LinkEvent, Loss, Node, NumberedEnd, Talk, after_link_events, aged, all_at_controller}
+pub use Rattle.link_laws.specs.messages.Links.{becomes, exchanged, finished, happens, happens_at_controller, number_of, put, silent, steps_at_controller}
+pub use Rattle.link_laws.specs.messages.Links.{talk_now, talk_of, ticks_at_controller, with_ended}
+pub use Rattle.link_laws.specs.messages.Links.Comes.{AsksReset, NextFrame, NoInput, Starts, Stops}
+pub use Rattle.link_laws.specs.messages.Links.EndEvent.{Lose, Step, Step as EndStep}
 pub use Rattle.link_laws.specs.messages.Links.Ending.{CutOff, GoesOut}
 pub use Rattle.link_laws.specs.messages.Links.IsStart.{IsBare, IsLine}
 pub use Rattle.link_laws.specs.messages.Links.LinkEvent.{Activate, AtController, AtHost, Ticks, TicksWithout}
-pub use Rattle.link_laws.specs.messages.Projection.{core_all, core_event, core_events, core_here, core_of, core_take, core_tick, core_tick_rest, core_turns}
-pub use Rattle.link_laws.specs.messages.Rest.{after_steps, is_clear, link_rests}
-pub use Rattle.link_laws.specs.sessions.Losses.{is_act, sans}
-pub use Rattle.link_laws.specs.sessions.Sessions.{NumberedShdlc, OnWire, ShdlcLink, ShdlcTurn, fits, is_rset, shdlc_number_of, shdlc_put, shdlc_session_of}
-pub use Rattle.link_laws.specs.sessions.Sessions.{shdlc_turned, took_with}
-pub use Rattle.node_laws.proofs.Cases.{by_option, by_test}
+pub use Rattle.link_laws.specs.messages.Links.Loss.{Broken, TooMany, TooOld}
+pub use Rattle.link_laws.specs.messages.Projection.{core_all, core_ending, core_event, core_events, core_here, core_of, core_reset, core_restart, core_step}
+pub use Rattle.link_laws.specs.messages.Projection.{core_take, core_tick, core_tick_rest, core_turns, is_lost_tick}
+pub use Rattle.link_laws.specs.messages.Rest.{after_steps, is_clear, link_rests, steps_to_rest}
+pub use Rattle.link_laws.specs.sessions.Losses.{Losses, came_up, counts_first, is_act, is_up_with, loses_aged, no_losses, noted_aged, noted_all, noted_event}
+pub use Rattle.link_laws.specs.sessions.Losses.{noted_here, noted_loss, noted_out, noted_tick, noted_turns, overflows, sans}
+pub use Rattle.link_laws.specs.sessions.Sessions.{AllShdlcAllowed, AreTurns, AreTurns as CoreAreTurns, IsShdlcStart, IsTurn, NumberedShdlc}
+pub use Rattle.link_laws.specs.sessions.Sessions.{NumberedShdlc as CoreEnd, OnWire, ShdlcEndEvent, ShdlcEndEvent as CoreEndEvent, ShdlcLink}
+pub use Rattle.link_laws.specs.sessions.Sessions.{ShdlcLink as CoreLink, ShdlcLinkEvent, ShdlcLinkEvent as CoreLinkEvent, ShdlcTurn, ShdlcTurn as CoreTurn}
+pub use Rattle.link_laws.specs.sessions.Sessions.{act_frame, aged_wire, ended_session, fits, is_rset, is_up, shdlc_after, shdlc_after as core_after, shdlc_aged}
+pub use Rattle.link_laws.specs.sessions.Sessions.{shdlc_aged as core_aged, shdlc_all_at_controller, shdlc_all_at_controller as core_all_here, shdlc_becomes}
+pub use Rattle.link_laws.specs.sessions.Sessions.{shdlc_exchanged, shdlc_exchanged as core_exchanged, shdlc_happens, shdlc_happens as core_happens}
+pub use Rattle.link_laws.specs.sessions.Sessions.{shdlc_happens_at_controller, shdlc_happens_at_controller as core_happens_here, shdlc_number_of}
+pub use Rattle.link_laws.specs.sessions.Sessions.{shdlc_number_of as core_number_of, shdlc_put, shdlc_put_all, shdlc_session_of, shdlc_silent}
+pub use Rattle.link_laws.specs.sessions.Sessions.{shdlc_silent as core_silent, shdlc_ticks_at_controller, shdlc_ticks_at_controller as core_ticks_here}
+pub use Rattle.link_laws.specs.sessions.Sessions.{shdlc_turn, shdlc_turned, shdlc_turned as core_turned, start, start_down, ticks_if_waiting}
+pub use Rattle.link_laws.specs.sessions.Sessions.{ticks_if_waiting as core_ticks_if_waiting, ticks_or_cut, ticks_or_cut as core_ticks_or_cut, took_with}
+pub use Rattle.link_laws.specs.sessions.Sessions.{with_shdlc_ended}
+pub use Rattle.link_laws.specs.sessions.Sessions.ShdlcEndEvent.{Acts, Acts as CoreActs, Cut as CoreCut, Deliver as CoreDeliver, Ignore, Ignore as CoreIgnore}
+pub use Rattle.link_laws.specs.sessions.Sessions.ShdlcEndEvent.{Lose as CoreLose, Reset as CoreReset, Stop as CoreStop, Turns, Turns as CoreTurns}
+pub use Rattle.link_laws.specs.sessions.Sessions.ShdlcLinkEvent.{AtController as CoreAtController, AtHost as CoreAtHost, Tick as CoreTick, TickWithout}
+pub use Rattle.link_laws.specs.sessions.Sessions.ShdlcLinkEvent.{TickWithout as CoreTickWithout}
+pub use Rattle.node_laws.proofs.Cases.{by_list, by_option, by_test}
+pub use Rattle.node_laws.proofs.links.Worlds.{IsFineSite, so_host}
 pub use Rattle.node_laws.proofs.order.HostsStay.{hosts_stay_behind}
-pub use Rattle.node_laws.proofs.order.Lines.{host_number}
-pub use Rattle.node_laws.proofs.order.Watches.{AreUnstarted}
-pub use Rattle.node_laws.proofs.rounds.Allowing.{fine_there, rounds_allowed}
-pub use Rattle.node_laws.proofs.rounds.BareRounds.{after_causes, allowed-append}
-pub use Rattle.node_laws.proofs.rounds.LinkEvents.{takes_go, ticks_go}
+pub use Rattle.node_laws.proofs.order.Lines.{IsSo, history_so, host_number, next_so}
+pub use Rattle.node_laws.proofs.order.Quiet.{far_now, near_now, read_off, up_far, up_near}
+pub use Rattle.node_laws.proofs.order.Sessions.{are_read}
+pub use Rattle.node_laws.proofs.order.Strangers.{IsStrange, step_kept}
+pub use Rattle.node_laws.proofs.order.Watches.{AreUnstarted, no_cut}
+pub use Rattle.node_laws.proofs.order.Wires.{clear_unstarted, tick_unstarted}
+pub use Rattle.node_laws.proofs.reply_passes.Held.{desks_held, error_held, is_held_among, ports_held}
+pub use Rattle.node_laws.proofs.rounds.Allowing.{ends_allowed, fine_there, on_allowed, round_allowed, rounds_allowed, takes_allowed}
+pub use Rattle.node_laws.proofs.rounds.BareRounds.{after_causes, allowed-append, bare_round_allowed, map-replicate, take_one}
+pub use Rattle.node_laws.proofs.rounds.LinkEvents.{changed_site, site_map, takes_go, ticks_go, world_ticked}
 pub use Rattle.node_laws.proofs.rounds.RoundEvents.{ArePassing, all_go, ends_go, round_goes, rounds_go, takes_pass}
-pub use Rattle.node_laws.proofs.schedules.Ranges.{hosts_are}
-pub use Rattle.node_laws.proofs.telling.Lasting.{events_of_steps}
-pub use Rattle.node_laws.proofs.telling.Nodes.{site_host}
-pub use Rattle.node_laws.proofs.telling.Worlds.{site_is}
+pub use Rattle.node_laws.proofs.schedules.Ranges.{hosts_are, in_range, playable}
+pub use Rattle.node_laws.proofs.schedules.Wires.{IsFewWires, after_few, run_few}
+pub use Rattle.node_laws.proofs.telling.Accounts.{untold}
+pub use Rattle.node_laws.proofs.telling.Events.{comes_goes, entries-append, orderly_map}
+pub use Rattle.node_laws.proofs.telling.Lasting.{AllHold, AnyLine, all_lines, behind_lines, boots_may, events_of_steps, front_holds, lines_hold}
+pub use Rattle.node_laws.proofs.telling.Nodes.{controller_stands, controller_tells, given, link_is, site_host, stands, swapped}
+pub use Rattle.node_laws.proofs.telling.Orderly.{step_orderly}
+pub use Rattle.node_laws.proofs.telling.WorldTicks.{Ticking, between, between_far, host_turns, near_orderly, near_turns, tick_event, ticking}
+pub use Rattle.node_laws.proofs.telling.Worlds.{host_does_step, node_is, site_is}
 pub use Rattle.node_laws.specs.kept.Hosts.{AreHosts}
+pub use Rattle.node_laws.specs.links.Notices.{IsComing, IsOutside}
 pub use Rattle.node_laws.specs.links.Runs.{ArePlayable, new_line}
 pub use Rattle.node_laws.specs.order.Resets.{cuts_on}
-pub use Rattle.node_laws.specs.order.Told.{AreUpWith, IsLinkTold, IsReadOff}
+pub use Rattle.node_laws.specs.order.Told.{AreReadOff, AreSessionsRead, AreUpWith, IsLinkTold, IsReadOff, frames_on}
+pub use Rattle.node_laws.specs.passes.Passing.{is_held_at, lacking, waiting_at}
 pub use Rattle.node_laws.specs.rounds.BareRounds.{causes_of_round, causes_of_rounds, link_after_round}
-pub use Rattle.node_laws.specs.rounds.LinkEvents.{GoesOnLink, controller_takes, link_events_in, site_takes, tick_so}
+pub use Rattle.node_laws.specs.rounds.LinkEvents.{GoesOnLink, controller_takes, controller_tick_on, link_events_in, on_site, site_takes, site_ticks, tick_so}
+pub use Rattle.node_laws.specs.rounds.LinkEvents.{ticks_on}
 pub use Rattle.node_laws.specs.rounds.RoundEvents.{ends_events, events_on, round_events, rounds_events}
-pub use Rattle.node_laws.specs.rsets.Causes.{happened_in}
-pub use Rattle.node_laws.specs.telling.Telling.{IsOrderly, MayBoot, hosts_in, of_link, world_behind}
-pub use Rattle.node_machine.specs.Carrying.{changed_if}
-pub use Rattle.node_machine.specs.Node.{steps}
-pub use Rattle.node_machine.specs.Node.NodeInput.{AtEnd}
-pub use Rattle.node_machine.specs.Parts.{Running, Work}
-pub use Rattle.node_machine.specs.world.Lines.{Occurrence, all_happen, can_happen, frames_at, happenings}
-pub use Rattle.node_machine.specs.world.NodeHistories.{FollowsNodes, NodeHistory, entries_in, node_entries, occurrences_in, steps_from}
-pub use Rattle.node_machine.specs.world.Rounds.{end_takes_all, ends_in_order, ends_take_all, rounds_of_world, world_after_round, world_rests, world_round}
-pub use Rattle.node_machine.specs.world.Rounds.{world_rounds_to_settle, world_settling}
-pub use Rattle.node_machine.specs.world.World.{Happening, NodeWorld, Site, after_controller, all_aged, comes_to, controller_ticks, controller_work, end_c}
-pub use Rattle.node_machine.specs.world.World.{end_h, ending_of, host_work, input_of, link_to, new_world, node_of, runs_on, site_at, turns_at, world_step}
-pub use Rattle.node_machine.specs.world.World.Happening.{Takes}
-pub use Rattle.shdlc_core.specs.Machine.{EndState, Fragment, Session, expected, frames_of, is_waiting, most_frames, no_session, reset_with, stopped}
-pub use Rattle.shdlc_core.specs.Machine.{take_answer, taken, tick_answer, ticked}
+pub use Rattle.node_laws.specs.rsets.Causes.{happened_in, world_ticks_in}
+pub use Rattle.node_laws.specs.telling.Standing.{Standing, StandsOf, standing, standing_by_law}
+pub use Rattle.node_laws.specs.telling.Telling.{HasEnds, IfItRuns, IfOff, IsOrderly, MayBoot, TellOf, hosts_in, is_of, of_link, tells_of, world_behind}
+pub use Rattle.node_machine.proofs.world.Cases.{after_host_step, after_tick, boot_found, boot_written, by_boot, by_coming, by_controller, by_controller_tick}
+pub use Rattle.node_machine.proofs.world.Cases.{by_host, by_host_tick, by_loss, by_memory, by_power, by_running, host_tick, near_tick, site_lost, site_ticked}
+pub use Rattle.node_machine.proofs.world.Cases.{site_unticked}
+pub use Rattle.node_machine.specs.Carrying.{after_turn, all_done, changed_if, commit, done, end_of_node, notified, noting, port_at, turn_at, unless_cut}
+pub use Rattle.node_machine.specs.Carrying.{with_desk, with_port}
+pub use Rattle.node_machine.specs.Node.{NodeInput, after_sessions, all_come, all_owed, begins_with, boot_writes, forgets, forgotten, has_come, input_at}
+pub use Rattle.node_machine.specs.Node.{is_forgotten, is_late, is_over, reset_late, steps, synced, times_out, with_older, without_notice}
+pub use Rattle.node_machine.specs.Node.NodeInput.{AtEnd, TimePasses}
+pub use Rattle.node_machine.specs.Parts.{About, Deed, Desk, Port, Running, Work}
+pub use Rattle.node_machine.specs.world.Lines.{LineOutcome, Occurrence, all_happen, can_happen, frames_at, happenings, is_running, line_step, refusal_in}
+pub use Rattle.node_machine.specs.world.NodeHistories.{FollowsNodes, LineStep, NodeHistory, NoneIsMisread, entries_in, node_entries, occurrences_in}
+pub use Rattle.node_machine.specs.world.NodeHistories.{occurrences_of, steps_from, world_after}
+pub use Rattle.node_machine.specs.world.Rounds.{end_takes_all, ends_in_order, ends_take_all, rounds_of_world, sites_rest, world_after_round, world_rests}
+pub use Rattle.node_machine.specs.world.Rounds.{world_round, world_rounds_to_settle, world_settling}
+pub use Rattle.node_machine.specs.world.World.{Happening, NodeWorld, Site, after_controller, after_host, all_aged, arrival, beginning, boots, comes_at}
+pub use Rattle.node_machine.specs.world.World.{comes_to, controller_does, controller_ticks, controller_work, end_c, end_h, ending_of, frame_lost, host_cut}
+pub use Rattle.node_machine.specs.world.World.{host_does, host_ticks, host_work, hosts_tick, input_of, is_late_at, link_after_controller, link_to}
+pub use Rattle.node_machine.specs.world.World.{loses_power_at, memory_at, near_end_in, new_site, new_world, node_at, node_of, runs_on, sending, site_at}
+pub use Rattle.node_machine.specs.world.World.{ticked_so, turns_at, with_memory, with_node, with_site, work_of, world_step, world_ticks}
+pub use Rattle.node_machine.specs.world.World.Happening.{Activates, Arms, Boots, Gives, Inits, IsCut, Resets, Takes, Ticks as TimePassing}
+pub use Rattle.shdlc_core.proofs.Histories.{fragment_due-within}
+pub use Rattle.shdlc_core.specs.Machine.{EndState, Fragment, Session, Timed, acknowledged, after_frames, ahead, asked_again, control_due, expected, fetched}
+pub use Rattle.shdlc_core.specs.Machine.{fragment_due, frame_due, frames_of, given_up, is_waiting, most_frames, new_end, new_session, no_session, place_of}
+pub use Rattle.shdlc_core.specs.Machine.{put_out, received, reset_taken, reset_with, runs_timer, sent_again, sent_next, stopped, take_answer, taken}
+pub use Rattle.shdlc_core.specs.Machine.{tick_answer, ticked, timed, up_with, waiting_from, with_ready}
 pub use Rattle.shdlc_core.specs.declared.answers.Due.{Due}
+pub use Rattle.shdlc_core.specs.declared.answers.Due.TheVariants.{Rej as Rej_due, Rnr as Rnr_due, Rr as Rr_due, Rset as Rset_due, Ua as Ua_due}
 pub use Rattle.shdlc_core.specs.declared.answers.LinkState.{LinkState}
-pub use Rattle.shdlc_core.specs.declared.answers.LinkState.TheVariants.{Down, Up, Waiting}
-pub use Rattle.std.proofs.lemmas.Bool.{and_parts, eq-eqb, eqb-true, ne_eqb, true≢false}
-pub use Rattle.std.proofs.lemmas.List.{map-append}
+pub use Rattle.shdlc_core.specs.declared.answers.LinkState.TheVariants.{Down, Down as IsDown, Up, Up as IsUpNow, Waiting, Waiting as IsWaitingNow}
+pub use Rattle.std.proofs.Common.{Bool, List, None, Ok, Option, Some, [], ap, append-nil, append_assoc, ap₂, arith, cond, drop, false, flat_map, fold}
+pub use Rattle.std.proofs.Common.{if◌then◌else◌, inl, inr, is_some, le-leb, le-ltb, leb-true, length, length-append, length-take, length-take-le, lt-ltb}
+pub use Rattle.std.proofs.Common.{ltb-false, ltb-true, map, max, min, nat_le, nat_lt, not, refl, replicate, slice_get, subst, suc, sym, take, true, unwrap_or}
+pub use Rattle.std.proofs.Common.{zero, ℕ, ◌%◌, ◌&&◌, ◌*◌, ◌++◌, ◌+◌, ◌-◌, ◌/◌, ◌<◌, ◌==◌, ◌||◌, ◌∙◌, ◌∷◌, ◌≡◌, ◌≤◌, ◌⊎◌}
+pub use Rattle.std.proofs.Math.Seq.{drop-append_seam}
+pub use Rattle.std.proofs.lemmas.Bool.{and_parts, cases_eq, cases_lt, eq-eqb, eqb-true, ne_eqb, not-true, or_parts, true≢false}
+pub use Rattle.std.proofs.lemmas.List.{length-map, length-replicate, map-append, take-append-le}
 pub use Rattle.std.proofs.lemmas.List.Concat.{flat_map-append}
 pub use Rattle.std.proofs.lemmas.List.Folds.{list_any-append}
-pub use Rattle.std.specs.List.{AllByRecursion, list_any}
+pub use Rattle.std.specs.List.{AllByRecursion, cons_option, filter_map, list_any}
+pub use Rattle.std.specs.Option.{option_map_or}
+pub use Rattle.std.specs.Prelude.{option_to_list}
+pub use Rattle.swp_act.specs.Activation.{new_clf, new_uicc}
 pub use Rattle.swp_act.specs.declared.ActEvent.{ActEvent}
+pub use Rattle.swp_act.specs.declared.ActEvent.TheVariants.{Start as ActStart, Stop as ActStop, Take as ActTake, Tick as ActTick}
+pub use Rattle.swp_base.specs.declared.control_frames.Act.{Act as Activation}
 pub use Rattle.swp_base.specs.declared.control_frames.Control.{Control}
 pub use Rattle.swp_base.specs.declared.control_frames.Control.TheVariants.{Act, Clt, I, Rset, S, Ua}
 pub use Rattle.swp_base.specs.declared.control_frames.Kind.{Kind}
-pub use Rattle.swp_base.specs.declared.control_frames.Kind.TheVariants.{Rr, Srej}
-pub use Rattle.tap_reading.specs.Lpdus.{tapped_lpdus}
-pub use Rattle.tap_reading.specs.Tap.{TapSide, TapState, listed_at, reports_to, tap_hears, tap_tells}
-pub use Rattle.trace_model.specs.Lines.{IsHeader, IsLineOf, MayFollow}
+pub use Rattle.swp_base.specs.declared.control_frames.Kind.TheVariants.{Rej, Rnr, Rr, Srej}
+pub use Rattle.swp_base.specs.declared.link_terms.Cause.TheVariants.{Asked}
+pub use Rattle.swp_lpdu.specs.Controls.{control_of, i_frame, lpdu_of, lpdu_row, lpdu_row_of}
+pub use Rattle.tap_reading.specs.Lpdus.{frames_read, tapped_lpdus}
+pub use Rattle.tap_reading.specs.Tap.{TapReport, TapSide, TapState, adds, counted_at, is_in_session, listed_at, new_tap, news_behind, renumbered, reports_to}
+pub use Rattle.tap_reading.specs.Tap.{tap_after, tap_after_frame, tap_exchanged, tap_hears, tap_reports, tap_tells, tapped, tapped_from, tells_more, told_by}
+pub use Rattle.tap_reading.specs.Tap.{with_fragment, with_number}
+pub use Rattle.trace_model.specs.Lines.{IsEndOf, IsHeader, IsLineOf, IsNodeHeader, MayBegin, MayFollow}
 pub use Rattle.trace_model.specs.declared.entry.Entry.{Entry}
-pub use Rattle.trace_model.specs.declared.entry.Entry.TheVariants.{Emit, Took}
+pub use Rattle.trace_model.specs.declared.entry.Entry.TheVariants.{AnyOk, Booted, Echo, Emit, Head, Sent, Settled, Took}
 pub use Rattle.trace_model.specs.declared.line.End.{End}
 pub use Rattle.trace_model.specs.declared.line.Header.{Header}
 pub use Rattle.trace_model.specs.declared.line.Line.{Line}
-pub use Rattle.trace_model.specs.declared.line.Line.TheVariants.{Settle}
-pub use Rattle.world_laws.specs.entries.Hearing.{gots_noted, is_cut, lpdus_heard}
-pub use Rattle.world_laws.specs.fragments.Emitted.{AllKeepPower, HasItsTick, emitted_here, emitted_tick, emitted_turns, frames_by, got_here, got_turns}
-pub use Rattle.world_laws.specs.fragments.Emitted.{got_with, hears_all, sent_then, tells_all}
-pub use Rattle.world_laws.specs.histories.Tapping.{gots_on, lpdus_on}
-pub use Rattle.world_laws.specs.links.RoundCauses.{AreRoundCauses}
+pub use Rattle.trace_model.specs.declared.line.Line.TheVariants.{Busy, Deliver, Send, Settle}
+pub use Rattle.world_laws.specs.entries.Hearing.{frames_heard, gots_noted, is_bare, is_clf, is_cut, lpdus_heard}
+pub use Rattle.world_laws.specs.fragments.Emitted.{AllKeepPower, HasItsTick, KeepsPower, NoneIsCut, brought_by, emitted, emitted_event, emitted_here}
+pub use Rattle.world_laws.specs.fragments.Emitted.{emitted_if_waiting, emitted_tick, emitted_turns, frames_by, got, got_event, got_here, got_turns, got_with}
+pub use Rattle.world_laws.specs.fragments.Emitted.{hears_all, sent_then, tells_all}
+pub use Rattle.world_laws.specs.fragments.Knowing.{IsTrackedBy, StartsSo, ever_sent}
+pub use Rattle.world_laws.specs.histories.Tapping.{got_on, gots_on, lpdus_on, put_on}
+pub use Rattle.world_laws.specs.links.Resting.{IsEndQuiet, IsLinkQuiet, LinkBrought}
+pub use Rattle.world_laws.specs.links.RoundCauses.{AreRoundCauses, times_ticked}
 pub use Rattle.world_laws.specs.links.Settling.{rounds_to_settle, settling_causes, settling_events}
-pub use Rattle.world_laws.specs.worlds.Brought.{AreBothUpIn, BothBrought}
+pub use Rattle.world_laws.specs.worlds.Brought.{AreBothUpIn, BothBrought, HasBrought}
 pub use Rattle.world_laws.specs.worlds.LinkSettled.{LinkSettled}
-pub use Rattle.world_laws.specs.worlds.NotedFragments.{fragments_noted}
-pub use Rattle.world_laws.specs.worlds.Undisturbed.{AreBothReady, ArePoweredNotes, AreReadyThroughout, AreUnheldNotes, entries_since}
+pub use Rattle.world_laws.specs.worlds.NotedFragments.{fragments_noted, fragments_unacked}
+pub use Rattle.world_laws.specs.worlds.RoundCauses.{AllCanHappen, AreFewOnWires, AreOfRounds, CanTake, IsOfRound, IsTakeOrTick, world_round_causes}
+pub use Rattle.world_laws.specs.worlds.RoundCauses.{world_settling_causes}
+pub use Rattle.world_laws.specs.worlds.Undisturbed.{AreBothReady, AreLeftReady, ArePoweredNotes, AreReadyThroughout, AreUndisturbedNotes, AreUnheldNotes}
+pub use Rattle.world_laws.specs.worlds.Undisturbed.{busy_after, ends_on, entries_since, has_ended, is_held_on, is_left_busy}

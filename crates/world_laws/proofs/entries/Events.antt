@@ -1,33 +1,20 @@
 -- What is noted of each event of a link, and of a whole run, holds the frames that are sent then and the messages that come.
-use Rattle.std.proofs.Common.{◌≡◌, Bool, true, false, List, [], ◌∷◌, ◌++◌, map, Option, inl, inr, refl, ap, sym, subst, ◌∙◌, append_assoc}
-use Rattle.world_laws.proofs.Words.{Activate, AllAllowed, AllKeepPower, AtController, AtHost, Clf, Control, Controller, EndEvent, GoesOut, HasItsTick, Host}
-use Rattle.world_laws.proofs.Words.{IsAllowed, IsBare, IsEvent, IsLine, IsStart, Link, LinkEnd, LinkEvent, Node, NumberedEnd, SafeLink, Starts, Ticks}
-use Rattle.world_laws.proofs.Words.{TicksWithout, Uicc, aged, aged_entries, all_at_controller, core_all, core_event, core_events, core_here, core_of, core_tick}
-use Rattle.world_laws.proofs.Words.{core_tick_rest, emitted_here, emitted_tick, emitted_turns, entries, entries_of_events, event_entries, event_step, exchanged}
-use Rattle.world_laws.proofs.Words.{first_entries, frames_by, got_here, got_turns, gots_noted, happens, happens_at_controller, here_entries, lpdus_heard}
-use Rattle.world_laws.proofs.Words.{reports_to, rests_of, safe_aged, safe_turns, start_good, start_reached, tapped_lpdus, tick_entries, ticks_at_controller}
-use Rattle.link_laws.specs.sessions.Sessions.{ShdlcLink as CoreLink, ShdlcTurn as CoreTurn, ShdlcEndEvent as CoreEndEvent, ShdlcLinkEvent as CoreLinkEvent}
-use Rattle.link_laws.specs.sessions.Sessions.{shdlc_exchanged as core_exchanged, shdlc_happens as core_happens, shdlc_after as core_after}
-use Rattle.link_laws.specs.sessions.Sessions.{shdlc_happens_at_controller as core_happens_here, shdlc_all_at_controller as core_all_here}
-use Rattle.link_laws.specs.sessions.Sessions.{shdlc_aged as core_aged, ticks_or_cut as core_ticks_or_cut, ticks_if_waiting as core_ticks_if_waiting}
-use Rattle.link_laws.specs.sessions.Sessions.ShdlcLinkEvent.{AtController as CoreAtController, AtHost as CoreAtHost, Tick as CoreTick}
-use Rattle.link_laws.specs.sessions.Sessions.ShdlcLinkEvent.{TickWithout as CoreTickWithout}
-use Rattle.link_laws.proofs.sessions.Steps.{safe_exchanged, tick_or_cut, tick_if_waiting}
-use Rattle.link_laws.specs.machine.Machine.{Role}
-use Rattle.link_laws.specs.machine.Machine.Role.{Bare}
-use Rattle.link_laws.specs.messages.Links.{CanStart, IsUicc, IsNode}
-use Rattle.link_laws.specs.messages.Links.EndEvent.{Step as EndStep}
-use Rattle.link_laws.proofs.messages.Finishing.{step_tick, all_here-append}
-use Rattle.link_laws.proofs.messages.Runs.{Good, Reached, safe_reached, reached_more, from_host, from_controller, step_own, all_step, tells_same, seen}
-use Rattle.link_laws.proofs.messages.Runs.{rest_both, started_clf, clf_starts, can_start}
-use Rattle.link_laws.proofs.messages.Whole.{core_starts, allowed}
-use Rattle.link_laws.specs.entries.Entries.{Entry, trace}
+use Rattle.world_laws.proofs.Words.{Activate, AllAllowed, AllKeepPower, AtController, AtHost, Bare, Bool, CanStart, Control, Controller, CoreAtController}
+use Rattle.world_laws.proofs.Words.{CoreAtHost, CoreEndEvent, CoreLink, CoreLinkEvent, CoreTick, CoreTickWithout, CoreTurn, EndEvent, EndStep, GoesOut, Good}
+use Rattle.world_laws.proofs.Words.{HasItsTick, Host, IsAllowed, IsBare, IsEvent, IsLine, IsNode, IsStart, IsUicc, Link, LinkEnd, LinkEvent, List, Node}
+use Rattle.world_laws.proofs.Words.{NoneIsCut, NumberedEnd, Option, Reached, Role, SafeLink, Starts, StartsSo, Ticks, TicksWithout, [], aged, aged_entries}
+use Rattle.world_laws.proofs.Words.{all_at_controller, all_here-append, all_step, allowed, ap, append_assoc, can_start, clf_starts, core_after, core_aged}
+use Rattle.world_laws.proofs.Words.{core_all, core_all_here, core_event, core_events, core_exchanged, core_happens, core_happens_here, core_here, core_of}
+use Rattle.world_laws.proofs.Words.{core_starts, core_tick, core_tick_rest, core_ticks_if_waiting, core_ticks_or_cut, emitted, emitted_event, emitted_here}
+use Rattle.world_laws.proofs.Words.{emitted_if_waiting, emitted_tick, emitted_turns, entries, entries_of_events, event_entries, event_step, exchanged, false}
+use Rattle.world_laws.proofs.Words.{first_entries, frames_by, frames_heard, from_controller, from_host, got, got_event, got_here, got_turns, gots_noted}
+use Rattle.world_laws.proofs.Words.{happens, happens_at_controller, here_entries, inl, inr, is_bare, lpdus_heard, map, reached_more, refl, reports_to}
+use Rattle.world_laws.proofs.Words.{rest_both, rests_of, safe_aged, safe_exchanged, safe_reached, safe_turns, seen, start_good, start_reached, started_clf}
+use Rattle.world_laws.proofs.Words.{step_own, step_tick, subst, sym, tapped, tapped_lpdus, tells_same, tick_entries, tick_if_waiting, tick_or_cut}
+use Rattle.world_laws.proofs.Words.{ticks_at_controller, trace, true, ◌++◌, ◌∙◌, ◌∷◌, ◌≡◌}
+use Rattle.link_laws.specs.entries.Entries.{Entry}
 use Rattle.link_laws.specs.entries.Entries.Entry.{Tick}
-use Rattle.tap_reading.specs.Tap.{tapped}
-use Rattle.world_laws.specs.fragments.Emitted.{emitted_if_waiting, emitted_event, got_event, emitted, got, NoneIsCut}
-use Rattle.world_laws.specs.fragments.Knowing.{StartsSo}
 use Rattle.world_laws.proofs.fragments.Runs.{reported}
-use Rattle.world_laws.specs.entries.Hearing.{frames_heard, is_bare}
 use Rattle.world_laws.proofs.entries.Reading.{AreWritten, written-append, BothWritten, both-append, both_by, all_read}
 use Rattle.world_laws.proofs.entries.Noting.{Notes, notes_then, silent_none, silent_aged, NoCut, no_cut_parts, here_notes}
 use Rattle.world_laws.proofs.entries.Ticking.{turns-append, frames_by-append, reports_to-append, power-append, turns_bring_none, all_notes, TickNotes}
@@ -49,10 +36,9 @@ got_all-append c (e ∷ es) fs =
 
 none_cut-append : (es fs : List CoreLinkEvent) → NoneIsCut es → NoneIsCut fs → NoneIsCut (es ++ fs)
 none_cut-append [] fs a b = b
-none_cut-append (CoreAtController e ∷ es) fs a b = (a.0, none_cut-append es fs a.1 b)
-none_cut-append (CoreAtHost e ∷ es) fs a b = (a.0, none_cut-append es fs a.1 b)
 none_cut-append (CoreTick c turns h ∷ es) fs a b = (a.0, a.1, a.2, none_cut-append es fs a.3 b)
 none_cut-append (CoreTickWithout turns h ∷ es) fs a b = (a.0, a.1, none_cut-append es fs a.2 b)
+none_cut-append (_ ∷ es) fs a b = (a.0, none_cut-append es fs a.1 b)
 
 -- what happens at one end
 emitted_here_all : (es : List CoreEndEvent) (c : CoreLink) → emitted c (map CoreAtController es) ≡ frames_by true (emitted_turns c es)
@@ -415,8 +401,7 @@ starts_so l IsLine = inr (λ u. cc)
 
 first_silent : (r : Role) → Notes (first_entries r) [] []
 first_silent Bare = record { frames = refl; gots = refl }
-first_silent (Clf s) = silent_none
-first_silent (Uicc s) = silent_none
+first_silent _ = silent_none
 
 -- a new tap over all frames of a run reports what was got
 pub tap_reports : (l : Link) → IsStart l → (events : List LinkEvent) → AllAllowed l events → NoCut (trace l events)

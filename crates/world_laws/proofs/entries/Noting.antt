@@ -1,32 +1,22 @@
 -- What is noted of a step holds the frames that it sends and the messages that it brings, as they are over fragments.
-use Rattle.std.proofs.Common.{◌≡◌, ℕ, Bool, true, false, cond, List, [], ◌∷◌, ◌++◌, length, map, Option, Some, None, refl, ap, sym, subst, ◌∙◌, append-nil}
-use Rattle.std.specs.Prelude.{is_some, option_to_list, nat_lt, ◌||◌}
-use Rattle.world_laws.proofs.Words.{Acked, Act, ActEvent, Active, AllKeepPower, AreSendableTurns, AsksReset, Comes, Control, Cut, CutOff, EndEvent, Ending}
-use Rattle.world_laws.proofs.Words.{GaveUp, Give, GoesOut, Got, IsAllowed, Link, LinkEnd, LinkInput, Lose, Loss, Lost, Message, NextFrame, NoInput, NumberedEnd}
-use Rattle.world_laws.proofs.Words.{OnWire, Reset, Starts, Step, Take, Tells, Turn, activated, after_input, aged_entries, by_option, by_test, core_here}
-use Rattle.world_laws.proofs.Words.{core_of, core_take, core_turns, emitted_turns, ended_by, far, first_lost, frames_by, frames_out, give_refusal, got_turns}
-use Rattle.world_laws.proofs.Words.{gots_noted, here_entries, if_so, is_cut, is_open, left_after, list_any, moved, number_of, pushed_out, put, put_entries}
-use Rattle.world_laws.proofs.Words.{puts_entries, report, reports_to, reset_by, reset_refusal, rest_entries, step_entries, stopped, taken_entries, told_of}
-use Rattle.world_laws.proofs.Words.{took_with, turn, turn_entries, turned, whole_acked, window_of, wire_with, with_ended}
-use Rattle.std.proofs.lemmas.Bool.{or_parts}
-use Rattle.swp_act.specs.declared.ActEvent.TheVariants.{Start as ActStart, Stop as ActStop}
-use Rattle.link_laws.specs.sessions.Sessions.{ShdlcEndEvent as CoreEndEvent, shdlc_happens_at_controller as core_happens_here}
-use Rattle.link_laws.specs.sessions.Sessions.ShdlcEndEvent.{Turns as CoreTurns, Deliver as CoreDeliver, Reset as CoreReset}
-use Rattle.link_laws.specs.machine.Machine.{Refused, Report, got_by, started, deactivated}
-use Rattle.link_laws.specs.machine.Machine.LinkInput.{Start, Stop}
-use Rattle.link_laws.specs.messages.Links.{silent, IsOwn}
-use Rattle.link_laws.specs.messages.Links.Comes.{Stops}
-use Rattle.link_laws.specs.messages.Links.Loss.{TooMany, TooOld}
-use Rattle.link_laws.specs.messages.Projection.{core_step, core_reset, core_restart, core_ending}
+use Rattle.std.specs.Prelude.{is_some, nat_lt, ◌||◌}
+use Rattle.world_laws.proofs.Words.{Acked, Act, ActEvent, ActStart, ActStop, Active, AllKeepPower, AreSendableTurns, AsksReset, Bool, Comes, ComesFirst}
+use Rattle.world_laws.proofs.Words.{Control, CoreDeliver, CoreEndEvent, CoreReset, CoreTurns, Cut, CutOff, EndEvent, Ending, FromHost, GaveUp, Give, GoesOut}
+use Rattle.world_laws.proofs.Words.{Got, IsAllowed, IsOwn, Link, LinkEnd, LinkInput, List, Lose, Loss, Lost, Message, NextFrame, NoInput, None, NumberedEnd}
+use Rattle.world_laws.proofs.Words.{OnWire, Option, Report, Reset, Rests, Some, Start, Starts, Step, Stop, Stops, Take, TapReport, Tells, TooMany, TooOld, Turn}
+use Rattle.world_laws.proofs.Words.{[], activated, after_input, aged_entries, ap, append-nil, by_list, by_option, by_test, cond, core_ending, core_first}
+use Rattle.world_laws.proofs.Words.{core_happens_here, core_here, core_of, core_reset, core_restart, core_step, core_take, core_turns, deactivated}
+use Rattle.world_laws.proofs.Words.{emitted_turns, ended_by, false, far, first_lost, frames_by, frames_heard, frames_out, give_refusal, got_by, got_turns}
+use Rattle.world_laws.proofs.Words.{gots_noted, here_entries, if_so, is_clf, is_cut, is_open, left_after, length, list_any, map, moved, number_of}
+use Rattle.world_laws.proofs.Words.{option_to_list, or_parts, pushed_out, put, put_entries, puts_entries, refl, report, reports_to, reset_by, reset_refusal}
+use Rattle.world_laws.proofs.Words.{rest_entries, restart_entries, silent, started, step_entries, stopped, subst, sym, taken_entries, told, told_of, took_with}
+use Rattle.world_laws.proofs.Words.{true, turn, turn_entries, turn_entry, turned, whole_acked, window_of, wire_with, with_ended, ℕ, ◌++◌, ◌∙◌, ◌∷◌, ◌≡◌}
+use Rattle.link_laws.specs.machine.Machine.{Refused}
 use Rattle.link_laws.proofs.messages.ActsInOrder.{LinkInOrder, IsPolite, polite_of}
-use Rattle.link_laws.proofs.messages.Steps.{Rests, ComesFirst, FromHost, core_first}
-use Rattle.link_laws.specs.entries.Entries.{End, Entry, told, turn_entry, restart_entries}
+use Rattle.link_laws.specs.entries.Entries.{End, Entry}
 use Rattle.link_laws.specs.entries.Entries.Entry.{Up, Down, Emit}
-use Rattle.tap_reading.specs.Tap.{TapReport}
-use Rattle.world_laws.specs.entries.Hearing.{is_clf, frames_heard}
 use Rattle.world_laws.proofs.entries.Reading.{AreWritten}
 use Rattle.world_laws.proofs.entries.Sending.{numbered, got_now, Sends, take_sends, idle_sends, reset_sends, restart_sends}
-use Rattle.node_laws.proofs.Cases.{by_list}
 
 -- ## Entries
 
@@ -332,7 +322,4 @@ pub here_notes : (who : End) (l : Link) (e : EndEvent) → IsAllowed l e → Rea
     → StepNotes who l (core_here l e) (here_entries who l e)
 here_notes who l (Lose why) a b q = record { notes = silent_first who why l.to_controller; power = (tt, tt); written = tt }
 here_notes who l (Step NextFrame ts ending) a b q = frame_notes who l ts ending a.1.0 b q
-here_notes who l (Step (AsksReset window) ts ending) a b q = own_notes who l (AsksReset window) ts ending tt a.1.0 b.tells q
-here_notes who l (Step (Starts v) ts ending) a b q = own_notes who l (Starts v) ts ending tt a.1.0 b.tells q
-here_notes who l (Step Stops ts ending) a b q = own_notes who l Stops ts ending tt a.1.0 b.tells q
-here_notes who l (Step NoInput ts ending) a b q = own_notes who l NoInput ts ending tt a.1.0 b.tells q
+here_notes who l (Step comes ts ending) a b q = own_notes who l comes ts ending tt a.1.0 b.tells q

@@ -1,20 +1,11 @@
 -- Each frame that an end puts on a link is read again from its LPDU.
-use Rattle.std.proofs.Common.{◌≡◌, ℕ, zero, suc, ◌+◌, ◌*◌, ◌/◌, ◌%◌, ◌-◌, ◌<◌, ◌≤◌, Bool, true, false, List, [], ◌∷◌, ◌++◌, length, map, drop, Option, Some}
-use Rattle.std.proofs.Common.{None, refl, ap, sym, subst, ◌∙◌, arith, nat_le, nat_lt, slice_get, Ok, le-leb, le-ltb, length-take}
-use Rattle.world_laws.proofs.Words.{Act, Control, Due, EndState, Fragment, I, LinkEnd, Message, Rr, S, Srej, by_option, expected, frames_by, frames_now}
-use Rattle.world_laws.proofs.Words.{frames_of, frames_out, most_frames}
-use Rattle.swp_base.specs.declared.control_frames.Kind.TheVariants.{Rej, Rnr}
-use Rattle.swp_base.specs.declared.control_frames.Act.{Act as Activation}
+use Rattle.world_laws.proofs.Words.{Act, Activation, Bool, Control, Due, EndState, Fragment, I, LinkEnd, List, Message, Mid, None, Ok, Option, Rej, Rnr, Rr}
+use Rattle.world_laws.proofs.Words.{Rset_due, S, Some, Srej, Ua_due, [], among, among_now, ap, arith, by_option, control_due, control_of, drop, due_now}
+use Rattle.world_laws.proofs.Words.{expected, false, fetch_cases, fetched, fragment_due-within, fragments_of, frame_due, frames_by, frames_now, frames_of}
+use Rattle.world_laws.proofs.Words.{frames_out, frames_read, i_frame, le-leb, le-ltb, length, length-take, lpdu_of, lpdu_row, lpdu_row_of, map, most_frames}
+use Rattle.world_laws.proofs.Words.{nat_le, nat_lt, packet_bytes, packet_count, packets_of, parts_of, refl, slice_get, subst, suc, sym, true, zero, ℕ, ◌%◌, ◌*◌}
+use Rattle.world_laws.proofs.Words.{◌++◌, ◌+◌, ◌-◌, ◌/◌, ◌<◌, ◌∙◌, ◌∷◌, ◌≡◌, ◌≤◌}
 use Rattle.swp_base.specs.declared.control_frames.Act.TheVariants.{Ready, SyncId, PowerMode}
-use Rattle.shdlc_core.specs.declared.answers.Due.TheVariants.{Rset as Rset_due, Ua as Ua_due}
-use Rattle.shdlc_core.specs.Machine.{fetched, frame_due, control_due}
-use Rattle.shdlc_core.proofs.Histories.{fragment_due-within}
-use Rattle.link_laws.proofs.places.Joined.{fetch_cases}
-use Rattle.hcp_packet.specs.Packets.{packets_of, parts_of, packet_bytes, packet_count, fragments_of}
-use Rattle.swp_lpdu.specs.Controls.{control_of, lpdu_of, lpdu_row_of, lpdu_row, i_frame}
-use Rattle.link_laws.specs.machine.Machine.{among}
-use Rattle.link_laws.proofs.messages.Project.{Mid, due_now, among_now}
-use Rattle.tap_reading.specs.Lpdus.{frames_read}
 
 -- numbers below 8, and from 1 to 29 bytes in an I frame
 abbrev pub IsWritten : Control → Type 0

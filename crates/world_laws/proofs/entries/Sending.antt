@@ -1,29 +1,15 @@
 -- What an end puts on the link in a step, and what it gets, over messages and over fragments.
-use Rattle.std.proofs.Common.{◌≡◌, ℕ, zero, suc, ◌+◌, Bool, true, false, not, List, [], ◌∷◌, ◌++◌, length, map, drop, Option, Some, None, ◌⊎◌, inl, inr, refl}
-use Rattle.std.proofs.Common.{ap, sym, subst, ◌∙◌, append-nil, is_some, option_to_list, ◌==◌}
-use Rattle.world_laws.proofs.Words.{Act, ActEvent, AreSendableTurns, Clt, Control, EndState, Fragment, I, Link, LinkEnd, LinkState, Message, Now, OnWire, Rset}
-use Rattle.world_laws.proofs.Words.{S, Take, Tells, Turn, Ua, act_answer, activated, by_test, core_of, core_take, core_turns, emitted_here, emitted_turns}
-use Rattle.world_laws.proofs.Words.{frames_now, frames_out, good_of, got_here, got_turns, got_with, is_act, is_open, is_rset, mid_moved, moved, number_of}
-use Rattle.world_laws.proofs.Words.{opened, reset_by, reset_refusal, reset_with, sent_then, stopped, take_answer, taken, took, took_with, true≢false, turned}
-use Rattle.world_laws.proofs.Words.{turns_mid}
-use Rattle.swp_base.specs.declared.control_frames.Act.{Act as Activation}
-use Rattle.swp_base.specs.declared.link_terms.Cause.TheVariants.{Asked}
-use Rattle.swp_act.specs.declared.ActEvent.TheVariants.{Take as ActTake}
-use Rattle.shdlc_core.specs.declared.answers.LinkState.TheVariants.{Down as IsDown, Waiting as IsWaitingNow, Up as IsUpNow}
-use Rattle.link_laws.specs.sessions.Sessions.{ShdlcLink as CoreLink, ShdlcTurn as CoreTurn, ShdlcEndEvent as CoreEndEvent, shdlc_turned as core_turned}
-use Rattle.link_laws.specs.sessions.Sessions.{shdlc_number_of as core_number_of, shdlc_silent as core_silent}
-use Rattle.link_laws.specs.sessions.Sessions.ShdlcEndEvent.{Turns as CoreTurns, Deliver as CoreDeliver, Ignore as CoreIgnore, Acts as CoreActs}
-use Rattle.link_laws.specs.sessions.Sessions.ShdlcEndEvent.{Lose as CoreLose, Reset as CoreReset, Stop as CoreStop}
-use Rattle.link_laws.proofs.sessions.Wire.{IsData}
-use Rattle.link_laws.proofs.sessions.Steps.{passes}
-use Rattle.hcp_packet.specs.Packets.{packets_in}
-use Rattle.hcp_chain.specs.Joining.{are_taken, given_by}
-use Rattle.link_laws.specs.machine.Machine.{role_after, is_faulty, messages_got, news, got_by, if_up}
-use Rattle.link_laws.proofs.machine.Reports.{shdlc_is as shdlc_moved}
-use Rattle.link_laws.proofs.messages.Steps.{ComesFirst, Heard, is_shdlc, heard_end, heard_is, counted_is, mid_counted, took_open, took_closed, no_fault_first}
-use Rattle.link_laws.proofs.messages.Steps.{polite, role_closes, act_mid}
-use Rattle.link_laws.proofs.messages.Finishing.{reset_tells, reset_keeps, restart_mid}
-use Rattle.world_laws.specs.fragments.Emitted.{brought_by}
+use Rattle.std.proofs.Common.{option_to_list}
+use Rattle.world_laws.proofs.Words.{Act, ActEvent, ActTake, Activation, AreSendableTurns, Asked, Bool, Clt, ComesFirst, Control, CoreActs, CoreDeliver}
+use Rattle.world_laws.proofs.Words.{CoreEndEvent, CoreIgnore, CoreLink, CoreLose, CoreReset, CoreStop, CoreTurn, CoreTurns, EndState, Fragment, Heard, IsData}
+use Rattle.world_laws.proofs.Words.{IsDown, IsUpNow, IsWaitingNow, Link, LinkEnd, LinkState, List, Message, None, Now, OnWire, Option, Rset, Some, Take, Tells}
+use Rattle.world_laws.proofs.Words.{Turn, Ua, [], act_answer, act_mid, activated, ap, append-nil, are_taken, brought_by, by_test, core_number_of, core_of}
+use Rattle.world_laws.proofs.Words.{core_silent, core_take, core_turned, core_turns, counted_is, drop, emitted_here, emitted_turns, false, frames_now}
+use Rattle.world_laws.proofs.Words.{frames_out, given_by, good_of, got_by, got_here, got_turns, got_with, heard_end, heard_is, if_up, inl, inr, is_act}
+use Rattle.world_laws.proofs.Words.{is_faulty, is_open, is_rset, is_shdlc, is_some, length, map, messages_got, mid_counted, mid_moved, moved, news}
+use Rattle.world_laws.proofs.Words.{no_fault_first, not, number_of, opened, packets_in, passes, polite, refl, reset_by, reset_keeps, reset_refusal, reset_tells}
+use Rattle.world_laws.proofs.Words.{reset_with, restart_mid, role_after, role_closes, sent_then, shdlc_moved, stopped, subst, suc, sym, take_answer, taken}
+use Rattle.world_laws.proofs.Words.{took, took_closed, took_open, took_with, true, true≢false, turned, turns_mid, zero, ℕ, ◌++◌, ◌+◌, ◌==◌, ◌∙◌, ◌∷◌, ◌≡◌, ◌⊎◌}
 use Rattle.world_laws.proofs.entries.Reading.{AreWritten, out_is, out_written}
 use Rattle.world_laws.proofs.fragments.Taking.{Accepted, takes_data, accepts_none}
 
@@ -101,20 +87,14 @@ news_is e c sound = kinds c sound
 
         by : (p : LinkState) → e.phase ≡ p → news e.session (taken e c) ≡ brought e.session.acc (take_answer e c).accepted
         by IsUpNow p = by_answer (take_answer e c).accepted refl (takes_data e c p d)
-        by IsWaitingNow p =
-            let no_up : e.phase ≡ IsUpNow → ⊥ = λ u. let z = sym p ∙ u in cc in
-            quiet c (inl (ap (λ (s : EndState). s.session.acc) (passes e c d no_up).0)) (accepts_none e c no_up)
-        by IsDown p =
+        by _ p =
             let no_up : e.phase ≡ IsUpNow → ⊥ = λ u. let z = sym p ∙ u in cc in
             quiet c (inl (ap (λ (s : EndState). s.session.acc) (passes e c d no_up).0)) (accepts_none e c no_up)
 
     kinds : (c : Control) → is_faulty (taken e c).session ≡ false → news e.session (taken e c) ≡ brought e.session.acc (take_answer e c).accepted
-    kinds (I ns nr info) sound = joined (I ns nr info) tt sound
-    kinds (S k nr) sound = joined (S k nr) tt sound
-    kinds (Act a b) sound = joined (Act a b) tt sound
-    kinds Clt sound = joined Clt tt sound
     kinds (Rset w x) sound = let h = handshake e (Rset w x) (λ d. d) in quiet (Rset w x) h.0 h.1
     kinds Ua sound = let h = handshake e Ua (λ d. d) in quiet Ua h.0 h.1
+    kinds c sound = joined c tt sound
 
 -- ## A frame is taken
 

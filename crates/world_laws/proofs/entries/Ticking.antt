@@ -1,30 +1,17 @@
 -- What is noted of a tick, and of what a node does in it, holds the frames that are sent then.
-use Rattle.std.proofs.Common.{◌≡◌, ℕ, Bool, true, false, List, [], ◌∷◌, ◌++◌, Option, Some, None, refl, ap, sym, subst, ◌∙◌, append-nil, append_assoc}
-use Rattle.std.specs.Prelude.{is_some, option_to_list}
-use Rattle.world_laws.proofs.Words.{AllKeepPower, AreSendableTurns, Control, CutOff, EndEvent, EndState, Ending, GoesOut, HasItsTick, IsAllowed, Link, LinkEnd}
-use Rattle.world_laws.proofs.Words.{Lose, Node, Now, SafeLink, Step, Tells, Turn, act_answer, activated, after_input, by_test, core_all, core_here, core_of}
-use Rattle.world_laws.proofs.Words.{core_tick, core_tick_rest, core_turns, emitted_here, emitted_tick, emitted_turns, ended_by, entries_of_events, frames_by}
-use Rattle.world_laws.proofs.Words.{frames_now, frames_of, frames_out, got_here, got_turns, happens_at_controller, here_entries, is_open, map-append, mid_moved}
-use Rattle.world_laws.proofs.Words.{most_frames, moved, opened, reports_to, rest_entries, rests_of, safe_turns, sent_then, tick_answer, tick_entries, ticked}
-use Rattle.world_laws.proofs.Words.{told_of, true≢false, turned, turns_mid, with_ended}
-use Rattle.swp_base.specs.declared.control_frames.Act.{Act as Activation}
-use Rattle.swp_act.specs.declared.ActEvent.TheVariants.{Tick as ActTick}
-use Rattle.shdlc_core.specs.declared.answers.LinkState.TheVariants.{Down as IsDown}
-use Rattle.link_laws.specs.sessions.Sessions.{ShdlcLink as CoreLink, ShdlcTurn as CoreTurn, ShdlcEndEvent as CoreEndEvent, shdlc_turned as core_turned}
-use Rattle.link_laws.specs.sessions.Sessions.{ticks_or_cut as core_ticks_or_cut, shdlc_ticks_at_controller as core_ticks_here}
-use Rattle.link_laws.specs.sessions.Sessions.{shdlc_happens_at_controller as core_happens_here, shdlc_all_at_controller as core_all_here}
-use Rattle.link_laws.specs.sessions.Sessions.{AreTurns as CoreAreTurns}
-use Rattle.link_laws.specs.sessions.Sessions.ShdlcEndEvent.{Turns, Acts as CoreActs, Reset, Cut, Stop}
-use Rattle.link_laws.specs.machine.Machine.LinkInput.{Tick as HasTick}
-use Rattle.link_laws.proofs.machine.Reports.{shdlc_is as shdlc_moved}
-use Rattle.link_laws.specs.messages.Links.{IsOwn, AreOwn}
-use Rattle.link_laws.proofs.messages.Ends.{ticked_keeps}
-use Rattle.link_laws.proofs.messages.Project.{Mid}
-use Rattle.link_laws.proofs.messages.Steps.{Rests, act_mid, tick_closes}
-use Rattle.link_laws.proofs.messages.Finishing.{tick_open, tick_closed, tick_role, core_tick_rests, rests}
-use Rattle.link_laws.proofs.messages.Runs.{own_here, own_turns}
+use Rattle.std.specs.Prelude.{is_some}
+use Rattle.world_laws.proofs.Words.{ActTick, Activation, AllKeepPower, AreOwn, AreSendableTurns, Bool, Control, CoreActs, CoreAreTurns, CoreEndEvent, CoreLink}
+use Rattle.world_laws.proofs.Words.{CoreTurn, CutOff, EndEvent, EndState, Ending, GoesOut, HasItsTick, HasTick, IsAllowed, IsDown, IsOwn, Link, LinkEnd, List}
+use Rattle.world_laws.proofs.Words.{Lose, Mid, Node, None, Now, Option, Rests, SafeLink, Some, Step, Tells, Turn, Turns, [], act_answer, act_mid, activated}
+use Rattle.world_laws.proofs.Words.{after_input, ap, append-nil, append_assoc, by_test, core_all, core_all_here, core_happens_here, core_here, core_of}
+use Rattle.world_laws.proofs.Words.{core_tick, core_tick_rest, core_tick_rests, core_ticks_here, core_ticks_or_cut, core_turned, core_turns, emitted_here}
+use Rattle.world_laws.proofs.Words.{emitted_tick, emitted_turns, ended_by, entries_of_events, false, frames_by, frames_now, frames_of, frames_out, got_here}
+use Rattle.world_laws.proofs.Words.{got_turns, happens_at_controller, here_entries, is_clf, is_open, map-append, mid_moved, most_frames, moved, opened}
+use Rattle.world_laws.proofs.Words.{option_to_list, own_here, own_turns, refl, reports_to, rest_entries, rests, rests_of, safe_turns, sent_then, shdlc_moved}
+use Rattle.world_laws.proofs.Words.{subst, sym, tick_answer, tick_closed, tick_closes, tick_entries, tick_open, tick_role, ticked, ticked_keeps, told_of, true}
+use Rattle.world_laws.proofs.Words.{true≢false, turned, turns_mid, with_ended, ℕ, ◌++◌, ◌∙◌, ◌∷◌, ◌≡◌}
+use Rattle.link_laws.specs.sessions.Sessions.ShdlcEndEvent.{Reset, Cut, Stop}
 use Rattle.link_laws.specs.entries.Entries.{End, Entry}
-use Rattle.world_laws.specs.entries.Hearing.{is_clf}
 use Rattle.world_laws.proofs.entries.Reading.{AreWritten, written-append, out_is, out_written}
 use Rattle.world_laws.proofs.entries.Noting.{Notes, notes_then, notes_input, NoCut, no_cut_parts, cut_noted, StepNotes, own_notes}
 

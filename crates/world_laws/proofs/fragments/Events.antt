@@ -1,20 +1,15 @@
 -- What the tap knows after whatever happens at the controller's end.
-use Rattle.std.proofs.Common.{◌≡◌, ℕ, ◌+◌, ◌≤◌, Bool, true, false, List, [], ◌∷◌, ◌++◌, Some, None, ◌⊎◌, inl, inr, refl, ap, sym, subst, ◌∙◌, arith, length}
-use Rattle.std.proofs.Common.{map, drop, nat_lt, is_some, ltb-false}
-use Rattle.swp_base.specs.declared.control_frames.Act.{Act as Activation}
-use Rattle.world_laws.proofs.Words.{Act, Below, Control, Down, EndState, Fragment, LinkState, NumberedShdlc, OnWire, Rset, SafeLink, Session, ShdlcLink}
-use Rattle.world_laws.proofs.Words.{ShdlcTurn, TapState, Up, Waiting, by_test, emitted_here, emitted_tick, frames_of, got_here, hears_all, is_act, is_rset}
-use Rattle.world_laws.proofs.Words.{most_frames, no_session, of_up, reset_with, sans, sent_then, shdlc_number_of, shdlc_put, shdlc_session_of, shdlc_turned}
-use Rattle.world_laws.proofs.Words.{stopped, take_answer, taken, tap_hears, tells_all, tick_answer, ticked, took_with}
-use Rattle.shdlc_core.specs.declared.answers.Due.TheVariants.{Rset as Rset_due}
-use Rattle.shdlc_core.specs.Machine.{waiting_from, runs_timer, sent_again, asked_again, given_up}
-use Rattle.link_laws.specs.sessions.Sessions.{shdlc_put_all, shdlc_becomes, with_shdlc_ended, is_up, act_frame, ShdlcEndEvent, IsTurn, shdlc_silent}
-use Rattle.link_laws.specs.sessions.Sessions.{shdlc_happens_at_controller, shdlc_ticks_at_controller}
-use Rattle.link_laws.specs.sessions.Sessions.ShdlcEndEvent.{Turns, Deliver, Ignore, Acts, Lose, Reset, Cut, Stop}
-use Rattle.link_laws.proofs.sessions.Hand.{NothingIsOut, idle_out, nothing_out}
-use Rattle.link_laws.proofs.sessions.Safe.{Safe}
-use Rattle.link_laws.proofs.sessions.Steps.{took, took_other, passes_act, act_not_rset, counts}
-use Rattle.world_laws.specs.fragments.Emitted.{KeepsPower}
+use Rattle.world_laws.proofs.Words.{Act, Activation, Acts, Below, Bool, Control, Down, EndState, Fragment, Ignore, IsTurn, KeepsPower, LinkState, List, None}
+use Rattle.world_laws.proofs.Words.{NothingIsOut, NumberedShdlc, OnWire, Rset, Rset_due, Safe, SafeLink, Session, ShdlcEndEvent, ShdlcLink, ShdlcTurn, Some}
+use Rattle.world_laws.proofs.Words.{TapState, Turns, Up, Waiting, [], act_frame, act_not_rset, ap, arith, asked_again, by_test, counts, drop, emitted_here}
+use Rattle.world_laws.proofs.Words.{emitted_tick, false, frames_of, given_up, got_here, hears_all, idle_out, inl, inr, is_act, is_rset, is_some, is_up, length}
+use Rattle.world_laws.proofs.Words.{ltb-false, map, most_frames, nat_lt, no_session, nothing_out, of_up, passes_act, refl, reset_with, runs_timer, sans}
+use Rattle.world_laws.proofs.Words.{sent_again, sent_then, shdlc_becomes, shdlc_happens_at_controller, shdlc_number_of, shdlc_put, shdlc_put_all}
+use Rattle.world_laws.proofs.Words.{shdlc_session_of, shdlc_silent, shdlc_ticks_at_controller, shdlc_turned, stopped, subst, sym, take_answer, taken, tap_hears}
+use Rattle.world_laws.proofs.Words.{tells_all, tick_answer, ticked, took_other, took_with, true, waiting_from, with_shdlc_ended, ℕ, ◌++◌, ◌+◌, ◌∙◌, ◌∷◌, ◌≡◌}
+use Rattle.world_laws.proofs.Words.{◌≤◌, ◌⊎◌}
+use Rattle.link_laws.specs.sessions.Sessions.ShdlcEndEvent.{Deliver, Lose, Reset, Cut, Stop}
+use Rattle.link_laws.proofs.sessions.Steps.{took}
 use Rattle.world_laws.proofs.fragments.Wires.{NoUa, no_ua-drop, no_ua-rest, no_ua-from}
 use Rattle.world_laws.proofs.fragments.Sides.{ever_sent, Tracks, Knows, KnowsLink, Alike, alike_end, alike_none, Becomes, tracks_on, tracks_far}
 use Rattle.world_laws.proofs.fragments.Frames.{CanSend, can_send, knows_wire}

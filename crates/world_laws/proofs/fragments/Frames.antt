@@ -1,14 +1,11 @@
 -- What the tap knows after a frame of an end.
-use Rattle.std.proofs.Common.{◌≡◌, ℕ, zero, suc, ◌+◌, ◌%◌, ◌<◌, ◌≤◌, ◌==◌, Bool, true, false, cond, List, [], ◌∷◌, ◌++◌, Some, ◌⊎◌, inl, inr, refl, ap, sym}
-use Rattle.std.proofs.Common.{subst, ◌∙◌, arith, length, max, take, nat_lt, slice_get, length-take-le}
-use Rattle.world_laws.proofs.Words.{Down, Fragment, I, Kind, NumberedShdlc, OnWire, S, Session, TapSide, TapState, Up, eq-eqb, expected, fits, listed_at}
-use Rattle.world_laws.proofs.Words.{ne_eqb, no_session, of_up, shdlc_number_of, shdlc_session_of, tap_hears, tap_tells}
-use Rattle.std.proofs.lemmas.Bool.{cases_eq, lt-ltb}
+use Rattle.std.proofs.lemmas.Bool.{lt-ltb}
 use Rattle.std.proofs.lemmas.Option.{slice_get_within}
-use Rattle.shdlc_core.specs.Machine.{sent_next, fragment_due}
-use Rattle.shdlc_core.proofs.Histories.{fragment_due-within}
-use Rattle.link_laws.proofs.sessions.Data.{Base}
-use Rattle.tap_reading.specs.Tap.{counted_at, adds, with_fragment, tells_more, with_number, is_in_session, told_by}
+use Rattle.world_laws.proofs.Words.{Base, Bool, Down, Fragment, I, Kind, List, NumberedShdlc, OnWire, S, Session, Some, TapSide, TapState, Up, [], adds, ap}
+use Rattle.world_laws.proofs.Words.{arith, cases_eq, cond, counted_at, eq-eqb, expected, false, fits, fragment_due, fragment_due-within, inl, inr}
+use Rattle.world_laws.proofs.Words.{is_in_session, length, length-take-le, listed_at, max, nat_lt, ne_eqb, no_session, of_up, refl, sent_next, shdlc_number_of}
+use Rattle.world_laws.proofs.Words.{shdlc_session_of, slice_get, subst, suc, sym, take, tap_hears, tap_tells, tells_more, told_by, true, with_fragment}
+use Rattle.world_laws.proofs.Words.{with_number, zero, ℕ, ◌%◌, ◌++◌, ◌+◌, ◌<◌, ◌==◌, ◌∙◌, ◌∷◌, ◌≡◌, ◌≤◌, ◌⊎◌}
 use Rattle.world_laws.proofs.fragments.Wires.{is_ua, NoUa, no_ua-push, no_ua-fits}
 use Rattle.world_laws.proofs.fragments.Sides.{ever_sent, Tracks, Knows, session_above, tracks_far}
 

@@ -1,17 +1,13 @@
 -- An end has its turns, and then all that is due goes out: what the tap knows then.
-use Rattle.std.proofs.Common.{◌≡◌, ℕ, zero, suc, ◌+◌, ◌%◌, ◌≤◌, Bool, false, List, [], ◌∷◌, ◌++◌, Some, None, refl, ap, sym}
-use Rattle.std.proofs.Common.{subst, ◌∙◌, arith, length, length-append, append_assoc, append-nil, map}
-use Rattle.world_laws.proofs.Words.{Control, Down, Due, EndState, Fragment, I, Kind, LinkState, NumberedShdlc, OnWire, Rr, S, SafeLink, Session, ShdlcLink}
-use Rattle.world_laws.proofs.Words.{ShdlcTurn, TapState, Up, Waiting, by_option, expected, frames_of, hears_all, map-append, most_frames, no_session, of_up}
-use Rattle.world_laws.proofs.Words.{shdlc_number_of, shdlc_put, shdlc_turned, tap_hears, tap_tells, tells_all}
-use Rattle.std.proofs.lemmas.List.{take-append-le}
-use Rattle.shdlc_core.specs.declared.answers.Due.TheVariants.{Rr as Rr_due}
-use Rattle.shdlc_core.specs.Machine.{sent_next, fetched, frame_due, fragment_due, control_due, after_frames, put_out}
+use Rattle.world_laws.proofs.Words.{Bool, Control, Due, EndState, Fragment, I, Kind, LinkState, List, None, NumberedShdlc, OnWire, Rr, Rr_due, S, SafeLink}
+use Rattle.world_laws.proofs.Words.{Session, ShdlcLink, ShdlcTurn, Some, TapState, Up, [], after_frames, ap, append-nil, append_assoc, arith, at_most_one}
+use Rattle.world_laws.proofs.Words.{by_option, changed, control_due, controls, controls_same, expected, false, fetch_cases, fetched, fragment_due, frame_due}
+use Rattle.world_laws.proofs.Words.{frames_in_order, frames_of, hears_all, length, length-append, map, map-append, most_frames, no_session, of_up, phase_known}
+use Rattle.world_laws.proofs.Words.{put_all-append, put_out, ready_by, refl, room, sent_next, shdlc_becomes, shdlc_number_of, shdlc_put, shdlc_put_all}
+use Rattle.world_laws.proofs.Words.{shdlc_turn, shdlc_turned, subst, suc, sym, take-append-le, tap_hears, tap_tells, tells_all, zero, ℕ, ◌%◌, ◌++◌, ◌+◌, ◌∙◌}
+use Rattle.world_laws.proofs.Words.{◌∷◌, ◌≡◌, ◌≤◌}
 use Rattle.link_laws.proofs.places.Idle.{fetched_idle, after_frames_idle}
-use Rattle.link_laws.proofs.places.Joined.{fetch_cases, changed}
-use Rattle.link_laws.specs.sessions.Sessions.{shdlc_put_all, shdlc_becomes, shdlc_turn}
 use Rattle.link_laws.specs.sessions.Sessions.ShdlcTurn.{Offer, SetReady}
-use Rattle.link_laws.proofs.sessions.Sending.{ready_by, phase_known, controls, room, controls_same, put_all-append, frames_in_order, at_most_one}
 use Rattle.world_laws.proofs.fragments.Sides.{Knows, KnowsLink, SameLists, Alike, alike_update, alike_none, tracks_on, tracks_far}
 use Rattle.world_laws.proofs.fragments.Frames.{can_send, Goes, goes_fragment, answer_says, knows_wire}
 
@@ -41,8 +37,7 @@ alike_side n q phase same = go n.side.phase refl
 
     go : (p : LinkState) → n.side.phase ≡ p → Alike n (record n { side = q })
     go Up e = alike_update n (record n { side = q }) e (phase ∙ e) refl refl same
-    go Waiting e = down Waiting e (λ u. cc)
-    go Down e = down Down e (λ u. cc)
+    go p e = down p e (λ u. cc)
 
 pub knows_side : {bare : Bool} {t : TapState} {n f : NumberedShdlc} {to_n to_f : List OnWire} {r : ℕ} (q : EndState) → q.phase ≡ n.side.phase
     → SameLists q.session n.side.session → Knows bare t n f to_n to_f r → Knows bare t (record n { side = q }) f to_n to_f r
@@ -133,8 +128,7 @@ each bare t l e c is due g =
 
         go : (p : LinkState) → e.phase ≡ p → e.phase ≡ Up
         go Up p = p
-        go Waiting p = absurd (absent (λ u. let z = sym p ∙ u in cc))
-        go Down p = absurd (absent (λ u. let z = sym p ∙ u in cc))
+        go _ p = absurd (absent (λ u. let z = sym p ∙ u in cc))
 
     one : (info : Fragment) → fragment_due e.session ≡ Some info
         → Each bare t l (I (e.session.next % 8) (expected e.session) info) (record e { session = sent_next e.session })
@@ -180,8 +174,7 @@ turn_waits bare t l e told (Offer fragments) h = go e.phase refl
 
     go : (p : LinkState) → e.phase ≡ p → P (shdlc_turn e (Offer fragments))
     go Up p = let is : shdlc_turn e (Offer fragments) ≡ put_out e fragments = rw p refl in subst P (sym is) (up p)
-    go Waiting p = let is : shdlc_turn e (Offer fragments) ≡ e = rw p refl in subst P (sym is) h
-    go Down p = let is : shdlc_turn e (Offer fragments) ≡ e = rw p refl in subst P (sym is) h
+    go _ p = let is : shdlc_turn e (Offer fragments) ≡ e = rw p refl in subst P (sym is) h
 turn_waits bare t l e told (SetReady r) h =
     ready_by (λ f. TapPending bare t l f told) e r (phase_known e.phase) h.goes.none h
     (let same = controls_same e (changed e r e.due) e.due refl refl in

@@ -1,19 +1,16 @@
 -- The tap hears all frames of every run of a link over fragments: it knows both ends, and tells what they got.
-use Rattle.std.proofs.Common.{◌≡◌, ℕ, ◌≤◌, Bool, true, false, List, [], ◌∷◌, ◌++◌, Option, Some, None, ◌⊎◌, inl, inr, refl, ap, sym, subst, ◌∙◌}
-use Rattle.std.proofs.Common.{append_assoc, arith}
-use Rattle.world_laws.proofs.Words.{AllKeepPower, Control, HasItsTick, NumberedShdlc, OnWire, SafeLink, ShdlcLink, ShdlcTurn, TapSide, TapState, Up, by_test}
-use Rattle.world_laws.proofs.Words.{emitted_here, emitted_tick, emitted_turns, frames_by, got_here, hears_all, is_waiting, listed_at, map-append, reports_to}
-use Rattle.world_laws.proofs.Words.{safe_aged, safe_turns, tap_hears, tap_tells, tells_all}
-use Rattle.link_laws.specs.sessions.Sessions.{IsShdlcStart, shdlc_exchanged, ShdlcEndEvent, shdlc_happens_at_controller, shdlc_aged, ShdlcLinkEvent, AreTurns}
-use Rattle.link_laws.specs.sessions.Sessions.{start, start_down, shdlc_all_at_controller, ticks_or_cut, ticks_if_waiting, AllShdlcAllowed, shdlc_happens}
-use Rattle.link_laws.specs.sessions.Sessions.{shdlc_after, aged_wire}
+use Rattle.world_laws.proofs.Words.{AllKeepPower, AllShdlcAllowed, AreTurns, Bool, Control, HasItsTick, IsShdlcStart, IsTrackedBy, List, None, NoneIsCut}
+use Rattle.world_laws.proofs.Words.{NumberedShdlc, OnWire, Option, SafeLink, ShdlcEndEvent, ShdlcLink, ShdlcLinkEvent, ShdlcTurn, Some, StartsSo, TapReport}
+use Rattle.world_laws.proofs.Words.{TapSide, TapState, TickWithout, Up, [], aged_wire, ap, append_assoc, arith, by_test, emitted, emitted_event, emitted_here}
+use Rattle.world_laws.proofs.Words.{emitted_if_waiting, emitted_tick, emitted_turns, ever_sent, false, frames_by, got, got_event, got_here, hears_all, inl, inr}
+use Rattle.world_laws.proofs.Words.{is_waiting, listed_at, map-append, new_tap, refl, reports_to, safe_aged, safe_event, safe_exchanged, safe_start, safe_turn}
+use Rattle.world_laws.proofs.Words.{safe_turns, shdlc_after, shdlc_aged, shdlc_all_at_controller, shdlc_exchanged, shdlc_happens, shdlc_happens_at_controller}
+use Rattle.world_laws.proofs.Words.{start, start_down, subst, sym, tap_after, tap_after_frame, tap_exchanged, tap_hears, tap_reports, tap_tells, tapped}
+use Rattle.world_laws.proofs.Words.{tapped_from, tells_all, tick_if_waiting, tick_or_cut, ticks_if_waiting, ticks_or_cut, true, ℕ, ◌++◌, ◌∙◌, ◌∷◌, ◌≡◌, ◌≤◌}
+use Rattle.world_laws.proofs.Words.{◌⊎◌}
 use Rattle.link_laws.specs.sessions.Sessions.IsShdlcStart.{BothUp, BothDown}
-use Rattle.link_laws.specs.sessions.Sessions.ShdlcLinkEvent.{AtController, AtHost, Tick, TickWithout}
-use Rattle.link_laws.proofs.sessions.Steps.{safe_turn, safe_exchanged, tick_or_cut, tick_if_waiting, safe_event, safe_start}
-use Rattle.tap_reading.specs.Tap.{TapReport, new_tap, tap_exchanged, tap_after_frame, tap_reports, tap_after, tapped_from, tapped}
-use Rattle.world_laws.specs.fragments.Emitted.{emitted_if_waiting, emitted_event, got_event, emitted, got, NoneIsCut}
+use Rattle.link_laws.specs.sessions.Sessions.ShdlcLinkEvent.{AtController, AtHost, Tick}
 use Rattle.world_laws.proofs.fragments.Wires.{NoUa, no_ua-aged}
-use Rattle.world_laws.specs.fragments.Knowing.{StartsSo, IsTrackedBy, ever_sent}
 use Rattle.world_laws.proofs.fragments.Sides.{Tracks, Knows, KnowsLink, tracks_on}
 use Rattle.world_laws.proofs.fragments.Frames.{count_up, session_now}
 use Rattle.world_laws.proofs.fragments.Going.{hears_all-append, tells_all-append}

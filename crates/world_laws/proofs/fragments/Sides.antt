@@ -1,12 +1,9 @@
 -- What a tap that has heard all frames of a link so far knows of its two ends.
-use Rattle.std.proofs.Common.{◌≡◌, ℕ, ◌+◌, ◌<◌, ◌≤◌, ◌==◌, Bool, true, false, List, ◌∷◌, ◌⊎◌, inl, inr, refl, ap, sym, ◌∙◌, arith, length}
-use Rattle.world_laws.proofs.Words.{Below, Down, Fragment, LinkState, NumberedShdlc, OnWire, Session, ShdlcLink, TapSide, TapState, Up, Waiting, listed_at}
-use Rattle.world_laws.proofs.Words.{ne_eqb, no_session, none_ended, of_up, shdlc_number_of, shdlc_session_of}
-use Rattle.shdlc_core.specs.Machine.{new_session}
-use Rattle.link_laws.specs.sessions.Sessions.{ended_session}
-use Rattle.link_laws.proofs.sessions.Data.{of_update, of_end, of_none, of_begin}
-pub use Rattle.world_laws.specs.fragments.Knowing.{ever_sent}
+use Rattle.world_laws.proofs.Words.{Below, Bool, Down, Fragment, LinkState, List, NumberedShdlc, OnWire, Session, ShdlcLink, TapSide, TapState, Up, ap, arith}
+use Rattle.world_laws.proofs.Words.{ended_session, false, inl, inr, length, listed_at, ne_eqb, new_session, no_session, none_ended, of_begin, of_end, of_none}
+use Rattle.world_laws.proofs.Words.{of_up, of_update, refl, shdlc_number_of, shdlc_session_of, sym, true, ℕ, ◌+◌, ◌<◌, ◌==◌, ◌∙◌, ◌∷◌, ◌≡◌, ◌≤◌, ◌⊎◌}
 use Rattle.world_laws.proofs.fragments.Wires.{NoUa}
+pub use Rattle.world_laws.specs.fragments.Knowing.{ever_sent}
 
 -- What the tap knows of the end n with what it has of its side s, and f and t are those of the other side.
 pub record Tracks (bare : Bool) (s t : TapSide) (n f : NumberedShdlc) (to_n : List OnWire) : Type 0 where
@@ -46,8 +43,7 @@ session_ended h down k = go h.side.phase refl
   where
     go : (p : LinkState) → h.side.phase ≡ p → shdlc_session_of h k ≡ ended_session h.past k
     go Up q = absurd (down q)
-    go Waiting q = rw q refl
-    go Down q = rw q refl
+    go _ q = rw q refl
 
 -- the session of an end at a number that it doesn't have
 pub session_other : (h : NumberedShdlc) (k : ℕ) → (k ≡ shdlc_number_of h → ⊥) → shdlc_session_of h k ≡ ended_session h.past k
@@ -55,8 +51,7 @@ session_other h k other = go h.side.phase refl
   where
     go : (p : LinkState) → h.side.phase ≡ p → shdlc_session_of h k ≡ ended_session h.past k
     go Up q = let e : (k == shdlc_number_of h) ≡ false = ne_eqb k (shdlc_number_of h) other in rw (q, e) refl
-    go Waiting q = rw q refl
-    go Down q = rw q refl
+    go _ q = rw q refl
 
 -- an end has no session with a number above the number of its side
 pub session_above : (h : NumberedShdlc) (m k : ℕ) → Below (m + 1) h.past → shdlc_number_of h < k → m < k → shdlc_session_of h k ≡ no_session

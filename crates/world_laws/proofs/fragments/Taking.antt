@@ -1,22 +1,16 @@
 -- The controller's end takes a frame: what the tap knows once the answers went out, and what they told.
-use Rattle.std.proofs.Common.{◌≡◌, ℕ, ◌+◌, ◌<◌, ◌≤◌, ◌==◌, Bool, true, false, List, [], ◌∷◌, ◌++◌, Option, Some, None, ◌⊎◌, inl, inr, refl, ap, sym, subst, ◌∙◌}
-use Rattle.std.proofs.Common.{arith, max, min, nat_lt, is_some}
-use Rattle.world_laws.proofs.Words.{Act, Below, Clt, Control, Down, Due, EndState, Fragment, I, Kind, LinkState, NumberedShdlc, OnWire, Rr, Rset, S, Session}
-use Rattle.world_laws.proofs.Words.{ShdlcLink, ShdlcTurn, Srej, TapState, Ua, Up, Waiting, by_option, by_test, expected, fits, got_with, hears_all, ne_eqb}
-use Rattle.world_laws.proofs.Words.{no_session, none_ended, sans, sent_then, shdlc_number_of, shdlc_put, shdlc_session_of, shdlc_turned, take_answer, taken}
-use Rattle.world_laws.proofs.Words.{tap_hears, tells_all, took_with}
-use Rattle.swp_base.specs.declared.control_frames.Kind.TheVariants.{Rej, Rnr}
-use Rattle.shdlc_core.specs.declared.answers.Due.TheVariants.{Rr as Rr_due, Rej as Rej_due, Rnr as Rnr_due, Rset as Rset_due, Ua as Ua_due}
-use Rattle.shdlc_core.specs.Machine.{new_session, place_of, ahead, up_with}
-use Rattle.link_laws.specs.sessions.Sessions.{ended_session, with_shdlc_ended}
-use Rattle.link_laws.proofs.sessions.Wire.{IsData, rsets, live}
-use Rattle.link_laws.proofs.sessions.Hand.{peer_of, IsRset, rset_told, ua_told, ahead_not_waiting}
-use Rattle.link_laws.proofs.sessions.Data.{below_more, IsAnswer, TakenUp, taken_up}
-use Rattle.link_laws.proofs.sessions.Safe.{Safe, session_with, pair_from, frame_cases}
-use Rattle.link_laws.proofs.sessions.Steps.{took, took_other, not_rset, passes}
+use Rattle.world_laws.proofs.Words.{Act, Below, Bool, Clt, Control, Down, Due, EndState, Fragment, I, IsAnswer, IsData, IsRset, Kind, LinkState, List, None}
+use Rattle.world_laws.proofs.Words.{NumberedShdlc, OnWire, Option, Rej, Rej_due, Rnr, Rnr_due, Rr, Rr_due, Rset, Rset_due, S, Safe, Session, ShdlcLink}
+use Rattle.world_laws.proofs.Words.{ShdlcTurn, Some, Srej, TakenUp, TapState, Ua, Ua_due, Up, Waiting, [], ahead, ahead_not_waiting, ap, arith, below_more}
+use Rattle.world_laws.proofs.Words.{by_option, by_test, ended_session, expected, false, fits, frame_cases, got_with, hears_all, inl, inr, is_some, live, max}
+use Rattle.world_laws.proofs.Words.{min, nat_lt, ne_eqb, new_session, no_session, none_ended, not_rset, pair_from, passes, peer_of, place_of, refl, rset_told}
+use Rattle.world_laws.proofs.Words.{rsets, sans, sent_then, session_with, shdlc_number_of, shdlc_put, shdlc_session_of, shdlc_turned, subst, sym, take_answer}
+use Rattle.world_laws.proofs.Words.{taken, taken_up, tap_hears, tells_all, took_other, took_with, true, ua_told, up_with, with_shdlc_ended, ℕ, ◌++◌, ◌+◌, ◌<◌}
+use Rattle.world_laws.proofs.Words.{◌==◌, ◌∙◌, ◌∷◌, ◌≡◌, ◌≤◌, ◌⊎◌}
+use Rattle.link_laws.proofs.sessions.Steps.{took}
 use Rattle.world_laws.proofs.fragments.Wires.{NoUa, no_ua-rest}
-use Rattle.world_laws.proofs.fragments.Sides.{ever_sent, Knows, KnowsLink, Alike, alike_end, alike_none, alike_begin, alike_then, Becomes}
-use Rattle.world_laws.proofs.fragments.Sides.{tracks_on, tracks_far}
+use Rattle.world_laws.proofs.fragments.Sides.{ever_sent, Knows, KnowsLink, Alike, alike_end, alike_none, alike_begin, alike_then, Becomes, tracks_on}
+use Rattle.world_laws.proofs.fragments.Sides.{tracks_far}
 use Rattle.world_laws.proofs.fragments.Frames.{CanSend, can_send, still_no_ua}
 use Rattle.world_laws.proofs.fragments.Turning.{Answers, knows_ua, Accepts, knows_accepted}
 use Rattle.world_laws.proofs.fragments.Going.{GoesAt, knows_side, goes_answer, Went, went_none, went_one}
@@ -57,10 +51,9 @@ takes_S e k nr up = go k (place_of e.session nr) refl
 pub takes_data : (e : EndState) (c : Control) → e.phase ≡ Up → IsData c → Accepted (take_answer e c).accepted e (taken e c)
 takes_data e (I ns nr info) up d = takes_I e ns nr info up
 takes_data e (S k nr) up d = takes_S e k nr up
-takes_data e (Rset w c) up d = absurd d
-takes_data e Ua up d = absurd d
 takes_data e (Act a b) up d = rw up (record { acc = refl; out = refl; reached = refl })
 takes_data e Clt up d = rw up (record { acc = refl; out = refl; reached = refl })
+takes_data e _ up d = absurd d
 
 -- an end that isn't Up accepts nothing
 pub accepts_none : (e : EndState) (c : Control) → (e.phase ≡ Up → ⊥) → (take_answer e c).accepted ≡ None
@@ -288,10 +281,6 @@ takes_heard bare t ts l x xs s h = go (frame_cases x) e.phase refl
 
     go : IsData x.frame ⊎ (IsRset x ⊎ (x.frame ≡ Ua)) → (p : LinkState) → e.phase ≡ p → Goal
     go (inl d) Up p = session p d
-    go (inl d) Waiting p = passed d (λ u. let g = sym p ∙ u in cc)
-    go (inl d) Down p = passed d (λ u. let g = sym p ∙ u in cc)
-    go (inr (inr q)) Up p = absurd (no_ua q (λ w. let g = sym p ∙ w in cc))
-    go (inr (inr q)) Down p = absurd (no_ua q (λ w. let g = sym p ∙ w in cc))
     go (inr (inr q)) Waiting p =
         let w : ℕ = min e.own_window e.peer_window in
         let b : EndState = up_with e w in
@@ -326,6 +315,8 @@ takes_heard bare t ts l x xs s h = go (frame_cases x) e.phase refl
         by : x.frame ≡ Ua → NoUa (x ∷ xs) ⊎ (n.emitted ≤ t.uicc.number) → n.emitted ≤ t.uicc.number
         by q (inl z) = absurd (let y : true ≡ false = rw q at z in cc)
         by q (inr z) = z
+    go (inl d) _ p = passed d (λ u. let g = sym p ∙ u in cc)
+    go (inr (inr q)) _ p = absurd (no_ua q (λ w. let g = sym p ∙ w in cc))
     go (inr (inl q)) Waiting p =
         let b : EndState = record e { due = Ua_due ∷ []; peer_window = min q.window 4 } in
         let v : EndState = record e { due = []; peer_window = min q.window 4 } in

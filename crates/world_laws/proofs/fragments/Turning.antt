@@ -1,14 +1,10 @@
 -- What the tap knows after an RSET or a UA of an end, and after the answer to a fragment that was accepted.
-use Rattle.std.proofs.Common.{◌≡◌, ℕ, zero, suc, ◌+◌, ◌%◌, ◌<◌, ◌≤◌, ◌==◌, Bool, true, false, cond, List, [], ◌∷◌, ◌++◌, Some, ◌⊎◌, inl, inr, refl, ap, sym}
-use Rattle.std.proofs.Common.{subst, ◌∙◌, arith, length, max, map, drop, length-append, append_assoc, take, nat_lt, ltb-true, ltb-false, lt-ltb, length-take-le}
-use Rattle.world_laws.proofs.Words.{Below, Down, Fragment, NumberedShdlc, OnWire, Rr, Rset, S, Session, TapSide, TapState, Ua, Up, Waiting, by_test, eq-eqb}
-use Rattle.world_laws.proofs.Words.{expected, fits, good_of, got_with, listed_at, no_session, none_ended, of_up, shdlc_number_of, shdlc_session_of, tap_hears}
-use Rattle.world_laws.proofs.Words.{tap_tells}
-use Rattle.hcp_packet.specs.Packets.{packets_in}
-use Rattle.hcp_chain.specs.Joining.{are_taken, given_by}
-use Rattle.link_laws.proofs.sessions.Data.{Base, below_more, of_update}
-use Rattle.tap_reading.specs.Tap.{renumbered, tells_more, with_number, is_in_session, news_behind, told_by}
-use Rattle.world_laws.specs.fragments.Emitted.{brought_by}
+use Rattle.world_laws.proofs.Words.{Base, Below, Bool, Down, Fragment, List, NumberedShdlc, OnWire, Rr, Rset, S, Session, Some, TapSide, TapState, Ua, Up}
+use Rattle.world_laws.proofs.Words.{Waiting, [], ap, append_assoc, are_taken, arith, below_more, brought_by, by_test, cond, drop, eq-eqb, expected, false, fits}
+use Rattle.world_laws.proofs.Words.{given_by, good_of, got_with, inl, inr, is_in_session, length, length-append, length-take-le, listed_at, lt-ltb, ltb-false}
+use Rattle.world_laws.proofs.Words.{ltb-true, map, max, nat_lt, news_behind, no_session, none_ended, of_up, of_update, packets_in, refl, renumbered}
+use Rattle.world_laws.proofs.Words.{shdlc_number_of, shdlc_session_of, subst, suc, sym, take, tap_hears, tap_tells, tells_more, told_by, true, with_number}
+use Rattle.world_laws.proofs.Words.{zero, ℕ, ◌%◌, ◌++◌, ◌+◌, ◌<◌, ◌==◌, ◌∙◌, ◌∷◌, ◌≡◌, ◌≤◌, ◌⊎◌}
 use Rattle.world_laws.proofs.fragments.Wires.{is_ua, NoUa}
 use Rattle.world_laws.proofs.fragments.Sides.{ever_sent, Tracks, Knows, session_ended, session_above, Alike, tracks_far, tracks_renumbered}
 use Rattle.world_laws.proofs.fragments.Frames.{still_no_ua, count_up, in_session, session_now}

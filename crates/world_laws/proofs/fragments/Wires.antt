@@ -1,9 +1,6 @@
 -- Whether a UA stands on a wire.
-use Rattle.std.proofs.Common.{◌≡◌, Bool, true, false, List, [], ◌∷◌, ◌++◌, refl, ap, drop, nat_lt, ◌||◌, length}
-use Rattle.std.proofs.lemmas.Bool.{or_parts}
-use Rattle.world_laws.proofs.Words.{Control, OnWire, Ua, by_test, fits, sans}
-use Rattle.link_laws.specs.sessions.Sessions.{aged_wire}
-use Rattle.link_laws.proofs.sessions.Wire.{uas}
+use Rattle.world_laws.proofs.Words.{Bool, Control, List, OnWire, Ua, [], aged_wire, ap, by_test, drop, false, fits, length, nat_lt, or_parts, refl, sans, true}
+use Rattle.world_laws.proofs.Words.{uas, ◌++◌, ◌||◌, ◌∷◌, ◌≡◌}
 
 abbrev pub is_ua : Control → Bool
 is_ua Ua = true

@@ -1,13 +1,9 @@
 -- What a tap reports over a history of a bare link.
-use Rattle.std.proofs.Common.{◌≡◌, ℕ, ◌==◌, true, false, List, [], ◌∷◌, ◌++◌, refl, ap, sym, subst, ◌∙◌}
-use Rattle.world_laws.proofs.Words.{AllByRecursion, Controller, Cut, Event, Follows, Got, Header, History, Host, IsBare, IsLineOf, Line, Restarted, all_events}
-use Rattle.world_laws.proofs.Words.{bare_link, causes_of, entries_for, entries_of, eq-eqb, gots_noted, gots_on, host_of, is_cut, is_run, link_events, list_any}
-use Rattle.world_laws.proofs.Words.{lpdus_heard, lpdus_on, notes_of, of_allowed, plain_trace, run_entries, tapped_lpdus}
-use Rattle.swp_lpdu.specs.Controls.{lpdu_of}
-use Rattle.link_laws.specs.entries.Entries.{Entry as Noted}
+use Rattle.world_laws.proofs.Words.{AllByRecursion, AreOf, ArePlain, Controller, Cut, Event, Follows, Got, Header, History, Host, IsBare, IsLineOf, Line, List}
+use Rattle.world_laws.proofs.Words.{Noted, Restarted, [], all_events, ap, bare_link, causes_of, entries_for, entries_of, eq-eqb, false, gots_noted, gots_on}
+use Rattle.world_laws.proofs.Words.{host_of, is_cut, is_run, link_events, list_any, lpdu_of, lpdus_heard, lpdus_on, notes_of, of_allowed, of_front, plain_trace}
+use Rattle.world_laws.proofs.Words.{refl, run_entries, subst, sym, tapped_lpdus, true, ℕ, ◌++◌, ◌==◌, ◌∙◌, ◌∷◌, ◌≡◌}
 use Rattle.link_laws.specs.entries.Entries.Entry.{Emit}
-use Rattle.history.proofs.legal.Runs.{AreOf, of_front}
-use Rattle.history.proofs.legal.Plain.{ArePlain}
 use Rattle.world_laws.proofs.entries.Events.{tap_reports_lpdus}
 
 pub lpdus_same : (h : ℕ) (t : List Noted) → lpdus_on h (entries_for h t) ≡ lpdus_heard t

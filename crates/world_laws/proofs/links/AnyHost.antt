@@ -1,10 +1,8 @@
 -- The rounds of a bare link are the same whatever number its host has.
-use Rattle.std.proofs.Common.{◌≡◌, ℕ, zero, suc, cond, List, [], ◌∷◌, ◌++◌, map, refl, ap, sym, ◌∙◌, length, replicate}
-use Rattle.world_laws.proofs.Words.{AtHost, Cause, Controller, FetchMessage, GoesOut, Host, Link, LinkEvent, NextFrame, Step, Taken, Ticked, after_causes}
-use Rattle.world_laws.proofs.Words.{after_link_events, causes_of_round, causes_of_rounds, end_of, event_of, link_after_all, link_after_round, link_rests}
-use Rattle.world_laws.proofs.Words.{map-append, rounds_to_settle, settling_events}
-use Rattle.link_laws.specs.messages.Rest.{steps_to_rest}
-use Rattle.node_laws.proofs.rounds.BareRounds.{map-replicate}
+use Rattle.world_laws.proofs.Words.{AtHost, Cause, Controller, FetchMessage, GoesOut, Host, Link, LinkEvent, List, NextFrame, Step, Taken, Ticked, []}
+use Rattle.world_laws.proofs.Words.{after_causes, after_link_events, ap, causes_of_round, causes_of_rounds, cond, end_of, event_of, length, link_after_all}
+use Rattle.world_laws.proofs.Words.{link_after_round, link_rests, map, map-append, map-replicate, refl, replicate, rounds_to_settle, settling_events}
+use Rattle.world_laws.proofs.Words.{steps_to_rest, suc, sym, zero, ℕ, ◌++◌, ◌∙◌, ◌∷◌, ◌≡◌}
 use Rattle.world_laws.proofs.links.RoundCauses.{near, far}
 
 -- what is the same on the link leads to the same one

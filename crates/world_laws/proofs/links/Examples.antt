@@ -1,10 +1,8 @@
 -- Worked examples of bare worlds that settle, computed from their definitions: the rounds, and what is noted of them.
-use Rattle.std.proofs.Common.{◌≡◌, refl, ℕ, List, [], ◌∷◌, None}
-use Rattle.world_laws.proofs.Words.{Controller, Emit, End, Entry, Host, Line, Link, Took, bare_link, end_of, entries_of, events_at, rounds_to_settle}
-use Rattle.world_laws.proofs.Words.{settling_causes}
+use Rattle.world_laws.proofs.Words.{Busy, Controller, Deliver, Emit, End, Entry, Host, Line, Link, List, None, Send, Took, [], bare_link, end_of, entries_of}
+use Rattle.world_laws.proofs.Words.{events_at, link_after_lines, refl, rounds_to_settle, settling_causes, ℕ, ◌∷◌, ◌≡◌}
 use Rattle.trace_model.specs.declared.entry.Entry.TheVariants.{Acked}
-use Rattle.trace_model.specs.declared.line.Line.TheVariants.{Send, Deliver, Lose, Busy}
-use Rattle.history.specs.Follows.{link_after_lines}
+use Rattle.trace_model.specs.declared.line.Line.TheVariants.{Lose}
 
 abbrev end_c : End
 end_c = end_of 2 Controller

@@ -1,14 +1,10 @@
 -- The causes of the rounds of a bare link: what they are, what they do, and how many they are.
-use Rattle.std.proofs.Common.{◌≡◌, ℕ, zero, suc, ◌+◌, ◌*◌, ◌≤◌, List, [], ◌∷◌, ◌++◌, map, refl, ap, sym, subst, ◌∙◌, length, arith, replicate}
-use Rattle.std.proofs.lemmas.List.{length-append, length-replicate}
-use Rattle.world_laws.proofs.Words.{AreRoundCauses, Cause, Controller, FetchMessage, Host, Link, OnWire, Taken, Ticked, after_causes, after_steps, bare_link}
-use Rattle.world_laws.proofs.Words.{causes_of_round, causes_of_rounds, end_of, event_of, events_at, exchanged, link_after, link_after_all}
-use Rattle.world_laws.proofs.Words.{link_after_round, rounds_to_settle, settling_causes}
-use Rattle.link_laws.specs.entries.Entries.{End as Side}
-use Rattle.history.specs.Steps.{event_at}
-use Rattle.world_laws.specs.links.RoundCauses.{times_ticked}
+use Rattle.std.proofs.lemmas.List.{length-append}
+use Rattle.world_laws.proofs.Words.{AreRoundCauses, Cause, Controller, FetchMessage, Host, IsFewWires, Link, List, OnWire, Side, Taken, Ticked, []}
+use Rattle.world_laws.proofs.Words.{after_causes, after_few, after_steps, ap, arith, bare_link, causes_of_round, causes_of_rounds, end_of, event_at, event_of}
+use Rattle.world_laws.proofs.Words.{events_at, exchanged, length, length-replicate, link_after, link_after_all, link_after_round, map, refl, replicate}
+use Rattle.world_laws.proofs.Words.{rounds_to_settle, settling_causes, subst, suc, sym, times_ticked, zero, ℕ, ◌*◌, ◌++◌, ◌+◌, ◌∙◌, ◌∷◌, ◌≡◌, ◌≤◌}
 use Rattle.world_laws.proofs.links.Settling.{wire_after, rounds}
-use Rattle.node_laws.proofs.schedules.Wires.{IsFewWires, after_few}
 
 -- ## One list behind another
 

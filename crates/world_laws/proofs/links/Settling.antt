@@ -1,17 +1,13 @@
 -- The rounds in which a link settles are rounds of the law of recovery.
-use Rattle.std.proofs.Common.{◌≡◌, ℕ, zero, suc, ◌+◌, ◌*◌, ◌<◌, ◌≤◌, Bool, true, false, List, [], ◌∷◌, ◌++◌, map, refl, ap, sym, subst, ◌∙◌, ◌⊎◌, inl, inr}
-use Rattle.std.proofs.Common.{arith, length, replicate, is_some}
-use Rattle.std.proofs.lemmas.Bool.{cases_lt}
-use Rattle.world_laws.proofs.Words.{AllAllowed, AreLinkRounds, AtController, AtHost, Cause, Controller, EarlierGot, FetchMessage, GoesOut, Host}
-use Rattle.world_laws.proofs.Words.{IsLinkUndisturbed, IsStart, Link, LinkEnd, LinkEvent, NextFrame, OnWire, Step, Take, Taken, Ticked, Ticks, Turn}
-use Rattle.world_laws.proofs.Words.{after_causes, after_events-append, after_input, after_link_events, after_steps, allowed-append, beside-put_all}
-use Rattle.world_laws.proofs.Words.{causes_of_round, causes_of_rounds, end_of, ended_by, event_of, exchanged, first_rest, fragments_left, frames_out, happens}
-use Rattle.world_laws.proofs.Words.{happens_at_controller, link_after_all, link_after_round, link_rests, map-append, rounds_to_settle, settling_events}
-use Rattle.world_laws.proofs.Words.{talk_now, took_with, turned, with_ended}
-use Rattle.history.specs.Steps.{idle}
-use Rattle.lines_told.specs.messages.Recovery.{AllOrdinaryOnLink, come_to_controller, come_to_host, times_among, IsLinkRound}
-use Rattle.lines_told.proofs.messages.Law.{got_by_host, got_by_controller, rest_at_host, rest_at_controller}
-use Rattle.node_laws.proofs.rounds.BareRounds.{map-replicate, take_one, bare_round_allowed}
+use Rattle.world_laws.proofs.Words.{AllAllowed, AllOrdinaryOnLink, AreLinkRounds, AtController, AtHost, Bool, Cause, Controller, EarlierGot, FetchMessage}
+use Rattle.world_laws.proofs.Words.{GoesOut, Host, IsLinkRound, IsLinkUndisturbed, IsStart, Link, LinkEnd, LinkEvent, List, NextFrame, OnWire, Step, Take}
+use Rattle.world_laws.proofs.Words.{Taken, Ticked, Ticks, Turn, [], after_causes, after_events-append, after_input, after_link_events, after_steps}
+use Rattle.world_laws.proofs.Words.{allowed-append, ap, arith, bare_round_allowed, beside-put_all, cases_lt, causes_of_round, causes_of_rounds}
+use Rattle.world_laws.proofs.Words.{come_to_controller, come_to_host, end_of, ended_by, event_of, exchanged, false, first_rest, fragments_left, frames_out}
+use Rattle.world_laws.proofs.Words.{got_by_controller, got_by_host, happens, happens_at_controller, idle, inl, inr, is_some, length, link_after_all}
+use Rattle.world_laws.proofs.Words.{link_after_round, link_rests, map, map-append, map-replicate, refl, replicate, rest_at_controller, rest_at_host}
+use Rattle.world_laws.proofs.Words.{rounds_to_settle, settling_events, subst, suc, sym, take_one, talk_now, times_among, took_with, true, turned, with_ended}
+use Rattle.world_laws.proofs.Words.{zero, ℕ, ◌*◌, ◌++◌, ◌+◌, ◌<◌, ◌∙◌, ◌∷◌, ◌≡◌, ◌≤◌}
 
 -- ## Frames that are taken
 
@@ -169,18 +165,14 @@ module _ (h : ℕ) (l : Link) (s : IsStart l) (before : List LinkEvent) (a : All
 
   pub settled_at_host : EarlierGot (talk_now m.controller.side) (talk_now (after_link_events m events).controller.side)
       (talk_now (after_link_events m events).host.side)
-  settled_at_host = go (cases_lt count n)
-    where
-      go : (count < n) ⊎ (n ≤ count)
-          → EarlierGot (talk_now m.controller.side) (talk_now (after_link_events m events).controller.side) (talk_now (after_link_events m events).host.side)
-      go (inl i) = rest_at_host l s before a count events done.allowed done.are u (rests i)
-      go (inr i) = got_by_host l s before a count events done.allowed done.are u (all i)
+  settled_at_host = elim (cases_lt count n) [
+    | inl i ↦ rest_at_host l s before a count events done.allowed done.are u (rests i)
+    | inr i ↦ got_by_host l s before a count events done.allowed done.are u (all i)
+  ]
 
   pub settled_at_controller : EarlierGot (talk_now m.host.side) (talk_now (after_link_events m events).host.side)
       (talk_now (after_link_events m events).controller.side)
-  settled_at_controller = go (cases_lt count n)
-    where
-      go : (count < n) ⊎ (n ≤ count)
-          → EarlierGot (talk_now m.host.side) (talk_now (after_link_events m events).host.side) (talk_now (after_link_events m events).controller.side)
-      go (inl i) = rest_at_controller l s before a count events done.allowed done.are u (rests i)
-      go (inr i) = got_by_controller l s before a count events done.allowed done.are u (all i)
+  settled_at_controller = elim (cases_lt count n) [
+    | inl i ↦ rest_at_controller l s before a count events done.allowed done.are u (rests i)
+    | inr i ↦ got_by_controller l s before a count events done.allowed done.are u (all i)
+  ]

@@ -1,14 +1,10 @@
 -- Where the link of a bare world settles behind plays, it has brought all.
-use Rattle.std.proofs.Common.{◌≡◌, ℕ, zero, suc, ◌+◌, ◌*◌, ◌≤◌, false, List, [], ◌∷◌, ◌++◌, refl, ap, sym, subst, ◌∙◌, replicate}
 use Rattle.world_laws.proofs.Words.{AllAllowed, AllByRecursion, Controller, Follows, Header, History, Host, IsBare, IsLineOf, IsLinkUndisturbed, Line, Link}
-use Rattle.world_laws.proofs.Words.{Play, Round, after_causes, after_link_events, after_steps, all_events, bare_link, bare_link_behind, causes_of, end_of}
-use Rattle.world_laws.proofs.Words.{fragments_left, host_of, lines_played, link_after_round, link_events, link_rests, of_allowed, round_behind, rounds_to_rest}
-use Rattle.world_laws.proofs.Words.{rounds_to_settle, settling_causes, settling_events}
-use Rattle.history.proofs.Leading.{events_in, lines_lead}
-use Rattle.history.proofs.legal.Runs.{of_steps}
-use Rattle.lines_told.proofs.lines.BareRounds.{bare_round, bare_round_goes, bare_played_rounds, round_causes}
-use Rattle.lines_told.proofs.lines.Resting.{alike, bare_comes_to_rest}
-use Rattle.world_laws.specs.links.Resting.{LinkBrought}
+use Rattle.world_laws.proofs.Words.{LinkBrought, List, Play, Round, [], after_causes, after_link_events, after_steps, alike, all_events, ap, bare_comes_to_rest}
+use Rattle.world_laws.proofs.Words.{bare_link, bare_link_behind, bare_played_rounds, bare_round, bare_round_goes, causes_of, end_of, events_in, false}
+use Rattle.world_laws.proofs.Words.{fragments_left, host_of, lines_lead, lines_played, link_after_round, link_events, link_rests, of_allowed, of_steps, refl}
+use Rattle.world_laws.proofs.Words.{replicate, round_behind, round_causes, rounds_to_rest, rounds_to_settle, settling_causes, settling_events, subst, suc, sym}
+use Rattle.world_laws.proofs.Words.{zero, ℕ, ◌*◌, ◌++◌, ◌+◌, ◌∙◌, ◌∷◌, ◌≡◌, ◌≤◌}
 use Rattle.world_laws.proofs.links.Settling.{settled_at_host, settled_at_controller}
 use Rattle.world_laws.proofs.links.RoundCauses.{settles}
 

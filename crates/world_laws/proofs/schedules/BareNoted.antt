@@ -1,20 +1,13 @@
 -- What the link of a bare world has brought behind a line that lets it settle, as the history of the schedule notes it.
-use Rattle.std.proofs.Common.{◌≡◌, ℕ, ◌+◌, ◌*◌, ◌≤◌, false, List, [], ◌∷◌, ◌++◌, ap, sym, subst, ◌∙◌, arith, replicate}
 use Rattle.world_laws.proofs.Words.{AllByRecursion, AreBothUpIn, BothBrought, Controller, Entry, Event, Follows, Header, History, Host, IsBare, IsLineOf}
-use Rattle.world_laws.proofs.Words.{IsLinkUndisturbed, IsReadOff, IsRun, Known, Line, Link, Play, Round, Talk, after_link_events, all_entries, all_events}
-use Rattle.world_laws.proofs.Words.{bare_link, bare_link_behind, causes_of, controller_heard, end_c, end_h, end_of, entries_for, fragments_left}
-use Rattle.world_laws.proofs.Words.{fragments_noted, host_heard, host_of, is_run, lines_played, lines_played_of, link_events, notes_of, of_allowed, of_can}
-use Rattle.world_laws.proofs.Words.{plain_trace, plays_of, rounds_to_rest, run_entries, session-all, session_up, settling_events, start_good, start_reached}
-use Rattle.world_laws.proofs.Words.{talk_now}
+use Rattle.world_laws.proofs.Words.{IsLinkUndisturbed, IsRead, IsReadOff, IsRun, Known, Line, Link, LinkBrought, List, Play, Round, Side, Talk, []}
+use Rattle.world_laws.proofs.Words.{after_link_events, all_entries, all_events, ap, arith, bare_link, bare_link_behind, causes_of, controller_heard, end_c}
+use Rattle.world_laws.proofs.Words.{end_h, end_of, entries_for, false, fragments_left, fragments_noted, host_heard, host_of, is_run, known_after, lines_played}
+use Rattle.world_laws.proofs.Words.{lines_played_of, link_events, notes_of, of_allowed, of_can, plain_trace, plays_of, read_here, read_there, replicate}
+use Rattle.world_laws.proofs.Words.{rounds_to_rest, run_entries, session-all, session_number, session_up, settling_events, start_good, start_reached, subst}
+use Rattle.world_laws.proofs.Words.{sym, talk_now, ℕ, ◌*◌, ◌++◌, ◌+◌, ◌∙◌, ◌∷◌, ◌≡◌, ◌≤◌}
 use Rattle.trace_model.specs.declared.line.Line.TheVariants as saying
-use Rattle.link_laws.specs.messages.Links.{talk_of}
-use Rattle.link_laws.specs.entries.Entries.{Entry as Noted}
-use Rattle.link_laws.specs.entries.Sessions.{IsRead}
-use Rattle.link_laws.proofs.entries.Running.{read_here, read_there}
-use Rattle.history.specs.Filters.{session_number}
 use Rattle.history.proofs.legal.Noted.{sent-all, got-all, acked-all}
-use Rattle.lines_told.proofs.messages.Projected.{known_after}
-use Rattle.world_laws.specs.links.Resting.{LinkBrought}
 use Rattle.world_laws.proofs.worlds.NotedFragments.{end_left}
 use Rattle.world_laws.proofs.schedules.Bare.{happened_leads, bare_settled}
 use Rattle.world_laws.proofs.schedules.Nodes.{brought, with_settle}
@@ -26,27 +19,14 @@ record ReadInBare (t : List Entry) (h : ℕ) (l : Link) (n : ℕ) : Type 0 where
   far : IsReadOff t (end_h h) n (talk_now l.host.side)
   left : fragments_left l ≤ fragments_noted t h n
 
-module _ (h : ℕ) (xs : List Event) (n : ℕ) where
-  abbrev notes : List Noted
-  notes = notes_of xs
-
-  pub read_end : (r : IsRead (notes_of xs) Controller n (talk_of (after_link_events bare_link (link_events xs)).controller n))
-      → IsReadOff (entries_for h (notes_of xs)) (end_c h) n (talk_of (after_link_events bare_link (link_events xs)).controller n)
-  read_end r =
-      record {
-        sent = sent-all h notes Controller n ∙ r.sent;
-        got = got-all h notes Controller n ∙ r.got;
-        acked = acked-all h notes Controller n ∙ r.acked;
-      }
-
-  pub read_other : (r : IsRead (notes_of xs) Host n (talk_of (after_link_events bare_link (link_events xs)).host n))
-      → IsReadOff (entries_for h (notes_of xs)) (end_h h) n (talk_of (after_link_events bare_link (link_events xs)).host n)
-  read_other r =
-      record {
-        sent = sent-all h notes Host n ∙ r.sent;
-        got = got-all h notes Host n ∙ r.got;
-        acked = acked-all h notes Host n ∙ r.acked;
-      }
+-- what is read of an end of the link is read in the history
+pub history_read : (h : ℕ) (xs : List Event) (n : ℕ) (who : Side) (k : Talk) → IsRead (notes_of xs) who n k
+    → IsReadOff (entries_for h (notes_of xs)) (end_of h who) n k
+history_read h xs n who k r = record {
+  sent = sent-all h (notes_of xs) who n ∙ r.sent;
+  got = got-all h (notes_of xs) who n ∙ r.got;
+  acked = acked-all h (notes_of xs) who n ∙ r.acked;
+}
 
 module _ (header : Header) (lines : List Line) (t : History) (valid : AllByRecursion (IsLineOf header) lines) (follows : Follows header lines t) where
   read_in_bare : (n : ℕ) → AreBothUpIn (all_entries t) (host_of header) n
@@ -69,9 +49,9 @@ module _ (header : Header) (lines : List Line) (t : History) (valid : AllByRecur
       let P : Talk → Type 0 = λ k. IsReadOff (entries_for h (notes_of xs)) (end_c h) n k in
       let Q : Talk → Type 0 = λ k. IsReadOff (entries_for h (notes_of xs)) (end_h h) n k in
       let here : P (talk_now m.controller.side) =
-      subst P (talk_in m.controller n near.0 near.1) (read_end h xs n (read_here bare_link IsBare (link_events xs) may n)) in
+      subst P (talk_in m.controller n near.0 near.1) (history_read h xs n Controller _ (read_here bare_link IsBare (link_events xs) may n)) in
       let there : Q (talk_now m.host.side) =
-      subst Q (talk_in m.host n far.0 far.1) (read_other h xs n (read_there bare_link IsBare (link_events xs) may n)) in
+      subst Q (talk_in m.host n far.0 far.1) (history_read h xs n Host _ (read_there bare_link IsBare (link_events xs) may n)) in
       let known : Known m =
       (known_after (link_events xs) bare_link may (record { good = start_good bare_link IsBare; reached = start_reached bare_link IsBare })).0 in
       let one = end_left (entries_for h (notes_of xs)) (end_c h) n (talk_now m.controller.side) known.good.controller.now.says here in

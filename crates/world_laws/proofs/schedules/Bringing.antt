@@ -1,15 +1,13 @@
 -- Behind plays a world that settles has brought all, where nothing that disturbs it is noted of its rounds.
-use Rattle.std.proofs.Common.{◌≡◌, inl, inr, ℕ, ◌+◌, ◌*◌, ◌≤◌, true, false, List, ◌++◌, Some, subst, sym, ◌∙◌, replicate}
-use Rattle.world_laws.proofs.Words.{AllByRecursion, AreBothReady, AreBothUpIn, AreHosts, ArePlayable, ArePoweredNotes, AreUnheldNotes, AreUpWith, BothBrought}
-use Rattle.world_laws.proofs.Words.{Follows, FollowsNodes, Header, History, IsHeader, IsPlayFor, IsPlayedLine, NodeHistory, Play, Round, Site, all-append}
-use Rattle.world_laws.proofs.Words.{all_entries, bare_link_behind, entries_since, fragments_noted, host_of, hosts_are, hosts_stay_behind, lines_may_be_played}
-use Rattle.world_laws.proofs.Words.{lines_played, node_entries, nodes_behind, rounds_for, rounds_to_rest, site_at, true≢false}
-use Rattle.trace_model.specs.Lines.{IsNodeHeader, MayBegin}
+use Rattle.world_laws.proofs.Words.{AllByRecursion, AreBothReady, AreBothUpIn, AreHosts, AreLeftReady, ArePlayable, ArePoweredNotes, AreUndisturbedNotes}
+use Rattle.world_laws.proofs.Words.{AreUnheldNotes, AreUpWith, BothBrought, Follows, FollowsNodes, Header, History, IsHeader, IsNodeHeader, IsPlayFor}
+use Rattle.world_laws.proofs.Words.{IsPlayedLine, List, MayBegin, NodeHistory, Play, Round, Site, Some, all-append, all_entries, bare_lines, bare_link_behind}
+use Rattle.world_laws.proofs.Words.{entries_since, false, fragments_noted, host_of, hosts_are, hosts_stay_behind, inl, inr, lines_may_be_played, lines_played}
+use Rattle.world_laws.proofs.Words.{node_entries, nodes_behind, replicate, rounds_for, rounds_to_rest, site_at, subst, sym, true, true≢false, ℕ, ◌*◌, ◌++◌, ◌+◌}
+use Rattle.world_laws.proofs.Words.{◌∙◌, ◌≡◌, ◌≤◌}
 use Rattle.world_laws.specs.worlds.BroughtBehind.{BringsAll}
-use Rattle.world_laws.specs.worlds.Undisturbed.{AreLeftReady, AreUndisturbedNotes}
 use Rattle.world_laws.proofs.schedules.BareNoted.{bare_behind}
 use Rattle.world_laws.proofs.schedules.Nodes.{noted_behind}
-use Rattle.lines_told.proofs.lines.Lines.{bare_lines}
 use Rattle.world_laws.proofs.schedules.Played.{played_playable}
 use Rattle.world_laws.proofs.undisturbed.Bare.{bare_undisturbed, up_later}
 use Rattle.world_laws.proofs.undisturbed.Busy.{played_ready}

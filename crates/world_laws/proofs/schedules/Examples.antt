@@ -1,10 +1,9 @@
 -- Worked examples of schedules of a bare world whose lines let the link settle, computed from their definitions.
-use Rattle.std.proofs.Common.{◌≡◌, refl, false, [], ◌∷◌, None}
-use Rattle.world_laws.proofs.Words.{Controller, Emit, End, Header, Host, Line, Settle, Took, end_of}
-use Rattle.trace_model.specs.declared.entry.Entry.TheVariants.{Acked, Echo, Got, Head, Lost, Sent, Settled, Up}
+use Rattle.world_laws.proofs.Words.{Busy, Controller, Deliver, Echo, Emit, End, Head, Header, Host, Line, None, Send, Sent, Settle, Settled, Took, [], end_of}
+use Rattle.world_laws.proofs.Words.{false, refl, schedule_told, ◌∷◌, ◌≡◌}
+use Rattle.trace_model.specs.declared.entry.Entry.TheVariants.{Acked, Got, Lost, Up}
 use Rattle.trace_model.specs.declared.entry.LostCause.TheVariants.{Asked}
-use Rattle.trace_model.specs.declared.line.Line.TheVariants.{Send, Deliver, Lose, Busy}
-use Rattle.lines_told.specs.lines.Plays.{schedule_told}
+use Rattle.trace_model.specs.declared.line.Line.TheVariants.{Lose}
 
 -- `swp 1 bare 02`
 abbrev one_link : Header

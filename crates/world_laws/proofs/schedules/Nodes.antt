@@ -1,20 +1,12 @@
 -- Where the links of a world of nodes settle behind plays, they have brought all.
-use Rattle.std.proofs.Common.{◌≡◌, ℕ, ◌+◌, ◌*◌, ◌≤◌, true, List, [], ◌∷◌, ◌++◌, Some, refl, ap, sym, subst, ◌∙◌, append-nil, arith, length, replicate}
-use Rattle.world_laws.proofs.Words.{AreHosts, ArePlayable, AreUpWith, BothBrought, EarlierGot, End, Entry, FollowsNodes, Header, IsLinkTold, IsLinkUndisturbed}
-use Rattle.world_laws.proofs.Words.{IsReadOff, Line, LinkSettled, Message, NodeHistory, NodeWorld, Play, Round, Site, Talk, end_c, end_h, events_of_steps}
-use Rattle.world_laws.proofs.Words.{fragments_left, fragments_noted, good_of, host_number, lines_played, lines_played_of, new_world, node_entries, nodes_behind}
-use Rattle.world_laws.proofs.Words.{occurrences_in, plays_of, rounds_events, rounds_of_world, rounds_to_rest, site_at, steps_from, talk_now, world_behind}
-use Rattle.world_laws.proofs.Words.{world_rounds_to_settle, world_settling}
-use Rattle.hcp_packet.specs.Packets.{IsFrontOf}
+use Rattle.world_laws.proofs.Words.{AreHosts, ArePlayable, AreUpWith, BothBrought, EarlierGot, End, Entry, FollowsNodes, HasBrought, Header, IsFrontOf}
+use Rattle.world_laws.proofs.Words.{IsLinkTold, IsLinkUndisturbed, IsReadOff, Line, LinkSettled, List, Message, NodeHistory, NodeWorld, NoneIsMisread, Play}
+use Rattle.world_laws.proofs.Words.{Round, Site, Some, Talk, [], ap, append-nil, arith, behind_lines, end_c, end_h, events_of_steps, far_now, fragments_left}
+use Rattle.world_laws.proofs.Words.{fragments_noted, good_of, got_in, host_number, length, lines_played, lines_played_of, near_now, new_world, node_entries}
+use Rattle.world_laws.proofs.Words.{nodes_behind, nodes_come_to_rest, occurrences_in, played_rounds, plays_more, plays_of, refl, replicate, rounds_events}
+use Rattle.world_laws.proofs.Words.{rounds_of_world, rounds_to_rest, site_at, steps_from, subst, sym, talk_now, true, up_far, up_near, world_behind}
+use Rattle.world_laws.proofs.Words.{world_rounds_to_settle, world_settling, ℕ, ◌*◌, ◌++◌, ◌+◌, ◌∙◌, ◌∷◌, ◌≡◌, ◌≤◌}
 use Rattle.trace_model.specs.declared.line.Line.TheVariants as saying
-use Rattle.history.specs.Filters.{got_in}
-use Rattle.node_machine.specs.world.NodeHistories.{NoneIsMisread}
-use Rattle.node_laws.proofs.telling.Lasting.{behind_lines}
-use Rattle.node_laws.proofs.order.Quiet.{near_now, far_now, up_near, up_far}
-use Rattle.lines_told.proofs.lines.Plays.{plays_more}
-use Rattle.lines_told.proofs.lines.NodeRounds.{played_rounds}
-use Rattle.lines_told.proofs.lines.Resting.{nodes_come_to_rest}
-use Rattle.world_laws.specs.worlds.Brought.{HasBrought}
 use Rattle.world_laws.proofs.worlds.NotedFragments.{link_left}
 use Rattle.world_laws.proofs.worlds.Rounds.{IsReached}
 use Rattle.world_laws.proofs.worlds.WorldRounds.{reached_behind, world_settled}

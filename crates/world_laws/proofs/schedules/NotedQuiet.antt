@@ -1,23 +1,16 @@
 -- Where links are at rest behind plays, the history of these plays notes it.
-use Rattle.std.proofs.Common.{◌≡◌, ℕ, List, Some, refl, ap, sym, subst, ◌∙◌}
-use Rattle.world_laws.proofs.Words.{AllByRecursion, AreHosts, ArePlayable, Controller, Entry, Event, Follows, FollowsNodes, Header, History, Host, IsBare}
-use Rattle.world_laws.proofs.Words.{IsLineOf, IsRun, Line, Link, NodeHistory, NodeWorld, Site, after_link_events, all_entries, all_events, bare_link}
-use Rattle.world_laws.proofs.Words.{bare_link_behind, causes_of, controller_heard, end_c, end_h, entries_for, host_heard, host_number, host_of, is_run}
-use Rattle.world_laws.proofs.Words.{link_events, new_world, node_entries, nodes_behind, notes_of, occurrences_in, of_allowed, of_can, plain_trace, run_entries}
-use Rattle.world_laws.proofs.Words.{session-all, session_up, site_at, world_behind}
+use Rattle.world_laws.proofs.Words.{AllByRecursion, AreHosts, ArePlayable, AreReadOff, AreSessionsRead, Controller, Entry, Event, Follows, FollowsNodes, Header}
+use Rattle.world_laws.proofs.Words.{History, Host, IsBare, IsLineOf, IsLinkQuiet, IsRun, Line, Link, List, NodeHistory, NodeWorld, Noted, Site, Some}
+use Rattle.world_laws.proofs.Words.{after_link_events, all_entries, all_events, ap, are_read, bare_link, bare_link_behind, bytes_on, causes_of}
+use Rattle.world_laws.proofs.Words.{controller_heard, end_c, end_h, entries_for, frames_on, host_heard, host_number, host_of, is_run, link_events, new_world}
+use Rattle.world_laws.proofs.Words.{node_entries, nodes_behind, notes_of, occurrences_in, of_allowed, of_can, plain_trace, read_here, read_off, read_there}
+use Rattle.world_laws.proofs.Words.{refl, run_entries, session-all, session_up, site_at, subst, sym, wire-controller, wire-host, world_behind, ℕ, ◌∙◌, ◌≡◌}
 use Rattle.link_laws.specs.places.Wire.{OnWire}
-use Rattle.link_laws.specs.entries.Entries.{Entry as Noted}
 use Rattle.link_laws.specs.entries.Reading.{Seen, nothing_seen}
 use Rattle.link_laws.proofs.entries.Ages.{read_off as seen_off}
-use Rattle.link_laws.proofs.entries.Running.{read_here, read_there}
-use Rattle.history.proofs.legal.Reading.{bytes_on, wire-controller, wire-host}
-use Rattle.node_laws.specs.order.Told.{AreReadOff, AreSessionsRead, frames_on}
-use Rattle.node_laws.proofs.order.Quiet.{read_off}
-use Rattle.node_laws.proofs.order.Sessions.{are_read}
-use Rattle.world_laws.specs.links.Resting.{IsLinkQuiet}
 use Rattle.world_laws.specs.worlds.NotedRest.{AreNotedQuiet, AreNotedQuietInBare}
 use Rattle.world_laws.proofs.schedules.Bare.{happened_leads}
-use Rattle.world_laws.proofs.schedules.BareNoted.{read_end, read_other}
+use Rattle.world_laws.proofs.schedules.BareNoted.{history_read}
 use Rattle.world_laws.proofs.schedules.Nodes.{last, reached}
 use Rattle.world_laws.proofs.schedules.Sessions.{acked_all}
 
@@ -69,11 +62,11 @@ module _ (header : Header) (lines : List Line) (t : History) (valid : AllByRecur
             ∙ (ap (λ (x : Seen). bytes_on x.to_host) seen ∙ ap (λ (w : List OnWire). bytes_on w) quiet.to_host);
         controller = λ n up.
             let now = session_up m.controller n (sym (session-all h notes Controller plain ∙ controller_heard (causes_of xs) can) ∙ up) in
-            acked_all (entries_for h notes) (end_c h) n m.controller (read_end h xs n (read_here bare_link IsBare (link_events xs) may n))
+            acked_all (entries_for h notes) (end_c h) n m.controller (history_read h xs n Controller _ (read_here bare_link IsBare (link_events xs) may n))
             quiet.controller now.0 now.1;
         host = λ n up.
             let now = session_up m.host n (sym (session-all h notes Host plain ∙ host_heard (causes_of xs) can) ∙ up) in
-            acked_all (entries_for h notes) (end_h h) n m.host (read_other h xs n (read_there bare_link IsBare (link_events xs) may n))
+            acked_all (entries_for h notes) (end_h h) n m.host (history_read h xs n Host _ (read_there bare_link IsBare (link_events xs) may n))
             quiet.host now.0 now.1;
       } in
       subst (λ (es : List Entry). AreNotedQuietInBare es h) (sym told) all

@@ -1,16 +1,13 @@
 -- What occurs over the lines of a round of a world of nodes is what occurs in the round, and so it is with more rounds.
-use Rattle.std.proofs.Common.{◌≡◌, ℕ, zero, suc, Bool, true, false, List, [], ◌∷◌, ◌++◌, None, refl, ap, sym, ◌∙◌, length, append-nil, append_assoc}
 use Rattle.std.specs.Prelude.{replicate, if◌then◌else◌, not, ◌&&◌}
-use Rattle.world_laws.proofs.Words.{End, Header, Line, NodeWorld, Occurrence, OnWire, Play, Round, Takes, all_happen, end_takes_all, ends_in_order}
-use Rattle.world_laws.proofs.Words.{ends_take_all, events_of_steps, frames_at, is_clear, lines_played, new_world, node_of, nodes_behind, played_more}
-use Rattle.world_laws.proofs.Words.{round_behind, rounds_of_world, steps_from, world_after_round, world_round}
+use Rattle.world_laws.proofs.Words.{Bool, End, Header, Line, LineOutcome, List, NodeWorld, None, Occurrence, OnWire, Play, Round, Takes, [], all_happen, ap}
+use Rattle.world_laws.proofs.Words.{append-nil, append_assoc, end_takes_all, ends_in_order, ends_take_all, events_of_steps, false, frames_at, is_clear}
+use Rattle.world_laws.proofs.Words.{is_running, length, line_step, lines_played, new_world, node_of, nodes_behind, none_taken, occurrences_of, played_more}
+use Rattle.world_laws.proofs.Words.{played_round, refl, refusal_in, round_behind, round_first, round_in, round_lines, rounds_of_world, steps_from, suc, sym}
+use Rattle.world_laws.proofs.Words.{takes_so, taking_in, true, world_after, world_after_round, world_round, zero, ℕ, ◌++◌, ◌∙◌, ◌∷◌, ◌≡◌}
 use Rattle.trace_model.specs.declared.line.Line.TheVariants as saying
 use Rattle.node_machine.specs.world.World.Happening.{Ticks}
-use Rattle.node_machine.specs.world.Lines.{LineOutcome, goes_on, is_running, line_step, refusal_in}
-use Rattle.node_machine.specs.world.NodeHistories.{occurrences_of, world_after}
-use Rattle.lines_told.specs.lines.Plays.{round_in, taking_in}
-use Rattle.lines_told.proofs.lines.NodeRounds.{none_taken, played_round, round_lines, takes_so}
-use Rattle.lines_told.proofs.lines.Plays.{round_first}
+use Rattle.node_machine.specs.world.Lines.{goes_on}
 
 -- what occurs over these lines, one after another
 abbrev pub occurring : NodeWorld → List Line → List Occurrence

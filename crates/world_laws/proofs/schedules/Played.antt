@@ -1,10 +1,8 @@
 -- What may be played below a header is what the laws of its worlds ask for.
-use Rattle.std.proofs.Common.{◌≡◌, ℕ, false, List, [], ◌∷◌, ap, sym, ◌∙◌}
-use Rattle.world_laws.proofs.Words.{AllByRecursion, ArePlayable, Header, IsPlayedLine, Line, true≢false}
+use Rattle.world_laws.proofs.Words.{AllByRecursion, ArePlayable, Header, IsPlayedLine, Line, List, [], ap, false, in_range, is_settling, playable, sym}
+use Rattle.world_laws.proofs.Words.{true≢false, ℕ, ◌∙◌, ◌∷◌, ◌≡◌}
 use Rattle.trace_model.specs.declared.line.Line.TheVariants as saying
 use Rattle.node_laws.specs.schedules.Ranges.{AreNodeLinesOf}
-use Rattle.node_laws.proofs.schedules.Ranges.{in_range, playable}
-use Rattle.lines_told.specs.lines.Below.{is_settling}
 
 settles_not : (line : Line) (rounds : ℕ) → is_settling line ≡ false → line ≡ saying.Settle rounds → ⊥
 settles_not line rounds plain is = true≢false (sym (ap is_settling is) ∙ plain)

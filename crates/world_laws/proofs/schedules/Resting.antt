@@ -1,11 +1,9 @@
 -- Links at rest are quiet, and quiet links are at rest.
-use Rattle.std.proofs.Common.{◌≡◌, ℕ, Bool, true, false, ◌==◌, List, [], ◌∷◌, refl, ap, sym, subst, ◌∙◌, Some, length, ◌&&◌}
-use Rattle.world_laws.proofs.Words.{AllByRecursion, Down, Link, LinkEnd, LinkState, Site, Up, Waiting, and_parts, by_test, eq-eqb, eqb-true, is_clear}
-use Rattle.world_laws.proofs.Words.{is_waiting, link_rests, site_at, true≢false, whole_acked}
+use Rattle.world_laws.proofs.Words.{AllByRecursion, Bool, Down, IsEndQuiet, IsLinkQuiet, Link, LinkEnd, LinkState, List, Site, Some, Up, Waiting, [], and_parts}
+use Rattle.world_laws.proofs.Words.{ap, by_test, eq-eqb, eqb-true, false, is_clear, is_waiting, length, link_rests, refl, site_at, sites_rest, subst, sym, true}
+use Rattle.world_laws.proofs.Words.{true≢false, whole_acked, ℕ, ◌&&◌, ◌==◌, ◌∙◌, ◌∷◌, ◌≡◌}
 use Rattle.link_laws.specs.places.Wire.{OnWire}
 use Rattle.link_laws.specs.machine.AtRest.{end_rests}
-use Rattle.node_machine.specs.world.Rounds.{sites_rest}
-use Rattle.world_laws.specs.links.Resting.{IsEndQuiet, IsLinkQuiet}
 
 -- ## Ends and wires
 

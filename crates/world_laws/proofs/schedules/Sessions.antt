@@ -1,9 +1,6 @@
 -- The session of an end that is up.
-use Rattle.std.proofs.Common.{◌≡◌, ℕ, ◌==◌, true, List, refl, ap, sym, subst, ◌∙◌, length}
-use Rattle.world_laws.proofs.Words.{End, Entry, IsReadOff, Message, NumberedEnd, Talk, Up, eq-eqb, number_of, talk_now}
-use Rattle.link_laws.specs.messages.Links.{talk_of}
-use Rattle.history.specs.Filters.{sent_in, acked_in}
-use Rattle.world_laws.specs.links.Resting.{IsEndQuiet}
+use Rattle.world_laws.proofs.Words.{End, Entry, IsEndQuiet, IsReadOff, List, Message, NumberedEnd, Talk, Up, acked_in, ap, eq-eqb, length, number_of, refl}
+use Rattle.world_laws.proofs.Words.{sent_in, subst, sym, talk_now, talk_of, true, ℕ, ◌==◌, ◌∙◌, ◌≡◌}
 
 -- the session that goes on
 pub talk_in : (k : NumberedEnd) (n : ℕ) → k.side.shdlc.phase ≡ Up → number_of k ≡ n → talk_of k n ≡ talk_now k.side

@@ -1,7 +1,6 @@
 -- A tap that was there from the beginning of a history tells what was got.
-use Rattle.std.proofs.Common.{◌≡◌, ℕ, Bool, true, false, List, ◌++◌, sym, subst}
-use Rattle.world_laws.proofs.Words.{Entry, cuts_on, entries_of, gots_on, hosts_are, list_any, lpdus_on, tapped_lpdus}
-use Rattle.node_laws.proofs.schedules.Ranges.{playable}
+use Rattle.world_laws.proofs.Words.{Bool, Entry, List, cuts_on, entries_of, false, gots_on, hosts_are, list_any, lpdus_on, playable, subst, sym, tapped_lpdus}
+use Rattle.world_laws.proofs.Words.{true, ℕ, ◌++◌, ◌≡◌}
 use Rattle.world_laws.specs.histories.OnLinks.{AreOfLink}
 use Rattle.world_laws.proofs.histories.Histories.{tap_reports_history}
 use Rattle.world_laws.proofs.tapped_worlds.Worlds.{tap_reports_world}

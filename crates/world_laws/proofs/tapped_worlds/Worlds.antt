@@ -1,20 +1,11 @@
 -- What a tap reports over a history of a world of nodes.
-use Rattle.std.proofs.Common.{◌≡◌, ℕ, false, List, [], ◌∷◌, ◌++◌, Option, Some, None, refl, ap, sym, subst, ◌∙◌}
-use Rattle.world_laws.proofs.Words.{AreHosts, ArePlayable, End, Entry, FollowsNodes, Header, IsLine, IsLinkTold, Line, Link, NodeHistory, Occurrence, by_test}
-use Rattle.world_laws.proofs.Words.{cuts_on, entries, entries_for, entries_in, gots_noted, gots_on, is_cut, list_any, lpdus_heard, lpdus_on, new_line}
-use Rattle.world_laws.proofs.Words.{new_world, occurrences_in, of_link, tapped_lpdus, world_behind}
-use Rattle.std.specs.List.{cons_option, filter_map}
-use Rattle.link_laws.specs.entries.Entries.{Entry as Noted}
-use Rattle.history.specs.Filters.{Saying, said}
-use Rattle.history.specs.Filters.Saying.{Gets, Puts}
-use Rattle.node_laws.specs.telling.Telling.{is_of, tells_of}
-use Rattle.node_laws.proofs.telling.Accounts.{untold}
-use Rattle.node_laws.proofs.order.Lines.{IsSo, history_so}
+use Rattle.world_laws.proofs.Words.{AreHosts, ArePlayable, End, Entry, FollowsNodes, Gets, Header, IsLine, IsLinkTold, IsSo, IsStrange, Line, Link, List}
+use Rattle.world_laws.proofs.Words.{NodeHistory, None, Noted, Occurrence, Option, Puts, Saying, Some, [], ap, by_test, cons_option, cuts_on, entries}
+use Rattle.world_laws.proofs.Words.{entries_for, entries_in, false, filter_map, got_on, gots_noted, gots_on, history_so, is_cut, is_of, list_any, lpdus_heard}
+use Rattle.world_laws.proofs.Words.{lpdus_on, new_line, new_world, no_cut, occurrences_in, of_link, put_on, refl, said, subst, sym, tapped_lpdus, tells_of}
+use Rattle.world_laws.proofs.Words.{untold, world_behind, ℕ, ◌++◌, ◌∙◌, ◌∷◌, ◌≡◌}
 use Rattle.node_laws.proofs.order.Ordered.{Whether, whether}
 use Rattle.node_laws.proofs.order.Ordered.Whether.{Stands, IsNone}
-use Rattle.node_laws.proofs.order.Strangers.{IsStrange}
-use Rattle.node_laws.proofs.order.Watches.{no_cut}
-use Rattle.world_laws.specs.histories.Tapping.{put_on, got_on}
 use Rattle.world_laws.proofs.entries.Events.{tap_reports_lpdus}
 use Rattle.world_laws.proofs.histories.Histories.{lpdus_same, gots_same}
 

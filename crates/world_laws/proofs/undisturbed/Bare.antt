@@ -1,22 +1,14 @@
 -- The link of a bare world is undisturbed while it settles, where nothing that disturbs it is noted of its rounds.
-use Rattle.std.proofs.Common.{◌≡◌, ℕ, true, false, List, [], ◌∷◌, ◌++◌, map, refl, ap, sym, subst, ◌∙◌, length, Option, Some, None, drop, replicate}
-use Rattle.world_laws.proofs.Words.{AllAllowed, AllByRecursion, AreBothReady, AreBothUpIn, AreReadyThroughout, AreRoundCauses, AreUnstarted, Cause, Controller}
-use Rattle.world_laws.proofs.Words.{Cut, Entry, Event, Follows, Header, History, Host, IsBare, IsLineOf, IsLinkUndisturbed, IsRun, IsUnderWay, Link, LinkEvent}
-use Rattle.world_laws.proofs.Words.{Play, Restarted, Round, Taken, Ticked, after_link_events, all_entries, all_events, bare_link, bare_link_behind, by_test}
-use Rattle.world_laws.proofs.Words.{causes_of, causes_of_rounds, controller_heard, end_of, entries, entries_for, entries_since, event_of, first_entries}
-use Rattle.world_laws.proofs.Words.{flat_map-append, heard, host_heard, host_of, is_run, lines_played, link_after, link_events, list_any, map-append, notes_of}
-use Rattle.world_laws.proofs.Words.{of_allowed, of_can, plain_trace, rounds_to_rest, rounds_to_settle, run_entries, session-all, session_up, settling_causes}
-use Rattle.world_laws.proofs.Words.{settling_events}
-use Rattle.std.proofs.Math.Seq.{drop-append_seam}
-use Rattle.link_laws.specs.entries.Entries.{End as Side, Entry as Noted}
-use Rattle.link_laws.proofs.entries.Hearing.{heard-append}
-use Rattle.link_laws.proofs.entries.Running.{start_under_way}
-use Rattle.history.specs.Filters.{session_number}
-use Rattle.history.specs.Steps.{entry_of}
-use Rattle.history.proofs.legal.Plain.{ArePlain}
+use Rattle.world_laws.proofs.Words.{AllAllowed, AllByRecursion, AreBothReady, AreBothUpIn, ArePlain, AreReadyThroughout, AreRoundCauses, AreUndisturbedNotes}
+use Rattle.world_laws.proofs.Words.{AreUnstarted, Cause, Controller, Cut, Entry, Event, Follows, Header, History, Host, IsBare, IsLineOf, IsLinkUndisturbed}
+use Rattle.world_laws.proofs.Words.{IsRun, IsUnderWay, Link, LinkEvent, List, None, Noted, Option, Play, Restarted, Round, Side, Some, Taken, Ticked, []}
+use Rattle.world_laws.proofs.Words.{after_link_events, all_entries, all_events, allowed_parts, ap, bare_link, bare_link_behind, by_test, causes_of}
+use Rattle.world_laws.proofs.Words.{causes_of_rounds, controller_heard, drop, drop-append_seam, end_of, entries, entries_for, entries_since, entry_of, event_of}
+use Rattle.world_laws.proofs.Words.{false, first_entries, flat_map-append, heard, heard-append, host_heard, host_of, is_run, length, lines_played, link_after}
+use Rattle.world_laws.proofs.Words.{link_events, list_any, map, map-append, notes_of, of_allowed, of_can, plain_trace, refl, replicate, rounds_to_rest}
+use Rattle.world_laws.proofs.Words.{rounds_to_settle, run_entries, session-all, session_number, session_up, settling_causes, settling_events, start_under_way}
+use Rattle.world_laws.proofs.Words.{subst, sym, true, ℕ, ◌++◌, ◌∙◌, ◌∷◌, ◌≡◌}
 use Rattle.node_laws.proofs.order.Watches.{is_cut}
-use Rattle.lines_told.proofs.messages.Projected.{allowed_parts}
-use Rattle.world_laws.specs.worlds.Undisturbed.{AreUndisturbedNotes}
 use Rattle.world_laws.proofs.links.RoundCauses.{rounds_are}
 use Rattle.world_laws.proofs.schedules.Bare.{as_many, happened_leads}
 use Rattle.world_laws.proofs.undisturbed.Losing.{Calm}

@@ -1,29 +1,20 @@
 -- Whether the ends of a bare world take fragments behind the lines of a schedule: the last line that says so decides.
-use Rattle.std.proofs.Common.{◌≡◌, ℕ, zero, suc, ◌==◌, Bool, true, false, List, [], ◌∷◌, ◌++◌, Option, Some, None, refl, ap, sym, subst, ◌∙◌, cond, append-nil}
-use Rattle.std.proofs.Common.{append_assoc, replicate, not, is_some, unwrap_or, ◌&&◌, if◌then◌else◌, fold}
-use Rattle.world_laws.proofs.Words.{AllByRecursion, AreRoundCauses, AsksReset, AtController, AtHost, Cause, End, EndEvent, FetchMessage, Give, GoesOut, Header}
-use Rattle.world_laws.proofs.Words.{Hold, IsHeader, IsPlayedLine, Line, Link, Lose, MayFollow, NextFrame, NoInput, Play, Reset, Round, Step, Taken, Tick}
-use Rattle.world_laws.proofs.Words.{Ticked, Turn, after_causes, after_input, aged, bare_link, bare_link_behind, by_option, by_test, causes_of, ended_by, eq-eqb}
-use Rattle.world_laws.proofs.Words.{events_at, exchanged, happens, happens_at_controller, host_of, lines_played, link_after, link_after_all, played_more}
-use Rattle.world_laws.proofs.Words.{plays_of, rounds_to_rest, rounds_to_settle, settling_causes, ticks_at_controller, true≢false, turned, with_ended}
+use Rattle.world_laws.proofs.Words.{AllByRecursion, AreRoundCauses, AsksReset, AtController, AtHost, Bool, Cause, Caused, End, EndEvent, FetchMessage, Give}
+use Rattle.world_laws.proofs.Words.{Given, GoesOut, Header, Hold, IsEndOf, IsHeader, IsPlayedLine, Line, Link, List, Lose, MayFollow, NextFrame, NoInput}
+use Rattle.world_laws.proofs.Words.{Option, Outcome, Play, Readied, Refused, Reset, Round, Said, Some, Step, Taken, Tick, Ticked, Turn, WasLost, WasReset, []}
+use Rattle.world_laws.proofs.Words.{after_causes, after_input, again, aged, ap, append-nil, append_assoc, bare_link, bare_link_behind, busy_after, by_option}
+use Rattle.world_laws.proofs.Words.{by_test, causes_in, causes_of, cond, damage_causes, ended_by, eq-eqb, events_at, events_of, exchanged, false, first_verdict}
+use Rattle.world_laws.proofs.Words.{fold, frames_to, happens, happens_at_controller, host_ended, host_of, if◌then◌else◌, is_left_busy, is_settling, is_some}
+use Rattle.world_laws.proofs.Words.{lines-append, lines_played, link_after, link_after_all, link_after_line, not, outcome_of, played_more, plays_of}
+use Rattle.world_laws.proofs.Words.{plays_of_line, refl, refusal, replicate, rounds_to_rest, rounds_to_settle, same_side, settling_causes, subst, suc, sym}
+use Rattle.world_laws.proofs.Words.{taken_of, ticks_at_controller, true, true≢false, turned, unwrap_or, with_ended, zero, ℕ, ◌&&◌, ◌++◌, ◌==◌, ◌∙◌, ◌∷◌, ◌≡◌}
 use Rattle.trace_model.specs.declared.line.Line.TheVariants as saying
-use Rattle.trace_model.specs.Lines.{IsEndOf}
 use Rattle.history.specs.Damage.{Verdict}
 use Rattle.history.specs.Damage.Verdict.{Same}
-use Rattle.history.specs.Histories.{Outcome, events_of}
-use Rattle.history.specs.Histories.Cause.{Given, WasLost, WasReset, Readied}
-use Rattle.history.specs.Histories.Outcome.{Refused, Caused}
-use Rattle.history.specs.Follows.{causes_in, damage_causes, first_verdict, frames_to, link_after_line, outcome_of, refusal, taken_of}
-use Rattle.history.specs.Filters.{same_side}
 use Rattle.history.proofs.legal.Asked.{only_one}
-use Rattle.lines_told.specs.lines.Below.{is_settling}
-use Rattle.lines_told.specs.lines.Plays.{plays_of_line}
-use Rattle.lines_told.specs.lines.Plays.Play.{Said}
-use Rattle.lines_told.proofs.lines.BareRounds.{lines-append, again}
-use Rattle.world_laws.specs.worlds.Undisturbed.{busy_after, is_left_busy}
 use Rattle.world_laws.proofs.links.RoundCauses.{rounds_are}
 use Rattle.world_laws.proofs.schedules.Bare.{settled_link}
-use Rattle.world_laws.proofs.undisturbed.Causes.{ready_at, readied_by, HasReady, became, ended_host, turned_ready, frame_readied}
+use Rattle.world_laws.proofs.undisturbed.Causes.{ready_at, readied_by, HasReady, became, turned_ready, frame_readied}
 use Rattle.world_laws.proofs.undisturbed.Ready.{had_tick_ready, asked_ready}
 
 -- ## A cause
@@ -52,12 +43,12 @@ with_turn t ready k is = became k k (turned k.controller.side (t ∷ [])) (ready
 ticked_here : (l : Link) → HasReady l (ticks_at_controller l [] GoesOut) l.controller.side.shdlc.ready
 ticked_here l =
     let b : Bool = is_some (ended_by l.controller.side Tick) in
-    became l (with_ended l b) (after_input l.controller.side Tick) l.controller.side.shdlc.ready (ended_host l b) (had_tick_ready l.controller.side)
+    became l (with_ended l b) (after_input l.controller.side Tick) l.controller.side.shdlc.ready (host_ended l b) (had_tick_ready l.controller.side)
 
 reset_here : (window : Option ℕ) (l : Link) → HasReady l (happens_at_controller l (Step (AsksReset window) [] GoesOut)) l.controller.side.shdlc.ready
 reset_here window l =
     let b : Bool = is_some (ended_by l.controller.side (Reset window)) in
-    became l (with_ended l b) (after_input l.controller.side (Reset window)) l.controller.side.shdlc.ready (ended_host l b)
+    became l (with_ended l b) (after_input l.controller.side (Reset window)) l.controller.side.shdlc.ready (host_ended l b)
     (asked_ready l.controller.side window)
 
 pub cause_readies : (at_host : Bool) (l : Link) (c : Cause) → ready_at at_host (link_after l c) ≡ readied_by at_host (ready_at at_host l) c
@@ -115,9 +106,8 @@ repeated_ready at_host c none (suc n) b =
     repeated_ready at_host c none n (readied_by at_host b c) ∙ none b
 
 damage_ready : (at_host : Bool) (e : End) (v : Option Verdict) (b : Bool) → readied_by_all at_host b (damage_causes e v) ≡ b
-damage_ready at_host e None b = refl
 damage_ready at_host e (Some Same) b = refl
-damage_ready at_host e (Some _) b = refl
+damage_ready at_host e _ b = refl
 
 module _ (header : Header) (is : IsHeader header) (at_host : Bool) where
   abbrev here : End
@@ -141,23 +131,15 @@ module _ (header : Header) (is : IsHeader header) (at_host : Bool) where
 
   line_ready : (l : Link) (line : Line) → MayFollow header line → is_settling line ≡ false
       → ready_at at_host (link_after_line l (outcome_of (host_of header) l line)) ≡ not (busy_after here (not (ready_at at_host l)) line)
-  line_ready l (saying.Send e pid message) may plain = kept l (saying.Send e pid message) (λ b. refl)
   line_ready l (saying.Deliver e count) may plain =
       kept l (saying.Deliver e count) (repeated_ready at_host (Taken e) (λ b. refl) (taken_of count (frames_to l e)))
-  line_ready l (saying.Lose e) may plain = kept l (saying.Lose e) (λ b. refl)
   line_ready l (saying.Damage e places) may plain =
       kept l (saying.Damage e places) (damage_ready at_host e (first_verdict (frames_to l e) places.items))
   line_ready l (saying.Tick times) may plain = kept l (saying.Tick times) (repeated_ready at_host Ticked (λ b. refl) (unwrap_or times 1))
-  line_ready l (saying.Reset e window) may plain = kept l (saying.Reset e window) (λ b. refl)
   line_ready l (saying.Busy e) may plain = cause_readies at_host l (Readied e false) ∙ sym (same e may.1 true (ready_at at_host l))
   line_ready l (saying.Ready e) may plain = cause_readies at_host l (Readied e true) ∙ sym (same e may.1 false (ready_at at_host l))
-  line_ready l (saying.Boot node) may plain = kept l (saying.Boot node) (λ b. refl)
-  line_ready l (saying.Cut node) may plain = kept l (saying.Cut node) (λ b. refl)
-  line_ready l (saying.Activate host sync power) may plain = kept l (saying.Activate host sync power) (λ b. refl)
-  line_ready l (saying.Arm node nth fill) may plain = kept l (saying.Arm node nth fill) (λ b. refl)
-  line_ready l (saying.Init e identity pipes) may plain = kept l (saying.Init e identity pipes) (λ b. refl)
-  line_ready l (saying.Tables node) may plain = kept l (saying.Tables node) (λ b. refl)
   line_ready l (saying.Settle rounds) may plain = absurd (true≢false plain)
+  line_ready l line may plain = kept l line (λ b. refl)
 
   -- ## A schedule
 
@@ -186,20 +168,7 @@ module _ (header : Header) (is : IsHeader header) (at_host : Bool) where
   line_played : (before : List Play) (line : Line) → MayFollow header line → (busy : Bool) → ready_at at_host (behind before) ≡ not busy
       → ready_at at_host (behind (before ++ plays_of_line header before line)) ≡ not (busy_after here busy line)
   line_played before (saying.Settle n) may busy was = rested_ready before n ∙ was
-  line_played before (saying.Send e pid message) may busy was = said_ready before (saying.Send e pid message) may refl busy was
-  line_played before (saying.Deliver e count) may busy was = said_ready before (saying.Deliver e count) may refl busy was
-  line_played before (saying.Lose e) may busy was = said_ready before (saying.Lose e) may refl busy was
-  line_played before (saying.Damage e places) may busy was = said_ready before (saying.Damage e places) may refl busy was
-  line_played before (saying.Tick times) may busy was = said_ready before (saying.Tick times) may refl busy was
-  line_played before (saying.Reset e window) may busy was = said_ready before (saying.Reset e window) may refl busy was
-  line_played before (saying.Busy e) may busy was = said_ready before (saying.Busy e) may refl busy was
-  line_played before (saying.Ready e) may busy was = said_ready before (saying.Ready e) may refl busy was
-  line_played before (saying.Boot node) may busy was = said_ready before (saying.Boot node) may refl busy was
-  line_played before (saying.Cut node) may busy was = said_ready before (saying.Cut node) may refl busy was
-  line_played before (saying.Activate host sync power) may busy was = said_ready before (saying.Activate host sync power) may refl busy was
-  line_played before (saying.Arm node nth fill) may busy was = said_ready before (saying.Arm node nth fill) may refl busy was
-  line_played before (saying.Init e identity pipes) may busy was = said_ready before (saying.Init e identity pipes) may refl busy was
-  line_played before (saying.Tables node) may busy was = said_ready before (saying.Tables node) may refl busy was
+  line_played before line may busy was = said_ready before line may refl busy was
 
   lines_ready : (lines : List Line) (before : List Play) (busy : Bool) → AllByRecursion (MayFollow header) lines → ready_at at_host (behind before) ≡ not busy
       → ready_at at_host (behind (fold (λ (ps : List Play) (line : Line). ps ++ plays_of_line header ps line) before lines))

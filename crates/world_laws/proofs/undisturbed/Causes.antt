@@ -1,21 +1,12 @@
 -- What a history of a bare world notes behind an earlier one, where rounds stand between them; and whether its ends take fragments.
-use Rattle.std.proofs.Common.{◌≡◌, ℕ, zero, suc, Bool, true, false, List, [], ◌∷◌, ◌++◌, None, refl, ap, sym, subst, ◌∙◌, cond, length, append_assoc}
-use Rattle.std.proofs.Common.{append-nil, replicate, is_some}
-use Rattle.world_laws.proofs.Words.{Cause, Controller, End, Event, GoesOut, Header, Host, Line, Link, LinkEnd, NextFrame, NumberedEnd, OnWire, Play, Round}
-use Rattle.world_laws.proofs.Words.{Take, Taken, Turn, after_input, bare_link, bare_link_behind, beside-put_all, causes_of, causes_of_round, causes_of_rounds}
-use Rattle.world_laws.proofs.Words.{end_of, ended_by, events_at, frames_out, host_of, is_clear, lines_played, link_after_round, played_more, round_behind}
-use Rattle.world_laws.proofs.Words.{took_with, turn, turned, with_ended}
+use Rattle.world_laws.proofs.Words.{Bool, Cause, Caused, Controller, End, Event, GoesOut, Header, HistoryStep, Host, Line, Link, LinkEnd, List, NextFrame, None}
+use Rattle.world_laws.proofs.Words.{NumberedEnd, OnWire, Play, Readied, Round, StepsFollow, Take, Taken, Turn, [], after_input, again, ap, append-nil}
+use Rattle.world_laws.proofs.Words.{append_assoc, bare_link, bare_link_behind, bare_round_lines, becomes, beside-put_all, causes_in, causes_of, causes_of_round}
+use Rattle.world_laws.proofs.Words.{causes_of_rounds, causes_on, cond, end_of, ended_by, events_at, events_in, events_of, false, frames_out, frames_to}
+use Rattle.world_laws.proofs.Words.{host_ended, host_of, is_clear, is_some, length, lines_played, link_after_line, link_after_lines, link_after_round}
+use Rattle.world_laws.proofs.Words.{outcome_of, played_more, refl, refusal, replicate, round_behind, round_first, round_on, same_side, steps_at_controller}
+use Rattle.world_laws.proofs.Words.{subst, suc, sym, takes_on, taking_on, took_with, turn, turned, with_ended, zero, ℕ, ◌++◌, ◌∙◌, ◌∷◌, ◌≡◌}
 use Rattle.trace_model.specs.declared.line.Line.TheVariants as saying
-use Rattle.link_laws.specs.messages.Links.{becomes, steps_at_controller}
-use Rattle.history.specs.Histories.{Step as HistoryStep, events_of}
-use Rattle.history.specs.Histories.Cause.{Readied}
-use Rattle.history.specs.Histories.Outcome.{Caused}
-use Rattle.history.specs.Follows.{StepsFollow, causes_in, frames_to, link_after_line, link_after_lines, outcome_of, refusal}
-use Rattle.history.specs.Filters.{same_side}
-use Rattle.history.proofs.Leading.{events_in}
-use Rattle.lines_told.specs.lines.Plays.{taking_on, round_on}
-use Rattle.lines_told.proofs.lines.Plays.{round_first}
-use Rattle.lines_told.proofs.lines.BareRounds.{takes_on, causes_on, bare_round_lines, again}
 use Rattle.world_laws.proofs.schedules.Bare.{one_round}
 use Rattle.world_laws.proofs.undisturbed.Ready.{ready_after, turn_ready, took_ready, sent_ready}
 
@@ -129,10 +120,6 @@ became l k e ready host is =
       far = ap (λ (z : NumberedEnd). z.side.shdlc.ready) ((beside-put_all (frames_out e) k).host ∙ host);
     }
 
-pub ended_host : (l : Link) (b : Bool) → (with_ended l b).host ≡ l.host
-ended_host l true = refl
-ended_host l false = refl
-
 -- one turn of its node at most
 abbrev pub after_turn : Bool → List Turn → Bool
 after_turn ready [] = ready
@@ -161,5 +148,5 @@ frame_readied l ts none = go l.to_controller refl
         let f : LinkEnd = turned (after_input e (Take x.frame)) ts in
         let is : steps_at_controller l NextFrame ts GoesOut ≡ becomes k f = rw q refl in
         let P : Link → Type 0 = λ m. HasReady l m l.controller.side.shdlc.ready in
-        subst P (sym is) (became l k f e.shdlc.ready (ended_host (record l { to_controller = xs }) b)
+        subst P (sym is) (became l k f e.shdlc.ready (host_ended (record l { to_controller = xs }) b)
         (turned_ready (after_input e (Take x.frame)) ts e.shdlc.ready (took_ready e x.frame) ∙ none))

@@ -1,33 +1,20 @@
 -- Where both ends of a link are up and ready, and nothing that disturbs it is noted of an event in a round, it is undisturbed there.
-use Rattle.std.proofs.Common.{◌≡◌, Bool, true, false, List, [], ◌∷◌, ◌++◌, map, Some, None, refl, ap, sym, subst, ◌∙◌}
-use Rattle.std.specs.Prelude.{◌||◌, not, nat_lt, is_some, option_to_list}
-use Rattle.world_laws.proofs.Words.{Acked, Act, Activate, Active, AsksReset, AtController, AtHost, Clt, Control, Controller, CutOff, EndEvent, Ending, GaveUp}
-use Rattle.world_laws.proofs.Words.{GoesOut, Got, Host, I, IsEvent, IsUnderWay, Link, LinkEnd, LinkEvent, Lose, NextFrame, NoInput, Node, NumberedEnd, OnWire}
-use Rattle.world_laws.proofs.Words.{Reset, Rset, S, Step, Take, Tells, Ticks, TicksWithout, Turn, Ua, Up, after_input, aged, aged_entries, all_at_controller}
-use Rattle.world_laws.proofs.Words.{by_test, core_event, core_of, core_take, core_tick, core_tick_rest, core_turns, ended_by, entries_of_events, event_entries}
-use Rattle.world_laws.proofs.Words.{event_step, exchanged, happens, if_so, is_act, is_open, left_after, list_any, number_of, open_up, report, rest_entries}
-use Rattle.world_laws.proofs.Words.{rests_of, safe_aged, shdlc_number_of, step_entries, taken_entries, tick_entries, ticks_at_controller, told_of, took}
-use Rattle.world_laws.proofs.Words.{took_with, true≢false, whole_acked, with_ended}
-use Rattle.swp_base.specs.declared.link_terms.Cause.TheVariants.{Asked}
-use Rattle.link_laws.specs.sessions.Sessions.{ShdlcLink as CoreLink, ShdlcTurn as CoreTurn, ShdlcEndEvent as CoreEndEvent, ShdlcLinkEvent as CoreLinkEvent}
-use Rattle.link_laws.specs.sessions.Sessions.{shdlc_after as core_after, shdlc_exchanged as core_exchanged, shdlc_happens as core_happens}
-use Rattle.link_laws.specs.sessions.Sessions.{shdlc_happens_at_controller as core_happens_here, shdlc_aged as core_aged, ticks_or_cut as core_ticks_or_cut}
-use Rattle.link_laws.specs.sessions.Sessions.{shdlc_all_at_controller as core_all_here}
-use Rattle.link_laws.specs.sessions.Sessions.ShdlcEndEvent.{Turns as CoreTurns, Deliver as CoreDeliver, Acts as CoreActs, Lose as CoreLose}
-use Rattle.link_laws.specs.sessions.Sessions.ShdlcLinkEvent.{AtController as CoreAtController, AtHost as CoreAtHost, Tick as CoreTick}
-use Rattle.link_laws.specs.sessions.Losses.{Losses, no_losses, counts_first, came_up, is_up_with, noted_here, noted_turns, noted_aged, noted_tick, noted_event}
-use Rattle.link_laws.specs.machine.Machine.{began_by}
-use Rattle.link_laws.specs.machine.Machine.LinkInput.{Tick as HasTick}
-use Rattle.link_laws.specs.messages.Links.{IsNode}
-use Rattle.link_laws.specs.messages.Projection.{core_ending, core_step}
-use Rattle.link_laws.proofs.messages.Finishing.{step_tick}
-use Rattle.link_laws.proofs.messages.Runs.{safe_reached, tells_same}
+use Rattle.std.specs.Prelude.{◌||◌, not, nat_lt, is_some}
+use Rattle.world_laws.proofs.Words.{Acked, Act, Active, AreUndisturbed, Asked, AsksReset, AtController, AtHost, Before, Bool, BothTakeFragments, Control}
+use Rattle.world_laws.proofs.Words.{Controller, CoreActs, CoreAtController, CoreAtHost, CoreDeliver, CoreEndEvent, CoreLink, CoreLinkEvent, CoreLose, CoreTick}
+use Rattle.world_laws.proofs.Words.{CoreTurn, CoreTurns, CutOff, EndEvent, Ending, GaveUp, GoesOut, Got, HasTick, Host, IsEvent, IsNode, IsUnderWay, Link}
+use Rattle.world_laws.proofs.Words.{LinkEnd, LinkEvent, List, Losses, NextFrame, NoInput, Node, None, NotedUp, NumberedEnd, OnWire, Reset, Some, Step, Take}
+use Rattle.world_laws.proofs.Words.{Tells, Ticks, TicksWithout, Turn, Up, [], after_input, aged, aged_entries, all_at_controller, ap, before_here, before_there}
+use Rattle.world_laws.proofs.Words.{began_by, by_test, came_up, core_after, core_aged, core_all_here, core_ending, core_event, core_exchanged, core_happens}
+use Rattle.world_laws.proofs.Words.{core_happens_here, core_of, core_step, core_take, core_tick, core_tick_rest, core_ticks_or_cut, core_turns, counts_first}
+use Rattle.world_laws.proofs.Words.{ended_by, entries_of_events, event_entries, event_step, exchanged, false, happens, if_so, is_act, is_open, is_up_with}
+use Rattle.world_laws.proofs.Words.{left_after, list_any, map, no_losses, noted_aged, noted_event, noted_here, noted_tick, noted_turns, number_of, open_up}
+use Rattle.world_laws.proofs.Words.{option_to_list, refl, report, rest_entries, rests_of, safe_aged, safe_reached, shdlc_number_of, step_entries, step_tick}
+use Rattle.world_laws.proofs.Words.{subst, sym, taken_entries, taken_noted, tells_same, tick_entries, ticks_at_controller, told_of, took, took_with, true}
+use Rattle.world_laws.proofs.Words.{true≢false, whole_acked, with_ended, ◌++◌, ◌∙◌, ◌∷◌, ◌≡◌}
 use Rattle.link_laws.specs.entries.Entries.{End, Entry}
-use Rattle.link_laws.specs.entries.Entries.Entry.{Up as NotedUp, Down}
+use Rattle.link_laws.specs.entries.Entries.Entry.{Down}
 use Rattle.link_laws.proofs.entries.Disturbing.{idle_noted}
-use Rattle.link_laws.proofs.entries.Lasting.{taken_noted}
-use Rattle.link_laws.proofs.entries.Running.{Before, before_here, before_there}
-use Rattle.lines_told.specs.fragments.Rounds.{BothTakeFragments, AreUndisturbed}
 use Rattle.world_laws.proofs.undisturbed.Losing.{troubles, Calm, calm_parts, rest_calm, cut_troubles, ages_calm, tick_calm}
 
 -- an event in a round of a world: an end takes a frame, the controller's node has turns there, or time passes, in which the controller's end
@@ -108,12 +95,8 @@ module _ (l : Link) (ts : List Turn) (x : OnWire) (xs : List OnWire) (first : l.
       delivered c plain q is = one_calm (core_turns (after_input e (Take c)) ts) (ap (λ y. core_take e y ts) q ∙ is)
 
       go : (c : Control) → x.frame ≡ c → AreCalmHere (core_of l) (core_take l.controller.side x.frame ts ++ [])
-      go (I ns nr info) q = delivered (I ns nr info) refl q (rw opened refl)
-      go (S kind nr) q = delivered (S kind nr) refl q (rw opened refl)
-      go (Rset window caps) q = delivered (Rset window caps) refl q (rw opened refl)
-      go Ua q = delivered Ua refl q (rw opened refl)
-      go Clt q = delivered Clt refl q (rw opened refl)
       go (Act act again) q = act_calm _ _ (ap is_act q) (ap (λ y. core_take e y ts) q)
+      go c q = delivered c refl q (rw opened refl)
 
 step_calm : (who : End) (l : Link) (ts : List Turn) (ending : Ending) → IsNode l ts ending → Before l → is_open l.controller.side.role ≡ true
     → BothTakeFragments (core_of l) → Calm (step_entries who l NextFrame ts ending) → AreCalmHere (core_of l) (core_step l NextFrame ts ending)
@@ -323,14 +306,4 @@ module _ (l : Link) {t : List Entry} (w : IsUnderWay t l) (both : BothTakeFragme
           let Q : List CoreLinkEvent → Type 0 = λ es. AreUndisturbed (core_of l) (es ++ fs) in
           subst Q (sym (tick_is c h a parts)) (both, tick_lost c h a parts, subst P (tick_is c h a parts) later)
       go (TicksWithout (Step (AsksReset None) ts ending ∷ []) h) is a calm later = absurd (reset_ends l near_open both.controller_up ts ending h calm)
-      go (AtController (Step _ ts ending)) is a calm later = absurd is
-      go (AtController (Lose why)) is a calm later = absurd is
-      go (AtHost (Step _ ts ending)) is a calm later = absurd is
-      go (AtHost (Lose why)) is a calm later = absurd is
-      go (Ticks c (x ∷ xs) h) is a calm later = absurd is
-      go (TicksWithout [] h) is a calm later = absurd is
-      go (TicksWithout (Lose why ∷ xs) h) is a calm later = absurd is
-      go (TicksWithout (Step (AsksReset (Some window)) ts ending ∷ xs) h) is a calm later = absurd is
-      go (TicksWithout (Step (AsksReset None) ts ending ∷ (x ∷ xs)) h) is a calm later = absurd is
-      go (TicksWithout (Step _ ts ending ∷ xs) h) is a calm later = absurd is
-      go (Activate power c id h) is a calm later = absurd is
+      go _ is a calm later = absurd is

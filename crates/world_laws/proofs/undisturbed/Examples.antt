@@ -1,13 +1,12 @@
 -- A worked example of a link of nodes that settles and holds no message meanwhile, computed from the definitions.
-use Rattle.std.proofs.Common.{◌≡◌, refl, List, [], ◌∷◌, None, true}
-use Rattle.world_laws.proofs.Words.{ArePoweredNotes, AreUnheldNotes, AreUpWith, Emit, Entry, Happening, NodeWorld, Occurrence, Takes, Took, all_happen, end_c}
-use Rattle.world_laws.proofs.Words.{end_h, entries_in, fragments_noted, new_world, world_settling}
-use Rattle.trace_model.specs.declared.entry.Entry.TheVariants.{Acked, Active, AnyOk, Booted, Command, Got, Sent, Turn, Up}
+use Rattle.world_laws.proofs.Words.{Activates, AnyOk, ArePoweredNotes, AreUnheldNotes, AreUpWith, Booted, Boots, Emit, Entry, Gives, Happening, List, NodeWorld}
+use Rattle.world_laws.proofs.Words.{None, Occurrence, Resets, Sent, Takes, Took, [], all_happen, end_c, end_h, entries_in, fragments_noted, new_world, refl}
+use Rattle.world_laws.proofs.Words.{true, world_settling, ◌∷◌, ◌≡◌}
 use Rattle.hci_tables.specs.declared.command.Command.TheVariants as command
+use Rattle.trace_model.specs.declared.entry.Entry.TheVariants.{Acked, Active, Command, Got, Turn, Up}
 use Rattle.journal_laws.specs.Records.{found_from}
 use Rattle.gate_admin.specs.View.{hosts_where}
 use Rattle.pipe_table.specs.PipeRows.{lowest_free}
-use Rattle.node_machine.specs.world.World.Happening.{Activates, Boots, Gives, Resets}
 
 -- the link of host 02 is activated and reset, and the host sends ANY_OPEN_PIPE on pipe 01
 abbrev causes : List Happening

@@ -1,30 +1,23 @@
 -- Behind each step of a node an end that takes no fragments is one whose first message was noted as held.
-use Rattle.std.proofs.Common.{◌≡◌, ℕ, ◌==◌, Bool, true, false, List, [], ◌∷◌, map, Option, Some, None, refl, ap, sym, subst, ◌∙◌, not, flat_map}
-use Rattle.std.specs.Option.{option_map_or}
-use Rattle.world_laws.proofs.Words.{AtEnd, Entry, FetchMessage, Give, Hold, LinkInput, Message, Reset, Tick, Turn, Work, after_input, by_option, by_test}
-use Rattle.world_laws.proofs.Words.{changed_if, eqb-true, steps, true≢false}
+use Rattle.world_laws.proofs.Words.{About, AtEnd, Bool, Deed, Desk, Entry, FetchMessage, Give, Hold, IsComing, IsOutside, LinkInput, List, Message, NodeInput}
+use Rattle.world_laws.proofs.Words.{None, Option, Port, Release, Reset, SetAside, Some, Tick, TimePasses, Turn, Work, [], after_input, after_sessions}
+use Rattle.world_laws.proofs.Words.{after_turn, all_come, all_done, all_owed, ap, by_option, by_test, changed_if, commit, done, end_of_node, eqb-true, false}
+use Rattle.world_laws.proofs.Words.{flat_map, forgets, forgotten, has_come, input_at, is_forgotten, is_held, is_held_at, is_late, is_over, lacking, map, not}
+use Rattle.world_laws.proofs.Words.{notified, noting, option_map_or, port_at, refl, reset_late, steps, subst, sym, synced, times_out, true, true≢false, turn_at}
+use Rattle.world_laws.proofs.Words.{unless_cut, waiting_at, with_desk, with_older, with_port, without_notice, ℕ, ◌==◌, ◌∙◌, ◌∷◌, ◌≡◌}
 use Rattle.trace_model.specs.declared.entry.Entry.TheVariants as entry
 use Rattle.hci_tables.specs.declared.command.Command.{Command}
-use Rattle.link_laws.specs.machine.Machine.{is_held}
-use Rattle.link_laws.specs.machine.Machine.Turn.{Release, SetAside}
-use Rattle.node_machine.specs.Parts.{About, Desk, Port, Deed}
 use Rattle.node_machine.specs.Parts.About.{Waits, Removed}
 use Rattle.node_machine.specs.Parts.Deed.{Commits, Sends, Asks, Releases, Tells, IsAnswered, SetsErrors, Orders}
-use Rattle.node_machine.specs.Carrying.{after_turn, all_done, commit, done, end_of_node, notified, noting, port_at, turn_at, unless_cut, with_desk, with_port}
 use Rattle.node_machine.specs.Controller.{asked_at}
 use Rattle.node_machine.specs.Turns.{deeds_of, goes_through_ends, handles, have_turns, holds_back, lets_go, passes}
-use Rattle.node_machine.specs.Node.{NodeInput, after_sessions, all_come, all_owed, forgets, forgotten, has_come, input_at, is_forgotten, is_late}
-use Rattle.node_machine.specs.Node.{is_over, reset_late, synced, times_out, with_older, without_notice}
-use Rattle.node_machine.specs.Node.NodeInput.{TimePasses}
 use Rattle.node_laws.proofs.kept.Doing.{stays_cut, uncut}
 use Rattle.node_laws.proofs.steps.Ports.{changed_host, come_host, forgets_host, late_host, without_host}
 use Rattle.node_laws.proofs.steps.StepWalks.{unless}
 use Rattle.node_laws.proofs.telling.Away.{at_map}
 use Rattle.node_laws.proofs.telling.Mute.{deeds_mute}
 use Rattle.node_laws.proofs.telling.Walks.{handling}
-use Rattle.node_laws.specs.links.Notices.{IsComing, IsOutside}
 use Rattle.node_laws.specs.passes.Noting.{goes_in}
-use Rattle.node_laws.specs.passes.Passing.{is_held_at, lacking, waiting_at}
 use Rattle.node_laws.proofs.passes.Ends.{other_stays, own_changed}
 use Rattle.node_laws.proofs.passes.Passing.{have_handled, have_held}
 use Rattle.world_laws.proofs.undisturbed.Ready.{asked_ready, ready_after, turn_ready}

@@ -1,37 +1,25 @@
 -- Whatever happens to a world, an end of a link that takes no fragments is one whose first message was noted as held, and its node runs.
-use Rattle.std.proofs.Common.{◌≡◌, ℕ, ◌==◌, Bool, true, false, cond, List, [], ◌∷◌, map, Option, Some, None, refl, ap, sym, subst, ◌∙◌}
-use Rattle.std.specs.Option.{option_map_or}
-use Rattle.world_laws.proofs.Words.{AsksReset, AtController, AtEnd, AtHost, Comes, Controller, CutOff, End, Entry, GoesOut, Happening, Host, IsOrderly, Link}
-use Rattle.world_laws.proofs.Words.{LinkEnd, LinkInput, Lose, Loss, MayBoot, NextFrame, NoInput, NodeWorld, NumberedEnd, Running, Site, Starts, Step, Takes}
-use Rattle.world_laws.proofs.Words.{Work, after_controller, aged, all_aged, changed_if, comes_to, controller_ticks, controller_work, end_c, end_h, ending_of}
-use Rattle.world_laws.proofs.Words.{entries_for, eqb-true, exchanged, happens, host_work, hosts_in, input_of, link_to, runs_on, site_at, site_host, site_is}
-use Rattle.world_laws.proofs.Words.{steps, ticks_at_controller, true≢false, turns_at, world_step}
+use Rattle.world_laws.proofs.Words.{Activates, Arms, AsksReset, AtController, AtEnd, AtHost, Bool, Boots, Broken, Comes, Controller, CutOff, Deed, End, Entry}
+use Rattle.world_laws.proofs.Words.{Gives, GoesOut, Happening, HasEnds, Host, IfItRuns, Inits, IsCut, IsOrderly, Link, LinkEnd, LinkInput, List, Lose, Loss}
+use Rattle.world_laws.proofs.Words.{MayBoot, NextFrame, NoInput, NodeWorld, None, NumberedEnd, Option, Port, Resets, Running, Site, Some, Starts, Step, Takes}
+use Rattle.world_laws.proofs.Words.{TimePasses, TimePassing, Work, [], after_controller, after_host, after_tick, aged, all_aged, ap, arrival, beginning}
+use Rattle.world_laws.proofs.Words.{begins_with, boot_found, boot_writes, boot_written, boots, by_boot, by_coming, by_controller, by_controller_tick, by_host}
+use Rattle.world_laws.proofs.Words.{by_host_tick, by_loss, by_memory, by_power, by_running, changed_if, comes_at, comes_goes, comes_to, cond, controller_does}
+use Rattle.world_laws.proofs.Words.{controller_ticks, controller_work, desks_held, end_c, end_h, ending_of, entries_for, eqb-true, error_held, exchanged, false}
+use Rattle.world_laws.proofs.Words.{frame_lost, happens, host_cut, host_does, host_tick, host_ticks, host_work, hosts_in, hosts_tick, input_of, is_held_among}
+use Rattle.world_laws.proofs.Words.{is_held_at, is_late_at, link_after_controller, link_is, link_to, loses_power_at, map, memory_at, near_end_in, near_orderly}
+use Rattle.world_laws.proofs.Words.{near_tick, node_at, node_is, option_map_or, orderly_map, port_at, ports_held, refl, runs_on, same_number, sending, site_at}
+use Rattle.world_laws.proofs.Words.{site_host, site_is, site_lost, site_ticked, site_unticked, so_host, stands, steps, subst, sym, ticks_at_controller, true}
+use Rattle.world_laws.proofs.Words.{true≢false, turns_at, with_memory, with_node, with_site, work_of, world_step, world_ticks, ℕ, ◌==◌, ◌∙◌, ◌∷◌, ◌≡◌}
 use Rattle.swp_base.specs.InMemory.{Memory, Plan}
 use Rattle.journal_laws.specs.Planned.{after_planned}
-use Rattle.link_laws.proofs.entries.Lasting.{same_number}
 use Rattle.link_laws.proofs.entries.Together.{ticks_host}
-use Rattle.link_laws.specs.messages.Links.Loss.{Broken}
-use Rattle.node_machine.specs.Parts.{Deed, Port}
-use Rattle.node_machine.specs.Carrying.{port_at}
-use Rattle.node_machine.specs.Node.{begins_with, boot_writes}
-use Rattle.node_machine.specs.Node.NodeInput.{TimePasses}
-use Rattle.node_machine.specs.world.World.{after_host, arrival, beginning, boots, comes_at, controller_does, counts, frame_lost, host_cut, host_does}
-use Rattle.node_machine.specs.world.World.{host_ticks, hosts_tick, is_late_at, link_after_controller, loses_power_at, memory_at, near_end_in, node_at, sending}
-use Rattle.node_machine.specs.world.World.{with_memory, with_node, with_site, work_of, world_ticks}
-use Rattle.node_machine.specs.world.World.Happening.{Activates, Arms, Boots, Gives, Inits, IsCut, Loses, Resets, Ticks as TimePassing}
-use Rattle.node_machine.proofs.world.Cases.{after_tick, boot_found, boot_written, by_boot, by_coming, by_controller, by_controller_tick, by_host, by_host_tick}
-use Rattle.node_machine.proofs.world.Cases.{by_loss, by_memory, by_power, by_running, host_tick, near_tick, site_lost, site_ticked, site_unticked}
-use Rattle.node_laws.specs.telling.Telling.{HasEnds, IfItRuns}
-use Rattle.node_laws.proofs.telling.Events.{comes_goes, orderly_map}
-use Rattle.node_laws.proofs.telling.Nodes.{Stands, link_is, stands}
-use Rattle.node_laws.proofs.telling.Worlds.{node_is}
-use Rattle.node_laws.proofs.telling.WorldTicks.{near_orderly}
-use Rattle.node_laws.specs.passes.Passing.{is_held_at}
+use Rattle.node_machine.specs.world.World.{counts}
+use Rattle.node_machine.specs.world.World.Happening.{Loses}
+use Rattle.node_laws.proofs.telling.Nodes.{Stands}
 use Rattle.node_laws.proofs.links.Ends.{here_host}
-use Rattle.node_laws.proofs.links.Worlds.{so_host}
 use Rattle.node_laws.proofs.readings.Sites.{comes_outside, near_end_side}
 use Rattle.node_laws.proofs.turns.Works.{sites_is}
-use Rattle.node_laws.proofs.reply_passes.Held.{desks_held, error_held, is_held_among, ports_held}
 use Rattle.world_laws.proofs.undisturbed.Holding.{IfOn, Kept, KeepsHeld, There, kept_deeds, step_kept}
 use Rattle.world_laws.proofs.undisturbed.Steps.{idle_ready, late_ready, near_ready, readied, ready_at_end, stepped_ready, tick_ready}
 

@@ -1,19 +1,12 @@
 -- Where a frame of an end's step is lost, or its session ends, it is noted: so where nothing of this is noted no frame is lost.
-use Rattle.std.proofs.Common.{◌≡◌, Bool, true, false, cond, List, [], ◌∷◌, ◌++◌, length, Some, None, refl, ap, sym, subst, ◌∙◌, arith, length-append, ◌+◌, ◌||◌}
-use Rattle.std.proofs.Common.{nat_lt, is_some, ltb-true}
-use Rattle.world_laws.proofs.Words.{AreSendableTurns, Control, Cut, CutOff, EndState, GoesOut, Link, LinkEnd, Lost, Now, OnWire, Restarted, Tells, Turn}
-use Rattle.world_laws.proofs.Words.{after_input, aged_entries, and_parts, by_test, core_of, core_turns, far, first_lost, frames_out, is_act, is_open, is_rset}
-use Rattle.world_laws.proofs.Words.{list_any, list_any-append, mid_moved, moved, opened, pushed_out, put, put_entries, puts_entries, rest_entries, sans}
-use Rattle.world_laws.proofs.Words.{tick_answer, tick_entries, ticked, told_of, true≢false, turn_entries, turned, turns_mid, wire_with, with_ended}
-use Rattle.shdlc_core.specs.declared.answers.LinkState.TheVariants.{Down as IsDown}
-use Rattle.link_laws.specs.sessions.Sessions.{ShdlcLink as CoreLink, ShdlcTurn as CoreTurn, shdlc_turned as core_turned}
-use Rattle.link_laws.specs.sessions.Losses.{Losses, counts_first, overflows, loses_aged, noted_loss, noted_all, noted_out, noted_tick, noted_aged}
-use Rattle.link_laws.specs.machine.Machine.LinkInput.{Tick as HasTick}
-use Rattle.link_laws.proofs.machine.Reports.{shdlc_is as shdlc_moved}
-use Rattle.link_laws.specs.messages.Links.Loss.{TooMany}
-use Rattle.link_laws.proofs.messages.Ends.{ticked_keeps}
-use Rattle.link_laws.proofs.messages.Project.{with_ended-core, put-core}
-use Rattle.link_laws.proofs.messages.Finishing.{tick_open}
+use Rattle.world_laws.proofs.Words.{AreSendableTurns, Bool, Control, CoreLink, CoreTurn, Cut, CutOff, EndState, GoesOut, HasTick, IsDown, Link, LinkEnd, List}
+use Rattle.world_laws.proofs.Words.{Losses, Lost, None, Now, OnWire, Restarted, Some, Tells, TooMany, Turn, [], after_input, aged_entries, and_parts, ap, arith}
+use Rattle.world_laws.proofs.Words.{by_test, cond, core_of, core_turned, core_turns, counts_first, false, far, first_lost, frames_out, is_act, is_open, is_rset}
+use Rattle.world_laws.proofs.Words.{is_some, length, length-append, list_any, list_any-append, loses_aged, ltb-true, mid_moved, moved, nat_lt, noted_aged}
+use Rattle.world_laws.proofs.Words.{noted_all, noted_loss, noted_out, noted_tick, opened, or_none, overflows, pushed_out, put, put-core, put_entries}
+use Rattle.world_laws.proofs.Words.{puts_entries, refl, rest_entries, sans, shdlc_moved, subst, sym, tick_answer, tick_entries, tick_open, ticked, ticked_keeps}
+use Rattle.world_laws.proofs.Words.{told_of, true, true≢false, turn_entries, turned, turns_mid, wire_with, with_ended, with_ended-core, ◌++◌, ◌+◌, ◌∙◌, ◌∷◌}
+use Rattle.world_laws.proofs.Words.{◌≡◌}
 use Rattle.link_laws.specs.entries.Entries.{End, Entry}
 use Rattle.link_laws.specs.entries.Entries.Entry.{Down}
 use Rattle.link_laws.proofs.entries.Losing.{out_noted}
@@ -29,12 +22,8 @@ troubles _ = false
 abbrev pub Calm : List Entry → Type 0
 Calm t = list_any troubles t ≡ false
 
-pub or_calm : (a b : Bool) → (a || b) ≡ false → (a ≡ false) × (b ≡ false)
-or_calm true b q = absurd (true≢false q)
-or_calm false b q = (refl, q)
-
 pub calm_parts : (t u : List Entry) → Calm (t ++ u) → Calm t × Calm u
-calm_parts t u c = or_calm (list_any troubles t) (list_any troubles u) (sym (list_any-append troubles t u) ∙ c)
+calm_parts t u c = or_none (list_any troubles t) (list_any troubles u) (sym (list_any-append troubles t u) ∙ c)
 
 -- ## Frames go out
 

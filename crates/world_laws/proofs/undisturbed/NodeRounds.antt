@@ -1,15 +1,12 @@
 -- Where nothing that disturbs a link is noted of rounds of a world of nodes, and both its ends are up before them, the law of one link notes
 -- nothing of the kind of what these rounds are there, and both ends are up behind them.
-use Rattle.std.proofs.Common.{◌≡◌, ℕ, zero, suc, List, [], ◌∷◌, ◌++◌, Some, None, refl, ap, sym, subst, ◌∙◌, length, ◌||◌}
-use Rattle.world_laws.proofs.Words.{ArePassing, ArePoweredNotes, End, Entry, Happening, Link, LinkEvent, NodeWorld, Occurrence, Site, Takes}
-use Rattle.world_laws.proofs.Words.{after_events-append, after_link_events, all_go, all_happen, by_test, can_happen, end_takes_all, ends_events, ends_go}
-use Rattle.world_laws.proofs.Words.{ends_in_order, ends_take_all, entries, entries_in, events_on, flat_map-append, frames_at, happenings, link_events_in}
-use Rattle.world_laws.proofs.Words.{list_any, list_any-append, round_events, round_goes, rounds_events, rounds_of_world, site_at, takes_go, takes_pass}
-use Rattle.world_laws.proofs.Words.{ticks_go, world_after_round, world_round, world_step}
+use Rattle.world_laws.proofs.Words.{ArePassing, ArePoweredNotes, End, Entry, Happening, Link, LinkEvent, List, NodeWorld, None, Occurrence, Site, Some, Takes}
+use Rattle.world_laws.proofs.Words.{TimePassing, [], after_events-append, after_link_events, all_go, all_happen, ap, by_test, can_happen, end_takes_all}
+use Rattle.world_laws.proofs.Words.{ends_events, ends_go, ends_in_order, ends_take_all, entries, entries-append, entries_in, events_on, flat_map-append}
+use Rattle.world_laws.proofs.Words.{frames_at, happenings, length, link_events_in, list_any, list_any-append, refl, round_events, round_goes, rounds_events}
+use Rattle.world_laws.proofs.Words.{rounds_of_world, site_at, subst, suc, sym, takes_allowed, takes_go, takes_pass, ticks_go, world_after_round, world_round}
+use Rattle.world_laws.proofs.Words.{world_step, zero, ℕ, ◌++◌, ◌||◌, ◌∙◌, ◌∷◌, ◌≡◌}
 use Rattle.trace_model.specs.declared.line.Line.TheVariants as line
-use Rattle.node_laws.proofs.telling.Events.{entries-append}
-use Rattle.node_machine.specs.world.World.Happening.{Ticks as TimePassing}
-use Rattle.node_laws.proofs.rounds.Allowing.{takes_allowed}
 use Rattle.world_laws.proofs.undisturbed.Losing.{Calm, troubles}
 use Rattle.world_laws.proofs.undisturbed.Runs.{AreBothUpNow, AreRoundEvents}
 use Rattle.world_laws.proofs.undisturbed.Noted.{calm_told, powered_parts}
@@ -72,10 +69,6 @@ module _ (hosts : List ℕ) (h : ℕ) where
     where
       v : NodeWorld
       v = (world_step w (Takes e)).0
-
-      Rest : Type 0
-      Rest = (t : Site) → ArePassing causes → IsReached hosts v → site_at v.sites h ≡ Some t → AreBothUpNow t.link
-          → ArePoweredNotes (entries_in (all_happen v causes).1) h → GoesCalmly t.link (events_on h v causes)
   all_calmly (TimePassing ∷ causes) w s p r q up notes =
       let v : NodeWorld = (world_step w TimePassing).0 in
       let both = powered_parts h (world_step w TimePassing).1 (entries_in (all_happen v causes).1) notes in

@@ -1,18 +1,11 @@
 -- A link of a world of nodes is undisturbed while it settles, where nothing that disturbs it is noted of its rounds.
-use Rattle.std.proofs.Common.{◌≡◌, ℕ, false, ◌==◌, List, ◌++◌, Some, ap, sym, subst, ◌∙◌, length, drop, replicate}
-use Rattle.std.proofs.Math.Seq.{drop-append_seam}
-use Rattle.world_laws.proofs.Words.{AllAllowed, AreHosts, ArePlayable, ArePoweredNotes, AreReadyThroughout, AreUpWith, Controller, Entry, FollowsNodes}
-use Rattle.world_laws.proofs.Words.{GoesOnLink, Header, Host, IsLine, IsLinkUndisturbed, IsUnderWay, Line, Link, LinkEvent, NodeHistory, NodeWorld, Occurrence}
-use Rattle.world_laws.proofs.Words.{Play, Round, Site, after_events-append, after_link_events, allowed-append, entries, entries_in, entries_since}
-use Rattle.world_laws.proofs.Words.{events_of_steps, fine_there, flat_map-append, heard, host_number, lines_played, new_line, new_world, node_entries}
-use Rattle.world_laws.proofs.Words.{nodes_behind, occurrences_in, rounds_allowed, rounds_events, rounds_go, rounds_of_world, rounds_to_rest, session_up}
-use Rattle.world_laws.proofs.Words.{site_at, world_behind}
-use Rattle.link_laws.specs.entries.Sessions.{number_now}
-use Rattle.link_laws.proofs.entries.Running.{start_under_way}
-use Rattle.node_machine.specs.world.NodeHistories.{LineStep}
-use Rattle.node_laws.specs.order.Told.{AreSessionsRead}
-use Rattle.node_laws.proofs.order.Sessions.{are_read}
-use Rattle.lines_told.proofs.lines.NodeRounds.{played_rounds}
+use Rattle.world_laws.proofs.Words.{AllAllowed, AreHosts, ArePlayable, ArePoweredNotes, AreReadyThroughout, AreSessionsRead, AreUpWith, Controller, Entry}
+use Rattle.world_laws.proofs.Words.{FollowsNodes, GoesOnLink, Header, Host, IsLine, IsLinkUndisturbed, IsUnderWay, Line, LineStep, Link, LinkEvent, List}
+use Rattle.world_laws.proofs.Words.{NodeHistory, NodeWorld, Occurrence, Play, Round, Site, Some, after_events-append, after_link_events, allowed-append, ap}
+use Rattle.world_laws.proofs.Words.{are_read, drop, drop-append_seam, entries, entries_in, entries_since, events_of_steps, false, fine_there, flat_map-append}
+use Rattle.world_laws.proofs.Words.{heard, host_number, length, lines_played, new_line, new_world, node_entries, nodes_behind, number_now, occurrences_in}
+use Rattle.world_laws.proofs.Words.{played_rounds, replicate, rounds_allowed, rounds_events, rounds_go, rounds_of_world, rounds_to_rest, session_up, site_at}
+use Rattle.world_laws.proofs.Words.{start_under_way, subst, sym, world_behind, ℕ, ◌++◌, ◌==◌, ◌∙◌, ◌≡◌}
 use Rattle.world_laws.proofs.schedules.Nodes.{last, reached}
 use Rattle.world_laws.proofs.schedules.Occurring.{rounds_occur}
 use Rattle.world_laws.proofs.undisturbed.Begun.{Unbegun}

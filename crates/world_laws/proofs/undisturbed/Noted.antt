@@ -1,19 +1,12 @@
 -- Where entries tell of nothing that disturbs a link, the law of one link notes nothing that does.
-use Rattle.std.proofs.Common.{◌≡◌, ℕ, ◌==◌, Bool, false, List, [], ◌∷◌, ◌++◌, Option, Some, None, refl, ap, sym, subst, ◌∙◌, append-nil, ◌||◌}
-use Rattle.world_laws.proofs.Words.{ArePoweredNotes, AreUnstarted, Cut, End, Entry, Link, LinkEvent, Lost, Restarted, by_test, cuts_on, end_of, entries}
-use Rattle.world_laws.proofs.Words.{entries_for, event_entries, list_any, list_any-append, of_link, true≢false}
-use Rattle.link_laws.specs.entries.Entries.{Entry as Noted}
+use Rattle.world_laws.proofs.Words.{ArePoweredNotes, AreUnstarted, Bool, Cut, End, Ends, Entry, Link, LinkEvent, List, Loses, Lost, None, Noted, Option}
+use Rattle.world_laws.proofs.Words.{Restarted, Saying, Some, Standing, StandsOf, TellOf, [], ap, append-nil, by_test, cuts_on, end_of, ends_on, entries}
+use Rattle.world_laws.proofs.Words.{entries_for, event_entries, false, has_ended, is_of, link_same, list_any, list_any-append, no_cut, of_link, or_none, refl}
+use Rattle.world_laws.proofs.Words.{said, standing, standing_by_law, subst, sym, tells_of, true≢false, untold, ℕ, ◌++◌, ◌==◌, ◌||◌, ◌∙◌, ◌∷◌, ◌≡◌}
 use Rattle.link_laws.specs.entries.Entries.Entry.{Down}
-use Rattle.history.specs.Filters.{Saying, said}
-use Rattle.history.specs.Filters.Saying.{Ends, Loses}
 use Rattle.history.specs.Legal.{has_lost, loses_on}
-use Rattle.history.proofs.legal.Reading.{link_same}
-use Rattle.node_laws.specs.telling.Telling.{is_of, tells_of, TellOf}
-use Rattle.node_laws.proofs.telling.Accounts.{untold}
-use Rattle.node_laws.specs.telling.Standing.{Standing, standing, standing_by_law, StandsOf}
-use Rattle.node_laws.proofs.order.Watches.{is_cut, no_cut}
-use Rattle.world_laws.specs.worlds.Undisturbed.{ends_on, has_ended}
-use Rattle.world_laws.proofs.undisturbed.Losing.{Calm, or_calm}
+use Rattle.node_laws.proofs.order.Watches.{is_cut}
+use Rattle.world_laws.proofs.undisturbed.Losing.{Calm}
 use Rattle.world_laws.proofs.undisturbed.Events.{IsRoundEvent}
 use Rattle.world_laws.proofs.undisturbed.Runs.{AreRoundEvents}
 
@@ -24,9 +17,9 @@ pub noted_calm : (h : ℕ) (t : List Noted) → AreUnstarted t → list_any is_c
     → has_lost h (entries_for h t) ≡ false → Calm t
 noted_calm h [] u c a b = refl
 noted_calm h (Down w cause ∷ t) u c a b =
-    absurd (true≢false (sym (link_same h w) ∙ (or_calm ((end_of h w).link == h) (has_ended h (entries_for h t)) a).0))
+    absurd (true≢false (sym (link_same h w) ∙ (or_none ((end_of h w).link == h) (has_ended h (entries_for h t)) a).0))
 noted_calm h (Lost w frame why ∷ t) u c a b =
-    absurd (true≢false (sym (link_same h w) ∙ (or_calm ((end_of h w).link == h) (has_lost h (entries_for h t)) b).0))
+    absurd (true≢false (sym (link_same h w) ∙ (or_none ((end_of h w).link == h) (has_lost h (entries_for h t)) b).0))
 noted_calm h (Restarted w ∷ t) u c a b = absurd u.0
 noted_calm h (Cut w ∷ t) u c a b = absurd (true≢false c)
 noted_calm h (_ ∷ t) u c a b = noted_calm h t u.1 c a b
@@ -54,9 +47,9 @@ module _ (h : ℕ) (f : Option (End × Saying) → Bool) (off : (o : Option (End
 -- entries that nothing disturbs are so in their parts
 pub powered_parts : (h : ℕ) (t u : List Entry) → ArePoweredNotes (t ++ u) h → ArePoweredNotes t h × ArePoweredNotes u h
 powered_parts h t u a =
-    let ended = or_calm (has_ended h t) (has_ended h u) (sym (list_any-append (λ x. ends_on h (said x)) t u) ∙ a.undisturbed.lasting) in
-    let lost = or_calm (has_lost h t) (has_lost h u) (sym (list_any-append (λ x. loses_on h (said x)) t u) ∙ a.undisturbed.lossless) in
-    let cut = or_calm (list_any (cuts_on h) t) (list_any (cuts_on h) u) (sym (list_any-append (cuts_on h) t u) ∙ a.powered) in (
+    let ended = or_none (has_ended h t) (has_ended h u) (sym (list_any-append (λ x. ends_on h (said x)) t u) ∙ a.undisturbed.lasting) in
+    let lost = or_none (has_lost h t) (has_lost h u) (sym (list_any-append (λ x. loses_on h (said x)) t u) ∙ a.undisturbed.lossless) in
+    let cut = or_none (list_any (cuts_on h) t) (list_any (cuts_on h) u) (sym (list_any-append (cuts_on h) t u) ∙ a.powered) in (
       record { undisturbed = record { lasting = ended.0; lossless = lost.0 }; powered = cut.0 },
       record { undisturbed = record { lasting = ended.1; lossless = lost.1 }; powered = cut.1 },
     )

@@ -1,8 +1,7 @@
 -- The lines of a schedule of a world of nodes may be played, also with a line behind them that lets the links settle.
-use Rattle.std.proofs.Common.{List, [], ℕ, ◌∷◌, ◌++◌, inr, subst, sym, replicate}
-use Rattle.world_laws.proofs.Words.{AllByRecursion, ArePlayable, Header, IsPlayFor, Line, MayFollow, Round, Settle, all-append, hosts_stay_behind}
-use Rattle.world_laws.proofs.Words.{lines_may_be_played, lines_played, lines_played_of, plays_for, plays_of, rounds_for, rounds_to_rest}
-use Rattle.trace_model.specs.Lines.{IsNodeHeader}
+use Rattle.world_laws.proofs.Words.{AllByRecursion, ArePlayable, Header, IsNodeHeader, IsPlayFor, Line, List, MayFollow, Round, Settle, [], all-append}
+use Rattle.world_laws.proofs.Words.{hosts_stay_behind, inr, lines_may_be_played, lines_played, lines_played_of, plays_for, plays_of, replicate, rounds_for}
+use Rattle.world_laws.proofs.Words.{rounds_to_rest, subst, sym, ℕ, ◌++◌, ◌∷◌}
 use Rattle.world_laws.proofs.schedules.Nodes.{with_settle}
 use Rattle.world_laws.proofs.schedules.Played.{played_playable}
 

@@ -1,15 +1,12 @@
 -- What an end takes and sends leaves whether it takes fragments: its node alone says so.
-use Rattle.std.proofs.Common.{◌≡◌, ℕ, ◌==◌, Bool, true, false, Option, Some, None, refl, ap, ◌∙◌, cond, nat_lt, not, is_some}
-use Rattle.world_laws.proofs.Words.{Act, ActEvent, Clt, Control, Down, EndState, FetchMessage, Fragment, Give, Hold, I, Kind, LinkEnd, LinkState, Reset, Rset}
-use Rattle.world_laws.proofs.Words.{S, Srej, Turn, Ua, Up, Waiting, act_answer, activated, after_input, by_option, by_test, give_refusal, is_open, is_waiting}
-use Rattle.world_laws.proofs.Words.{most_frames, moved, reset_refusal, reset_with, take_answer, taken, tick_answer, ticked, took, turn, window_of}
-use Rattle.swp_base.specs.declared.control_frames.Act.{Act as Activation}
-use Rattle.swp_act.specs.declared.ActEvent.TheVariants.{Tick as ActTick}
-use Rattle.shdlc_core.specs.Machine.{place_of, acknowledged, ahead, received, reset_taken, timed, runs_timer, with_ready, Timed}
+use Rattle.world_laws.proofs.Words.{Act, ActEvent, ActTick, Activation, Bool, Clt, Control, Down, EndState, Fragment, Give, Hold, I, Kind, LinkEnd, LinkState}
+use Rattle.world_laws.proofs.Words.{None, Option, Reset, Rset, S, SetAside, Some, Srej, Timed, Turn, Up, Waiting, acknowledged, act_answer, activated}
+use Rattle.world_laws.proofs.Words.{after_input, ahead, ap, aside_refusal, by_option, by_test, cond, false, give_refusal, had_tick, is_faulty, is_open, is_some}
+use Rattle.world_laws.proofs.Words.{is_waiting, most_frames, moved, nat_lt, not, place_of, put_down, received, refl, reset_refusal, reset_taken, reset_with}
+use Rattle.world_laws.proofs.Words.{runs_timer, sent_all, sent_same, take_answer, taken, tick_answer, ticked, timed, took, true, turn, window_of, with_act}
+use Rattle.world_laws.proofs.Words.{with_ready, ℕ, ◌==◌, ◌∙◌, ◌≡◌}
 use Rattle.shdlc_core.specs.Machine.Timed.{Runs}
-use Rattle.link_laws.specs.machine.Machine.{with_act, put_down, heard, aside_refusal, had_tick, is_faulty, sent_all}
-use Rattle.link_laws.specs.machine.Machine.Turn.{SetAside, Release}
-use Rattle.lines_told.proofs.fragments.Sends.{sent_same}
+use Rattle.link_laws.specs.machine.Machine.{heard}
 
 received_ready : (e : EndState) (ns : ℕ) (info : Fragment) → (received e ns info).ready ≡ e.ready
 received_ready e ns info = go e.ready (ahead e.session ns == 0) (nat_lt (ahead e.session ns) 4) e.session.gap_open refl refl refl refl
@@ -47,9 +44,8 @@ taken_ready e c = go e.phase c refl
     go Up (Rset w caps) p = let r = reset Up w (w == 0) p refl in rw p (rw p at r)
     go Up _ p = rw p refl
     go Waiting (Rset w caps) p = let r = reset Waiting w (w == 0) p refl in rw p (rw p at r)
-    go Waiting _ p = rw p refl
     go Down (Rset w caps) p = let r = reset Down w (w == 0) p refl in rw p (rw p at r)
-    go Down _ p = rw p refl
+    go _ _ p = rw p refl
 
 pub ticked_ready : (e : EndState) → (ticked e).ready ≡ e.ready
 ticked_ready e = go e.phase (runs_timer e.session) (timed e) refl refl refl
@@ -103,10 +99,7 @@ took_ready e c = go c (is_open e.role) refl
     go : (c : Control) (b : Bool) → is_open e.role ≡ b → (took e c).shdlc.ready ≡ e.shdlc.ready
     go (Act act again) b q = activated_ready e _
     go Clt b q = refl
-    go (I ns nr info) b q = opened (I ns nr info) (is_open e.role)
-    go (S kind nr) b q = opened (S kind nr) (is_open e.role)
-    go (Rset w caps) b q = opened (Rset w caps) (is_open e.role)
-    go Ua b q = opened Ua (is_open e.role)
+    go c b q = opened c (is_open e.role)
 
 pub had_tick_ready : (e : LinkEnd) → (had_tick e).shdlc.ready ≡ e.shdlc.ready
 had_tick_ready e = by_test (is_open e.role) (λ q. rw q (moved_ready e ended (ticked e.shdlc) ∙ ticked_ready e.shdlc)) (λ q. rw q (activated_ready e ActTick))
@@ -136,9 +129,8 @@ ready_after ready _ = ready
 pub turn_ready : (e : LinkEnd) (t : Turn) → (turn e t).shdlc.ready ≡ ready_after e.shdlc.ready t
 turn_ready e (Give m) = by_option (give_refusal e m) (λ q. rw q refl) (λ why q. rw q refl)
 turn_ready e (Hold held) = held_ready e.shdlc (not held)
-turn_ready e FetchMessage = refl
 turn_ready e SetAside = by_option (aside_refusal e) (λ q. rw q refl) (λ why q. rw q refl)
-turn_ready e Release = refl
+turn_ready e _ = refl
 
 -- its frames that are due go out
 pub sent_ready : (e : LinkEnd) → (sent_all e).shdlc.ready ≡ e.shdlc.ready

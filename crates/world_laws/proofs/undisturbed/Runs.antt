@@ -1,19 +1,13 @@
 -- Where nothing that disturbs a link is noted of its rounds, and both its ends are up before them and ready throughout, it is undisturbed.
-use Rattle.std.proofs.Common.{◌≡◌, ℕ, List, [], ◌∷◌, ◌++◌, Some, None, refl, ap, sym, subst, ◌∙◌, append_assoc, append-nil}
-use Rattle.world_laws.proofs.Words.{AllAllowed, AreReadyThroughout, Controller, Cut, Host, IsLinkUndisturbed, IsStart, IsUnderWay, Link, LinkEvent, Lost}
-use Rattle.world_laws.proofs.Words.{Restarted, after_events-append, after_link_events, allowed-append, by_test, core_events, core_of, entries, event_entries}
-use Rattle.world_laws.proofs.Words.{first_entries, happens, heard, number_of, session_up, true≢false}
-use Rattle.shdlc_core.specs.declared.answers.LinkState.TheVariants.{Up as IsUpNow}
-use Rattle.link_laws.specs.entries.Entries.{End, Entry, trace}
+use Rattle.world_laws.proofs.Words.{AllAllowed, AreReadyThroughout, BothTakeFragments, Controller, Cut, Host, IsLinkUndisturbed, IsStart, IsUnderWay, IsUpNow}
+use Rattle.world_laws.proofs.Words.{Link, LinkEvent, List, Lost, None, Restarted, Some, [], after_events-append, after_link_events, allowed-append}
+use Rattle.world_laws.proofs.Words.{allowed_parts, ap, append-nil, append_assoc, by_test, core_events, core_of, entries, entries-append, event_entries}
+use Rattle.world_laws.proofs.Words.{first_entries, goes_on, happens, heard, heard-append, number_now, number_of, refl, session_up, subst, sym, trace}
+use Rattle.world_laws.proofs.Words.{true≢false, up_session, ℕ, ◌++◌, ◌∙◌, ◌∷◌, ◌≡◌}
+use Rattle.link_laws.specs.entries.Entries.{End, Entry}
 use Rattle.link_laws.specs.entries.Entries.Entry.{Up, Down}
 use Rattle.link_laws.specs.entries.Filters.{same_link_end}
-use Rattle.link_laws.specs.entries.Sessions.{number_now}
-use Rattle.link_laws.proofs.entries.Hearing.{heard-append, up_session}
 use Rattle.link_laws.proofs.entries.Heard.{controller_heard, host_heard}
-use Rattle.link_laws.proofs.entries.Running.{goes_on}
-use Rattle.node_laws.proofs.telling.Events.{entries-append}
-use Rattle.lines_told.specs.fragments.Rounds.{BothTakeFragments}
-use Rattle.lines_told.proofs.messages.Projected.{allowed_parts}
 use Rattle.world_laws.proofs.undisturbed.Losing.{Calm, calm_parts}
 use Rattle.world_laws.proofs.undisturbed.Begun.{Unbegun, both_none, event_none}
 use Rattle.world_laws.proofs.undisturbed.Events.{IsRoundEvent, calm_event}
@@ -83,7 +77,7 @@ module _ (start : Link) (s : IsStart start) where
   pub calm_run : (es pre : List LinkEvent) (l : Link) → after_link_events start pre ≡ l → AllAllowed start pre → AllAllowed l es → AreRoundEvents es
       → {t : List Entry} → IsUnderWay t l → AreBothUpNow l → AreReadyThroughout l es → Calm (entries l es) → IsLinkUndisturbed l es × Unbegun (entries l es)
   calm_run [] pre l q before a rounds w up ready calm =
-      (record { controller_up = up.controller; host_up = up.host; controller_ready = ready.controller; host_ready = ready.host }, refl)
+      (record { controller_up = up.controller; host_up = up.host; controller_ready = ready.controller; host_ready = ready.host }, tt)
   calm_run (e ∷ es) pre l q before a rounds w up ready calm =
       let parts = calm_parts (event_entries l e) (entries (happens l e) es) calm in
       let both : BothTakeFragments (core_of l) =
@@ -115,9 +109,9 @@ way_to (e ∷ es) l a w = way_to es (happens l e) a.1 (goes_on l e a.0 w)
 -- an end that is up stays so in its session
 pub keeps : (who : End) (k : ℕ) (t : List Entry) → Calm t → Unbegun t → heard who (Some k) t ≡ Some k
 keeps who k [] c u = refl
-keeps who k (Up w n ∷ t) c u = absurd (true≢false u)
+keeps who k (Up w n ∷ t) c u = absurd (true≢false u.0)
 keeps who k (Down w cause ∷ t) c u = absurd (true≢false c)
 keeps who k (Lost w frame why ∷ t) c u = absurd (true≢false c)
 keeps who k (Restarted w ∷ t) c u = absurd (true≢false c)
 keeps who k (Cut w ∷ t) c u = absurd (true≢false c)
-keeps who k (_ ∷ t) c u = keeps who k t c u
+keeps who k (_ ∷ t) c u = keeps who k t c u.1

@@ -1,16 +1,9 @@
 -- Whether an end takes fragments behind a step is told by the turns of its node alone.
-use Rattle.std.proofs.Common.{◌≡◌, Bool, true, false, cond, List, [], ◌∷◌, ◌++◌, Some, None, refl, ap, ◌∙◌, is_some, not, ◌&&◌}
-use Rattle.swp_act.specs.declared.ActEvent.TheVariants.{Start as ActStart, Stop as ActStop}
-use Rattle.shdlc_core.specs.Machine.{is_waiting, stopped}
-use Rattle.link_laws.specs.machine.Machine.{LinkEnd, LinkInput, Role, Turn, after_input, ended_by, moved, new_link_end, renewed, sent_all, turn, turned}
-use Rattle.link_laws.specs.machine.Machine.LinkInput.{Take, Tick, Reset, Start, Stop}
-use Rattle.link_laws.specs.machine.Machine.Role.{Bare}
-use Rattle.link_laws.specs.messages.Links.{Comes, Ending, Link, finished, silent, steps_at_controller, ticks_at_controller, with_ended}
-use Rattle.link_laws.specs.messages.Links.Comes.{AsksReset, NextFrame, NoInput, Starts, Stops}
-use Rattle.link_laws.specs.messages.Links.Ending.{CutOff, GoesOut}
-use Rattle.node_machine.specs.world.World.{input_of, ticked_so}
-use Rattle.node_laws.specs.links.Notices.{IsComing}
-use Rattle.node_laws.proofs.Cases.{by_list, by_test}
+use Rattle.world_laws.proofs.Words.{ActStart, ActStop, AsksReset, Bare, Bool, Comes, CutOff, Ending, GoesOut, IsComing, Link, LinkEnd, LinkInput, List}
+use Rattle.world_laws.proofs.Words.{NextFrame, NoInput, None, Reset, Role, Some, Start, Starts, Stop, Stops, Take, Tick, Turn, [], after_input, ap, by_list}
+use Rattle.world_laws.proofs.Words.{by_test, cond, ended_by, false, finished, input_of, is_some, is_waiting, moved, new_link_end, not, refl, renewed, sent_all}
+use Rattle.world_laws.proofs.Words.{silent, steps_at_controller, stopped, ticked_so, ticks_at_controller, true, turn, turned, with_ended, ◌&&◌, ◌++◌, ◌∙◌, ◌∷◌}
+use Rattle.world_laws.proofs.Words.{◌≡◌}
 use Rattle.world_laws.proofs.undisturbed.Ready.{activated_ready, asked_ready, had_tick_ready, ready_after, sent_ready, took_ready, turn_ready}
 
 -- ## Turns

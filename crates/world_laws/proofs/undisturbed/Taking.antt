@@ -1,19 +1,12 @@
 -- What a world of nodes notes as an end takes a frame is on each link what the law of one link notes of the event there.
-use Rattle.std.proofs.Common.{◌≡◌, ℕ, ◌==◌, Bool, true, false, cond, List, [], ◌∷◌, ◌++◌, Option, Some, None, refl, ap, sym, subst, ◌∙◌}
-use Rattle.world_laws.proofs.Words.{AreUnstarted, AtController, AtEnd, AtHost, Controller, CutOff, End, Ending, Entry, GoesOut, Host, IsOrderly, Link}
-use Rattle.world_laws.proofs.Words.{LinkEvent, LinkInput, NextFrame, NoInput, NodeWorld, Running, Site, Step, Takes, Turn, Work, after_controller, by_test}
-use Rattle.world_laws.proofs.Words.{comes_to, controller_takes, controller_work, end_c, end_h, ending_of, eq-eqb, eqb-true, exchanged, host_work, hosts_in}
-use Rattle.world_laws.proofs.Words.{input_of, link_events_in, link_to, of_link, site_at, site_host, site_takes, step_entries, steps, true≢false, turns_at}
-use Rattle.world_laws.proofs.Words.{world_step}
-use Rattle.link_laws.specs.entries.Entries.{End as Side, Entry as Noted}
-use Rattle.node_machine.specs.world.World.{host_does}
-use Rattle.node_machine.proofs.world.Cases.{after_host_step, by_coming, by_host}
-use Rattle.node_laws.specs.telling.Telling.{HasEnds, IfItRuns}
-use Rattle.node_laws.specs.telling.Standing.{Standing, standing}
-use Rattle.node_laws.proofs.telling.Nodes.{given, controller_stands, controller_tells, link_is, swapped}
+use Rattle.world_laws.proofs.Words.{AreUnstarted, AtController, AtEnd, AtHost, Bool, Controller, CutOff, End, Ending, Entry, GoesOut, HasEnds, Host, IfItRuns}
+use Rattle.world_laws.proofs.Words.{IsOrderly, Link, LinkEvent, LinkInput, List, NextFrame, NoInput, NodeWorld, None, Noted, Option, Running, Side, Site, Some}
+use Rattle.world_laws.proofs.Words.{Standing, Step, Takes, Turn, Work, [], after_controller, after_host_step, ap, by_coming, by_host, by_test, clear_unstarted}
+use Rattle.world_laws.proofs.Words.{comes_to, cond, controller_stands, controller_takes, controller_tells, controller_work, end_c, end_h, ending_of, eq-eqb}
+use Rattle.world_laws.proofs.Words.{eqb-true, exchanged, false, given, host_does, host_does_step, host_work, hosts_in, input_of, link_events_in, link_is}
+use Rattle.world_laws.proofs.Words.{link_to, of_link, refl, site_at, site_host, site_takes, standing, step_entries, steps, subst, swapped, sym, true}
+use Rattle.world_laws.proofs.Words.{true≢false, turns_at, world_step, ℕ, ◌++◌, ◌==◌, ◌∙◌, ◌∷◌, ◌≡◌}
 use Rattle.node_laws.proofs.telling.Shapes.{IsShaped, last_of, shaped_step}
-use Rattle.node_laws.proofs.telling.Worlds.{host_does_step}
-use Rattle.node_laws.proofs.order.Wires.{clear_unstarted}
 use Rattle.world_laws.proofs.undisturbed.Events.{IsRoundEvent}
 use Rattle.world_laws.proofs.undisturbed.Noted.{IsTold, event_told, none_told, one_told, silent_told}
 

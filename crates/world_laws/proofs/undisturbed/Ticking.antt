@@ -1,26 +1,17 @@
 -- Where nothing that disturbs a link is noted of a tick of the world, and both its ends are up before it, the tick is one of the link in which
 -- no node loses its power and no notice is late, and so both ends are up behind it.
-use Rattle.std.proofs.Common.{◌≡◌, ℕ, ◌&&◌, Bool, true, false, not, List, [], ◌∷◌, ◌++◌, Some, None, refl, ap, sym, subst, ◌∙◌}
-use Rattle.world_laws.proofs.Words.{AllAllowed, ArePoweredNotes, AreSendableTurns, AsksReset, Clf, Controller, GoesOut, Host, IsEvent, IsLine, Known, Link}
-use Rattle.world_laws.proofs.Words.{LinkEnd, LinkEvent, Node, NodeWorld, Running, Site, Step, Ticks, TicksWithout, Turn, Uicc, Work, after_events-append}
-use Rattle.world_laws.proofs.Words.{after_link_events, aged, all_aged, allowed-append, and_parts, by_option, by_test, controller_ticks, ending_of, entries}
-use Rattle.world_laws.proofs.Words.{entries_in, event_entries, event_step, exchanged, fine_there, happens, is_open, is_waiting, link_events_in, new_line}
-use Rattle.world_laws.proofs.Words.{new_link_end, open_up, runs_on, site_at, site_host, tick_so, ticks_at_controller, world_step}
-use Rattle.std.proofs.lemmas.Bool.{not-true}
-use Rattle.swp_act.specs.Activation.{new_clf, new_uicc}
-use Rattle.shdlc_core.specs.declared.answers.LinkState.TheVariants.{Up as IsUpNow}
-use Rattle.link_laws.specs.sessions.Sessions.{ShdlcLink as CoreLink}
-use Rattle.node_machine.specs.world.World.{host_ticks, world_ticks}
-use Rattle.node_machine.specs.world.World.Happening.{Ticks as TimePassing}
-use Rattle.node_machine.proofs.world.Cases.{host_tick, near_tick}
-use Rattle.node_laws.proofs.telling.WorldTicks.{Ticking, between, between_far, host_turns, near_turns, tick_event, ticking}
+use Rattle.world_laws.proofs.Words.{AllAllowed, ArePoweredNotes, AreSendableTurns, AsksReset, Bool, Clf, Controller, CoreLink, GoesOut, Host, IsEvent}
+use Rattle.world_laws.proofs.Words.{IsFineSite, IsLine, IsUpNow, Known, Link, LinkEnd, LinkEvent, List, Node, NodeWorld, None, Running, Site, Some, Step}
+use Rattle.world_laws.proofs.Words.{Ticking, Ticks, TicksWithout, TimePassing, Turn, Uicc, Work, [], after_events-append, after_link_events, aged, all_aged}
+use Rattle.world_laws.proofs.Words.{allowed-append, and_parts, ap, between, between_far, by_option, by_test, controller_tick_on, controller_ticks, ending_of}
+use Rattle.world_laws.proofs.Words.{entries, entries_in, event_entries, event_step, exchanged, false, fine_there, happens, host_tick, host_ticks, host_turns}
+use Rattle.world_laws.proofs.Words.{is_open, is_waiting, link_events_in, near_tick, near_turns, new_clf, new_line, new_link_end, new_uicc, not, not-true}
+use Rattle.world_laws.proofs.Words.{open_up, refl, runs_on, site_at, site_host, site_ticks, subst, sym, tick_event, tick_so, tick_unstarted, ticking}
+use Rattle.world_laws.proofs.Words.{ticks_at_controller, ticks_on, true, world_step, world_ticked, world_ticks, ℕ, ◌&&◌, ◌++◌, ◌∙◌, ◌∷◌, ◌≡◌}
 use Rattle.node_laws.proofs.links.Got.{Clean}
 use Rattle.node_laws.proofs.links.Sites.{AreNodes, reset_allowed, tick_allowed}
-use Rattle.node_laws.proofs.links.Worlds.{IsFineSite}
 use Rattle.node_laws.proofs.order.Ticking.{aged_clean, far_sends, near_sends, timely}
-use Rattle.node_laws.proofs.order.Wires.{tick_unstarted}
-use Rattle.node_laws.specs.rounds.LinkEvents.{controller_tick_on, site_ticks, ticks_on}
-use Rattle.node_laws.proofs.rounds.LinkEvents.{Ticked, world_ticked}
+use Rattle.node_laws.proofs.rounds.LinkEvents.{Ticked}
 use Rattle.world_laws.proofs.undisturbed.Losing.{Calm, calm_parts}
 use Rattle.world_laws.proofs.undisturbed.Events.{IsRoundEvent, TickParts, goes_out, reset_ends, tick_parts}
 use Rattle.world_laws.proofs.undisturbed.Runs.{AreBothUpNow, AreRoundEvents, up_after}

@@ -1,31 +1,25 @@
 -- Where no message is noted as held at either end of a link of nodes, both its ends take fragments throughout the rounds of the world.
-use Rattle.std.proofs.Common.{◌≡◌, ℕ, zero, suc, ◌==◌, Bool, true, false, cond, List, [], ◌∷◌, ◌++◌, map, Option, Some, None, refl, ap, sym, subst, ◌∙◌}
-use Rattle.std.proofs.Common.{append-nil, append_assoc, length, replicate}
-use Rattle.world_laws.proofs.Words.{AreBothReady, AreHosts, ArePassing, ArePlayable, AreReadyThroughout, AreUnheldNotes, End, Entry, FollowsNodes, GoesOnLink}
-use Rattle.world_laws.proofs.Words.{Happening, Header, Line, Link, LinkEvent, LinkInput, MayBoot, NextFrame, NodeHistory, NodeWorld, Occurrence, Play, Round}
-use Rattle.world_laws.proofs.Words.{Running, Site, Takes, after_link_events, all_aged, all_go, all_happen, by_test, can_happen, controller_takes}
-use Rattle.world_laws.proofs.Words.{controller_ticks, end_c, end_h, end_takes_all, ends_events, ends_go, ends_in_order, ends_take_all, entries_in}
-use Rattle.world_laws.proofs.Words.{entries_since, events_of_steps, events_on, exchanged, flat_map-append, frames_at, happenings, happens, input_of}
-use Rattle.world_laws.proofs.Words.{lines_played, link_events_in, link_to, list_any, list_any-append, new_world, node_entries, node_of, nodes_behind}
-use Rattle.world_laws.proofs.Words.{occurrences_in, round_events, round_goes, rounds_events, rounds_of_world, rounds_to_rest, site_at, site_host, site_is}
-use Rattle.world_laws.proofs.Words.{site_takes, steps_from, takes_go, takes_pass, ticks_go, true≢false, world_behind, world_round, world_step}
 use Rattle.std.proofs.lemmas.List.Sums.{fold-append}
+use Rattle.world_laws.proofs.Words.{AllHold, AnyLine, AreBothReady, AreHosts, ArePassing, ArePlayable, AreReadyThroughout, AreUnheldNotes, Bool, End, Entry}
+use Rattle.world_laws.proofs.Words.{FollowsNodes, GoesOnLink, Happening, Header, Line, Link, LinkEvent, LinkInput, List, MayBoot, NextFrame, NodeHistory}
+use Rattle.world_laws.proofs.Words.{NodeWorld, None, Occurrence, Option, Play, Round, Running, Site, Some, Takes, TimePassing, [], after_link_events, all_aged}
+use Rattle.world_laws.proofs.Words.{all_go, all_happen, all_lines, ap, append-nil, append_assoc, boots_may, by_test, can_happen, cond, controller_takes}
+use Rattle.world_laws.proofs.Words.{controller_ticks, end_c, end_h, end_takes_all, ends_events, ends_go, ends_in_order, ends_take_all, entries_in}
+use Rattle.world_laws.proofs.Words.{entries_since, events_of_steps, events_on, exchanged, false, flat_map-append, frames_at, front_holds, happenings, happens}
+use Rattle.world_laws.proofs.Words.{input_of, is_held_among, is_held_on, length, lines_hold, lines_played, link_events_in, link_to, list_any, list_any-append}
+use Rattle.world_laws.proofs.Words.{map, new_site, new_world, node_entries, node_of, nodes_behind, occurrences_in, on_site, or_none, refl, replicate}
+use Rattle.world_laws.proofs.Words.{round_events, round_goes, rounds_events, rounds_of_world, rounds_to_rest, same_end, site_at, site_host, site_is, site_takes}
+use Rattle.world_laws.proofs.Words.{steps_from, subst, suc, sym, takes_go, takes_pass, ticks_go, ticks_on, true, true≢false, world_behind, world_round}
+use Rattle.world_laws.proofs.Words.{world_step, zero, ℕ, ◌++◌, ◌==◌, ◌∙◌, ◌∷◌, ◌≡◌}
 use Rattle.trace_model.specs.declared.entry.Entry.TheVariants as entry
 use Rattle.trace_model.specs.declared.line.Line.TheVariants as line
-use Rattle.history.specs.Filters.{same_end}
-use Rattle.node_machine.specs.world.World.{new_site}
-use Rattle.node_machine.specs.world.World.Happening.{Ticks as TimePassing}
-use Rattle.node_laws.proofs.telling.Lasting.{AllHold, AnyLine, all_lines, boots_may, front_holds, lines_hold}
-use Rattle.node_laws.specs.rounds.LinkEvents.{on_site, takes_on, ticks_on}
+use Rattle.node_laws.specs.rounds.LinkEvents.{takes_on}
 use Rattle.node_laws.specs.answers.Moments.{holds_in}
 use Rattle.node_laws.proofs.reply_passes.Begins.{reads_last}
-use Rattle.node_laws.proofs.reply_passes.Held.{is_held_among}
 use Rattle.node_laws.proofs.worlds.AtRest.{SiteRests}
 use Rattle.node_laws.proofs.worlds.Done.{IsAtRest, event_rests, history_rests}
-use Rattle.world_laws.specs.worlds.Undisturbed.{is_held_on}
 use Rattle.world_laws.proofs.schedules.Nodes.{last}
 use Rattle.world_laws.proofs.undisturbed.Keeping.{HeldAt, HeldIn, IsHeldSo, SiteHeld, event_kept}
-use Rattle.world_laws.proofs.undisturbed.Losing.{or_calm}
 use Rattle.world_laws.proofs.undisturbed.Nodes.{since}
 use Rattle.world_laws.proofs.worlds.Replayed.{happens_first, none_happens}
 use Rattle.world_laws.proofs.worlds.Rounds.{on_first}
@@ -46,7 +40,7 @@ module _ (e : End) where
   unheld_more : (t es : List Entry) → list_any (is_held_on e.link) es ≡ false → holds_in t e ≡ false → holds_in (t ++ es) e ≡ false
   unheld_more t [] q a = subst (λ l. holds_in l e ≡ false) (sym (append-nil t)) a
   unheld_more t (x ∷ es) q a =
-      let both = or_calm (is_held_on e.link x) (list_any (is_held_on e.link) es) q in
+      let both = or_none (is_held_on e.link x) (list_any (is_held_on e.link) es) q in
       subst (λ l. holds_in l e ≡ false) (append_assoc t (x ∷ []) es) (unheld_more (t ++ x ∷ []) es both.1 (unheld_one t x both.0 a))
 
 -- ## Events of a link
@@ -196,7 +190,7 @@ module _ (h : ℕ) where
   none_parts : (xs ys : List Occurrence) → list_any (is_held_on h) (entries_in (xs ++ ys)) ≡ false
       → (list_any (is_held_on h) (entries_in xs) ≡ false) × (list_any (is_held_on h) (entries_in ys) ≡ false)
   none_parts xs ys q =
-      or_calm (list_any (is_held_on h) (entries_in xs)) (list_any (is_held_on h) (entries_in ys))
+      or_none (list_any (is_held_on h) (entries_in xs)) (list_any (is_held_on h) (entries_in ys))
       (sym (list_any-append (is_held_on h) (entries_in xs) (entries_in ys)) ∙ (ap (list_any (is_held_on h)) (sym (entries-append xs ys)) ∙ q))
 
   then_ready : (t : List Entry) (l : Link) (es fs : List LinkEvent) (first second : Step) → StaysReady t l es first

@@ -1,15 +1,13 @@
 -- The causes of the rounds of a world: what they are, how often time passes among them, and how many they are.
-use Rattle.std.proofs.Common.{◌≡◌, ℕ, zero, suc, ◌+◌, true, List, [], ◌∷◌, ◌++◌, None, refl, ap, sym, subst, ◌∙◌, length, arith, replicate}
-use Rattle.world_laws.proofs.Words.{AllByRecursion, ArePassing, End, Happening, IsOrderly, MayBoot, NodeWorld, Occurrence, Takes, all_happen, by_test}
-use Rattle.world_laws.proofs.Words.{can_happen, end_takes_all, ends_in_order, ends_take_all, frames_at, happened_in, happenings, rounds_of_world, takes_pass}
-use Rattle.world_laws.proofs.Words.{world_after_round, world_round, world_step}
+use Rattle.world_laws.proofs.Words.{AllByRecursion, AllCanHappen, AreOfRounds, ArePassing, End, Happening, IsOfRound, IsOrderly, IsTakeOrTick, List, MayBoot}
+use Rattle.world_laws.proofs.Words.{NodeWorld, None, Occurrence, Takes, [], all_happen, ap, arith, by_test, can_happen, end_takes_all, ends_in_order}
+use Rattle.world_laws.proofs.Words.{ends_take_all, frames_at, happened_in, happenings, length, refl, replicate, rounds_of_world, step_orderly, subst, suc, sym}
+use Rattle.world_laws.proofs.Words.{takes_pass, true, world_after_round, world_round, world_round_causes, world_step, world_ticks_in, zero, ℕ, ◌++◌, ◌+◌, ◌∙◌}
+use Rattle.world_laws.proofs.Words.{◌∷◌, ◌≡◌}
 use Rattle.trace_model.specs.declared.line.Line.TheVariants as line
 use Rattle.node_machine.specs.world.World.Happening.{Ticks}
-use Rattle.node_laws.proofs.telling.Orderly.{step_orderly}
 use Rattle.node_laws.specs.readings.Worlds.{MayBeRead}
 use Rattle.node_laws.specs.kept.Worlds.{MayHappen}
-use Rattle.node_laws.specs.rsets.Causes.{world_ticks_in}
-use Rattle.world_laws.specs.worlds.RoundCauses.{world_round_causes, AllCanHappen, IsTakeOrTick, IsOfRound, AreOfRounds}
 use Rattle.world_laws.proofs.worlds.Replayed.{IsWhole, happens_first, none_happens, causes-append, both, whole_all, whole_ends, whole_round}
 use Rattle.world_laws.proofs.worlds.TakenInRounds.{takes_of}
 

@@ -1,26 +1,15 @@
 -- While a link is undisturbed, no node of it loses power and no notice on it is late.
-use Rattle.std.proofs.Common.{◌≡◌, ℕ, subst, Bool, true, false, ◌&&◌, not, List, [], ◌∷◌, ◌++◌, Option, Some, None, ◌⊎◌, inl, inr, map, refl, ap, sym, ◌∙◌}
-use Rattle.world_laws.proofs.Words.{AsksReset, AtController, AtHost, CutOff, Down, Ending, GoesOut, IsLinkUndisturbed, Link, LinkEnd, LinkEvent, LinkState}
-use Rattle.world_laws.proofs.Words.{NextFrame, NoInput, Node, OnWire, Step, Ticks, TicksWithout, Turn, Up, Waiting, after_input, aged, and_parts, by_test}
-use Rattle.world_laws.proofs.Words.{core_all, core_event, core_of, core_take, core_tick, core_tick_rest, core_turns, is_open, is_waiting, reset_by}
-use Rattle.world_laws.proofs.Words.{reset_refusal, reset_with, tick_so, window_of}
-use Rattle.shdlc_core.specs.Machine.{new_end}
-use Rattle.link_laws.specs.sessions.Sessions.{NumberedShdlc as CoreEnd, ShdlcLink as CoreLink, ShdlcTurn as CoreTurn, ShdlcEndEvent as CoreEndEvent}
-use Rattle.link_laws.specs.sessions.Sessions.{shdlc_exchanged as core_exchanged, shdlc_happens as core_happens}
-use Rattle.link_laws.specs.sessions.Sessions.{shdlc_happens_at_controller as core_happens_here, shdlc_after as core_after, shdlc_silent as core_silent}
-use Rattle.link_laws.specs.sessions.Sessions.{ticks_or_cut as core_ticks_or_cut, shdlc_all_at_controller as core_all_here, shdlc_aged as core_aged}
-use Rattle.link_laws.specs.sessions.Sessions.{ticks_if_waiting as core_ticks_if_waiting, shdlc_turned as core_turned}
-use Rattle.link_laws.specs.sessions.Sessions.ShdlcEndEvent.{Turns as CoreTurns, Cut as CoreCut, Reset as CoreReset}
-use Rattle.link_laws.specs.sessions.Sessions.ShdlcLinkEvent.{AtController as CoreAtController, AtHost as CoreAtHost}
+use Rattle.world_laws.proofs.Words.{AreUndisturbed, AsksReset, AtController, AtHost, Bool, CoreAtController, CoreAtHost, CoreCut, CoreEnd, CoreEndEvent}
+use Rattle.world_laws.proofs.Words.{CoreLink, CoreReset, CoreTurn, CoreTurns, CutOff, Down, Ending, GoesOut, InputTick, IsLinkUndisturbed, Link, LinkEnd}
+use Rattle.world_laws.proofs.Words.{LinkEvent, LinkState, List, NextFrame, NoInput, Node, None, OnWire, Option, Some, Step, Ticks, TicksWithout, Turn, Up}
+use Rattle.world_laws.proofs.Words.{Waiting, [], after_input, aged, and_parts, ap, began, by_test, core_after, core_aged, core_all, core_all_here, core_event}
+use Rattle.world_laws.proofs.Words.{core_exchanged, core_happens, core_happens_here, core_of, core_reset, core_silent, core_take, core_tick, core_tick_rest}
+use Rattle.world_laws.proofs.Words.{core_ticks_if_waiting, core_ticks_or_cut, core_turned, core_turns, ended, false, inl, inr, is_lost_tick, is_open}
+use Rattle.world_laws.proofs.Words.{is_waiting, map, new_end, not, not-true, refl, reset_by, reset_refusal, reset_with, sent_same, subst, sym, tick_so, true}
+use Rattle.world_laws.proofs.Words.{window_of, ℕ, ◌&&◌, ◌++◌, ◌∙◌, ◌∷◌, ◌≡◌, ◌⊎◌}
 use Rattle.link_laws.proofs.sessions.Ties.{turned-phase}
-use Rattle.lines_told.specs.fragments.Rounds.{AreUndisturbed}
-use Rattle.lines_told.proofs.fragments.Sends.{sent_same}
 use Rattle.lines_told.proofs.fragments.Events.{tick_host}
 use Rattle.lines_told.proofs.fragments.Wide.{silent_host}
-use Rattle.lines_told.proofs.fragments.Stretches.{began, ended}
-use Rattle.link_laws.specs.machine.Machine.LinkInput.{Tick as InputTick}
-use Rattle.std.proofs.lemmas.Bool.{not-true}
-use Rattle.link_laws.specs.messages.Projection.{core_reset, is_lost_tick}
 
 -- an end whose node has lost power is down
 silent_down : (c : CoreLink) → (core_silent c (new_end 4)).controller.side.phase ≡ Down

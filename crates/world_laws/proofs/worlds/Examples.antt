@@ -1,15 +1,13 @@
 -- A worked example of a world of nodes that settles, computed from its definitions: the rounds, their causes, and what is noted of them.
-use Rattle.std.proofs.Common.{◌≡◌, refl, ℕ, List, [], ◌∷◌}
-use Rattle.world_laws.proofs.Words.{Entry, Happening, Line, NodeWorld, Takes, end_c, end_h, entries_in, new_world, world_rounds_to_settle, world_settling}
+use Rattle.world_laws.proofs.Words.{Entry, Happening, Line, List, NodeWorld, Takes, [], end_c, end_h, entries_in, new_world, refl, world_after}
+use Rattle.world_laws.proofs.Words.{world_rounds_to_settle, world_settling, world_settling_causes, ℕ, ◌∷◌, ◌≡◌}
+use Rattle.hci_tables.specs.declared.command.Command.TheVariants as command
 use Rattle.trace_model.specs.declared.entry.Entry.TheVariants as entry
 use Rattle.trace_model.specs.declared.line.Line.TheVariants as line
-use Rattle.hci_tables.specs.declared.command.Command.TheVariants as command
 use Rattle.journal_laws.specs.Records.{found_from}
 use Rattle.gate_admin.specs.View.{hosts_where}
 use Rattle.pipe_table.specs.PipeRows.{lowest_free}
 use Rattle.node_machine.specs.world.World.Happening.{Ticks}
-use Rattle.node_machine.specs.world.NodeHistories.{world_after}
-use Rattle.world_laws.specs.worlds.RoundCauses.{world_settling_causes}
 
 -- how many rounds a world goes through behind these lines where it settles with n at most, their causes, and what is noted of them
 abbrev settled_behind : List ℕ → List Line → ℕ → ℕ × List Happening × List Entry

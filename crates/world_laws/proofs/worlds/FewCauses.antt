@@ -1,15 +1,13 @@
 -- A round of a world has few causes: no more than 64 frames stand on each wire.
-use Rattle.std.proofs.Common.{◌≡◌, ℕ, zero, suc, ◌+◌, ◌*◌, ◌≤◌, List, [], ◌∷◌, refl, ap, ◌∙◌, length, arith, replicate, flat_map}
-use Rattle.std.proofs.lemmas.List.{length-map, length-append, length-replicate}
-use Rattle.world_laws.proofs.Words.{End, Happening, NodeWorld, Occurrence, Site, Takes, all_happen, by_test, can_happen, end_c, end_h, end_takes_all}
-use Rattle.world_laws.proofs.Words.{ends_in_order, ends_take_all, fine_there, frames_at, happened_in, rounds_of_world, world_round, world_step}
+use Rattle.std.proofs.lemmas.List.{length-append}
+use Rattle.world_laws.proofs.Words.{AreFewOnWires, End, Happening, List, NodeWorld, Occurrence, Site, Takes, [], all_happen, ap, arith, by_test, can_happen}
+use Rattle.world_laws.proofs.Words.{end_c, end_h, end_takes_all, ends_in_order, ends_take_all, fine_there, flat_map, frames_at, happened_in, length, length-map}
+use Rattle.world_laws.proofs.Words.{length-replicate, refl, replicate, rounds_of_world, run_few, step_kept, suc, world_round, world_round_causes, world_step}
+use Rattle.world_laws.proofs.Words.{zero, ℕ, ◌*◌, ◌+◌, ◌∙◌, ◌∷◌, ◌≡◌, ◌≤◌}
 use Rattle.node_machine.specs.world.World.Happening.{Ticks}
-use Rattle.node_laws.proofs.order.Strangers.{step_kept}
-use Rattle.world_laws.specs.worlds.RoundCauses.{world_round_causes, AreFewOnWires}
 use Rattle.world_laws.proofs.worlds.Rounds.{IsReached}
 use Rattle.world_laws.proofs.worlds.Replayed.{happens_first, none_happens, causes-append, both}
 use Rattle.world_laws.proofs.worlds.CausesOfRounds.{kept_end, kept_round, kept_rounds}
-use Rattle.node_laws.proofs.schedules.Wires.{run_few}
 use Rattle.world_laws.proofs.worlds.FewOnWires.{few_by_sites, takes_few, ticks_few}
 
 count_both : (first later : NodeWorld × List Occurrence)

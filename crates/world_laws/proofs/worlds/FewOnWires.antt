@@ -1,11 +1,7 @@
 -- No wire of a world holds more than 64 frames, and so it stays over its rounds.
-use Rattle.std.proofs.Common.{◌≡◌, ◌≤◌, false, List, [], ◌∷◌, length, sym, refl, ap, ◌∙◌, subst, arith, ℕ, ◌==◌, Some, None}
-use Rattle.world_laws.proofs.Words.{End, GoesOnLink, LinkEvent, NodeWorld, Site, Takes, after_link_events, by_option, by_test, end_c, end_h, frames_at}
-use Rattle.world_laws.proofs.Words.{hosts_in, link_events_in, site_at, takes_go, ticks_go, world_step}
-use Rattle.node_machine.specs.world.World.Happening.{Ticks as TimePassing}
-use Rattle.node_laws.proofs.order.Strangers.{step_kept}
-use Rattle.node_laws.proofs.schedules.Wires.{IsFewWires, after_few}
-use Rattle.world_laws.specs.worlds.RoundCauses.{AreFewOnWires}
+use Rattle.world_laws.proofs.Words.{AreFewOnWires, End, GoesOnLink, IsFewWires, LinkEvent, List, NodeWorld, None, Site, Some, Takes, TimePassing, [], after_few}
+use Rattle.world_laws.proofs.Words.{after_link_events, ap, arith, by_option, by_test, end_c, end_h, false, frames_at, hosts_in, length, link_events_in, refl}
+use Rattle.world_laws.proofs.Words.{site_at, step_kept, subst, sym, takes_go, ticks_go, world_step, ℕ, ◌==◌, ◌∙◌, ◌∷◌, ◌≡◌, ◌≤◌}
 
 -- frames on the wires of a site
 frames_of : (w : NodeWorld) (e : End) (s : Site) → site_at w.sites e.link ≡ Some s → IsFewWires s.link → length (frames_at w e) ≤ 64

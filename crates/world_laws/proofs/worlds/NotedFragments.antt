@@ -1,14 +1,8 @@
 -- The fragments that are left on a link are at most those that are noted.
-use Rattle.std.proofs.Common.{◌≡◌, ℕ, ◌+◌, ◌-◌, ◌≤◌, List, [], ◌∷◌, drop, length, Some, ap, ap₂, subst, arith, nat_le, leb-true}
-use Rattle.hcp_packet.specs.Packets.{packet_count, fragments_of}
-use Rattle.world_laws.proofs.Words.{AreUpWith, End, Entry, IsLinkTold, IsReadOff, Known, Message, NodeWorld, Site, Talk, by_test, end_c, end_h, entries_in}
-use Rattle.world_laws.proofs.Words.{fragments_left, fragments_noted, host_number, site_at, talk_now}
-use Rattle.link_laws.specs.machine.Machine.{whole_among}
-use Rattle.link_laws.proofs.messages.Project.{Says}
-use Rattle.node_laws.proofs.order.Quiet.{near_now, far_now, up_near, up_far}
-use Rattle.lines_told.specs.fragments.Rounds.{undelivered}
-use Rattle.lines_told.proofs.messages.Law.{fragments_counted}
-use Rattle.world_laws.specs.worlds.NotedFragments.{fragments_unacked}
+use Rattle.world_laws.proofs.Words.{AreUpWith, End, Entry, IsLinkTold, IsReadOff, Known, List, Message, NodeWorld, Says, Site, Some, Talk, [], ap, ap₂, arith}
+use Rattle.world_laws.proofs.Words.{by_test, drop, end_c, end_h, entries_in, far_now, fragments_counted, fragments_left, fragments_noted, fragments_of}
+use Rattle.world_laws.proofs.Words.{fragments_unacked, host_number, leb-true, length, nat_le, near_now, packet_count, site_at, subst, talk_now, undelivered}
+use Rattle.world_laws.proofs.Words.{up_far, up_near, whole_among, ℕ, ◌+◌, ◌-◌, ◌∷◌, ◌≡◌, ◌≤◌}
 use Rattle.world_laws.proofs.worlds.Rounds.{IsReached, known_there}
 
 -- of the fragments of messages behind so many, those of the messages that are among these whole are left out

@@ -1,10 +1,9 @@
 -- What the causes of events do is what happened, and so with rounds of a world.
-use Rattle.std.proofs.Common.{◌≡◌, ℕ, zero, suc, true, false, List, [], ◌∷◌, ◌++◌, None, refl, ap, sym, subst, ◌∙◌}
-use Rattle.world_laws.proofs.Words.{End, Happening, NodeWorld, Occurrence, all_happen, by_test, can_happen, end_takes_all, ends_in_order, ends_take_all}
-use Rattle.world_laws.proofs.Words.{happened_in, happenings, map-append, rounds_of_world, world_round, world_rounds_to_settle, world_settling, world_step}
+use Rattle.world_laws.proofs.Words.{AllCanHappen, End, Happening, List, NodeWorld, None, Occurrence, [], all_happen, ap, by_test, can_happen, end_takes_all}
+use Rattle.world_laws.proofs.Words.{ends_in_order, ends_take_all, false, happened_in, happenings, map-append, refl, rounds_of_world, subst, suc, sym, true}
+use Rattle.world_laws.proofs.Words.{world_round, world_rounds_to_settle, world_settling, world_step, zero, ℕ, ◌++◌, ◌∙◌, ◌∷◌, ◌≡◌}
 use Rattle.trace_model.specs.declared.line.Line.TheVariants as line
 use Rattle.node_machine.specs.world.World.Happening.{Ticks}
-use Rattle.world_laws.specs.worlds.RoundCauses.{AllCanHappen}
 
 -- what happens first, and then
 abbrev pub with_first : NodeWorld → Happening → NodeWorld × List Occurrence → NodeWorld × List Occurrence

@@ -1,23 +1,17 @@
 -- Where a link is undisturbed the rounds of a world of nodes are rounds of it.
-use Rattle.std.proofs.Common.{◌≡◌, ℕ, zero, suc, ◌+◌, ◌≤◌, ◌⊎◌, inl, inr, ◌==◌, Bool, true, false, List, [], ◌∷◌, ◌++◌, Option, Some, None, refl, ap, sym}
-use Rattle.std.proofs.Common.{subst, ◌∙◌, length, arith, replicate}
-use Rattle.world_laws.proofs.Words.{Activate, AllAllowed, ArePassing, AtController, AtEnd, AtHost, Clf, Down, End, Ending, GoesOut, Happening, IsLine}
-use Rattle.world_laws.proofs.Words.{IsLinkUndisturbed, Known, Link, LinkEnd, LinkEvent, LinkInput, NextFrame, NoInput, NodeWorld, Occurrence, OnWire, Running}
-use Rattle.world_laws.proofs.Words.{Site, Step, Take, Takes, Ticks, TicksWithout, Turn, Uicc, Up, Work, after_events-append, after_link_events, all_happen}
-use Rattle.world_laws.proofs.Words.{beside-put_all, by_test, can_happen, comes_to, controller_takes, controller_work, core_events, end_c, end_h, end_takes_all}
-use Rattle.world_laws.proofs.Words.{ending_of, ends_in_order, ends_take_all, eq-eqb, events_on, exchanged, fine_there, frames_at, frames_out, happenings}
-use Rattle.world_laws.proofs.Words.{happens, host_number, host_work, input_of, link_events_in, link_to, new_line, new_link_end, site_at, site_host, site_takes}
-use Rattle.world_laws.proofs.Words.{start_good, start_reached, steps, takes_go, takes_pass, true≢false, turned, turns_at, world_after_round, world_step}
-use Rattle.swp_act.specs.Activation.{new_clf, new_uicc}
+use Rattle.world_laws.proofs.Words.{AllAllowed, AllOrdinaryOnLink, ArePassing, AtController, AtEnd, AtHost, Bool, Clf, Down, End, Ending, GoesOut, Happening}
+use Rattle.world_laws.proofs.Words.{IfOff, IsLine, IsLinkStretch, IsLinkUndisturbed, IsSo, Known, Link, LinkEnd, LinkEvent, LinkInput, List, NextFrame, NoInput}
+use Rattle.world_laws.proofs.Words.{NodeWorld, None, Occurrence, OnWire, Option, Running, Site, Some, Step, Take, Takes, Ticks, TimePassing, Turn, Uicc, Up}
+use Rattle.world_laws.proofs.Words.{Work, [], after_events-append, after_link_events, all_happen, ap, arith, began, beside-put_all, by_list, by_test}
+use Rattle.world_laws.proofs.Words.{can_happen, come_to_controller, come_to_host, comes_to, controller_takes, controller_work, core_events, end_c, end_h}
+use Rattle.world_laws.proofs.Words.{end_takes_all, ending_of, ends_in_order, ends_take_all, eq-eqb, events_on, exchanged, false, fine_there, frames_at}
+use Rattle.world_laws.proofs.Words.{frames_out, happenings, happens, host_number, host_work, in_parts, inl, input_of, inr, known_after, length, link_events_in}
+use Rattle.world_laws.proofs.Words.{link_to, new_clf, new_line, new_link_end, new_uicc, next_so, on_allowed, refl, replicate, site_at, site_host, site_takes}
+use Rattle.world_laws.proofs.Words.{start_good, start_reached, steps, subst, suc, sym, takes_go, takes_pass, times_among, true, true≢false, turned, turns_at}
+use Rattle.world_laws.proofs.Words.{world_after_round, world_step, zero, ℕ, ◌++◌, ◌+◌, ◌==◌, ◌∙◌, ◌∷◌, ◌≡◌, ◌≤◌, ◌⊎◌}
 use Rattle.trace_model.specs.declared.line.Line.TheVariants as line
-use Rattle.node_machine.specs.world.World.Happening.{Ticks as TimePassing}
-use Rattle.node_laws.specs.telling.Telling.{IfOff}
-use Rattle.node_laws.proofs.order.Lines.{IsSo, of_none, next_so}
-use Rattle.lines_told.specs.messages.Recovery.{IsLinkStretch, come_to_controller, come_to_host, times_among, AllOrdinaryOnLink}
-use Rattle.lines_told.proofs.fragments.Stretches.{began}
-use Rattle.lines_told.proofs.messages.Projected.{known_after, in_parts}
+use Rattle.node_laws.proofs.order.Lines.{of_none}
 use Rattle.world_laws.proofs.links.Settling.{wire_after}
-use Rattle.node_laws.proofs.rounds.Allowing.{on_allowed}
 use Rattle.world_laws.proofs.worlds.Endings.{idle_goes_out, take_goes_out, host_take_goes_out}
 
 -- ## Worlds that a history reaches
@@ -82,18 +76,12 @@ come_near-append : (es fs : List LinkEvent) (l : Link)
     → come_to_controller l (es ++ fs) ≡ come_to_controller l es + come_to_controller (after_link_events l es) fs
 come_near-append [] fs l = omega arith
 come_near-append (AtController e ∷ es) fs l = let r = come_near-append es fs (happens l (AtController e)) in omega (arith, r)
-come_near-append (AtHost e ∷ es) fs l = come_near-append es fs (happens l (AtHost e))
-come_near-append (Ticks c o h ∷ es) fs l = come_near-append es fs (happens l (Ticks c o h))
-come_near-append (TicksWithout o h ∷ es) fs l = come_near-append es fs (happens l (TicksWithout o h))
-come_near-append (Activate p c i h ∷ es) fs l = come_near-append es fs (happens l (Activate p c i h))
+come_near-append (e ∷ es) fs l = come_near-append es fs (happens l e)
 
 come_far-append : (es fs : List LinkEvent) (l : Link) → come_to_host l (es ++ fs) ≡ come_to_host l es + come_to_host (after_link_events l es) fs
 come_far-append [] fs l = omega arith
-come_far-append (AtController e ∷ es) fs l = come_far-append es fs (happens l (AtController e))
 come_far-append (AtHost e ∷ es) fs l = let r = come_far-append es fs (happens l (AtHost e)) in omega (arith, r)
-come_far-append (Ticks c o h ∷ es) fs l = come_far-append es fs (happens l (Ticks c o h))
-come_far-append (TicksWithout o h ∷ es) fs l = come_far-append es fs (happens l (TicksWithout o h))
-come_far-append (Activate p c i h ∷ es) fs l = come_far-append es fs (happens l (Activate p c i h))
+come_far-append (e ∷ es) fs l = come_far-append es fs (happens l e)
 
 times-append : (es fs : List LinkEvent) → times_among (es ++ fs) ≡ times_among es + times_among fs
 times-append [] fs = omega arith
@@ -268,10 +256,6 @@ module _ (hosts : List ℕ) (h : ℕ) where
       (λ p. let none : events_on h w (replicate (suc m) (Takes (end_c k))) ≡ [] = rw p refl in
       subst (IsIdle s.link) (sym none) (idle_none s.link))
     where
-      Rest : Type 0
-      Rest = (v : NodeWorld) (t : Site) → IsReached hosts v → site_at v.sites h ≡ Some t → (t.host == k) ≡ false
-          → IsLinkUndisturbed t.link (events_on h v (replicate m (Takes (end_c k)))) → IsIdle t.link (events_on h v (replicate m (Takes (end_c k))))
-
       first : (es : List LinkEvent) → IsLinkUndisturbed s.link es
           → (es ≡ []) ⊎ ((ts : List Turn) × (ending : Ending) × (es ≡ AtController (Step NoInput ts ending) ∷ [])) → IsIdle s.link es
       first es calm (inl none) = subst (IsIdle s.link) (sym none) (idle_none s.link)
@@ -310,79 +294,63 @@ module _ (hosts : List ℕ) (h : ℕ) where
   pub near_many : (m : ℕ) (w : NodeWorld) (s : Site) → IsReached hosts w → site_at w.sites h ≡ Some s → m ≤ length s.link.to_controller
       → IsLinkUndisturbed s.link (events_on h w (replicate m (Takes (end_c h)))) → IsLinkStretch s.link (events_on h w (replicate m (Takes (end_c h)))) m 0 0
   near_many zero w s r q long u = stretch_none s.link
-  near_many (suc m) w s r q long u = go s.link.to_controller refl (near_many m)
+  near_many (suc m) w s r q long u = by_list s.link.to_controller
+      (λ p. let z : length s.link.to_controller ≡ 0 = ap (length {A = OnWire}) p in absurd (omega (arith, long, z)))
+      (λ x xs p. let e : End = end_c h in
+      let v : NodeWorld = (world_step w (Takes e)).0 in
+      let b = behind w s e m r q can u in
+      let take = near_take w h s q runs.0 x xs runs.1 p in
+      let ts : List Turn = take.0 in
+      let calm : IsLinkUndisturbed s.link (AtController (Step NextFrame ts take.1) ∷ []) = subst (IsLinkUndisturbed s.link) take.2 b.now in
+      let out : take.1 ≡ GoesOut = take_goes_out s.link ts take.1 x xs
+      (subst (λ z. IsLinkUndisturbed (record s.link { to_controller = z }) (AtController (Step NextFrame ts take.1) ∷ [])) p calm) in
+      let now : link_events_in h w (Takes e) ≡ AtController (Step NextFrame ts GoesOut) ∷ [] =
+      take.2 ∙ ap (λ z. AtController (Step NextFrame ts z) ∷ []) out in
+      let one = near_step s.link x xs ts p in
+      let left : b.later.link.to_controller ≡ xs =
+      ap (λ (l : Link). l.to_controller) (b.link ∙ ap (after_link_events s.link) now) ∙ one.1 in
+      let size : length b.later.link.to_controller ≡ length xs = ap (length {A = OnWire}) left in
+      let whole : length s.link.to_controller ≡ suc (length xs) = ap (length {A = OnWire}) p in
+      let more = (near_many m) v b.later b.reached b.is (omega (arith, long, size, whole)) b.then in
+      subst (λ es. IsLinkStretch s.link es (suc m) 0 0) (sym (on_first h w e (replicate m (Takes e)) can))
+      (stretch_then s.link (link_events_in h w (Takes e)) (events_on h v (replicate m (Takes e))) 1 0 0 m 0 0 (suc m) 0 0 (omega arith) refl refl
+      (subst (λ es. IsLinkStretch s.link es 1 0 0) (sym now) one.0)
+      (subst (λ l. IsLinkStretch l (events_on h v (replicate m (Takes e))) m 0 0) b.link more)))
     where
-      Rest : Type 0
-      Rest = (v : NodeWorld) (t : Site) → IsReached hosts v → site_at v.sites h ≡ Some t → m ≤ length t.link.to_controller
-          → IsLinkUndisturbed t.link (events_on h v (replicate m (Takes (end_c h))))
-          → IsLinkStretch t.link (events_on h v (replicate m (Takes (end_c h)))) m 0 0
-
       runs : (c : Running) × (w.controller ≡ Some c)
       runs = near_runs w s (events_on h w (replicate (suc m) (Takes (end_c h)))) r q u
 
       can : can_happen w (Takes (end_c h)) ≡ true
       can = let p = runs.1 in rw p refl
 
-      go : (wire : List OnWire) → s.link.to_controller ≡ wire → Rest → IsLinkStretch s.link (events_on h w (replicate (suc m) (Takes (end_c h)))) (suc m) 0 0
-      go [] p rest = let z : length s.link.to_controller ≡ 0 = ap (length {A = OnWire}) p in absurd (omega (arith, long, z))
-      go (x ∷ xs) p rest =
-          let e : End = end_c h in
-          let v : NodeWorld = (world_step w (Takes e)).0 in
-          let b = behind w s e m r q can u in
-          let take = near_take w h s q runs.0 x xs runs.1 p in
-          let ts : List Turn = take.0 in
-          let calm : IsLinkUndisturbed s.link (AtController (Step NextFrame ts take.1) ∷ []) = subst (IsLinkUndisturbed s.link) take.2 b.now in
-          let out : take.1 ≡ GoesOut = take_goes_out s.link ts take.1 x xs
-          (subst (λ z. IsLinkUndisturbed (record s.link { to_controller = z }) (AtController (Step NextFrame ts take.1) ∷ [])) p calm) in
-          let now : link_events_in h w (Takes e) ≡ AtController (Step NextFrame ts GoesOut) ∷ [] =
-          take.2 ∙ ap (λ z. AtController (Step NextFrame ts z) ∷ []) out in
-          let one = near_step s.link x xs ts p in
-          let left : b.later.link.to_controller ≡ xs =
-          ap (λ (l : Link). l.to_controller) (b.link ∙ ap (after_link_events s.link) now) ∙ one.1 in
-          let size : length b.later.link.to_controller ≡ length xs = ap (length {A = OnWire}) left in
-          let whole : length s.link.to_controller ≡ suc (length xs) = ap (length {A = OnWire}) p in
-          let more = rest v b.later b.reached b.is (omega (arith, long, size, whole)) b.then in
-          subst (λ es. IsLinkStretch s.link es (suc m) 0 0) (sym (on_first h w e (replicate m (Takes e)) can))
-          (stretch_then s.link (link_events_in h w (Takes e)) (events_on h v (replicate m (Takes e))) 1 0 0 m 0 0 (suc m) 0 0 (omega arith) refl refl
-          (subst (λ es. IsLinkStretch s.link es 1 0 0) (sym now) one.0)
-          (subst (λ l. IsLinkStretch l (events_on h v (replicate m (Takes e))) m 0 0) b.link more))
-
   -- the host's end of the link does
   pub far_many : (m : ℕ) (w : NodeWorld) (s : Site) → IsReached hosts w → site_at w.sites h ≡ Some s → m ≤ length s.link.to_host
       → IsLinkUndisturbed s.link (events_on h w (replicate m (Takes (end_h h)))) → IsLinkStretch s.link (events_on h w (replicate m (Takes (end_h h)))) 0 m 0
   far_many zero w s r q long u = stretch_none s.link
-  far_many (suc m) w s r q long u = go s.link.to_host refl (far_many m)
+  far_many (suc m) w s r q long u = by_list s.link.to_host
+      (λ p. let z : length s.link.to_host ≡ 0 = ap (length {A = OnWire}) p in absurd (omega (arith, long, z)))
+      (λ x xs p. let e : End = end_h h in
+      let v : NodeWorld = (world_step w (Takes e)).0 in
+      let b = behind w s e m r q can u in
+      let take = far_take w h s q runs.0 x xs runs.1 p in
+      let ts : List Turn = take.0 in
+      let calm : IsLinkUndisturbed s.link (AtHost (Step NextFrame ts take.1) ∷ []) = subst (IsLinkUndisturbed s.link) take.2 b.now in
+      let out : take.1 ≡ GoesOut = host_take_goes_out s.link ts take.1 x xs
+      (subst (λ z. IsLinkUndisturbed (record s.link { to_host = z }) (AtHost (Step NextFrame ts take.1) ∷ [])) p calm) in
+      let now : link_events_in h w (Takes e) ≡ AtHost (Step NextFrame ts GoesOut) ∷ [] =
+      take.2 ∙ ap (λ z. AtHost (Step NextFrame ts z) ∷ []) out in
+      let one = far_step s.link x xs ts p in
+      let left : b.later.link.to_host ≡ xs = ap (λ (l : Link). l.to_host) (b.link ∙ ap (after_link_events s.link) now) ∙ one.1 in
+      let size : length b.later.link.to_host ≡ length xs = ap (length {A = OnWire}) left in
+      let whole : length s.link.to_host ≡ suc (length xs) = ap (length {A = OnWire}) p in
+      let more = (far_many m) v b.later b.reached b.is (omega (arith, long, size, whole)) b.then in
+      subst (λ es. IsLinkStretch s.link es 0 (suc m) 0) (sym (on_first h w e (replicate m (Takes e)) can))
+      (stretch_then s.link (link_events_in h w (Takes e)) (events_on h v (replicate m (Takes e))) 0 1 0 0 m 0 0 (suc m) 0 refl (omega arith) refl
+      (subst (λ es. IsLinkStretch s.link es 0 1 0) (sym now) one.0)
+      (subst (λ l. IsLinkStretch l (events_on h v (replicate m (Takes e))) 0 m 0) b.link more)))
     where
-      Rest : Type 0
-      Rest = (v : NodeWorld) (t : Site) → IsReached hosts v → site_at v.sites h ≡ Some t → m ≤ length t.link.to_host
-          → IsLinkUndisturbed t.link (events_on h v (replicate m (Takes (end_h h))))
-          → IsLinkStretch t.link (events_on h v (replicate m (Takes (end_h h)))) 0 m 0
-
       runs : (c : Running) × (s.node ≡ Some c)
       runs = far_runs w s (events_on h w (replicate (suc m) (Takes (end_h h)))) r q u
 
       can : can_happen w (Takes (end_h h)) ≡ true
       can = let p = runs.1 in let zero = host_number w h s r.so.well.orderly q in rw (zero, q, p) refl
-
-      go : (wire : List OnWire) → s.link.to_host ≡ wire → Rest → IsLinkStretch s.link (events_on h w (replicate (suc m) (Takes (end_h h)))) 0 (suc m) 0
-      go [] p rest = let z : length s.link.to_host ≡ 0 = ap (length {A = OnWire}) p in absurd (omega (arith, long, z))
-      go (x ∷ xs) p rest =
-          let e : End = end_h h in
-          let v : NodeWorld = (world_step w (Takes e)).0 in
-          let b = behind w s e m r q can u in
-          let take = far_take w h s q runs.0 x xs runs.1 p in
-          let ts : List Turn = take.0 in
-          let calm : IsLinkUndisturbed s.link (AtHost (Step NextFrame ts take.1) ∷ []) = subst (IsLinkUndisturbed s.link) take.2 b.now in
-          let out : take.1 ≡ GoesOut = host_take_goes_out s.link ts take.1 x xs
-          (subst (λ z. IsLinkUndisturbed (record s.link { to_host = z }) (AtHost (Step NextFrame ts take.1) ∷ [])) p calm) in
-          let now : link_events_in h w (Takes e) ≡ AtHost (Step NextFrame ts GoesOut) ∷ [] =
-          take.2 ∙ ap (λ z. AtHost (Step NextFrame ts z) ∷ []) out in
-          let one = far_step s.link x xs ts p in
-          let left : b.later.link.to_host ≡ xs = ap (λ (l : Link). l.to_host) (b.link ∙ ap (after_link_events s.link) now) ∙ one.1 in
-          let size : length b.later.link.to_host ≡ length xs = ap (length {A = OnWire}) left in
-          let whole : length s.link.to_host ≡ suc (length xs) = ap (length {A = OnWire}) p in
-          let more = rest v b.later b.reached b.is (omega (arith, long, size, whole)) b.then in
-          subst (λ es. IsLinkStretch s.link es 0 (suc m) 0) (sym (on_first h w e (replicate m (Takes e)) can))
-          (stretch_then s.link (link_events_in h w (Takes e)) (events_on h v (replicate m (Takes e))) 0 1 0 0 m 0 0 (suc m) 0 refl (omega arith) refl
-          (subst (λ es. IsLinkStretch s.link es 0 1 0) (sym now) one.0)
-          (subst (λ l. IsLinkStretch l (events_on h v (replicate m (Takes e))) 0 m 0) b.link more))

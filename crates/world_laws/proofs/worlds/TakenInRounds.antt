@@ -1,16 +1,12 @@
 -- In a round each end takes frames that stand on its wire, while its node runs, and then time passes.
-use Rattle.std.proofs.Common.{◌≡◌, ℕ, zero, suc, ◌<◌, ◌≤◌, ◌==◌, Bool, true, false, List, [], ◌∷◌, Option, Some, None, refl, ap, sym, subst, ◌∙◌, length, arith}
 use Rattle.std.specs.Prelude.{replicate, is_some}
-use Rattle.world_laws.proofs.Words.{AtEnd, End, Ending, GoesOut, IsOrderly, Link, NextFrame, NodeWorld, Occurrence, OnWire, Running, Site, Step, Take, Takes}
-use Rattle.world_laws.proofs.Words.{Turn, Work, after_controller, all_happen, by_option, by_test, can_happen, changed_if, comes_to, controller_work, end_c}
-use Rattle.world_laws.proofs.Words.{end_h, ending_of, eq-eqb, exchanged, frames_at, happened_in, happens_at_controller, host_work, input_of, link_to, node_of}
-use Rattle.world_laws.proofs.Words.{runs_on, site_at, site_host, site_is, steps, true≢false, turns_at, world_step}
-use Rattle.node_machine.specs.world.World.{node_at, after_host, link_after_controller, with_site}
-use Rattle.node_machine.specs.world.Lines.{is_running}
-use Rattle.node_laws.proofs.telling.Orderly.{step_orderly}
-use Rattle.world_laws.specs.worlds.RoundCauses.{CanTake, AreOfRounds}
+use Rattle.world_laws.proofs.Words.{AreOfRounds, AtEnd, Bool, CanTake, End, Ending, GoesOut, IsOrderly, Link, List, NextFrame, NodeWorld, None, Occurrence}
+use Rattle.world_laws.proofs.Words.{OnWire, Option, Running, Site, Some, Step, Take, Takes, Turn, Work, [], after_controller, after_host, all_happen, ap, arith}
+use Rattle.world_laws.proofs.Words.{by_option, by_test, can_happen, changed_if, changed_site, comes_to, controller_work, end_c, end_h, ending_of, eq-eqb}
+use Rattle.world_laws.proofs.Words.{exchanged, false, frames_at, happened_in, happens_at_controller, host_work, input_of, is_running, length}
+use Rattle.world_laws.proofs.Words.{link_after_controller, link_to, node_at, node_of, refl, runs_on, site_at, site_host, site_is, site_map, step_orderly, steps}
+use Rattle.world_laws.proofs.Words.{subst, suc, sym, true, true≢false, turns_at, with_site, world_step, zero, ℕ, ◌<◌, ◌==◌, ◌∙◌, ◌∷◌, ◌≡◌, ◌≤◌}
 use Rattle.world_laws.proofs.links.Settling.{wire_after}
-use Rattle.node_laws.proofs.rounds.LinkEvents.{site_map, changed_site}
 use Rattle.world_laws.proofs.worlds.Replayed.{happens_first, none_happens}
 
 -- ## A frame is gone from its wire

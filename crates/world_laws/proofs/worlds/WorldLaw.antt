@@ -1,11 +1,9 @@
 -- A link of a world that settles.
-use Rattle.std.proofs.Common.{◌≡◌, ℕ, ◌+◌, ◌*◌, ◌<◌, ◌≤◌, true, ◌==◌, List, [], ◌∷◌, Some, ◌⊎◌, inl, inr, ap, sym, subst, ◌∙◌, arith}
-use Rattle.world_laws.proofs.Words.{AllAllowed, AreLinkRounds, EarlierGot, IsLinkUndisturbed, IsStart, Link, LinkEvent, LinkSettled, NodeWorld, Site}
-use Rattle.world_laws.proofs.Words.{after_link_events, and_parts, by_test, first_rest, fragments_left, link_rests, rounds_events, rounds_go, site_at, talk_now}
-use Rattle.world_laws.proofs.Words.{world_after_round, world_rests, world_rounds_to_settle, world_settling}
-use Rattle.std.proofs.lemmas.Bool.{cases_lt}
-use Rattle.lines_told.proofs.messages.Law.{got_by_host, got_by_controller, rest_at_host, rest_at_controller}
-use Rattle.node_machine.specs.world.Rounds.{sites_rest}
+use Rattle.world_laws.proofs.Words.{AllAllowed, AreLinkRounds, EarlierGot, IsLinkUndisturbed, IsStart, Link, LinkEvent, LinkSettled, List, NodeWorld, Site}
+use Rattle.world_laws.proofs.Words.{Some, [], after_link_events, and_parts, ap, arith, by_test, cases_lt, first_rest, fragments_left, got_by_controller}
+use Rattle.world_laws.proofs.Words.{got_by_host, inl, inr, link_rests, rest_at_controller, rest_at_host, rounds_events, rounds_go, site_at, sites_rest, subst}
+use Rattle.world_laws.proofs.Words.{sym, talk_now, true, world_after_round, world_rests, world_rounds_to_settle, world_settling, ℕ, ◌*◌, ◌+◌, ◌<◌, ◌==◌, ◌∙◌}
+use Rattle.world_laws.proofs.Words.{◌∷◌, ◌≡◌, ◌≤◌, ◌⊎◌}
 use Rattle.world_laws.proofs.worlds.WorldRest.{settling_is}
 
 -- each link of a world at rest is

@@ -1,6 +1,5 @@
 -- Rounds of a world one after another.
-use Rattle.std.proofs.Common.{◌≡◌, ℕ, zero, suc, refl}
-use Rattle.world_laws.proofs.Words.{NodeWorld, after_steps, rounds_of_world, world_after_round, world_rounds_to_settle, world_settling}
+use Rattle.world_laws.proofs.Words.{NodeWorld, after_steps, refl, rounds_of_world, suc, world_after_round, world_rounds_to_settle, world_settling, zero, ℕ, ◌≡◌}
 
 rounds_are : (r : ℕ) (w : NodeWorld) → (rounds_of_world r w).0 ≡ after_steps world_after_round r w
 rounds_are zero w = refl

@@ -1,24 +1,18 @@
 -- The rounds of a world of nodes are rounds of each undisturbed link, so such a link of a settled world has brought all.
-use Rattle.std.proofs.Common.{◌≡◌, ℕ, zero, suc, ◌+◌, ◌*◌, ◌≤◌, ◌==◌, Bool, List, [], ◌∷◌, ◌++◌, Some, None, refl, ap, sym, subst, ◌∙◌, length}
-use Rattle.std.proofs.Common.{append_assoc, arith}
-use Rattle.world_laws.proofs.Words.{AllAllowed, AreHosts, AreLinkRounds, ArePlayable, End, FollowsNodes, Happening, Header, IsLine, IsLinkUndisturbed, Known}
-use Rattle.world_laws.proofs.Words.{Line, Link, LinkEvent, LinkSettled, Node, NodeHistory, NodeWorld, Occurrence, OnWire, Site, after_events-append}
-use Rattle.world_laws.proofs.Words.{after_link_events, all_aged, all_go, end_c, end_h, end_takes_all, ends_events, ends_go, ends_in_order, ends_take_all}
-use Rattle.world_laws.proofs.Words.{events_on, fine_there, fragments_left, frames_at, happenings, hosts_in, new_line, new_world, occurrences_in, open_up}
-use Rattle.world_laws.proofs.Words.{round_events, round_goes, rounds_allowed, rounds_events, site_at, site_host, takes_pass, tick_so, world_after_round}
-use Rattle.world_laws.proofs.Words.{world_behind, world_rounds_to_settle, world_settling, world_step}
+use Rattle.world_laws.proofs.Words.{AllAllowed, AreHosts, AreLinkRounds, ArePlayable, Bool, End, FollowsNodes, Happening, Header, IsLine, IsLinkRound}
+use Rattle.world_laws.proofs.Words.{IsLinkStretch, IsLinkUndisturbed, Known, Line, Link, LinkEvent, LinkSettled, List, Node, NodeHistory, NodeWorld, None}
+use Rattle.world_laws.proofs.Words.{Occurrence, OnWire, Site, Some, TimePassing, [], after_events-append, after_link_events, all_aged, all_go, ap, append_assoc}
+use Rattle.world_laws.proofs.Words.{arith, controller_tick_on, end_c, end_h, end_takes_all, ends_allowed, ends_events, ends_go, ends_in_order, ends_take_all}
+use Rattle.world_laws.proofs.Words.{events_on, fine_there, fragments_left, frames_at, happenings, history_so, hosts_in, in_parts, length, new_line, new_world}
+use Rattle.world_laws.proofs.Words.{occurrences_in, open_up, refl, round_allowed, round_events, round_goes, rounds_allowed, rounds_events, site_at, site_host}
+use Rattle.world_laws.proofs.Words.{site_ticks, subst, suc, sym, takes_pass, tick_so, world_after_round, world_behind, world_rounds_to_settle, world_settling}
+use Rattle.world_laws.proofs.Words.{world_step, world_ticked, zero, ℕ, ◌*◌, ◌++◌, ◌+◌, ◌==◌, ◌∙◌, ◌∷◌, ◌≡◌, ◌≤◌}
 use Rattle.trace_model.specs.declared.line.Line.TheVariants as line
-use Rattle.node_machine.specs.world.World.Happening.{Ticks as TimePassing}
-use Rattle.node_laws.proofs.order.Lines.{history_so}
-use Rattle.lines_told.specs.messages.Recovery.{IsLinkStretch, IsLinkRound}
-use Rattle.lines_told.proofs.messages.Projected.{in_parts}
-use Rattle.node_laws.specs.rounds.LinkEvents.{controller_tick_on, site_ticks}
-use Rattle.node_laws.proofs.rounds.Allowing.{ends_allowed, round_allowed}
 use Rattle.node_laws.proofs.rounds.Ends.{ends_of, order_is, ends-append, AreOthers, Split, split, events-append}
 use Rattle.world_laws.proofs.worlds.Endings.{calm_tick}
-use Rattle.node_laws.proofs.rounds.LinkEvents.{Ticked, world_ticked}
-use Rattle.world_laws.proofs.worlds.Rounds.{IsReached, reached_end, reached_ends, reached_round, known_there, near_up, far_up, stretch_then}
-use Rattle.world_laws.proofs.worlds.Rounds.{IsIdle, idle_none, idle_then, idle_many, other_many, near_many, far_many}
+use Rattle.node_laws.proofs.rounds.LinkEvents.{Ticked}
+use Rattle.world_laws.proofs.worlds.Rounds.{IsReached, reached_end, reached_ends, reached_round, known_there, near_up, far_up, stretch_then, IsIdle, idle_none}
+use Rattle.world_laws.proofs.worlds.Rounds.{idle_then, idle_many, other_many, near_many, far_many}
 use Rattle.world_laws.proofs.worlds.WorldLaw.{settled}
 
 -- so many frames stand on the wire to an end

@@ -1,4 +1,4 @@
-use Rattle.lines_told.proofs.lines.BareRounds.{again, link-append}
+use Rattle.world_laws.proofs.Words.{again, link-append}
 use Rattle.world_laws.proofs.links.RoundCauses.{events-append}
 use Rattle.world_laws.proofs.bare_rounds_as_causes.events_of_a_bare_link_have_their_causes.Goals as goal
 

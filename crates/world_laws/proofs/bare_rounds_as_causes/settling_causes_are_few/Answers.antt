@@ -1,5 +1,4 @@
-use Rattle.std.proofs.Common.{arith}
-use Rattle.world_laws.proofs.Words.{first_rest, link_after_round, link_rests, rounds_to_settle}
+use Rattle.world_laws.proofs.Words.{arith, first_rest, link_after_round, link_rests, rounds_to_settle}
 use Rattle.world_laws.proofs.links.RoundCauses.{rounds_few, bare_few}
 use Rattle.world_laws.proofs.bare_rounds_as_causes.settling_causes_are_few.Goals as goal
 

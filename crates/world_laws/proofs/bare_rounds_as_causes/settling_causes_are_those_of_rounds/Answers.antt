@@ -1,5 +1,4 @@
-use Rattle.std.proofs.Common.{arith}
-use Rattle.world_laws.proofs.Words.{first_rest, link_after_round, link_rests, rounds_to_settle}
+use Rattle.world_laws.proofs.Words.{arith, first_rest, link_after_round, link_rests, rounds_to_settle}
 use Rattle.world_laws.proofs.links.RoundCauses.{settles, rounds_are, ticks_are}
 use Rattle.world_laws.proofs.bare_rounds_as_causes.settling_causes_are_those_of_rounds.Goals as goal
 

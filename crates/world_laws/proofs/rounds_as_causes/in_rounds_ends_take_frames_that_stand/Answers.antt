@@ -1,4 +1,4 @@
-use Rattle.node_machine.specs.world.Rounds.{world_rounds_to_settle}
+use Rattle.world_laws.proofs.Words.{world_rounds_to_settle}
 use Rattle.world_laws.proofs.worlds.CausesOfRounds.{of_rounds, may_be, rounds_only}
 use Rattle.world_laws.proofs.rounds_as_causes.in_rounds_ends_take_frames_that_stand.Goals as goal
 

@@ -1,5 +1,4 @@
-use Rattle.std.proofs.Common.{ℕ, List}
-use Rattle.world_laws.proofs.Words.{NodeWorld, new_world, world_behind, world_rounds_to_settle}
+use Rattle.world_laws.proofs.Words.{List, NodeWorld, new_world, world_behind, world_rounds_to_settle, ℕ}
 use Rattle.world_laws.proofs.worlds.WorldRounds.{reached_behind}
 use Rattle.world_laws.proofs.worlds.CausesOfRounds.{of_rounds}
 use Rattle.world_laws.proofs.worlds.FewCauses.{rounds_few, reached_few, reached_small}

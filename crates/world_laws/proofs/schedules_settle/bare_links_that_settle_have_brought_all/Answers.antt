@@ -1,10 +1,8 @@
-use Rattle.std.proofs.Common.{inl, subst, sym, ◌++◌, replicate}
-use Rattle.world_laws.proofs.Words.{AllByRecursion, IsLineOf, IsPlayFor, Round, all-append, hosts_stay_behind, lines_may_be_played, lines_played, plays_for}
-use Rattle.world_laws.proofs.Words.{plays_of, rounds_for, rounds_to_rest}
+use Rattle.world_laws.proofs.Words.{AllByRecursion, IsLineOf, IsPlayFor, Round, all-append, bare_lines, hosts_stay_behind, inl, lines_may_be_played}
+use Rattle.world_laws.proofs.Words.{lines_played, plays_for, plays_of, replicate, rounds_for, rounds_to_rest, subst, sym, ◌++◌}
 use Rattle.world_laws.proofs.schedules.Bare.{bare_settled}
 use Rattle.world_laws.proofs.schedules.BareNoted.{bare_noted}
 use Rattle.world_laws.proofs.schedules.Nodes.{with_settle}
-use Rattle.lines_told.proofs.lines.Lines.{bare_lines}
 use Rattle.world_laws.proofs.schedules_settle.bare_links_that_settle_have_brought_all.Goals as goal
 
 pub returns-clause-plays : goal.returns-clause-plays

@@ -1,8 +1,6 @@
-use Rattle.std.proofs.Common.{inl, inr, sym, ◌∙◌}
-use Rattle.world_laws.proofs.Words.{bare_link_behind, hosts_are, hosts_stay_behind, lines_may_be_played, lines_played, nodes_behind}
-use Rattle.lines_told.proofs.lines.Resting.{nodes_rest, bare_rests}
+use Rattle.world_laws.proofs.Words.{bare_lines, bare_link_behind, bare_rests, hosts_are, hosts_stay_behind, inl, inr, lines_may_be_played, lines_played}
+use Rattle.world_laws.proofs.Words.{nodes_behind, nodes_rest, sym, ◌∙◌}
 use Rattle.world_laws.proofs.schedules.NotedQuiet.{noted_quiet, noted_quiet_in_bare}
-use Rattle.lines_told.proofs.lines.Lines.{bare_lines}
 use Rattle.world_laws.proofs.schedules.Played.{played_playable}
 use Rattle.world_laws.proofs.schedules.Resting.{link_quiet, link_resting, site_quiet, sites_quiet, sites_resting}
 use Rattle.world_laws.proofs.schedules_settle.links_at_rest_are_quiet.Goals as goal

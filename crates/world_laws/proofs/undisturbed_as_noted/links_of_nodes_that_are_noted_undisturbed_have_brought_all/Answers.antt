@@ -1,5 +1,4 @@
-use Rattle.std.proofs.Common.{List, subst}
-use Rattle.world_laws.proofs.Words.{ArePlayable, FollowsNodes, Line, hosts_are, plays_of}
+use Rattle.world_laws.proofs.Words.{ArePlayable, FollowsNodes, Line, List, hosts_are, plays_of, subst}
 use Rattle.world_laws.proofs.schedules.Nodes.{noted_behind, with_settle}
 use Rattle.world_laws.proofs.undisturbed.Nodes.{nodes_undisturbed, nodes_up_later}
 use Rattle.world_laws.proofs.undisturbed.Playable.{playable, playable_with}
