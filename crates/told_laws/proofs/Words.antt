@@ -39,7 +39,7 @@ pub use Rattle.link_laws.specs.entries.Entries.{End as Side, Entry as Noted, age
 pub use Rattle.link_laws.specs.entries.Entries.{pushed_out, put_entries, puts_entries, rest_entries, sent_unless, step_entries, taken_entries, tick_entries}
 pub use Rattle.link_laws.specs.entries.Entries.{told, told_of, turn_entries, turn_entry, wire_with}
 pub use Rattle.link_laws.specs.entries.Entries.End.{Controller, Host}
-pub use Rattle.link_laws.specs.entries.Entries.Entry.{Acked, Active, Cut, Emit, GaveUp, Got, Lost, Sent, Took, Up as Begins}
+pub use Rattle.link_laws.specs.entries.Entries.Entry.{Acked, Active, Emit, GaveUp, Got, Lost, Sent, Took, Up as Begins}
 pub use Rattle.link_laws.specs.machine.Machine.{ActDue, LinkEnd, LinkInput, Message, Refused, Report, Role, Turn, act_answer, activated, after_input, among}
 pub use Rattle.link_laws.specs.machine.Machine.{aside_refusal, brought, deactivated, ended_by, frames_out, gave_up_by, give_refusal, given, had_tick, heard}
 pub use Rattle.link_laws.specs.machine.Machine.{if_up, in_front, is_faulty, is_open, messages_got, moved, need, new_link_end, news, put_down, renewed, report}

@@ -3,7 +3,7 @@ use Rattle.told_laws.proofs.Words.{AllByRecursion, ArePipeRows, AsksReset, Bare,
 use Rattle.told_laws.proofs.Words.{LinkEnd, LinkInput, List, NextFrame, NoInput, NodeWorld, None, NumberedEnd, OnWire, Option, Plan, Port, Reset, Running, Side}
 use Rattle.told_laws.proofs.Words.{Site, Some, Start, Starts, Step, Stop, Stops, Take, Work, [], after_controller, after_host, all_map, all_mapped, arith}
 use Rattle.told_laws.proofs.Words.{arrival, by_controller, by_host, by_list, by_option, changed_if, comes_to, cond_both, controller_does, controller_work}
-use Rattle.told_laws.proofs.Words.{ending_entries, ending_of, eqb, exchanged, false, far, frames_noted, frames_out, happens_at_controller, host_does, host_work}
+use Rattle.told_laws.proofs.Words.{ending_entries, ending_of, eqb, exchanged, false, frames_noted, frames_out, happens_at_controller, host_does, host_work}
 use Rattle.told_laws.proofs.Words.{input_of, link_after_controller, link_to, map, near_end_in, new_link, number_of, port_at, port_for, refl, runs_on, site_at}
 use Rattle.told_laws.proofs.Words.{subst, took_low, took_with, true, turns_at, wires_for, with_site, work_of, ℕ, ◌+◌, ◌==◌, ◌∷◌, ◌≡◌, ◌≤◌}
 use Rattle.told_laws.proofs.told.Wires.{WireIs}

@@ -1,21 +1,21 @@
 -- What is told of a line of a schedule is in its range, but for the messages that came.
-use Rattle.told_laws.proofs.Words.{Acked, Active, All, AllByRecursion, AreOctets, Begins, Bool, Caused, Control, Controller, Cut, Emit, End, Entry, Event}
-use Rattle.told_laws.proofs.Words.{FewRsets, Full, GaveUp, Got, Header, Host, I, Inactive, IsByte, IsCause, IsEnd, IsEntry, IsHeader, IsLineOf, IsNumber}
-use Rattle.told_laws.proofs.Words.{IsWaiting, Line, LineRefused, Link, LinkEnd, LinkState, List, Lost, LostFor, Message, NoCause, None, Noted, OnWire, Option}
-use Rattle.told_laws.proofs.Words.{Outcome, Rej, Rnr, Rr, Rset, S, Same, Sent, Side, Some, Srej, StepsFollow, Taken, Ticked, TooLong, Took, Ua, Undetected, Up}
-use Rattle.told_laws.proofs.Words.{Verdict, [], arith, as_noted, bare_link, bits_of, by_test, causes_in, causes_of, cond, damage_causes, each-append, end_of}
-use Rattle.told_laws.proofs.Words.{end_of_frame, entries_for, entries_of, entry_of, event_entries, event_of, events_at, false, first_verdict, flat_map}
-use Rattle.told_laws.proofs.Words.{frame_of, frames_to, give_refusal, host_of, if_beyond, if_empty, if_out_of_reach, is_open, is_waiting, length, length-append}
-use Rattle.told_laws.proofs.Words.{link_after, link_after_all, link_after_line, lpdu_of, ltb-false, machine_of, nat_lt, need, noted, outcome_of, refl, refusal}
-use Rattle.told_laws.proofs.Words.{replicate, reset_refusal, spare, start_of_frame, step_told, stuffed, stuffed_after, subst, suc, sym, taken_of, true}
-use Rattle.told_laws.proofs.Words.{unwrap_or, with_crc, zero, ℕ, ◌%◌, ◌*◌, ◌++◌, ◌+◌, ◌/◌, ◌<◌, ◌==◌, ◌^◌, ◌∷◌, ◌≡◌, ◌≤◌}
+use Rattle.told_laws.proofs.Words.{Acked, Active, All, AllByRecursion, AreOctets, Begins, Bool, Caused, Control, Controller, Emit, End, Entry, Event, FewRsets}
+use Rattle.told_laws.proofs.Words.{Full, GaveUp, Got, Header, Host, I, Inactive, IsByte, IsCause, IsEnd, IsEntry, IsHeader, IsLineOf, IsNumber, IsWaiting, Line}
+use Rattle.told_laws.proofs.Words.{LineRefused, Link, LinkEnd, LinkState, List, Lost, LostFor, Message, NoCause, None, Noted, OnWire, Option, Outcome, Rej, Rnr}
+use Rattle.told_laws.proofs.Words.{Rr, Rset, S, Same, Sent, Side, Some, Srej, StepsFollow, Taken, Ticked, TooLong, Took, Ua, Undetected, Up, Verdict, [], arith}
+use Rattle.told_laws.proofs.Words.{as_noted, bare_link, bits_of, by_test, causes_in, causes_of, cond, damage_causes, each-append, end_of, end_of_frame}
+use Rattle.told_laws.proofs.Words.{entries_for, entries_of, entry_of, event_entries, event_of, events_at, false, first_verdict, flat_map, frame_of, frames_to}
+use Rattle.told_laws.proofs.Words.{give_refusal, host_of, if_beyond, if_empty, if_out_of_reach, is_open, is_waiting, length, length-append, link_after}
+use Rattle.told_laws.proofs.Words.{link_after_all, link_after_line, lpdu_of, ltb-false, machine_of, nat_lt, need, noted, outcome_of, refl, refusal, replicate}
+use Rattle.told_laws.proofs.Words.{reset_refusal, spare, start_of_frame, step_told, stuffed, stuffed_after, subst, suc, sym, taken_of, true, unwrap_or}
+use Rattle.told_laws.proofs.Words.{with_crc, zero, ℕ, ◌%◌, ◌*◌, ◌++◌, ◌+◌, ◌/◌, ◌<◌, ◌==◌, ◌^◌, ◌∷◌, ◌≡◌, ◌≤◌}
 use Rattle.trace_model.specs.declared.entry.Entry.TheVariants as entry
 use Rattle.trace_model.specs.declared.line.Line.TheVariants as line
 use Rattle.swp_base.proofs.BitLemmas.{length-bits_of}
 use Rattle.swp_crc.specs.Crc.{crc_of}
 use Rattle.link_laws.specs.messages.Links.IsStart.{IsBare}
 use Rattle.link_laws.proofs.messages.RsetNumbers.{start_numbered}
-use Rattle.link_laws.specs.entries.Entries.Entry.{Down as Ends, Tick}
+use Rattle.link_laws.specs.entries.Entries.Entry.{Down as Ends}
 use Rattle.history.specs.Histories.{Cause, Step}
 use Rattle.history.specs.BareRsets.{rsets_by_bare}
 use Rattle.history.proofs.RsetsInBareWorlds.{few_after}
@@ -24,7 +24,6 @@ use Rattle.told_laws.proofs.told.Ends.{IsFrame}
 use Rattle.told_laws.proofs.told.Links.{LinkIs, CanTell, bare_is, given_by, link_more, link_within, link_caused}
 use Rattle.told_laws.proofs.told.Wires.{WireIs}
 use Rattle.told_laws.proofs.told.Notes.{IsNoted, AreNoted, noted_event}
-use Rattle.trace_model.specs.declared.entry.NoCause.TheVariants as why
 
 -- ## Bytes
 
