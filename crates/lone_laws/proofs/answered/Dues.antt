@@ -1,14 +1,14 @@
 -- Before the first turn in an event a node alone answers what is due.
 use Rattle.std.specs.Prelude.{Option, Some, None, not}
-use Rattle.lone_laws.proofs.Words.{Acked, ActEvent, ActStart, ActStop, ActTake, ActTick, Active, AllByRecursion, AllByRecursion-append, Bare, BeginsBehind}
-use Rattle.lone_laws.proofs.Words.{Bool, Clf, ComesTo, Commits, Control, Core, Deed, Down, End, Entry, Err, FrameComes, FrameIsRefused, GaveUp, Got, IsTurnSo}
-use Rattle.lone_laws.proofs.Words.{LinkEnd, LinkInput, List, Lone, LoneCause, LpduFault, Noted, Ok, Port, Report, ResetComes, Result, Role, Running, Side}
-use Rattle.lone_laws.proofs.Words.{StartComes, StopComes, Sync, TickComes, Uicc, Up, Work, [], act_event, act_out, after_input, all_come, all_done, ap}
-use Rattle.lone_laws.proofs.Words.{append-nil, append_assoc, by_test, cond, cond_both, control_of, core_since, count_of, deeds_note, emits_behind}
-use Rattle.lone_laws.proofs.Words.{end_of_node_alone, entries_for, eqb, false, filter, finds_room, flat_map, frames_behind, goes_in, input_at, is_kept_sync}
-use Rattle.lone_laws.proofs.Words.{is_open, list_any, lone_arrival, lone_end, lone_input, lpdu_input, node_input, noted_by_deeds, noted_since, own_side, refl}
-use Rattle.lone_laws.proofs.Words.{report, session_now, session_with, subst, sym, sync_due, synced, syncs_in, ticked_sync, to_command, told, told_at, true}
-use Rattle.lone_laws.proofs.Words.{whole_acked, ℕ, ◌&&◌, ◌++◌, ◌||◌, ◌∙◌, ◌∷◌, ◌≡◌, ◌≤◌}
+use Rattle.lone_laws.proofs.Words.{ActEvent, ActStart, ActStop, ActTake, ActTick, AllByRecursion, AllByRecursion-append, Bare, BeginsBehind, Bool, Clf, ComesTo}
+use Rattle.lone_laws.proofs.Words.{Commits, Control, Core, Deed, End, Entry, Err, FrameComes, FrameIsRefused, IsTurnSo, LinkEnd, LinkInput, List, Lone}
+use Rattle.lone_laws.proofs.Words.{LoneCause, LpduFault, Ok, Port, Report, ResetComes, Result, Role, Running, Side, StartComes, StopComes, Sync, TickComes}
+use Rattle.lone_laws.proofs.Words.{Uicc, Work, [], act_event, act_out, after_input, all_come, all_done, ap, append-nil, append_assoc, by_test, cond, cond_both}
+use Rattle.lone_laws.proofs.Words.{control_of, core_since, count_of, deeds_note, emits_behind, end_of_node_alone, entries_for, entry_of, eqb, false, filter}
+use Rattle.lone_laws.proofs.Words.{finds_room, flat_map, frames_behind, goes_in, input_at, is_kept_sync, is_open, list_any, lone_arrival, lone_end, lone_input}
+use Rattle.lone_laws.proofs.Words.{lpdu_input, node_input, noted_by_deeds, noted_since, own_side, refl, report, session_now, session_with, subst, sym, sync_due}
+use Rattle.lone_laws.proofs.Words.{synced, syncs_in, ticked_sync, to_command, told, told_all, told_at, true, whole_acked, ℕ, ◌&&◌, ◌++◌, ◌||◌, ◌∙◌, ◌∷◌, ◌≡◌}
+use Rattle.lone_laws.proofs.Words.{◌≤◌}
 use Rattle.trace_model.specs.declared.entry.Entry.TheVariants as entry
 use Rattle.swp_base.specs.declared.control_frames.Act.TheVariants.{SyncId, Ready, PowerMode}
 use Rattle.swp_act.specs.declared.Phase.{Phase}
@@ -25,7 +25,7 @@ use Rattle.lone_laws.proofs.answered.Ordered.{begin_read, start, begun, ended, s
 use Rattle.lone_laws.proofs.answered.Roles.{kind_of}
 use Rattle.lone_laws.proofs.answered.Told.{entries_of_deeds, noted_as_reply, commit_told}
 use Rattle.lone_laws.proofs.answered.Replying.{IsMuteEntry, AreUntil, IsNotedSo, deeds_answer, noted_answers}
-use Rattle.lone_laws.proofs.answered.Errors.{IsToldNote, told_of_it}
+use Rattle.lone_laws.proofs.answered.Errors.{notes_hold}
 use Rattle.lone_laws.proofs.answered.Answering.{none_until, emits_mute}
 use Rattle.lone_laws.proofs.answered.Keeping.{core_of, KeepsAll}
 use Rattle.swp_base.specs.declared.control_frames.Control.TheVariants as control
@@ -125,18 +125,11 @@ input_due core h s c i comes kind = by_test (eqb core.node 0)
 
 -- ## What is noted first
 
-notes_mute : (h : ℕ) (xs : List Noted) → AllByRecursion IsToldNote xs → AllByRecursion IsMuteEntry (entries_for h xs)
-notes_mute h [] a = tt
-notes_mute h (Up who n ∷ xs) a = ((refl, refl, refl), notes_mute h xs a.1)
-notes_mute h (Down who cause ∷ xs) a = ((refl, refl, refl), notes_mute h xs a.1)
-notes_mute h (Active who ∷ xs) a = ((refl, refl, refl), notes_mute h xs a.1)
-notes_mute h (GaveUp who tries ∷ xs) a = ((refl, refl, refl), notes_mute h xs a.1)
-notes_mute h (Acked who n count ∷ xs) a = ((refl, refl, refl), notes_mute h xs a.1)
-notes_mute h (Got who n m ∷ xs) a = ((refl, refl, refl), notes_mute h xs a.1)
-notes_mute h (_ ∷ xs) a = absurd a.0
-
 told_mute : (h : ℕ) (who : Side) (n acked : ℕ) (rep : Report) → AllByRecursion IsMuteEntry (entries_for h (told who n rep acked))
-told_mute h who n acked rep = notes_mute h (told who n rep acked) (told_of_it who n acked rep)
+told_mute h who n acked rep =
+    notes_hold IsMuteEntry h (told who n rep acked)
+    (told_all (λ x. AllByRecursion IsMuteEntry (entry_of h x)) who n acked ((refl, refl, refl), tt) ((refl, refl, refl), tt)
+    (λ k. ((refl, refl, refl), tt)) ((refl, refl, refl), tt) (λ m. ((refl, refl, refl), tt)) (λ c. ((refl, refl, refl), tt)) rep)
 
 arrival_mute : (l : Lone) (c : LoneCause) → AllByRecursion IsMuteEntry (lone_arrival l c)
 arrival_mute l (FrameComes bytes) = ((refl, refl, refl), tt)

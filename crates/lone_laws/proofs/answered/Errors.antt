@@ -1,13 +1,13 @@
 -- REC_ERROR of a node alone is what is read, over each message that it handles.
 use Rattle.std.specs.Prelude.{Option, Some, None}
-use Rattle.lone_laws.proofs.Words.{Acked, Active, AllByRecursion, AllByRecursion-append, AreNoBoots, AreUnset, Bool, Command, Commits, Core, Deed, Down, Drops}
-use Rattle.lone_laws.proofs.Words.{End, Entry, ErrorCount, GaveUp, Give, Got, HciTables, IsAnswered, IsNoBoot, IsUpAt, IsUpNow, List, Message, Noted, Port}
-use Rattle.lone_laws.proofs.Words.{Report, SaysOk, Sends, SetDeeds, SetsErrors, SetsNone, Side, Turn, Up, Work, [], after_turn, all_done, answer_of, ap}
-use Rattle.lone_laws.proofs.Words.{append-nil, apply, by_test, changed_if, cond, controller_deeds, controller_sets, controller_unset, core_noted, core_with}
-use Rattle.lone_laws.proofs.Words.{done, end_c, end_h, end_of_node_alone, end_view, entries_for, eqb, eqb-true, errors_after, errors_found, errors_set_by}
-use Rattle.lone_laws.proofs.Words.{false, fold, fold-append, host_deeds, host_sets, host_unset, is_any_ok, is_link_gate, is_up, leads_to_link_gate}
-use Rattle.lone_laws.proofs.Words.{option_map_or, own_gate, own_view, port_at, refl, same_end, same_end_itself, subst, sym, told, told_all, true, true≢false}
-use Rattle.lone_laws.proofs.Words.{turn_at, uncut, unless_cut, unwrap_or, view_of, with_command, with_port, ℕ, ◌&&◌, ◌++◌, ◌∙◌, ◌∷◌, ◌≡◌}
+use Rattle.lone_laws.proofs.Words.{AllByRecursion, AllByRecursion-append, AreNoBoots, AreUnset, Bool, Command, Commits, Core, Deed, Drops, End, Entry}
+use Rattle.lone_laws.proofs.Words.{ErrorCount, Give, HciTables, IsAnswered, IsNoBoot, IsUpAt, IsUpNow, List, Message, Noted, Port, Report, SaysOk, Sends}
+use Rattle.lone_laws.proofs.Words.{SetDeeds, SetsErrors, SetsNone, Side, Turn, Work, [], after_turn, all_done, answer_of, ap, append-nil, apply, by_test}
+use Rattle.lone_laws.proofs.Words.{changed_if, cond, controller_deeds, controller_sets, controller_unset, core_noted, core_with, done, end_c, end_h}
+use Rattle.lone_laws.proofs.Words.{end_of_node_alone, end_view, entries_for, entry_of, eqb, eqb-true, errors_after, errors_found, errors_set_by, false, fold}
+use Rattle.lone_laws.proofs.Words.{fold-append, host_deeds, host_sets, host_unset, is_any_ok, is_link_gate, is_up, leads_to_link_gate, option_map_or, own_gate}
+use Rattle.lone_laws.proofs.Words.{own_view, port_at, refl, same_end, same_end_itself, subst, sym, told, told_all, true, true≢false, turn_at, uncut, unless_cut}
+use Rattle.lone_laws.proofs.Words.{unwrap_or, view_of, with_command, with_port, ℕ, ◌&&◌, ◌++◌, ◌∙◌, ◌∷◌, ◌≡◌}
 use Rattle.trace_model.specs.declared.entry.Entry.TheVariants as entry
 use Rattle.gate_answers.specs.declared.response.Response.TheVariants as response
 use Rattle.node_laws.proofs.views.Setting.SetDeeds.{IsSet as IsSetSo, IsRefused as IsRefusedSo, IsDropped as IsDroppedSo}
@@ -94,30 +94,17 @@ errors_then e begin t es errors settled a = record {
   unbooted = AllByRecursion-append IsNoBoot t es a.unbooted (settled_unbooted e es settled);
 }
 
-abbrev pub IsToldNote : Noted → Type 0
-IsToldNote (Up who n) = Unit {0}
-IsToldNote (Down who cause) = Unit {0}
-IsToldNote (Active who) = Unit {0}
-IsToldNote (GaveUp who tries) = Unit {0}
-IsToldNote (Acked who n count) = Unit {0}
-IsToldNote (Got who n m) = Unit {0}
-IsToldNote _ = ⊥
-
-notes_settled : (e : End) (h : ℕ) (xs : List Noted) → AllByRecursion IsToldNote xs → AllByRecursion (IsSettled e) (entries_for h xs)
-notes_settled e h [] a = tt
-notes_settled e h (Up who n ∷ xs) a = (((λ x. refl), tt), notes_settled e h xs a.1)
-notes_settled e h (Down who cause ∷ xs) a = (((λ x. refl), tt), notes_settled e h xs a.1)
-notes_settled e h (Active who ∷ xs) a = (((λ x. refl), tt), notes_settled e h xs a.1)
-notes_settled e h (GaveUp who tries ∷ xs) a = (((λ x. refl), tt), notes_settled e h xs a.1)
-notes_settled e h (Acked who n count ∷ xs) a = (((λ x. refl), tt), notes_settled e h xs a.1)
-notes_settled e h (Got who n m ∷ xs) a = (((λ x. refl), tt), notes_settled e h xs a.1)
-notes_settled e h (_ ∷ xs) a = absurd a.0
-
-pub told_of_it : (who : Side) (n acked : ℕ) (rep : Report) → AllByRecursion IsToldNote (told who n rep acked)
-told_of_it who n acked rep = told_all IsToldNote who n acked tt tt (λ k. tt) tt (λ m. tt) (λ c. tt) rep
+-- what holds of the entries of each note holds of all entries
+pub notes_hold : (P : Entry → Type 0) (h : ℕ) (xs : List Noted) → AllByRecursion (λ x. AllByRecursion P (entry_of h x)) xs
+    → AllByRecursion P (entries_for h xs)
+notes_hold P h [] a = tt
+notes_hold P h (x ∷ xs) a = AllByRecursion-append P (entry_of h x) (entries_for h xs) a.0 (notes_hold P h xs a.1)
 
 pub told_settled : (e : End) (h : ℕ) (who : Side) (n acked : ℕ) (rep : Report) → AllByRecursion (IsSettled e) (entries_for h (told who n rep acked))
-told_settled e h who n acked rep = notes_settled e h (told who n rep acked) (told_of_it who n acked rep)
+told_settled e h who n acked rep =
+    notes_hold (IsSettled e) h (told who n rep acked)
+    (told_all (λ x. AllByRecursion (IsSettled e) (entry_of h x)) who n acked (((λ x. refl), tt), tt) (((λ x. refl), tt), tt)
+    (λ k. (((λ x. refl), tt), tt)) (((λ x. refl), tt), tt) (λ m. (((λ x. refl), tt), tt)) (λ c. (((λ x. refl), tt), tt)) rep)
 
 -- ## What is kept
 

@@ -4,7 +4,7 @@ use Rattle.lone_laws.proofs.Words.{Acked, ActTick, Active, AllByRecursion, Asked
 use Rattle.lone_laws.proofs.Words.{FrameIsRefused, GaveUp, Got, IsDown, IsResetAlone, IsUpNow, IsWaitingNow, LinkEnd, LinkInput, LinkState, List, Lone}
 use Rattle.lone_laws.proofs.Words.{LoneCause, LpduFault, NodeInput, None, Noted, Ok, Option, Report, ResetComes, Result, Running, Side, Some, Sound, StartComes}
 use Rattle.lone_laws.proofs.Words.{StopComes, TickComes, Up, Work, [], after_input, all_come, ap, come_entries, cond, cond_both, control_of, emits_behind}
-use Rattle.lone_laws.proofs.Words.{ended_by, ended_by_act, ended_by_reset, entries_for, eqb, false, frames_behind, if_so, is_asked_down, is_open}
+use Rattle.lone_laws.proofs.Words.{ended_by, ended_by_act, ended_by_reset, entries_for, entry_of, eqb, false, frames_behind, if_so, is_asked_down, is_open}
 use Rattle.lone_laws.proofs.Words.{is_reset_alone, is_up, is_up_read, list_any, lone_arrival, lone_end, lone_input, lpdu_input, lpdu_of, map, node_input}
 use Rattle.lone_laws.proofs.Words.{option_to_list, own_side, refl, report, reset_refusal, rest_all, session_now, session_with, subst, sym, tick_answer, told}
 use Rattle.lone_laws.proofs.Words.{told_at, true, whole_acked, ℕ, ◌++◌, ◌||◌, ◌∙◌, ◌∷◌, ◌≡◌, ◌≤◌}
@@ -17,6 +17,7 @@ use Rattle.lone_laws.proofs.answered.Lasting.{begins_alone, arrival_nothing}
 use Rattle.lone_laws.proofs.answered.Ordered.{begin_read, start, ended}
 use Rattle.lone_laws.proofs.answered.Told.{same_number}
 use Rattle.lone_laws.proofs.answered.Keeping.{core_of, KeepsAll}
+use Rattle.lone_laws.proofs.answered.Errors.{notes_hold}
 use Rattle.node_laws.proofs.worlds.Causes.{act_asked, asked, frame_asked, tick_asked, up_asked}
 
 -- an entry tells of no reset that was asked for
@@ -42,24 +43,6 @@ any_quiet (x ∷ a) es quiet = or_same (is_asked_down x) (list_any is_asked_down
 
 -- ## What an input tells
 
--- this tells of no end of a session
-abbrev EndsNothing : Noted → Type 0
-EndsNothing (Up who n) = Unit {0}
-EndsNothing (Active who) = Unit {0}
-EndsNothing (GaveUp who tries) = Unit {0}
-EndsNothing (Acked who n count) = Unit {0}
-EndsNothing (Got who n m) = Unit {0}
-EndsNothing _ = ⊥
-
-notes_quiet : (h : ℕ) (xs : List Noted) → AllByRecursion EndsNothing xs → AreQuiet (entries_for h xs)
-notes_quiet h [] a = tt
-notes_quiet h (Up who n ∷ xs) a = (refl, notes_quiet h xs a.1)
-notes_quiet h (Active who ∷ xs) a = (refl, notes_quiet h xs a.1)
-notes_quiet h (GaveUp who tries ∷ xs) a = (refl, notes_quiet h xs a.1)
-notes_quiet h (Acked who n count ∷ xs) a = (refl, notes_quiet h xs a.1)
-notes_quiet h (Got who n m ∷ xs) a = (refl, notes_quiet h xs a.1)
-notes_quiet h (_ ∷ xs) a = absurd a.0
-
 -- what is told of an input tells so where the session is ended by a reset on demand
 told_asked : (h : ℕ) (who : Side) (n acked : ℕ) (rep : Report) → list_any is_asked_down (entries_for h (told who n rep acked)) ≡ asked rep.ended
 told_asked h who n acked rep = go rep.ended where
@@ -71,7 +54,8 @@ told_asked h who n acked rep = go rep.ended where
   quiet : list_any is_asked_down (entries_for h others) ≡ false
   quiet =
       any_quiet [] (entries_for h others)
-      (notes_quiet h others (rest_all EndsNothing who n acked tt tt (λ k. tt) tt (λ m. tt) rep))
+      (notes_hold IsQuietEntry h others
+      (rest_all (λ x. AllByRecursion IsQuietEntry (entry_of h x)) who n acked (refl, tt) (refl, tt) (λ k. (refl, tt)) (refl, tt) (λ m. (refl, tt)) rep))
 
   go : (o : Option EndedBy) → list_any is_asked_down (entries_for h (map (Down who) (option_to_list o) ++ others)) ≡ asked o
   go (Some Asked) = refl
