@@ -258,27 +258,18 @@ link_fetched {pool} {k} {s} {acts} {m} h f =
     let a = fetched_alike m.shdlc link.offered (waiting_in pool k.outbox) link.out link.narrow.session h.full in
     let w = stands_fetched k.shdlc s (waiting_in pool k.outbox) m.shdlc both (f.stands (with_out m.shdlc link.offered) link.kept) in
     let acc : (fetched m.shdlc).session.acc ≡ m.shdlc.session.acc = fetched_acc m.shdlc m.shdlc.due (fragment_due m.shdlc.session) refl in
+    let sent = same_session before w.stands a.out a.acked acc in
     subst P (sym n.1 ∙ ap frame_fetched is) (record {
       halfway = record {
-        role = before.role;
+        role = sent.role;
         link = w.stands;
         acts = ap (map due_of) (f.nearer ∙ ap (map kept_nearer) n.2) ∙ nearer_same k.acts.items;
-        sends = record {
-          lies = before.sends.lies;
-          all = before.sends.all;
-          out = a.out ∙ before.sends.out;
-          messages = before.sends.messages ∙ ap (λ x. drop (whole_among m.sent x) m.sent) (sym a.acked);
-          acked = before.sends.acked ∙ ap (rest_among m.sent) (sym a.acked);
-        };
-        receives = record {
-          lies = before.receives.lies;
-          under = before.receives.under ∙ sym (ap (λ l. open_after [] (packets_in l)) acc);
-          sound = ap (λ l. are_taken [] (packets_in l)) acc ∙ before.receives.sound;
-        };
-        got = before.got;
-        aside = before.aside;
-        passed_over = before.passed_over;
-        differ = before.differ;
+        sends = sent.sends;
+        receives = sent.receives;
+        got = sent.got;
+        aside = sent.aside;
+        passed_over = sent.passed_over;
+        differ = sent.differ;
       };
       full = w.full;
     })

@@ -18,7 +18,8 @@ use Rattle.link_laws.specs.machine.Machine.LinkInput.{FromNode}
 use Rattle.link_laws.specs.machine.Laws.{AreSendableInputs}
 use Rattle.node_ends.specs.Holding.{HoldsSeat, Moves, kept_number}
 use Rattle.node_ends.proofs.Counting.{reached_on, turn_acked}
-use Rattle.node_ends.specs.Ends.{SeatStandsFor, SeatBecomes, SeatsStandFor, HaveOwnersFrom, HaveOwnHosts, AreEnds, place_in}
+use Rattle.node_ends.proofs.Opening.{kept_so}
+use Rattle.node_ends.specs.Ends.{SeatStandsFor, SeatBecomes, SeatsStandFor, HaveOwnersFrom, HaveOwnHosts, AreEnds, KeptEnds, EndsStandFor, place_in}
 
 -- ## Hosts
 
@@ -261,6 +262,15 @@ nowhere {pool} {seats} {ports} h f None is none e =
     let P : List Port → Type 0 = λ l. AreEnds pool seats l in
     (subst P (sym n.0) e, n.1)
 nowhere h f (Some i) is none e = absurd (none i refl)
+
+-- what the ends show stays as it is then
+pub still_nowhere : {kept shown : KeptEnds} {ports : List Port} (h : ℕ) (f : Port → Port) (o : Option ℕ) → o ≡ place_in h kept.seats
+    → ((i : ℕ) → o ≡ Some i → ⊥) → kept ≡ shown → EndsStandFor shown ports → EndsStandFor shown (with_port h f ports)
+still_nowhere h f o is none same stands = kept_so same stands (λ e. (nowhere h f o is none e).0)
+
+-- an end's place is one of seven
+pub low_place : {pool : PoolState} {slice seats : List Seat} {ports : List Port} (i : ℕ) → i < length slice → slice ≡ seats → AreEnds pool seats ports → i < 7
+low_place i inside is e = let few = e.few in let len = ap (λ (l : List Seat). length l) is in omega (arith, inside, few, len)
 
 -- the owner of the end there
 pub owner_at_place : {pool : PoolState} {seats : List Seat} {ports : List Port} (h i : ℕ) (place : place_in h seats ≡ Some i) (e : AreEnds pool seats ports)

@@ -5,7 +5,8 @@ use Rattle.std.specs.Prelude.{Some, None, slice_get, slice_set, slice_index_or}
 use Rattle.block_pool.specs.Pool.{PoolState}
 use Rattle.node_machine.specs.Parts.{Port}
 use Rattle.node_ends.specs.declared.seat.Seat.{Seat}
-use Rattle.node_ends.specs.Ends.{SeatStandsFor, SeatBecomes, SeatsStandFor, HaveOwnersFrom, AreEnds, at_place}
+use Rattle.node_ends.specs.Ends.{SeatStandsFor, SeatBecomes, SeatsStandFor, HaveOwnersFrom, AreEnds, KeptEnds, EndsStandFor, at_place}
+use Rattle.node_ends.proofs.Opening.{opened, kept_so}
 use Rattle.node_ends.proofs.Changing.{OneChanges, apart_places, owners_at, owners_stay, hosts_stay, read_at}
 
 module _ {old new : PoolState} {f : Port → Port} {s t : Seat} (c : SeatBecomes old new s t f) where
@@ -89,6 +90,18 @@ beyond pool zero f (s ∷ seats) (p ∷ ports) past g = absurd (omega (arith, pa
 beyond pool (suc i) f (s ∷ seats) (p ∷ ports) past g =
     let r = beyond pool i f seats ports (omega (arith, past)) g.1 in
     (ap (λ l. p ∷ l) r.0, r.1)
+
+-- what the ends show stays as it is then
+pub still_beyond : {kept shown : KeptEnds} {ports : List Port} (i : ℕ) (f : Port → Port) → length kept.seats ≤ i → kept ≡ shown → EndsStandFor shown ports
+    → EndsStandFor shown (at_place i f ports)
+still_beyond {kept} {ports = ports} i f past same stands =
+    kept_so same stands (λ e.
+    let P : List Port → Type 0 = λ l. EndsStandFor kept l in
+    subst P (sym (beyond kept.pool i f kept.seats ports past e.each).0) e)
+
+pub none_beyond : {kept shown : KeptEnds} {ports : List Port} (i : ℕ) → length kept.seats ≤ i → kept ≡ shown → EndsStandFor shown ports
+    → None ≡ slice_get ports i
+none_beyond {kept} {ports = ports} i past same stands = sym (beyond kept.pool i (λ (p : Port). p) kept.seats ports past (opened same stands).each).1
 
 -- the end that is read at a place stands for the port there
 pub record IsReadHere (pool : PoolState) (ports : List Port) (i : ℕ) (r : Seat) : Type 0 where

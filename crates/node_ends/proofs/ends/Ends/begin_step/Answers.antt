@@ -1,18 +1,14 @@
-use Rattle.std.proofs.Common.{List, [], false, arith, sym, subst}
+use Rattle.std.proofs.Common.{[], false, arith}
 use Rattle.node_machine.specs.Parts.{Port}
-use Rattle.node_ends.specs.Ends.{AreEnds}
-use Rattle.node_ends.proofs.Seated.{beyond}
-use Rattle.node_ends.proofs.Opening.{opened, kept_so}
-use Rattle.node_ends.proofs.Seated.{becomes_here}
+use Rattle.node_ends.proofs.Opening.{opened}
+use Rattle.node_ends.proofs.Seated.{becomes_here, still_beyond}
 use Rattle.node_ends.proofs.Beside.{begun}
 use Rattle.node_ends.proofs.ends.Ends.begin_step.Goals as goal
 
 pub returns-else-i-len : goal.returns-else-i-len
 returns-else-i-len c ports stands =
-    kept_so c.self.view_is stands (λ e.
-    let P : List Port → Type 0 = λ l. AreEnds c.self.inside.pool c.self.inside.seats.items l in
-    subst P (sym (beyond c.self.inside.pool c.args.i (λ (p : Port). record p { late = false; ended = false; turns = [] }) c.self.inside.seats.items ports
-    (let l = c.len.ensures in let t = c.if-i-len.false in omega (arith, l, t)) e.each).0) e)
+    still_beyond c.args.i (λ (p : Port). record p { late = false; ended = false; turns = [] })
+    (let l = c.len.ensures in let t = c.if-i-len.false in omega (arith, l, t)) c.self.view_is stands
 
 pub returns-then-i-len : goal.returns-then-i-len
 returns-then-i-len c ports stands =

@@ -6,9 +6,9 @@ use Rattle.node_machine.specs.Parts.{Port}
 use Rattle.node_machine.specs.Node.{has_come}
 use Rattle.node_ends.specs.Ends.{FewAreDue, IsHeldWhileOneWaits, place_in}
 use Rattle.node_ends.specs.Inputs.{input_of_end, MayComeAt, refusal_at}
-use Rattle.node_ends.proofs.Changing.{lent_at, becomes_at, nowhere}
+use Rattle.node_ends.proofs.Changing.{lent_at, becomes_at, nowhere, still_nowhere}
 use Rattle.node_ends.proofs.Keeping.{none_refused, where_ok}
-use Rattle.node_ends.proofs.Opening.{opened, kept_so}
+use Rattle.node_ends.proofs.Opening.{opened}
 use Rattle.node_ends.proofs.ends.Ends.comes.Goals as goal
 
 pub comes-requires : goal.comes-requires
@@ -28,9 +28,8 @@ comes-requires c =
 
 pub returns-in_default-clause-stands : goal.returns-in_default-clause-stands
 returns-in_default-clause-stands c ports stands =
-    kept_so c.self.view_is stands (λ e.
-    (nowhere c.args.host (λ (p : Port). has_come p (Some (input_of_end c.args.what))) c.place_of.result
-    (c.place_of.ensures.place ∙ ap (place_in c.args.host) c.as_slice.ensures.value) c.in_default.not-Some e).0)
+    still_nowhere c.args.host (λ (p : Port). has_come p (Some (input_of_end c.args.what))) c.place_of.result
+    (c.place_of.ensures.place ∙ ap (place_in c.args.host) c.as_slice.ensures.value) c.in_default.not-Some c.self.view_is stands
 
 pub returns-in_default-clause-refusal : goal.returns-in_default-clause-refusal
 returns-in_default-clause-refusal c ports stands =

@@ -1,20 +1,16 @@
-use Rattle.std.proofs.Common.{ap, ◌∙◌}
+use Rattle.std.proofs.Common.{ap, ◌∙◌, arith}
 use Rattle.std.specs.Prelude.{min, ◌+◌}
 use Rattle.node_machine.specs.Parts.{Port}
 use Rattle.node_ends.specs.Ends.{place_in}
-use Rattle.node_ends.proofs.Changing.{nowhere}
-use Rattle.node_ends.proofs.Opening.{opened, kept_so}
-use Rattle.node_ends.proofs.Changing.{becomes_at}
+use Rattle.node_ends.proofs.Opening.{opened}
+use Rattle.node_ends.proofs.Changing.{becomes_at, still_nowhere}
 use Rattle.node_ends.proofs.Beside.{error_counted}
-use Rattle.std.proofs.Common.{arith}
 use Rattle.node_ends.proofs.ends.Ends.count_error.Goals as goal
 
 pub returns-in_default : goal.returns-in_default
 returns-in_default c ports stands =
-    kept_so c.self.view_is stands (λ e.
-    (nowhere c.args.host (λ (p : Port). record p { desk = record p.desk { errors = min 65535 (p.desk.errors + 1) } }) c.place_of.result
-    (c.place_of.ensures.place ∙ ap (place_in c.args.host) c.as_slice.ensures.value)
-    c.in_default.not-Some e).0)
+    still_nowhere c.args.host (λ (p : Port). record p { desk = record p.desk { errors = min 65535 (p.desk.errors + 1) } }) c.place_of.result
+    (c.place_of.ensures.place ∙ ap (place_in c.args.host) c.as_slice.ensures.value) c.in_default.not-Some c.self.view_is stands
 
 pub returns-in-Some : goal.returns-in-Some
 returns-in-Some c ports stands =

@@ -1,19 +1,13 @@
-use Rattle.std.proofs.Common.{List, arith, sym, subst}
-use Rattle.node_machine.specs.Parts.{Port}
+use Rattle.std.proofs.Common.{arith}
 use Rattle.node_machine.specs.Node.{without_notice}
-use Rattle.node_ends.specs.Ends.{AreEnds}
-use Rattle.node_ends.proofs.Seated.{beyond}
-use Rattle.node_ends.proofs.Opening.{opened, kept_so}
-use Rattle.node_ends.proofs.Seated.{becomes_here}
+use Rattle.node_ends.proofs.Opening.{opened}
+use Rattle.node_ends.proofs.Seated.{becomes_here, still_beyond}
 use Rattle.node_ends.proofs.Beside.{notice_dropped}
 use Rattle.node_ends.proofs.ends.Ends.drop_notice.Goals as goal
 
 pub returns-else-i-len : goal.returns-else-i-len
 returns-else-i-len c ports stands =
-    kept_so c.self.view_is stands (λ e.
-    let P : List Port → Type 0 = λ l. AreEnds c.self.inside.pool c.self.inside.seats.items l in
-    subst P (sym (beyond c.self.inside.pool c.args.i without_notice c.self.inside.seats.items ports
-    (let l = c.len.ensures in let t = c.if-i-len.false in omega (arith, l, t)) e.each).0) e)
+    still_beyond c.args.i without_notice (let l = c.len.ensures in let t = c.if-i-len.false in omega (arith, l, t)) c.self.view_is stands
 
 pub returns-then-i-len : goal.returns-then-i-len
 returns-then-i-len c ports stands =

@@ -6,7 +6,7 @@ use Rattle.node_machine.specs.Parts.{Port}
 use Rattle.node_machine.specs.Node.{forgets}
 use Rattle.node_ends.specs.Desks.{asker_at, forgotten_at}
 use Rattle.node_ends.specs.Ends.{AreEnds}
-use Rattle.node_ends.proofs.Seated.{beyond, lent_here, becomes_here, at_place_as, at_place_still}
+use Rattle.node_ends.proofs.Seated.{lent_here, becomes_here, at_place_as, at_place_still, still_beyond}
 use Rattle.node_ends.proofs.Beside.{creation_forgotten}
 use Rattle.node_ends.proofs.Noticing.{asker_is, forgets_none, forgets_by, none_at_all}
 use Rattle.node_ends.proofs.Opening.{opened, kept_so}
@@ -14,10 +14,7 @@ use Rattle.node_ends.proofs.ends.Ends.forget.Goals as goal
 
 pub returns-then-i-len : goal.returns-then-i-len
 returns-then-i-len c ports stands =
-    kept_so c.self.view_is stands (λ e.
-    let P : List Port → Type 0 = λ l. AreEnds c.self.inside.pool c.self.inside.seats.items l in
-    subst P (sym (beyond c.self.inside.pool c.args.i (forgets ports) c.self.inside.seats.items ports
-    (let l = c.len.ensures in let t = c.if-i-len.true in omega (arith, l, t)) e.each).0) e)
+    still_beyond c.args.i (forgets ports) (let l = c.len.ensures in let t = c.if-i-len.true in omega (arith, l, t)) c.self.view_is stands
 
 pub returns-in_default : goal.returns-in_default
 returns-in_default c ports stands =

@@ -2,16 +2,14 @@ use Rattle.std.proofs.Common.{ap, ◌∙◌}
 use Rattle.link_laws.specs.machine.Machine.Turn.{FetchMessage}
 use Rattle.node_machine.specs.Carrying.{after_turn}
 use Rattle.node_ends.specs.Ends.{place_in}
-use Rattle.node_ends.proofs.Changing.{nowhere}
-use Rattle.node_ends.proofs.Opening.{opened, kept_so}
-use Rattle.node_ends.proofs.Changing.{lent_at, becomes_at}
+use Rattle.node_ends.proofs.Opening.{opened}
+use Rattle.node_ends.proofs.Changing.{lent_at, becomes_at, still_nowhere}
 use Rattle.node_ends.proofs.ends.Ends.give_back.Goals as goal
 
 pub returns-in_default : goal.returns-in_default
 returns-in_default c ports stands =
-    kept_so c.self.view_is stands (λ e.
-    (nowhere c.args.host (after_turn FetchMessage) c.place_of.result (c.place_of.ensures.place ∙ ap (place_in c.args.host) c.as_slice.ensures.value)
-    c.in_default.not-Some e).0)
+    still_nowhere c.args.host (after_turn FetchMessage) c.place_of.result
+    (c.place_of.ensures.place ∙ ap (place_in c.args.host) c.as_slice.ensures.value) c.in_default.not-Some c.self.view_is stands
 
 pub give_back-requires : goal.give_back-requires
 give_back-requires c =

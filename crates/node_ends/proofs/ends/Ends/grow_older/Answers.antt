@@ -1,14 +1,10 @@
-use Rattle.std.proofs.Common.{List, arith, sym, subst}
-use Rattle.node_machine.specs.Parts.{Port}
+use Rattle.std.proofs.Common.{arith, subst}
 use Rattle.node_machine.specs.Node.{with_older}
-use Rattle.node_ends.specs.Ends.{AreEnds}
-use Rattle.node_ends.proofs.Seated.{beyond}
-use Rattle.node_ends.proofs.Opening.{opened, kept_so}
-use Rattle.node_ends.proofs.Seated.{becomes_here}
+use Rattle.node_ends.proofs.Opening.{opened}
+use Rattle.node_ends.proofs.Seated.{becomes_here, lent_here, still_beyond}
 use Rattle.node_ends.proofs.Beside.{older}
 use Rattle.node_ends.specs.Desks.{IsYoung}
 use Rattle.node_ends.proofs.Noticing.{is_young}
-use Rattle.node_ends.proofs.Seated.{lent_here}
 use Rattle.node_ends.proofs.ends.Ends.grow_older.Goals as goal
 
 pub grow_older-requires : goal.grow_older-requires
@@ -20,10 +16,7 @@ grow_older-requires c =
 
 pub returns-else-i-len : goal.returns-else-i-len
 returns-else-i-len c ports stands =
-    kept_so c.self.view_is stands (λ e.
-    let P : List Port → Type 0 = λ l. AreEnds c.self.inside.pool c.self.inside.seats.items l in
-    subst P (sym (beyond c.self.inside.pool c.args.i with_older c.self.inside.seats.items ports
-    (let l = c.len.ensures in let t = c.if-i-len.false in omega (arith, l, t)) e.each).0) e)
+    still_beyond c.args.i with_older (let l = c.len.ensures in let t = c.if-i-len.false in omega (arith, l, t)) c.self.view_is stands
 
 pub returns-then-i-len : goal.returns-then-i-len
 returns-then-i-len c ports stands =

@@ -1,13 +1,10 @@
-use Rattle.std.proofs.Common.{ap, ◌∙◌}
+use Rattle.std.proofs.Common.{ap, ◌∙◌, subst}
 use Rattle.link_laws.specs.machine.Machine.Turn.{Hold}
 use Rattle.node_machine.specs.Carrying.{after_turn}
-use Rattle.node_ends.specs.Ends.{place_in}
-use Rattle.node_ends.proofs.Changing.{nowhere}
-use Rattle.node_ends.proofs.Opening.{opened, kept_so}
-use Rattle.node_ends.specs.Ends.{FewAreDue}
-use Rattle.node_ends.proofs.Changing.{lent_at, becomes_at}
+use Rattle.node_ends.specs.Ends.{place_in, FewAreDue}
+use Rattle.node_ends.proofs.Opening.{opened}
+use Rattle.node_ends.proofs.Changing.{lent_at, becomes_at, still_nowhere}
 use Rattle.node_ends.proofs.Moving.{few_controls}
-use Rattle.std.proofs.Common.{subst}
 use Rattle.node_ends.proofs.ends.Ends.hold.Goals as goal
 
 pub hold-requires : goal.hold-requires
@@ -19,9 +16,8 @@ hold-requires c =
 
 pub returns-in_default : goal.returns-in_default
 returns-in_default c ports stands =
-    kept_so c.self.view_is stands (λ e.
-    (nowhere c.args.host (after_turn (Hold c.args.held)) c.place_of.result (c.place_of.ensures.place ∙ ap (place_in c.args.host) c.as_slice.ensures.value)
-    c.in_default.not-Some e).0)
+    still_nowhere c.args.host (after_turn (Hold c.args.held)) c.place_of.result
+    (c.place_of.ensures.place ∙ ap (place_in c.args.host) c.as_slice.ensures.value) c.in_default.not-Some c.self.view_is stands
 
 pub returns-in-Some : goal.returns-in-Some
 returns-in-Some c ports stands =

@@ -6,15 +6,15 @@ use Rattle.link_laws.specs.machine.Machine.{next_frame}
 use Rattle.node_machine.specs.Parts.{Port}
 use Rattle.node_ends.specs.Holding.{without_got}
 use Rattle.node_ends.specs.Ends.{has_sent, frame_at, place_in}
-use Rattle.node_ends.proofs.Changing.{lent_at, becomes_at, nowhere}
+use Rattle.node_ends.proofs.Changing.{lent_at, becomes_at, nowhere, still_nowhere}
 use Rattle.node_ends.proofs.Sending.{sent_on, next_without}
-use Rattle.node_ends.proofs.Opening.{opened, kept_so}
+use Rattle.node_ends.proofs.Opening.{opened}
 use Rattle.node_ends.proofs.ends.Ends.next_out.Goals as goal
 
 pub returns-in_default-clause-stands : goal.returns-in_default-clause-stands
 returns-in_default-clause-stands c ports stands =
-    kept_so c.self.view_is stands (λ e. (nowhere c.args.host has_sent c.place_of.result
-    (c.place_of.ensures.place ∙ ap (place_in c.args.host) c.as_slice.ensures.value) c.in_default.not-Some e).0)
+    still_nowhere c.args.host has_sent c.place_of.result
+    (c.place_of.ensures.place ∙ ap (place_in c.args.host) c.as_slice.ensures.value) c.in_default.not-Some c.self.view_is stands
 
 pub returns-in_default-clause-answer : goal.returns-in_default-clause-answer
 returns-in_default-clause-answer c ports stands =

@@ -1,25 +1,17 @@
-use Rattle.std.proofs.Common.{◌∙◌, List, arith, sym, ap, subst}
-use Rattle.node_machine.specs.Parts.{Port}
+use Rattle.std.proofs.Common.{◌∙◌, arith, sym, ap, subst}
 use Rattle.node_machine.specs.Node.{reset_late}
-use Rattle.node_ends.specs.Ends.{AreEnds, late_told}
-use Rattle.node_ends.specs.Ends.{FewAreDue}
-use Rattle.node_ends.proofs.Seated.{beyond, lent_here, becomes_here}
-use Rattle.node_ends.proofs.Opening.{opened, kept_so}
+use Rattle.node_ends.specs.Ends.{late_told, FewAreDue}
+use Rattle.node_ends.proofs.Seated.{lent_here, becomes_here, still_beyond, none_beyond}
+use Rattle.node_ends.proofs.Opening.{opened}
 use Rattle.node_ends.proofs.ends.Ends.reset_late.Goals as goal
 
 pub returns-then-i-len-clause-stands : goal.returns-then-i-len-clause-stands
 returns-then-i-len-clause-stands c ports stands =
-    kept_so c.self.view_is stands (λ e.
-    let P : List Port → Type 0 = λ l. AreEnds c.self.inside.pool c.self.inside.seats.items l in
-    subst P (sym (beyond c.self.inside.pool c.args.i reset_late c.self.inside.seats.items ports
-    (let l = c.len.ensures in let t = c.if-i-len.true in omega (arith, l, t)) e.each).0) e)
+    still_beyond c.args.i reset_late (let l = c.len.ensures in let t = c.if-i-len.true in omega (arith, l, t)) c.self.view_is stands
 
 pub returns-then-i-len-clause-answer : goal.returns-then-i-len-clause-answer
 returns-then-i-len-clause-answer c ports stands =
-    let e = opened c.self.view_is stands in
-    ap late_told
-    (sym (beyond c.self.inside.pool c.args.i (λ (p : Port). p) c.self.inside.seats.items ports
-    (let l = c.len.ensures in let t = c.if-i-len.true in omega (arith, l, t)) e.each).1)
+    ap late_told (none_beyond c.args.i (let l = c.len.ensures in let t = c.if-i-len.true in omega (arith, l, t)) c.self.view_is stands)
 
 pub reset_late-requires : goal.reset_late-requires
 reset_late-requires c =

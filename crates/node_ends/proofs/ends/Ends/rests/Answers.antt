@@ -3,17 +3,14 @@ use Rattle.std.specs.Prelude.{Option}
 use Rattle.std.specs.Option.{option_map_or}
 use Rattle.node_machine.specs.Parts.{Port}
 use Rattle.node_ends.specs.Ends.{rests}
-use Rattle.node_ends.proofs.Seated.{beyond}
 use Rattle.node_ends.proofs.Opening.{opened}
-use Rattle.node_ends.proofs.Seated.{lent_here}
+use Rattle.node_ends.proofs.Seated.{lent_here, none_beyond}
 use Rattle.node_ends.proofs.ends.Ends.rests.Goals as goal
 
 pub returns-then-i-len : goal.returns-then-i-len
 returns-then-i-len c ports stands =
-    let e = opened c.self.view_is stands in
-    ap (λ (o : Option Port). option_map_or rests o false)
-    (sym (beyond c.self.inside.pool c.args.i (λ (p : Port). p) c.self.inside.seats.items ports
-    (let l = c.len.ensures in let t = c.if-i-len.true in omega (arith, l, t)) e.each).1)
+    ap (λ (o : Option Port). option_map_or rests o false) (none_beyond c.args.i
+    (let l = c.len.ensures in let t = c.if-i-len.true in omega (arith, l, t)) c.self.view_is stands)
 
 pub returns : goal.returns
 returns c ports stands =

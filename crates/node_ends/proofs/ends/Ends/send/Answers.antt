@@ -2,17 +2,15 @@ use Rattle.std.proofs.Common.{refl, sym, ap, ◌∙◌}
 use Rattle.link_laws.specs.machine.Machine.Turn.{Give}
 use Rattle.node_machine.specs.Carrying.{after_turn}
 use Rattle.node_ends.specs.Ends.{given_at, place_in}
-use Rattle.node_ends.proofs.Changing.{nowhere}
-use Rattle.node_ends.proofs.Opening.{opened, kept_so}
-use Rattle.node_ends.proofs.Changing.{lent_at, becomes_at}
+use Rattle.node_ends.proofs.Changing.{nowhere, lent_at, becomes_at, still_nowhere}
+use Rattle.node_ends.proofs.Opening.{opened}
 use Rattle.node_ends.proofs.Turning.{told_length, where_refused, none_written}
 use Rattle.node_ends.proofs.ends.Ends.send.Goals as goal
 
 pub returns-in_default-clause-stands : goal.returns-in_default-clause-stands
 returns-in_default-clause-stands c ports stands =
-    kept_so c.self.view_is stands (λ e.
-    let f = after_turn (Give (c.args.pipe, c.args.message.now)) in
-    (nowhere c.args.host f c.place_of.result (c.place_of.ensures.place ∙ ap (place_in c.args.host) c.as_slice.ensures.value) c.in_default.not-Some e).0)
+    still_nowhere c.args.host (after_turn (Give (c.args.pipe, c.args.message.now))) c.place_of.result
+    (c.place_of.ensures.place ∙ ap (place_in c.args.host) c.as_slice.ensures.value) c.in_default.not-Some c.self.view_is stands
 
 pub returns-in_default-clause-answer : goal.returns-in_default-clause-answer
 returns-in_default-clause-answer c ports stands =

@@ -1,19 +1,15 @@
-use Rattle.std.proofs.Common.{ap, ◌∙◌}
+use Rattle.std.proofs.Common.{ap, ◌∙◌, arith}
 use Rattle.link_laws.specs.machine.Machine.Turn.{SetAside}
 use Rattle.node_machine.specs.Carrying.{after_turn}
 use Rattle.node_ends.specs.Ends.{place_in}
-use Rattle.node_ends.proofs.Changing.{nowhere}
-use Rattle.node_ends.proofs.Opening.{opened, kept_so}
-use Rattle.node_ends.proofs.Changing.{lent_at, becomes_at, owner_lent}
-use Rattle.std.proofs.Common.{List, length, arith}
-use Rattle.node_ends.specs.declared.seat.Seat.{Seat}
+use Rattle.node_ends.proofs.Opening.{opened}
+use Rattle.node_ends.proofs.Changing.{lent_at, becomes_at, owner_lent, still_nowhere, low_place}
 use Rattle.node_ends.proofs.ends.Ends.set_aside.Goals as goal
 
 pub returns-in_default : goal.returns-in_default
 returns-in_default c ports stands =
-    kept_so c.self.view_is stands (λ e.
-    (nowhere c.args.host (after_turn SetAside) c.place_of.result (c.place_of.ensures.place ∙ ap (place_in c.args.host) c.as_slice.ensures.value)
-    c.in_default.not-Some e).0)
+    still_nowhere c.args.host (after_turn SetAside) c.place_of.result
+    (c.place_of.ensures.place ∙ ap (place_in c.args.host) c.as_slice.ensures.value) c.in_default.not-Some c.self.view_is stands
 
 pub set_aside-requires-clause-stands : goal.set_aside-requires-clause-stands
 set_aside-requires-clause-stands c =
@@ -27,18 +23,10 @@ set_aside-requires-clause-owner c =
     c.index_mut-seat.ensures.value c.self.invariant.1
 
 pub overflow_cast-i : goal.overflow_cast-i
-overflow_cast-i c =
-    let i = c.in-Some.ensures.inside in
-    let few = c.self.invariant.1.few in
-    let len = ap (λ (l : List Seat). length l) c.as_slice.ensures.value in
-    omega (arith, i, few, len)
+overflow_cast-i c = omega (arith, low_place c.in-Some.i c.in-Some.ensures.inside c.as_slice.ensures.value c.self.invariant.1)
 
 pub overflow_mul-i : goal.overflow_mul-i
-overflow_mul-i c =
-    let i = c.in-Some.ensures.inside in
-    let few = c.self.invariant.1.few in
-    let len = ap (λ (l : List Seat). length l) c.as_slice.ensures.value in
-    omega (arith, i, few, len)
+overflow_mul-i c = omega (arith, low_place c.in-Some.i c.in-Some.ensures.inside c.as_slice.ensures.value c.self.invariant.1)
 
 pub returns-in-Some : goal.returns-in-Some
 returns-in-Some c ports stands =
