@@ -67,12 +67,6 @@ impl<N: Nv + Drop> Node<N> {
             self.ends.begin_step(i);
         }
     }
-
-
-
-
-
-
 }
 
 /// A node between its steps keeps neither the numbers of sessions nor what was done to its ends in a step.

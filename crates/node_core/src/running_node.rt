@@ -159,7 +159,9 @@ impl<N: Nv + Drop> RunningNode<N> {
             Ok(came) => came,
             Err(why) => return Err(why),
         };
-        let ran = self.node.finish(came.sync, came.lies, &mut self.buffer, watch);
+        let ran = self
+            .node
+            .finish(came.sync, came.lies, &mut self.buffer, watch);
         self.node.end_step();
         Ok(Stepped {
             ran,
