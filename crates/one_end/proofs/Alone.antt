@@ -1,6 +1,6 @@
 -- The steps of a node that runs alone.
-use Rattle.std.proofs.Common.{◌≡◌, ◌≤◌, ◌==◌, ℕ, Bool, true, false, cond, not, List, [], ◌∷◌, length, map, refl, sym, ap, ◌∙◌, subst, arith}
-use Rattle.std.specs.Prelude.{Option, Some, None, option_map, is_some, ◌&&◌, ◌+◌, min, nat_le, Result, Ok, Err, OnOk, MatchResult}
+use Rattle.std.proofs.Common.{◌≡◌, ◌≤◌, ◌==◌, ℕ, Bool, true, false, cond, not, List, [], ◌∷◌, length, map, refl, sym, ap, ◌∙◌, subst, append-nil, arith}
+use Rattle.std.specs.Prelude.{Option, Some, None, option_map, is_some, ◌&&◌, ◌+◌, min, nat_le, Result, Ok, Err}
 use Rattle.std.specs.Option.{option_map_or}
 use Rattle.std.specs.List.{flat_map}
 use Rattle.std.proofs.lemmas.Bool.{true≢false, and_right, and_parts, cond_both}
@@ -8,7 +8,7 @@ use Rattle.swp_base.specs.declared.control_frames.Control.{Control}
 use Rattle.swp_base.specs.declared.link_terms.FrameFault.{FrameFault}
 use Rattle.swp_base.specs.InMemory.{Memory}
 use Rattle.swp_base.specs.declared.control_frames.Act.{Act}
-use Rattle.swp_act.specs.declared.ActEvent.TheVariants.{Tick as ActTick, Start as ActStart, Stop as ActStop}
+use Rattle.swp_act.specs.declared.ActEvent.TheVariants.{Tick as ActTick, Start as ActStart}
 use Rattle.swp_act.specs.declared.ActOut.{ActOut}
 use Rattle.swp_act.specs.declared.Phase.{Phase}
 use Rattle.swp_act.specs.declared.Phase.TheVariants.{Inactive, Awaiting, Active}
@@ -16,34 +16,39 @@ use Rattle.swp_act.specs.Activation.{out_ticked, no_act_out, sends}
 use Rattle.swp_lpdu.specs.Controls.{lpdu_of, control_of}
 use Rattle.swp_lpdu.specs.declared.LpduFault.{LpduFault}
 use Rattle.trace_model.specs.declared.entry.Entry.{Entry}
+use Rattle.link_end.specs.Reports.{reset_refused}
+use Rattle.link_end.specs.Roles.{MayStart}
 use Rattle.link_laws.specs.machine.Machine.{LinkEnd, LinkInput, Role, next_frame, frame_fetched, frames_out, sent_all, report, reset_refusal}
 use Rattle.link_laws.specs.machine.Machine.{lpdu_input}
 use Rattle.link_laws.specs.machine.Machine.{is_open, act_out, act_answer}
 use Rattle.link_laws.specs.machine.Machine.Role.{Bare, Clf, Uicc}
 use Rattle.link_laws.specs.machine.Machine.LinkInput.{Take, TakeUnknown, TakeBroken, Tick, Reset, Start, Stop, FromNode, Fetch}
-use Rattle.link_end.specs.declared.report.ResetRefused.{ResetRefused}
-use Rattle.link_end.specs.Reports.{reset_refused}
 use Rattle.node_machine.specs.Parts.{Desk, Core, Running, Port, Work}
 use Rattle.node_machine.specs.Carrying.{port_at, with_port, changed_if}
 use Rattle.node_machine.specs.Node.{NodeInput, steps, with_error}
 use Rattle.node_machine.specs.Node.NodeInput.{AtEnd, TimePasses}
 use Rattle.node_machine.specs.world.World.{runs_on}
-use Rattle.node_ends.specs.Ends.{has_sent, frame_at}
+use Rattle.node_ends.specs.Ends.{has_sent, frame_at, MayStartAt}
+use Rattle.node_ends.specs.Inputs.{frame_said, reset_refusal_at}
 use Rattle.node_laws.specs.kept.Books.{hosts_of_ends}
 use Rattle.node_laws.proofs.telling.Keeping.{Keeps, steps_keep, tick_keeps}
+use Rattle.node_core.specs.declared.inputs.NodeInput.{NodeInput as ToNode}
+use Rattle.node_core.specs.declared.inputs.NodeInput.TheVariants.{At, Tick as ToTick}
+use Rattle.node_ends.specs.declared.inputs.LinkInput.TheVariants as comes
 use Rattle.node_core.specs.declared.node.Node.{Node}
-use Rattle.node_core.specs.Running.{RunsAs, BeginsStep, HasStepped, MayStep, between, one_more_error, reset_refusal_at, becomes_active_by}
+use Rattle.node_core.specs.Inputs.{input_of_node, makes_active, MayComeToNode, refusal_by}
+use Rattle.node_core.specs.Running.{RunsAs, BeginsStep, HasStepped, IsAllSent, between, ran_so, one_more_error, becomes_active_by}
 use Rattle.node_core.specs.Bringing.{Brings, Foretells}
 use Rattle.node_core.proofs.Between.{all_one_by_one, kept_alike}
 use Rattle.lone_laws.specs.alone.Lone.{Lone, LoneCause, lone_input, node_input, lone_arrival, lone_port, lone_work, session_with, side_behind, frames_behind}
 use Rattle.lone_laws.specs.alone.Lone.{lone_behind_step, with_refusal, does_by_power}
 use Rattle.lone_laws.specs.alone.Lone.LoneCause.{FrameComes, FrameIsRefused, TickComes, ResetComes, StartComes, StopComes}
 use Rattle.lone_laws.specs.alone.Ends.{EndForm, entry_written, asks_reset}
-use Rattle.one_end.specs.Alone.{RunsAlone}
-use Rattle.one_end.specs.Running.{StepsAlone, HasSentFirst, cause_of}
-use Rattle.one_end.specs.declared.node.Coming.{Coming}
-use Rattle.one_end.specs.declared.node.Coming.TheVariants.{Frame}
+use Rattle.one_end.specs.Alone.{RunsAlone, TakesAlone}
+use Rattle.one_end.specs.Running.{does_alone, HasAnswered, RunsReady}
+use Rattle.one_end.proofs.Answering.{StepsAlone, stepped_ready, over}
 use Rattle.one_end.proofs.Fetching.{few_out, none_goes, one_goes}
+use Rattle.one_end.proofs.Sending.{HasSentFirst}
 use Rattle.one_end.proofs.Steps.{steps_so, gone_silent}
 
 -- its one end is found
@@ -51,21 +56,22 @@ pub found_there : (p : Port) → p.desk.host ≡ 2 → port_at (p ∷ []) 2 ≡ 
 found_there p q = ap (λ n. cond (n == 2) (Some p) None) q
 
 -- the node that runs in it
-abbrev pub running : {N : Type 0} {number : ℕ} {n : Node N} {l : Lone} {frames : List Control} → RunsAlone number n l frames
-    → Running
+abbrev pub running : {N : Type 0} {n : Node N} {l : Lone} {frames : List Control} → RunsAlone n l frames → Running
 running a = record { core = a.core; desks = a.port.desk ∷ [] }
+
+-- the number of a node is what it was as long as its state is that of the same core
+same_number : {N : Type 0} {n new : Node N} {core : Core} {ports others : List Port} (l : Lone) → l.number ≡ n.number → RunsAs n core ports
+    → RunsAs new core others → l.number ≡ new.number
+same_number l is was now = is ∙ (sym was.node ∙ now.node)
 
 -- ## Its end has sent all
 
-module _ {N : Type 0} {number : ℕ} {n : Node N} {l : Lone} (a : RunsAlone number n l []) where
+module _ {N : Type 0} {n : Node N} {l : Lone} (a : RunsAlone n l []) where
   pub is_idle : (next_frame a.port.side ≡ None) × (frame_fetched a.port.side ≡ a.port.side) × (sent_all a.port.side ≡ a.port.side)
   is_idle = none_goes a.port.side (all_one_by_one a.runs).0 a.due
 
   pub same_side : l.side ≡ a.port.side
   same_side = a.side_is ∙ is_idle.2
-
-  pub may_step : MayStep n
-  may_step = record { core = a.core; ports = a.port ∷ []; runs = a.runs; sent = (is_idle.0, tt) }
 
   pub begins_step : (i : LinkInput) (es : List Entry) → BeginsStep n [] true [] (lone_work l (running a) i es)
   begins_step i es = record {
@@ -82,12 +88,23 @@ module _ {N : Type 0} {number : ℕ} {n : Node N} {l : Lone} (a : RunsAlone numb
       ap reset_refusal_at (found_there a.port a.host)
       ∙ ap (λ e. option_map reset_refused (reset_refusal e)) (sym same_side) ∙ ap (option_map reset_refused) q
 
+  pub may_start : MayStartAt 1 (port_at (a.port ∷ []) 2)
+  may_start = subst (MayStartAt 1) (sym (found_there a.port a.host)) (go a.port.side.role) where
+    go : (r : Role) → MayStart r (ActStart 1)
+    go Bare = tt
+    go (Clf s) = refl
+    go (Uicc s) = tt
+
+  pub may_step : (input : ToNode) → MayComeToNode input (a.port ∷ [])
+      → (core : Core) × (ports : List Port) × RunsAs n core ports × IsAllSent ports × MayComeToNode input ports
+  may_step input may = (a.core, a.port ∷ [], a.runs, (is_idle.0, tt), may)
+
 -- ## Its frames go out
 
-pub sends_first : {N : Type 0} {number : ℕ} {n new : Node N} (l : Lone) (frames : List Control) (a : RunsAlone number n l frames)
+pub sends_first : {N : Type 0} {n new : Node N} (l : Lone) (frames : List Control) (a : RunsAlone n l frames)
     (sent : Option (List ℕ)) → sent ≡ frame_at (port_at (a.port ∷ []) 2) → RunsAs new a.core (with_port 2 has_sent (a.port ∷ []))
-    → HasSentFirst (RunsAlone number new) l sent frames
-sends_first {N} {number} {n} {new} l frames a sent is runs = go frames a.due where
+    → HasSentFirst (RunsAlone new) l sent frames
+sends_first {N} {n} {new} l frames a sent is runs = go frames a.due where
   p : Port
   p = a.port
 
@@ -106,21 +123,20 @@ sends_first {N} {number} {n} {new} l frames a sent is runs = go frames a.due whe
   later : RunsAs new a.core (q ∷ [])
   later = subst (λ ps. RunsAs new a.core ps) there runs
 
-  behind : (fs : List Control) → frames_out q.side ≡ fs → sent_all q.side ≡ sent_all e → RunsAlone number new l fs
+  behind : (fs : List Control) → frames_out q.side ≡ fs → sent_all q.side ≡ sent_all e → RunsAlone new l fs
   behind fs due all = record {
     core = a.core;
     port = q;
     runs = later;
-    own = a.own;
     host = a.host;
     node_is = a.node_is;
-    number_is = a.number_is;
+    number_is = same_number l a.number_is a.runs later;
     link_is = a.link_is;
     side_is = a.side_is ∙ sym all;
     due = due;
   }
 
-  go : (fs : List Control) → frames_out e ≡ fs → HasSentFirst (RunsAlone number new) l sent fs
+  go : (fs : List Control) → frames_out e ≡ fs → HasSentFirst (RunsAlone new) l sent fs
   go [] due =
       let idle = none_goes e (all_one_by_one a.runs).0 due in
       let none : sent ≡ None = next ∙ ap (option_map lpdu_of) idle.0 in
@@ -131,29 +147,31 @@ sends_first {N} {number} {n} {new} l frames a sent is runs = go frames a.due whe
 
 -- ## A frame that is refused
 
-counts_refused : {N : Type 0} {number : ℕ} {n new : Node N} (writes : N → ℕ → List ℕ → Bool → N → Type 0)
-    (old_nv new_nv : N) (l : Lone) (fault : FrameFault) (a : RunsAlone number n l []) → RunsAs new a.core (with_port 2 one_more_error (a.port ∷ []))
-    → new_nv ≡ old_nv → StepsAlone writes old_nv new_nv (RunsAlone number new) false number (FrameIsRefused fault) l
-counts_refused {N} {number} {n} {new} writes old_nv new_nv l fault a runs same = record {
+-- no reset is asked for then
+refused_asks_none : (l : Lone) (fault : FrameFault) → asks_reset l (FrameIsRefused fault) ≡ false
+refused_asks_none l fault = and_right (l.number == 0 && is_some l.node) false refl
+
+counts_refused : {N : Type 0} {n new : Node N} (writes : N → ℕ → List ℕ → Bool → N → Type 0)
+    (old_nv new_nv : N) (l : Lone) (fault : FrameFault) (a : RunsAlone n l []) → RunsAs new a.core (with_port 2 one_more_error (a.port ∷ []))
+    → new_nv ≡ old_nv → StepsAlone writes old_nv new_nv new false (FrameIsRefused fault) l
+counts_refused {N} {n} {new} writes old_nv new_nv l fault a runs same = record {
   after = record l { node = Some (with_refusal l.link (running a)) };
   frames = [];
   few = omega arith;
-  number_is = a.number_is;
   stopped_is = refl;
   runs = λ live. record {
     core = a.core;
     port = p;
     runs = subst (λ ps. RunsAs new a.core ps) there runs;
-    own = a.own;
     host = a.host;
     node_is = ap (λ ds. Some (record { core = a.core; desks = ds })) desks;
-    number_is = a.number_is;
+    number_is = same_number l a.number_is a.runs runs;
     link_is = a.link_is;
     side_is = a.side_is;
     due = a.due;
   };
   none = λ q. refl;
-  ready = λ asks live. absurd (true≢false (sym asks ∙ never));
+  ready = λ asks live. absurd (true≢false (sym asks ∙ refused_asks_none l fault));
   sure = [];
   torn = [];
   made = (refl, (refl, same));
@@ -172,38 +190,44 @@ counts_refused {N} {number} {n} {new} writes old_nv new_nv l fault a runs same =
   desks =
       ap (λ k. with_error k (a.port.desk ∷ [])) a.link_is ∙ ap (λ k. changed_if (k == 2) more a.port.desk ∷ []) a.host
 
-  never : asks_reset l (FrameIsRefused fault) ≡ false
-  never = and_right (l.number == 0 && is_some l.node) false refl
-
   does_so : EndForm → Memory → Option Running → Lone × List ℕ
   does_so form m o =
       let x : Lone × List Entry = does_by_power (record l { memory = m }) (FrameIsRefused fault) o in
       (x.0, flat_map (entry_written form l.number) x.1)
 
+-- nothing is written for it
+pub answers_refused : {N : Type 0} {n new : Node N} (writes : N → ℕ → List ℕ → Bool → N → Type 0) (form : EndForm) {old_nv new_nv : N} (l : Lone)
+    (fault : FrameFault) (before : List ℕ) (a : RunsAlone n l []) → RunsAs new a.core (with_port 2 one_more_error (a.port ∷ [])) → new_nv ≡ old_nv
+    → HasAnswered writes old_nv new_nv (RunsReady new false false) (λ m. does_alone form (over l m) (FrameIsRefused fault)) before before
+unfolding counts_refused
+answers_refused {n = n} {new} writes form {old_nv} {new_nv} l fault before a runs same =
+    let s = counts_refused writes old_nv new_nv l fault a runs same in
+    stepped_ready writes form new new (FrameIsRefused fault) l s (sym (append-nil before)) s.runs (sym (refused_asks_none l fault))
+
 -- ## Its one end behind a step
 
 -- a node in a step whose one end is of the link with host 02
-record HasOne (number : ℕ) (w : Work) : Type 0 where
+record HasOne (w : Work) : Type 0 where
   port : Port
   ports_are : w.ports ≡ port ∷ []
   host : port.desk.host ≡ 2
-  own : w.core.node ≡ number
 
-has_one : (number : ℕ) (w : Work) → Keeps number (2 ∷ []) w → HasOne number w
-has_one number w k = go w.ports refl k.ends where
-  go : (ports : List Port) → w.ports ≡ ports → hosts_of_ends ports ≡ 2 ∷ [] → HasOne number w
+one_behind : (p : Port) (x : NodeInput) (w : Work) → w.ports ≡ p ∷ [] → p.desk.host ≡ 2 → HasOne (steps x w)
+one_behind p x w ports host = go v.ports refl (keeps x).ends where
+  v : Work
+  v = steps x w
+
+  first : Keeps w.core.node (2 ∷ []) w
+  first = record { number = refl; ends = ap hosts_of_ends ports ∙ ap (λ h. h ∷ []) host }
+
+  keeps : (x : NodeInput) → Keeps w.core.node (2 ∷ []) (steps x w)
+  keeps (AtEnd k i) = steps_keep w.core.node (2 ∷ []) k i w first
+  keeps TimePasses = tick_keeps w.core.node (2 ∷ []) w first
+
+  go : (ports : List Port) → v.ports ≡ ports → hosts_of_ends ports ≡ 2 ∷ [] → HasOne v
   go [] q ends = absurd (cc ends)
-  go (p ∷ []) q ends = record { port = p; ports_are = q; host = cc; own = k.number }
+  go (p ∷ []) q ends = record { port = p; ports_are = q; host = cc }
   go (p ∷ x ∷ ports) q ends = absurd (cc ends)
-
-keeps_ends : (number : ℕ) (x : NodeInput) (w : Work) → Keeps number (2 ∷ []) w → Keeps number (2 ∷ []) (steps x w)
-keeps_ends number (AtEnd k i) w a = steps_keep number (2 ∷ []) k i w a
-keeps_ends number TimePasses w a = tick_keeps number (2 ∷ []) w a
-
-one_behind : (number : ℕ) (p : Port) (x : NodeInput) (w : Work) → w.ports ≡ p ∷ [] → p.desk.host ≡ 2 → w.core.node ≡ number
-    → HasOne number (steps x w)
-one_behind number p x w ports host own =
-    has_one number (steps x w) (keeps_ends number x w (record { number = own; ends = ap hosts_of_ends ports ∙ ap (λ h. h ∷ []) host }))
 
 -- ## A step
 
@@ -242,229 +266,172 @@ never_active e = go (is_open e.role) where
   go true = refl
   go false = answer_quiet e.role
 
--- nor does a start of activation, or its end
-pub start_quiet : (r : Role) (value : ℕ) → (act_answer r (ActStart value)).became_active ≡ false
-start_quiet Bare value = refl
-start_quiet (Clf s) value = refl
-start_quiet (Uicc s) value = refl
+-- an end becomes active by this as a step says
+made_active : (i : LinkInput) (p : Port) → p.desk.host ≡ 2 → makes_active (node_input 2 i) (p ∷ []) ≡ (report p.side i).became_active
+made_active Tick p host = sym (never_active p.side)
+made_active (Take c) p host = ap (becomes_active_by (Take c)) (found_there p host)
+made_active TakeUnknown p host = ap (becomes_active_by TakeUnknown) (found_there p host)
+made_active (TakeBroken fault) p host = ap (becomes_active_by (TakeBroken fault)) (found_there p host)
+made_active (Reset window) p host = ap (becomes_active_by (Reset window)) (found_there p host)
+made_active (Start value) p host = ap (becomes_active_by (Start value)) (found_there p host)
+made_active Stop p host = ap (becomes_active_by Stop) (found_there p host)
+made_active (FromNode t) p host = ap (becomes_active_by (FromNode t)) (found_there p host)
+made_active Fetch p host = ap (becomes_active_by Fetch) (found_there p host)
 
-pub stop_quiet : (r : Role) → (act_answer r ActStop).became_active ≡ false
-stop_quiet Bare = refl
-stop_quiet (Clf s) = refl
-stop_quiet (Uicc s) = refl
-
-quiet_at : (i : LinkInput) → ((e : LinkEnd) → (report e i).became_active ≡ false) → (o : Option Port) → becomes_active_by i o ≡ false
-quiet_at i quiet None = refl
-quiet_at i quiet (Some p) = quiet p.side
-
--- no end becomes active by what comes, where this input never makes one so
-pub stays_inactive : {i : LinkInput} (x : Coming) (j : LinkInput) (o : Option Port) → lone_input (cause_of x) ≡ Some i → lone_input (cause_of x) ≡ Some j
-    → ((e : LinkEnd) → (report e j).became_active ≡ false) → false ≡ becomes_active_by i o
-stays_inactive {i} x j o comes is quiet =
-    let q : Some j ≡ Some i = sym is ∙ comes in
-    let same : j ≡ i = cc in
-    sym (ap (λ k. becomes_active_by k o) (sym same) ∙ quiet_at j quiet o)
-
--- an end becomes active by a frame as its step says
-pub active_by : {x : Coming} {lpdu : List ℕ} {i : LinkInput} {b : Bool} (k : ℕ) (ports : List Port) → x ≡ Frame lpdu → lone_input (cause_of x) ≡ Some i
-    → b ≡ becomes_active_by (lpdu_input lpdu) (port_at ports k) → b ≡ becomes_active_by i (port_at ports k)
-active_by {x} {lpdu} {i} k ports is comes says =
-    let q : Some (lpdu_input lpdu) ≡ Some i = ap (λ y. lone_input (cause_of y)) (sym is) ∙ comes in
-    let same : lpdu_input lpdu ≡ i = cc in
-    says ∙ ap (λ j. becomes_active_by j (port_at ports k)) same
-
--- what is known of a step at this end, where it becomes active by it: the end takes a reset behind the step
-abbrev pub IsReadyBehind : {N : Type 0} → Node N → LinkInput → Type 0
-IsReadyBehind n i =
-    (w : Work) (p : Port) → BeginsStep n [] true [] w → port_at w.ports 2 ≡ Some p → (report p.side i).became_active ≡ true
+-- The end that becomes active in a step takes a reset behind it.
+abbrev pub IsReadyBehind : {N : Type 0} → Node N → Type 0
+IsReadyBehind n =
+    (w : Work) (i : LinkInput) (p : Port) → BeginsStep n [] true [] w → port_at w.ports 2 ≡ Some p → (report p.side i).became_active ≡ true
     → (q : Port) × (port_at (steps (AtEnd 2 i) w).ports 2 ≡ Some q) × (reset_refusal (sent_all q.side) ≡ None)
 
--- so it is where this asks for a reset
-abbrev pub IsReadyMemory : {N : Type 0} → Node N → Lone → LoneCause → LinkInput → Type 0
-IsReadyMemory n l c i =
-    (w : Work) (p : Port) → BeginsStep n [] true [] w → port_at w.ports 2 ≡ Some p → p.side ≡ l.side → asks_reset l c ≡ true
+ready_by : {N : Type 0} {n : Node N} → IsReadyBehind n → (i : LinkInput) (w : Work) (p : Port) → BeginsStep n [] true [] w
+    → port_at w.ports 2 ≡ Some p → (report p.side i).became_active ≡ true
     → (q : Port) × (port_at (steps (node_input 2 i) w).ports 2 ≡ Some q) × (reset_refusal (sent_all q.side) ≡ None)
+ready_by law Tick w p b at became = absurd (true≢false (sym became ∙ never_active p.side))
+ready_by law (Take c) w p b at became = law w (Take c) p b at became
+ready_by law TakeUnknown w p b at became = law w TakeUnknown p b at became
+ready_by law (TakeBroken fault) w p b at became = law w (TakeBroken fault) p b at became
+ready_by law (Reset window) w p b at became = law w (Reset window) p b at became
+ready_by law (Start value) w p b at became = law w (Start value) p b at became
+ready_by law Stop w p b at became = law w Stop p b at became
+ready_by law (FromNode t) w p b at became = law w (FromNode t) p b at became
+ready_by law Fetch w p b at became = law w Fetch p b at became
 
-pub ready_by : {N : Type 0} {n : Node N} (l : Lone) (c : LoneCause) (i : LinkInput) → lone_input c ≡ Some i → IsReadyBehind n i → IsReadyMemory n l c i
-ready_by {n = n} l c i comes law w p b at same asks =
-    go i law (ap (λ e. (report e i).became_active) same ∙ became_by l c i comes asks)
+pub steps_alone : {N : Type 0} (writes : N → ℕ → List ℕ → Bool → N → Type 0) {n new : Node N} {l : Lone} {c : LoneCause} {input : ToNode}
+    (t : TakesAlone n l c input) {old_nv new_nv : N} (stopped : Bool) → new.number ≡ n.number → stopped ≡ not new.store.journal.live → IsReadyBehind n
+    → ((w : Work) → BeginsStep n [] true [] w → Brings writes old_nv new_nv (HasStepped new [] true []) (steps (input_of_node input)) w)
+    → StepsAlone writes old_nv new_nv new stopped c l
+steps_alone {N} writes {n} {new} {l} {c} {input} t {old_nv} {new_nv} stopped own stops law made =
+    steps_so writes new l (running a) c i (node_input 2 i) a.node_is t.comes (ap (λ k. node_input k i) (sym a.link_is)) b
+    few stopped (b.stands.power ∙ sym stops) runs ready
   where
-    Ready : LinkInput → Type 0
-    Ready i = (q : Port) × (port_at (steps (node_input 2 i) w).ports 2 ≡ Some q) × (reset_refusal (sent_all q.side) ≡ None)
+    a : RunsAlone n l []
+    a = t.alone
 
-    go : (i : LinkInput) → IsReadyBehind n i → (report p.side i).became_active ≡ true → Ready i
-    go Tick law became = absurd (true≢false (sym became ∙ never_active p.side))
-    go (Take c) law became = law w p b at became
-    go TakeUnknown law became = law w p b at became
-    go (TakeBroken fault) law became = law w p b at became
-    go (Reset window) law became = law w p b at became
-    go (Start value) law became = law w p b at became
-    go Stop law became = law w p b at became
-    go (FromNode t) law became = law w p b at became
-    go Fetch law became = law w p b at became
+    i : LinkInput
+    i = t.what
 
-module _ {N : Type 0} (writes : N → ℕ → List ℕ → Bool → N → Type 0) {number : ℕ} {n : Node N} {l : Lone}
-    (a : RunsAlone number n l []) where
-  pub has_stepped_alone : {new : Node N} {old_nv new_nv : N} (c : LoneCause) (i : LinkInput) → lone_input c ≡ Some i
-      → Brings writes old_nv new_nv (HasStepped new [] true []) (steps (node_input 2 i)) (lone_work l (running a) i (lone_arrival l c))
-      → (stopped : Bool) → stopped ≡ not new.store.journal.live
-      → IsReadyMemory n l c i → StepsAlone writes old_nv new_nv (RunsAlone number new) stopped number c l
-  has_stepped_alone {new} {old_nv} {new_nv} c i comes b stopped is takes_reset =
-      let Runs : Lone → List Control → Type 0 = RunsAlone number new in
-      subst (λ k. StepsAlone writes old_nv new_nv Runs stopped k c l) a.number_is
-      (steps_so writes Runs l (running a) c i (node_input 2 i) a.node_is comes (ap (λ k. node_input k i) (sym a.link_is)) b
-      few stopped (b.stands.power ∙ sym is) runs ready)
-    where
-      w : Work
-      w = lone_work l (running a) i (lone_arrival l c)
+    w : Work
+    w = lone_work l (running a) i (lone_arrival l c)
 
-      v : Work
-      v = b.after
+    b : Brings writes old_nv new_nv (HasStepped new [] true []) (steps (node_input 2 i)) w
+    b = subst (λ x. Brings writes old_nv new_nv (HasStepped new [] true []) (steps x) w) t.is (made w (begins_step a i (lone_arrival l c)))
 
-      -- under no plan it goes through
-      same_ports : v.cut ≡ false → (steps (node_input 2 i) (record w { plan = None })).ports ≡ v.ports
-      same_ports live =
-          ap (λ (x : Work). x.ports) (b.is None (subst (λ t. Foretells None b.sure b.torn t) (sym live) refl))
+    v : Work
+    v = b.after
 
-      same_core : v.cut ≡ false → (steps (node_input 2 i) (record w { plan = None })).core ≡ v.core
-      same_core live =
-          ap (λ (x : Work). x.core) (b.is None (subst (λ t. Foretells None b.sure b.torn t) (sym live) refl))
+    -- under no plan it goes through
+    same_ports : v.cut ≡ false → (steps (node_input 2 i) (record w { plan = None })).ports ≡ v.ports
+    same_ports live =
+        ap (λ (x : Work). x.ports) (b.is None (subst (λ t. Foretells None b.sure b.torn t) (sym live) refl))
 
-      one : v.cut ≡ false → HasOne number v
-      one live =
-          let h = one_behind number (lone_port l.side (session_with l i) a.port.desk) (node_input 2 i) (record w { plan = None }) refl a.host a.own in
-          record {
-            port = h.port;
-            ports_are = sym (same_ports live) ∙ h.ports_are;
-            host = h.host;
-            own = ap (λ (x : Core). x.node) (sym (same_core live)) ∙ h.own;
-          }
+    one : v.cut ≡ false → HasOne v
+    one live =
+        let h = one_behind (lone_port l.side (session_with l i) a.port.desk) (node_input 2 i) (record w { plan = None }) refl a.host in
+        record { port = h.port; ports_are = sym (same_ports live) ∙ h.ports_are; host = h.host }
 
-      side_at : (live : v.cut ≡ false) → side_behind l v ≡ (one live).port.side
-      side_at live = let h = one live in side_found l v h.port live h.ports_are h.host a.link_is
+    side_at : (live : v.cut ≡ false) → side_behind l v ≡ (one live).port.side
+    side_at live = let h = one live in side_found l v h.port live h.ports_are h.host a.link_is
 
-      runs_there : (live : v.cut ≡ false) → RunsAs new v.core ((one live).port ∷ [])
-      runs_there live = subst (λ ps. RunsAs new v.core ps) (one live).ports_are (b.stands.runs live)
+    runs_there : (live : v.cut ≡ false) → RunsAs new v.core ((one live).port ∷ [])
+    runs_there live = subst (λ ps. RunsAs new v.core ps) (one live).ports_are (b.stands.runs live)
 
-      few : length (frames_behind l v) ≤ 17
-      few = go v.cut refl where
-        go : (t : Bool) → v.cut ≡ t → length (frames_behind l v) ≤ 17
-        go true gone = subst (λ fs. length fs ≤ 17) (sym (gone_silent l v gone)) (omega arith)
-        go false live =
-            subst (λ e. length (frames_out e) ≤ 17) (sym (side_at live)) (few_out (one live).port.side (all_one_by_one (runs_there live)).0)
+    few : length (frames_behind l v) ≤ 17
+    few = go v.cut refl where
+      go : (t : Bool) → v.cut ≡ t → length (frames_behind l v) ≤ 17
+      go true gone = subst (λ fs. length fs ≤ 17) (sym (gone_silent l v gone)) (omega arith)
+      go false live =
+          subst (λ e. length (frames_out e) ≤ 17) (sym (side_at live)) (few_out (one live).port.side (all_one_by_one (runs_there live)).0)
 
-      runs : stopped ≡ false → RunsAlone number new (lone_behind_step l i v) (frames_behind l v)
-      runs on =
-          let live : v.cut ≡ false = b.stands.power ∙ (sym is ∙ on) in
-          let h = one live in
-          record {
-            core = v.core;
-            port = h.port;
-            runs = runs_there live;
-            own = h.own;
-            host = h.host;
-            node_is = runs_found v h.port live h.ports_are;
-            number_is = a.number_is;
-            link_is = a.link_is;
-            side_is = ap sent_all (side_at live);
-            due = ap frames_out (sym (side_at live));
-          }
+    runs : stopped ≡ false → RunsAlone new (lone_behind_step l i v) (frames_behind l v)
+    runs on =
+        let live : v.cut ≡ false = b.stands.power ∙ (sym stops ∙ on) in
+        let h = one live in
+        record {
+          core = v.core;
+          port = h.port;
+          runs = runs_there live;
+          host = h.host;
+          node_is = runs_found v h.port live h.ports_are;
+          number_is = a.number_is ∙ sym own;
+          link_is = a.link_is;
+          side_is = ap sent_all (side_at live);
+          due = ap frames_out (sym (side_at live));
+        }
 
-      ready : asks_reset l c ≡ true → stopped ≡ false → reset_refusal (lone_behind_step l i v).side ≡ None
-      ready asks on =
-          let live : v.cut ≡ false = b.stands.power ∙ (sym is ∙ on) in
-          let x : Work = record w { plan = None } in
-          let p : Port = lone_port l.side (session_with l i) a.port.desk in
-          let begun = begins_step a i (lone_arrival l c) in
-          let unplanned : BeginsStep n [] true [] x =
-          record { runs = begun.runs; sent = begun.sent; none_ended = begun.none_ended; power = refl; noted_are = begun.noted_are } in
-          let r = takes_reset x p unplanned (found_there p a.host) refl asks in
-          let found : port_at (steps (node_input 2 i) x).ports 2 ≡ Some (one live).port =
-          ap (λ ps. port_at ps 2) (same_ports live ∙ (one live).ports_are) ∙ found_there (one live).port (one live).host in
-          let same : r.0 ≡ (one live).port = (let q : Some r.0 ≡ Some (one live).port = sym r.1 ∙ found in cc) in
-          ap (λ e. reset_refusal (sent_all e)) (side_at live ∙ ap (λ (q : Port). q.side) (sym same)) ∙ r.2
+    ready : asks_reset l c ≡ true → stopped ≡ false → reset_refusal (lone_behind_step l i v).side ≡ None
+    ready asks on =
+        let live : v.cut ≡ false = b.stands.power ∙ (sym stops ∙ on) in
+        let x : Work = record w { plan = None } in
+        let p : Port = lone_port l.side (session_with l i) a.port.desk in
+        let begun = begins_step a i (lone_arrival l c) in
+        let unplanned : BeginsStep n [] true [] x =
+        record { runs = begun.runs; sent = begun.sent; none_ended = begun.none_ended; power = refl; noted_are = begun.noted_are } in
+        let r = ready_by law i x p unplanned (found_there p a.host) (became_by l c i t.comes asks) in
+        let found : port_at (steps (node_input 2 i) x).ports 2 ≡ Some (one live).port =
+        ap (λ ps. port_at ps 2) (same_ports live ∙ (one live).ports_are) ∙ found_there (one live).port (one live).host in
+        let same : r.0 ≡ (one live).port = (let q : Some r.0 ≡ Some (one live).port = sym r.1 ∙ found in cc) in
+        ap (λ e. reset_refusal (sent_all e)) (side_at live ∙ ap (λ (q : Port). q.side) (sym same)) ∙ r.2
 
-  -- what comes is a frame that is refused, or makes a step
-  pub comes_alone : {new : Node N} {old_nv new_nv : N} (c : LoneCause) (stopped : Bool)
-      → ((i : LinkInput) (w : Work) → lone_input c ≡ Some i → BeginsStep n [] true [] w
-      → Brings writes old_nv new_nv (HasStepped new [] true []) (steps (node_input 2 i)) w)
-      → ((i : LinkInput) → lone_input c ≡ Some i → stopped ≡ not new.store.journal.live)
-      → (lone_input c ≡ None → RunsAs new a.core (with_port 2 one_more_error (a.port ∷ [])) × (new_nv ≡ old_nv) × (stopped ≡ false))
-      → ((i : LinkInput) → lone_input c ≡ Some i → IsReadyMemory n l c i)
-      → StepsAlone writes old_nv new_nv (RunsAlone number new) stopped number c l
-  comes_alone {new} {old_nv} {new_nv} c stopped steps_so is refused ready = go (lone_input c) refl where
-    none : (c : LoneCause) → lone_input c ≡ None
-        → RunsAs new a.core (with_port 2 one_more_error (a.port ∷ [])) × (new_nv ≡ old_nv) × (stopped ≡ false)
-        → StepsAlone writes old_nv new_nv (RunsAlone number new) stopped number c l
-    none (FrameIsRefused fault) q k =
-        subst (λ s. StepsAlone writes old_nv new_nv (RunsAlone number new) s number (FrameIsRefused fault) l) (sym k.2)
-        (counts_refused writes old_nv new_nv l fault a k.0 k.1)
-    none (FrameComes bytes) q k = absurd (cc q)
-    none TickComes q k = absurd (cc q)
-    none (ResetComes window) q k = absurd (cc q)
-    none (StartComes value) q k = absurd (cc q)
-    none StopComes q k = absurd (cc q)
+-- it asks for a reset as its step says
+pub asks_so : {N : Type 0} {n : Node N} {l : Lone} {c : LoneCause} {input : ToNode} {active : Bool} (t : TakesAlone n l c input)
+    → ((w : Work) → BeginsStep n [] true [] w → active ≡ makes_active (input_of_node input) w.ports) → (n.number == 0 && active) ≡ asks_reset l c
+asks_so {n = n} {l} {c} {input} {active} t told = ap (λ b. n.number == 0 && b) is ∙ sym says where
+  a : RunsAlone n l []
+  a = t.alone
 
-    go : (o : Option LinkInput) → lone_input c ≡ o → StepsAlone writes old_nv new_nv (RunsAlone number new) stopped number c l
-    go None q = none c q (refused q)
-    go (Some i) q =
-        has_stepped_alone c i q (steps_so i (lone_work l (running a) i (lone_arrival l c)) q (begins_step a i (lone_arrival l c))) stopped (is i q) (ready i q)
+  f : LinkInput → Bool
+  f i = (report l.side i).became_active
 
--- a controller asks for a reset where its end becomes active
-pub asks_alone : {N : Type 0} {n : Node N} (l : Lone) → RunsAlone 0 n l [] → (c : LoneCause)
-    → asks_reset l c ≡ option_map_or (λ i. (report l.side i).became_active) (lone_input c) false
-asks_alone l a c = rw (a.number_is, a.node_is) refl
+  p : Port
+  p = lone_port l.side (session_with l t.what) a.port.desk
 
--- it asks so as its step says
-pub asks_so : {N : Type 0} {n : Node N} {b : Bool} (l : Lone) (a : RunsAlone 0 n l []) (c : LoneCause)
-    → ((i : LinkInput) (w : Work) → lone_input c ≡ Some i → BeginsStep n [] true [] w → b ≡ becomes_active_by i (port_at w.ports 2))
-    → (lone_input c ≡ None → b ≡ false) → b ≡ asks_reset l c
-asks_so {b = b} l a c active none = go (lone_input c) refl where
-  told : (o : Option LinkInput) → lone_input c ≡ o → option_map_or (λ i. (report l.side i).became_active) o false ≡ asks_reset l c
-  told o q = ap (λ o. option_map_or (λ i. (report l.side i).became_active) o false) (sym q) ∙ sym (asks_alone l a c)
+  is : active ≡ f t.what
+  is =
+      told (lone_work l (running a) t.what (lone_arrival l c)) (begins_step a t.what (lone_arrival l c))
+      ∙ (ap (λ x. makes_active x (p ∷ [])) t.is ∙ made_active t.what p a.host)
 
-  go : (o : Option LinkInput) → lone_input c ≡ o → b ≡ asks_reset l c
-  go None q = none q ∙ told None q
-  go (Some i) q =
-      active i (lone_work l (running a) i (lone_arrival l c)) q (begins_step a i (lone_arrival l c))
-      ∙ (ap (becomes_active_by i) (found_there (lone_port l.side (session_with l i) a.port.desk) a.host) ∙ told (Some i) q)
+  with_power : (b : Bool) → ((b && true) && f t.what) ≡ (b && f t.what)
+  with_power true = refl
+  with_power false = refl
 
--- a host asks for none
-pub asks_never : {N : Type 0} {n : Node N} (l : Lone) → RunsAlone 2 n l [] → (c : LoneCause) → asks_reset l c ≡ false
-asks_never l a c = rw a.number_is refl
+  says : asks_reset l c ≡ (n.number == 0 && f t.what)
+  says =
+      ap (λ o. l.number == 0 && is_some l.node && option_map_or f o false) t.comes
+      ∙ (ap (λ o. l.number == 0 && is_some o && f t.what) a.node_is
+      ∙ (ap (λ k. (k == 0 && true) && f t.what) a.number_is ∙ with_power (n.number == 0)))
 
 -- ## What comes as a frame
 
-pub frame_at_end : (bytes : List ℕ) → AtEnd 2 (lpdu_input bytes) ≡ node_input 2 (lpdu_input bytes)
-frame_at_end bytes = go (control_of bytes) refl where
-  go : (x : Result Control LpduFault) → control_of bytes ≡ x → AtEnd 2 (lpdu_input bytes) ≡ node_input 2 (lpdu_input bytes)
+pub frame_at_end : {x : Result Control LpduFault} (bytes : List ℕ) → x ≡ control_of bytes → AtEnd 2 (frame_said x) ≡ node_input 2 (lpdu_input bytes)
+frame_at_end {x} bytes is = ap (λ y. AtEnd 2 (frame_said y)) is ∙ go (control_of bytes) refl where
+  go : (x : Result Control LpduFault) → control_of bytes ≡ x → AtEnd 2 (frame_said (control_of bytes)) ≡ node_input 2 (lpdu_input bytes)
   go (Ok c) q = rw q refl
   go (Err fault) q = rw q refl
 
-pub frame_comes : {N : Type 0} {writes : N → ℕ → List ℕ → Bool → N → Type 0} {old new : N} {S : Work → Type 0} {w : Work} (k : ℕ) (x : Coming)
-    (lpdu : List ℕ) (i : LinkInput) → k ≡ 2 → x ≡ Frame lpdu → lone_input (cause_of x) ≡ Some i
-    → Brings writes old new S (steps (AtEnd k (lpdu_input lpdu))) w → Brings writes old new S (steps (node_input 2 i)) w
-frame_comes {N} {writes} {old} {new} {S} {w} k x lpdu i two is comes b =
-    let q : Some (lpdu_input lpdu) ≡ Some i = ap (λ y. lone_input (cause_of y)) (sym is) ∙ comes in
-    let same : lpdu_input lpdu ≡ i = cc in
-    subst (λ j. Brings writes old new S (steps (node_input 2 j)) w) same
-    (subst (λ y. Brings writes old new S (steps y) w) (ap (λ h. AtEnd h (lpdu_input lpdu)) two ∙ frame_at_end lpdu) b)
+-- ## What comes makes a step
 
--- the node's own number
-pub own_number : {N : Type 0} {number : ℕ} {n : Node N} {l : Lone} {frames : List Control} → RunsAlone number n l frames
-    → n.number ≡ number
-own_number a = sym a.runs.node ∙ a.own
+module _ {N : Type 0} {n : Node N} {l : Lone} (a : RunsAlone n l []) where
+  pub frame_taken : {input : ToNode} (lpdu : List ℕ) → input_of_node input ≡ node_input 2 (lpdu_input lpdu) → MayComeToNode input (a.port ∷ [])
+      → refusal_by input (a.port ∷ []) ≡ None → TakesAlone n l (FrameComes lpdu) input
+  frame_taken lpdu is may free = record { alone = a; what = lpdu_input lpdu; comes = refl; is = is; may = may; free = free }
 
--- a reset that isn't refused was made
-pub taken_reset : {N : Type 0} {n new : Node N} {writes : N → ℕ → List ℕ → Bool → N → Type 0} {old_nv new_nv : N} {l : Lone}
-    (a : RunsAlone 2 n l []) → reset_refusal l.side ≡ None → (result : Result (Unit {0}) ResetRefused)
-    → MatchResult result (λ done. reset_refusal_at (port_at (a.port ∷ []) n.number) ≡ None)
-    (λ why. reset_refusal_at (port_at (a.port ∷ []) n.number) ≡ Some why)
-    → OnOk result ((start : List Entry) (w : Work) → BeginsStep n [] true start w
-    → Brings writes old_nv new_nv (HasStepped new [] true start) (steps (AtEnd n.number (Reset None))) w)
-    → Brings writes old_nv new_nv (HasStepped new [] true []) (steps (AtEnd 2 (Reset None))) (lone_work l (running a) (Reset None) [])
-taken_reset {new = new} {writes} {old_nv} {new_nv} {l} a free (Ok done) refusal made =
-    subst (λ h. Brings writes old_nv new_nv (HasStepped new [] true []) (steps (AtEnd h (Reset None))) (lone_work l (running a) (Reset None) []))
-    (own_number a) (made [] (lone_work l (running a) (Reset None) []) (begins_step a (Reset None) []))
-taken_reset a free (Err why) refusal made =
-    absurd (let q : None ≡ Some why = sym (ap (λ h. reset_refusal_at (port_at (a.port ∷ []) h)) (own_number a) ∙ not_refused a free) ∙ refusal in cc q)
+  pub tick_taken : TakesAlone n l TickComes ToTick
+  tick_taken = record { alone = a; what = Tick; comes = refl; is = refl; may = tt; free = refl }
+
+  pub start_taken : TakesAlone n l (StartComes 1) (At 2 (comes.Start 1))
+  start_taken = record { alone = a; what = Start 1; comes = refl; is = refl; may = may_start a; free = refl }
+
+  pub stop_taken : TakesAlone n l StopComes (At 2 comes.Stop)
+  stop_taken = record { alone = a; what = Stop; comes = refl; is = refl; may = tt; free = refl }
+
+  -- a reset that isn't refused
+  pub reset_taken : reset_refusal l.side ≡ None → TakesAlone n l (ResetComes None) (At 2 (comes.Reset None))
+  reset_taken free = record { alone = a; what = Reset None; comes = refl; is = refl; may = tt; free = not_refused a free }
+
+-- how a step ran says whether the node has its power
+pub ran_alike : (live done : Bool) → ran_so live ≡ ran_so done → live ≡ done
+ran_alike true true q = refl
+ran_alike false false q = refl
+ran_alike true false q = absurd (cc q)
+ran_alike false true q = absurd (cc q)

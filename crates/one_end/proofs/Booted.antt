@@ -1,16 +1,15 @@
 -- A node that runs alone has booted.
-use Rattle.std.proofs.Common.{◌≡◌, ℕ, zero, suc, Bool, List, [], ◌∷◌, refl, sym, ap, ◌∙◌}
+use Rattle.std.proofs.Common.{◌≡◌, ℕ, Bool, true, false, cond, List, [], ◌∷◌, map, refl, sym, ap, ◌∙◌, subst}
 use Rattle.std.specs.Prelude.{Some, None}
+use Rattle.gate_admin.specs.View.{hosts_where}
 use Rattle.swp_base.specs.InMemory.{Memory}
-use Rattle.swp_base.specs.declared.control_frames.Control.{Control}
 use Rattle.link_laws.specs.machine.Machine.{new_link_end}
 use Rattle.node_machine.specs.Parts.{Core}
 use Rattle.node_machine.specs.Node.{new_desk}
 use Rattle.node_core.specs.declared.node.Node.{Node}
-use Rattle.node_core.specs.Booting.{found_in_memory}
-use Rattle.node_core.specs.Running.{RunsAs}
+use Rattle.node_core.specs.Booting.{found_in_memory, role_at, hosts_linked}
+use Rattle.node_core.specs.Running.{RunsAs, core_kept}
 use Rattle.node_ends.specs.Making.{new_port}
-use Rattle.swp_base.specs.declared.link_terms.Role.TheVariants.{Clf as ClfName, Uicc as UiccName}
 use Rattle.lone_laws.specs.alone.Lone.{Lone, role_alone}
 use Rattle.one_end.specs.Alone.{RunsAlone}
 use Rattle.one_end.specs.Standing.{HasBooted}
@@ -30,52 +29,59 @@ begun number core m = record {
 abbrev pub no_bytes : Memory
 no_bytes = record { content = []; plan = None; failing_read = None; faults = 0 }
 
-pub controller_begins : {N : Type 0} {n : Node N} {core : Core} (m : Memory) → RunsAs n core (new_port ClfName 2 ∷ []) → core.node ≡ 0
-    → RunsAlone 0 n (begun 0 core m) []
-controller_begins m runs own = record {
-  core = _;
-  port = new_port ClfName 2;
-  runs = runs;
-  own = own;
-  host = refl;
-  node_is = refl;
-  number_is = refl;
-  link_is = refl;
-  side_is = refl;
-  due = refl;
-}
+-- it has the one link with host 02
+linked : (is_clf : Bool) → hosts_linked (cond is_clf 0 2) 4 ≡ 2 ∷ []
+unfolding hosts_where
+linked true = refl
+linked false = refl
 
-pub host_begins : {N : Type 0} {n : Node N} {core : Core} (m : Memory) → RunsAs n core (new_port UiccName 2 ∷ []) → core.node ≡ 2
-    → RunsAlone 2 n (begun 2 core m) []
-host_begins m runs own = record {
-  core = _;
-  port = new_port UiccName 2;
-  runs = runs;
-  own = own;
-  host = refl;
-  node_is = refl;
-  number_is = refl;
-  link_is = refl;
-  side_is = refl;
-  due = refl;
-}
-
--- a node with the end of a CLF is the controller
-pub is_controller : {N : Type 0} {n : Node N} {core : Core} → RunsAs n core (new_port ClfName 2 ∷ []) → core.node ≡ 0
-is_controller {core = core} runs = go core.node refl where
-  go : (k : ℕ) → core.node ≡ k → core.node ≡ 0
-  go zero q = q
-  go (suc k) q = absurd (runs.order.roles.uicc (λ z. let none : suc k ≡ 0 = sym q ∙ z in cc none)).0
+-- the controller begins alone, and host 02
+pub boot_begins : {N : Type 0} {n : Node N} (is_clf : Bool) (number : ℕ) → number ≡ cond is_clf 0 2 → n.number ≡ number → (m : Memory)
+    → RunsAs n (core_kept n) (map (new_port (role_at number)) (hosts_linked number 4)) → RunsAlone n (begun n.number (core_kept n) m) []
+boot_begins {N} {n} is_clf number is own m runs =
+    let k : ℕ = cond is_clf 0 2 in
+    let there : RunsAs n (core_kept n) (new_port (role_at k) 2 ∷ []) =
+    subst (λ hosts. RunsAs n (core_kept n) (map (new_port (role_at k)) hosts)) (linked is_clf)
+    (subst (λ j. RunsAs n (core_kept n) (map (new_port (role_at j)) (hosts_linked j 4))) is runs) in
+    subst (λ j. RunsAlone n (begun j (core_kept n) m) []) (sym (own ∙ is)) (go is_clf (own ∙ is) there)
+  where
+    go : (is_clf : Bool) → n.number ≡ cond is_clf 0 2 → RunsAs n (core_kept n) (new_port (role_at (cond is_clf 0 2)) 2 ∷ [])
+        → RunsAlone n (begun (cond is_clf 0 2) (core_kept n) m) []
+    go true q r = record {
+      core = _;
+      port = new_port (role_at 0) 2;
+      runs = r;
+      host = refl;
+      node_is = refl;
+      number_is = sym q;
+      link_is = refl;
+      side_is = refl;
+      due = refl;
+    }
+    go false q r = record {
+      core = _;
+      port = new_port (role_at 2) 2;
+      runs = r;
+      host = refl;
+      node_is = refl;
+      number_is = sym q;
+      link_is = refl;
+      side_is = refl;
+      due = refl;
+    }
 
 -- it found this content
-pub has_booted : {N T : Type 0} (writes : N → ℕ → List ℕ → Bool → N → Type 0) (nv : T → N) (Runs : T → Lone → List Control → Type 0) (number : ℕ)
-    (content : List ℕ) (node : T) (core : Core) → core ≡ (found_in_memory number (2 ∷ []) content).core
-    → ((m : Memory) → Runs node (begun number core m) []) → HasBooted writes nv Runs number content (nv node) node
-has_booted writes nv Runs number content node core is runs = record {
-  after = begun number core no_bytes;
-  stands = (runs no_bytes, refl);
+pub boot_finds : {N : Type 0} {n : Node N} (writes : N → ℕ → List ℕ → Bool → N → Type 0) (is_clf : Bool) (number : ℕ) → number ≡ cond is_clf 0 2
+    → n.number ≡ number → (content : List ℕ) → RunsAs n (core_kept n) (map (new_port (role_at number)) (hosts_linked number 4))
+    → core_kept n ≡ (found_in_memory number (hosts_linked number 4) content).core → HasBooted writes content n.store.journal.nv n
+boot_finds {n = n} writes is_clf number is own content runs found = record {
+  after = begun n.number (core_kept n) no_bytes;
+  stands = boot_begins is_clf number is own no_bytes runs;
   sure = [];
   torn = [];
   made = (refl, (refl, refl));
-  is = λ m foretold. ap (λ c. (begun number c m, [])) (sym is);
+  is = λ m foretold.
+      ap (λ c. (begun n.number c m, []))
+      (sym (found ∙ (ap (λ hosts. (found_in_memory number hosts content).core) (ap (λ k. hosts_linked k 4) is ∙ linked is_clf)
+      ∙ ap (λ k. (found_in_memory k (2 ∷ []) content).core) (sym own))));
 }

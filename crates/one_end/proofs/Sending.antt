@@ -5,7 +5,12 @@ use Rattle.swp_base.specs.declared.control_frames.Control.{Control}
 use Rattle.swp_lpdu.specs.Controls.{lpdu_of}
 use Rattle.lone_laws.specs.alone.Lone.{Lone}
 use Rattle.lone_laws.specs.alone.Ends.{EndForm, frame_written}
-use Rattle.one_end.specs.Running.{frames_written, HasSentFirst}
+use Rattle.one_end.specs.Running.{frames_written}
+
+-- the first of these frames was fetched, where there is one: the others are to go out in this state
+abbrev pub HasSentFirst : (Lone → List Control → Type 0) → Lone → Option (List ℕ) → List Control → Type 0
+HasSentFirst Runs l sent [] = (sent ≡ None) × Runs l []
+HasSentFirst Runs l sent (c ∷ frames) = (sent ≡ Some (lpdu_of c)) × Runs l frames
 
 -- of these frames some went out and were written, and others are left, at most so many
 pub record HasSent (Runs : Lone → List Control → Type 0) (form : EndForm) (number i : ℕ) (before now : List ℕ) (l : Lone) (frames : List Control)

@@ -3,21 +3,22 @@ use Rattle.std.proofs.Common.{◌≡◌, ◌≤◌, ℕ, Bool, true, false, cond
 use Rattle.std.specs.Prelude.{Some, None, is_none, ◌==◌}
 use Rattle.std.specs.List.{AllByRecursion, flat_map}
 use Rattle.std.proofs.lemmas.Grind.{flat_map-append}
-use Rattle.swp_base.specs.declared.control_frames.Control.{Control}
 use Rattle.trace_model.specs.declared.entry.Entry.{Entry}
 use Rattle.journal_laws.specs.Planned.{after_planned}
 use Rattle.link_laws.specs.machine.Machine.{LinkInput, frames_out, new_link_end, reset_refusal}
 use Rattle.node_machine.specs.Parts.{Running, Port, Work}
 use Rattle.node_machine.specs.Node.{NodeInput, steps}
 use Rattle.node_machine.specs.world.World.{runs_on}
+use Rattle.node_core.specs.declared.node.Node.{Node}
 use Rattle.node_core.specs.Bringing.{Brings, Foretells, WereMade, plan_left}
 use Rattle.lone_laws.specs.alone.Lone.{Lone, LoneCause, lone_end, lone_input, node_input, lone_arrival, lone_work, frames_behind, emits_behind}
 use Rattle.lone_laws.specs.alone.Lone.{lone_behind_step, role_alone}
 use Rattle.lone_laws.specs.alone.Lone.LoneCause.{FrameComes, FrameIsRefused, TickComes, ResetComes, StartComes, StopComes}
 use Rattle.lone_laws.specs.alone.Ends.{EndForm, entry_written, asks_reset}
 use Rattle.lone_laws.proofs.answered.Lasting.{step_is}
-use Rattle.one_end.specs.Running.{does_alone, frames_written, StepsAlone}
-use Rattle.one_end.proofs.Answering.{over}
+use Rattle.one_end.specs.Alone.{RunsAlone}
+use Rattle.one_end.specs.Running.{does_alone, frames_written}
+use Rattle.one_end.proofs.Answering.{over, StepsAlone}
 use Rattle.lone_laws.proofs.alone.Unwritten.{IsUnwritten, steps_unwritten}
 use Rattle.one_end.proofs.Muting.{none_written, emits_written}
 
@@ -57,17 +58,16 @@ pub gone_silent : (l : Lone) (w : Work) → w.cut ≡ true → frames_behind l w
 gone_silent l w cut = rw cut (new_silent l.number)
 
 module _ {N : Type 0} (writes : N → ℕ → List ℕ → Bool → N → Type 0) where
-  pub steps_so : {old new : N} {S : Work → Type 0} (Runs : Lone → List Control → Type 0) (l : Lone) (n : Running) (c : LoneCause) (i : LinkInput)
+  pub steps_so : {old new : N} {S : Work → Type 0} (node : Node N) (l : Lone) (n : Running) (c : LoneCause) (i : LinkInput)
       (x : NodeInput) → l.node ≡ Some n → lone_input c ≡ Some i → x ≡ node_input l.link i
       → (b : Brings writes old new S (steps x) (lone_work l n i (lone_arrival l c))) → length (frames_behind l b.after) ≤ 17
-      → (stopped : Bool) → b.after.cut ≡ stopped → (stopped ≡ false → Runs (lone_behind_step l i b.after) (frames_behind l b.after))
+      → (stopped : Bool) → b.after.cut ≡ stopped → (stopped ≡ false → RunsAlone node (lone_behind_step l i b.after) (frames_behind l b.after))
       → (asks_reset l c ≡ true → stopped ≡ false → reset_refusal (lone_behind_step l i b.after).side ≡ None)
-      → StepsAlone writes old new Runs stopped l.number c l
-  steps_so {old} {new} Runs l n c i x is_on comes x_is b few stopped cut later ready = record {
+      → StepsAlone writes old new node stopped c l
+  steps_so {old} {new} node l n c i x is_on comes x_is b few stopped cut later ready = record {
     after = lone_behind_step l i b.after;
     frames = frames_behind l b.after;
     few = few;
-    number_is = refl;
     stopped_is = sym cut ∙ runs_none b.after;
     runs = later;
     none = λ gone. gone_silent l b.after (cut ∙ gone);

@@ -1,5 +1,5 @@
 -- What a node alone does with what comes to it, and what it writes, while it doesn't know which write to its memory fails.
-use Rattle.std.specs.Prelude.{◌≡◌, ℕ, ◌≤◌, Bool, true, false, if◌then◌else◌, List, [], ◌∷◌, ◌++◌, length, is_none, Option, Some, None}
+use Rattle.std.specs.Prelude.{◌≡◌, ℕ, Bool, true, false, if◌then◌else◌, List, [], ◌∷◌, ◌++◌, is_none, None}
 use Rattle.std.specs.List.{flat_map}
 use Rattle.swp_base.specs.InMemory.{Memory}
 use Rattle.swp_base.specs.declared.control_frames.Control.{Control}
@@ -11,8 +11,10 @@ use Rattle.node_core.specs.Bringing.{WereMade, Foretells}
 use Rattle.lone_laws.specs.alone.Lone.{Lone, LoneCause, lone_step}
 use Rattle.lone_laws.specs.alone.Lone.LoneCause.{FrameComes, FrameIsRefused, TickComes, ResetComes, StartComes, StopComes}
 use Rattle.lone_laws.specs.alone.Ends.{EndForm, entry_written, frame_written, asks_reset}
-use Rattle.one_end.specs.declared.node.Coming.{Coming}
-use Rattle.one_end.specs.declared.node.Coming.TheVariants as coming
+use Rattle.node_core.specs.declared.node.Node.{Node}
+use Rattle.one_end.specs.Alone.{RunsAlone}
+use Rattle.one_end.specs.declared.coming.Coming.{Coming}
+use Rattle.one_end.specs.declared.coming.Coming.TheVariants as coming
 
 -- what comes
 abbrev pub cause_of : Coming → LoneCause
@@ -56,13 +58,13 @@ pub record BringsAlone {N : Type 0} (writes : N → ℕ → List ℕ → Bool �
   pub is : (m : Memory) → Foretells m.plan sure torn (is_none after.node)
       → f m ≡ (record after { memory = after_planned (sure ++ torn) m }, given)
 
--- the node stands so behind what it did, or has lost its power
-abbrev pub RunsYet : (Lone → List Control → Type 0) → Bool → Lone → Type 0
-RunsYet Runs stopped l = (stopped ≡ is_none l.node) × (stopped ≡ false → Runs l [])
+-- the node runs on behind what it did, or has lost its power
+abbrev pub RunsYet : {N : Type 0} → Node N → Bool → Lone → Type 0
+RunsYet n stopped l = (stopped ≡ is_none l.node) × (stopped ≡ false → RunsAlone n l [])
 
--- so it stands, and where it asks for a reset and has its power, its end takes one
-abbrev pub RunsReady : (Lone → List Control → Type 0) → Bool → Bool → Lone → Type 0
-RunsReady Runs stopped asks l = RunsYet Runs stopped l × (asks ≡ true → stopped ≡ false → reset_refusal l.side ≡ None)
+-- so it is, and where it asks for a reset and has its power, its end takes one
+abbrev pub RunsReady : {N : Type 0} → Node N → Bool → Bool → Lone → Type 0
+RunsReady n stopped asks l = RunsYet n stopped l × (asks ≡ true → stopped ≡ false → reset_refusal l.side ≡ None)
 
 -- So a node did, and what it wrote was appended.
 pub record HasAnswered {N : Type 0} (writes : N → ℕ → List ℕ → Bool → N → Type 0) (old new : N) (Stands : Lone → Type 0)
@@ -70,26 +72,3 @@ pub record HasAnswered {N : Type 0} (writes : N → ℕ → List ℕ → Bool �
   pub given : List ℕ
   pub appended : now ≡ before ++ given
   pub brings : BringsAlone writes old new Stands f given
-
--- the first of these frames was fetched, where there is one: the others are to go out in this state
-abbrev pub HasSentFirst : (Lone → List Control → Type 0) → Lone → Option (List ℕ) → List Control → Type 0
-HasSentFirst Runs l sent [] = (sent ≡ None) × Runs l []
-HasSentFirst Runs l sent (c ∷ frames) = (sent ≡ Some (lpdu_of c)) × Runs l frames
-
--- A node made a step: so says the definition for each plan that foretells what became of its writes. These frames are to go out then. Where
--- the step asks for a reset, the end takes one behind it.
-pub record StepsAlone {N : Type 0} (writes : N → ℕ → List ℕ → Bool → N → Type 0) (old new : N) (Runs : Lone → List Control → Type 0)
-    (stopped : Bool) (number : ℕ) (cause : LoneCause) (l : Lone) : Type 0 where
-  pub after : Lone
-  pub frames : List Control
-  pub few : length frames ≤ 17
-  pub number_is : l.number ≡ number
-  pub stopped_is : stopped ≡ is_none after.node
-  pub runs : stopped ≡ false → Runs after frames
-  pub none : stopped ≡ true → frames ≡ []
-  pub ready : asks_reset l cause ≡ true → stopped ≡ false → reset_refusal after.side ≡ None
-  pub sure : List Write
-  pub torn : List Write
-  pub made : WereMade writes sure torn old stopped new
-  pub is : (form : EndForm) (m : Memory) → Foretells m.plan sure torn stopped
-      → does_alone form (record l { memory = m }) cause ≡ (record after { memory = after_planned (sure ++ torn) m }, frames_written form number frames)

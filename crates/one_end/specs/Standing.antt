@@ -1,7 +1,6 @@
 -- A node alone, for which states of its machine it stands, and for which bytes.
-use Rattle.std.specs.Prelude.{◌≡◌, ℕ, ◌==◌, Bool, false, if◌then◌else◌, List, [], ◌∷◌, ◌++◌, reverse, is_none, Option, None, Some}
+use Rattle.std.specs.Prelude.{◌≡◌, ℕ, Bool, false, if◌then◌else◌, List, [], ◌∷◌, ◌++◌, reverse, is_none, Option, None, Some}
 use Rattle.swp_base.specs.InMemory.{Memory}
-use Rattle.swp_base.specs.declared.control_frames.Control.{Control}
 use Rattle.journal_laws.specs.Writes.{Write}
 use Rattle.journal_laws.specs.Planned.{after_planned}
 use Rattle.nv_journal.specs.declared.JournalFault.{JournalFault}
@@ -10,21 +9,29 @@ use Rattle.node_core.specs.Booting.{found_in_memory, IsStartRefused}
 use Rattle.node_core.specs.Bringing.{WereMade, Foretells}
 use Rattle.lone_laws.specs.alone.Lone.{Lone, LoneCause, role_alone, lone_after}
 use Rattle.lone_laws.specs.alone.Ends.{EndForm, first_comes, bytes_bring, end_causes, end_written}
+use Rattle.node_core.specs.declared.node.Node.{Node}
+use Rattle.one_end.specs.Alone.{RunsAlone}
 use Rattle.one_end.specs.declared.one_end.OneEnd.{OneEnd}
 use Rattle.one_end.specs.Reading.{form_read, ReaderStandsFor}
-use Rattle.one_end.specs.Running.{all_answered, BringsAlone}
+use Rattle.one_end.specs.Running.{all_answered, BringsAlone, HasAnswered}
 use Rattle.one_end.specs.Writing.{form_named}
 
 -- it has its power and is in this state, all its frames out, and these bytes came to it, the newest first
-pub record StandsAlone {T : Type 0} (Runs : T → Lone → List Control → Type 0) (number : ℕ) (e : OneEnd T) (l : Lone) (older : List ℕ) : Type 0 where
-  pub runs : Runs e.node l []
-  pub role : (number == 0) ≡ e.is_clf
+pub record StandsAlone {N : Type 0} (e : OneEnd N) (l : Lone) (older : List ℕ) : Type 0 where
+  pub runs : RunsAlone e.node l []
   pub form_is : form_read e.reader ≡ form_named e.form
-  pub reads : ReaderStandsFor e.reader number older
+  pub reads : ReaderStandsFor e.reader e.node.number older
 
 -- it stands so, or has lost its power
-abbrev pub IsAlone : {T : Type 0} → (T → Lone → List Control → Type 0) → ℕ → OneEnd T → List ℕ → Bool → Lone → Type 0
-IsAlone Runs number e older stopped l = (stopped ≡ is_none l.node) × (stopped ≡ false → StandsAlone Runs number e l older)
+abbrev pub IsAlone : {N : Type 0} → OneEnd N → List ℕ → Bool → Lone → Type 0
+IsAlone e older stopped l = (stopped ≡ is_none l.node) × (stopped ≡ false → StandsAlone e l older)
+
+-- These bytes came to the one end, which is the other then, and what it wrote was appended.
+abbrev pub HasHeard : {N : Type 0} → (N → ℕ → List ℕ → Bool → N → Type 0) → OneEnd N → OneEnd N → Bool → List ℕ → List ℕ → List ℕ → Type 0
+HasHeard writes d e stopped bytes before now =
+    (l : Lone) (older : List ℕ) → StandsAlone d l older
+    → HasAnswered writes d.node.store.journal.nv e.node.store.journal.nv (IsAlone e (reverse bytes ++ older) stopped)
+    (λ m. all_answered (form_named d.form) (record l { memory = m }) (bytes_bring (form_named d.form) d.node.number older bytes)) before now
 
 -- A node that found this content as it booted, the controller or host 02 by its number, with the link between them. It runs over this
 -- memory, into which its boot has written what it writes. A memory of version 01 was written anew then, with its tables and its count.
@@ -54,16 +61,15 @@ IsNotBooted reads writes faults tells content old new None = new ≡ old
 IsNotBooted reads writes faults tells content old new (Some f) = IsStartRefused reads writes faults tells content old new f
 
 -- A node found this content as it booted, and has its power: the first memory here is that behind the boot.
-abbrev pub HasBooted : {N T : Type 0} → (N → ℕ → List ℕ → Bool → N → Type 0) → (T → N) → (T → Lone → List Control → Type 0) → ℕ → List ℕ → N → T → Type 0
-HasBooted writes nv Runs number content first node =
-    BringsAlone writes first (nv node) (λ l. Runs node l [] × (is_none l.node ≡ false)) (λ m. (booted_from number content m, [])) []
+abbrev pub HasBooted : {N : Type 0} → (N → ℕ → List ℕ → Bool → N → Type 0) → List ℕ → N → Node N → Type 0
+HasBooted writes content first n =
+    BringsAlone writes first n.store.journal.nv (λ l. RunsAlone n l []) (λ m. (booted_from n.number content m, [])) []
 
 -- A node found this content as it booted, over the first memory here, and these bytes came to it: so it wrote, and so it stands.
-abbrev pub HasRun : {N T : Type 0} → (N → ℕ → List ℕ → Bool → N → Type 0) → (T → N) → (T → Lone → List Control → Type 0) → ℕ → List ℕ → N → OneEnd T
-    → Bool → List ℕ → List ℕ → Type 0
-HasRun writes nv Runs number content first e stopped bytes written =
-    BringsAlone writes first (nv e.node) (IsAlone Runs number e (reverse bytes) stopped)
-    (λ m. all_answered (form_named e.form) (booted_from number content m) (run_brings (form_named e.form) number bytes)) written
+abbrev pub HasRun : {N : Type 0} → (N → ℕ → List ℕ → Bool → N → Type 0) → List ℕ → N → OneEnd N → Bool → List ℕ → List ℕ → Type 0
+HasRun writes content first e stopped bytes written =
+    BringsAlone writes first e.node.store.journal.nv (IsAlone e (reverse bytes) stopped)
+    (λ m. all_answered (form_named e.form) (booted_from e.node.number content m) (run_brings (form_named e.form) e.node.number bytes)) written
 
 -- A run over these bytes of a node whose boot found this content brought the memory from the first to the new one, and wrote this: so says
 -- the definition of a whole run for each memory whose plan foretells what became of the writes.

@@ -3,19 +3,17 @@
 #![tactic(auto)]
 
 mod booting;
+mod coming;
 pub mod laws;
 mod line;
-mod node;
-mod nodes;
 mod one_end;
 mod reading;
 mod stepping;
 mod writing;
 
-pub use booting::{NotBooted, boot_controller, boot_host};
+pub use booting::{NotBooted, boot};
 pub use line::LineReader;
-pub use node::{Came, Coming, LoneNode};
-pub use nodes::{LoneController, LoneHost};
+pub use node_core::RunningNode;
 pub use one_end::{Heard, OneEnd, begin, hear, memory_of};
 pub use reading::{Brought, Reader, Stretch};
 pub use writing::{Form, Output, ROOM, write_out};

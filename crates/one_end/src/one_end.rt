@@ -1,96 +1,51 @@
 //! A node alone at the end of a link.
-ghost use Rattle.std.specs.Prelude.{◌≡◌, ◌==◌, ◌++◌, ◌+◌, ◌≤◌, ◌<◌, [], List, ℕ, length, map, reverse, take, false, IsTrue};
+ghost use Rattle.std.specs.Prelude.{◌≡◌, ◌++◌, ◌+◌, ◌≤◌, ◌<◌, [], List, ℕ, length, take, false, IsTrue};
 ghost use Rattle.swp_base.specs.DataUnits.{IsLpdu};
 ghost use Rattle.swp_base.specs.Outside.{Rose};
 ghost use Rattle.lone_laws.specs.alone.Lone.{Lone};
-ghost use Rattle.lone_laws.specs.alone.Ends.{bytes_bring, first_comes};
-ghost use Rattle.one_end.specs.Reading.{causes_brought};
-ghost use Rattle.one_end.specs.Running.{cause_of, all_answered, HasAnswered};
-ghost use Rattle.one_end.specs.Standing.{StandsAlone, IsAlone, HasBooted, HasRun};
+ghost use Rattle.lone_laws.specs.alone.Ends.{first_comes};
+ghost use Rattle.one_end.specs.Alone.{RunsAlone};
+ghost use Rattle.one_end.specs.Running.{all_answered, HasAnswered};
+ghost use Rattle.one_end.specs.Standing.{StandsAlone, IsAlone, HasBooted, HasRun, HasHeard};
 ghost use Rattle.one_end.specs.Writing.{form_named};
 
-use crate::node::{Coming, LoneNode};
-use crate::reading::{Brought, Reader, Stretch};
+use crate::coming::{Coming, comings_of, first_comings};
+use crate::reading::{Reader, Stretch};
 use crate::stepping::{answer, answer_all};
 use crate::writing::{Form, Output, ROOM};
-use arrayvec::ArrayVec;
+use node_core::RunningNode;
 use swp_base::{Lpdu, Nv};
-use swp_frame::Fed;
 
 /// A node alone at the end of a link whose other end is live: it has its power.
 #[derive(Drop)]
-pub struct OneEnd<T> {
+pub struct OneEnd<N: Nv + Drop> {
     pub(crate) form: Form,
-    /// Whether it is the CLF's end.
-    pub(crate) is_clf: bool,
     pub(crate) reader: Reader,
-    pub(crate) node: T,
-}
-
-/// What a byte brings, one after another.
-fn comings_of(brought: Brought) -> ArrayVec<Coming, 4>
-    ensures causes { map cause_of result.items ≡ causes_brought brought }
-{
-    let Brought {
-        starts,
-        fed,
-        stops,
-        ticks,
-    } = brought;
-    let mut comings = ArrayVec::new();
-    if starts {
-        comings.push(Coming::Start);
-    }
-    match fed {
-        Fed::Nothing => {}
-        Fed::Frame(lpdu) => comings.push(Coming::Frame(lpdu)),
-        Fed::Refused(fault) => comings.push(Coming::Refused(fault)),
-    }
-    if stops {
-        comings.push(Coming::Stop);
-    }
-    if ticks {
-        comings.push(Coming::Tick);
-    }
-    comings
-}
-
-/// What comes first to the node: a UICC on a byte link is activated.
-fn first_comings(form: Form, is_clf: bool) -> ArrayVec<Coming, 4>
-    ensures causes { (number : ℕ) → (number == 0) ≡ is_clf → map cause_of result.items ≡ first_comes (form_named form) number }
-{
-    let mut comings = ArrayVec::new();
-    if form == Form::Bytes && !is_clf {
-        comings.push(Coming::Start);
-    }
-    comings
+    /// The controller is at the CLF's end, host 02 at the UICC's.
+    pub(crate) node: RunningNode<N>,
 }
 
 /// A node that has booted begins at the end of a link: what it writes before any byte comes is put out. Whether it has lost its power.
-pub fn begin<N: Nv, T: LoneNode<N>>(
-    node: T,
-    form: Form,
-    is_clf: bool,
-    out: &mut Output,
-) -> (OneEnd<T>, bool)
-    requires may { (l : Lone) × T.runs node l [] }
-    requires role { (T.number == 0) ≡ is_clf }
+pub fn begin<N: Nv + Drop>(node: RunningNode<N>, form: Form, out: &mut Output) -> (OneEnd<N>, bool)
+    requires may { (l : Lone) × RunsAlone node l [] }
     requires empty { out.old.items ≡ [] }
     ensures form { result.0.form ≡ form }
-    ensures may { result.1 ≡ false → (l : Lone) × (older : List ℕ) × StandsAlone T.runs T.number result.0 l older }
-    ensures run { (content : List ℕ) (first : N) → HasBooted N.writes T.nv T.runs T.number content first node
-        → HasRun N.writes T.nv T.runs T.number content first result.0 result.1 [] out.new.items }
-    ensures begun { (l : Lone) → T.runs node l [] → HasAnswered N.writes (T.nv node) (T.nv result.0.node) (IsAlone T.runs T.number result.0 [] result.1)
-        (λ m. all_answered (form_named form) (record l { memory = m }) (first_comes (form_named form) T.number)) out.old.items out.new.items }
-    ensures count { N.faults (T.nv node) ≤ N.faults (T.nv result.0.node) }
-    ensures rose { IsTrue result.1 → Rose (N.faults (T.nv node)) (N.faults (T.nv result.0.node)) }
+    ensures may { result.1 ≡ false → (l : Lone) × (older : List ℕ) × StandsAlone result.0 l older }
+    ensures run { (content : List ℕ) (first : N) → HasBooted N.writes content first node
+        → HasRun N.writes content first result.0 result.1 [] out.new.items }
+    ensures begun { (l : Lone) → RunsAlone node l []
+        → HasAnswered N.writes node.store.journal.nv result.0.node.store.journal.nv (IsAlone result.0 [] result.1)
+        (λ m. all_answered (form_named form) (record l { memory = m }) (first_comes (form_named form) node.number)) out.old.items out.new.items }
+    ensures count { N.faults node.store.journal.nv ≤ N.faults result.0.node.store.journal.nv }
+    ensures rose { IsTrue result.1 → Rose (N.faults node.store.journal.nv) (N.faults result.0.node.store.journal.nv) }
+    ensures number { result.0.node.number ≡ node.number }
 {
     let mut node = node;
+    let is_clf = node.number() == 0;
     let comings = first_comings(form, is_clf);
-    let stopped = answer_all(&mut node, form, is_clf, comings.as_slice(), out);
+    let stopped = answer_all(&mut node, form, comings.as_slice(), out);
     let end = OneEnd {
         form,
-        is_clf,
         reader: Reader::new(form, is_clf),
         node,
     };
@@ -108,42 +63,25 @@ pub struct Heard {
 
 /// The first of these bytes come on the link, at least one, up to the first one that brings something to the node, or all where none does.
 /// What the node writes for them is appended.
-pub fn hear<N: Nv, T: LoneNode<N>>(end: &mut OneEnd<T>, bytes: &[u8], out: &mut Output) -> Heard
-    requires may { (l : Lone) × (older : List ℕ) × StandsAlone T.runs T.number end.old l older }
+pub fn hear<N: Nv + Drop>(end: &mut OneEnd<N>, bytes: &[u8], out: &mut Output) -> Heard
+    requires may { (l : Lone) × (older : List ℕ) × StandsAlone end.old l older }
     requires some { 0 < length bytes.now }
     requires room { length out.old.items + ROOM ≤ 52224 }
     ensures form { end.new.form ≡ end.old.form }
     ensures some { 0 < result.count }
     ensures within { result.count ≤ length bytes.now }
-    ensures may { result.stopped ≡ false → (l : Lone) × (older : List ℕ) × StandsAlone T.runs T.number end.new l older }
+    ensures may { result.stopped ≡ false → (l : Lone) × (older : List ℕ) × StandsAlone end.new l older }
     ensures run { (content came written : List ℕ) (first : N)
-        → HasRun N.writes T.nv T.runs T.number content first end.old false came (written ++ out.old.items)
-        → HasRun N.writes T.nv T.runs T.number content first end.new result.stopped (came ++ take result.count bytes.now) (written ++ out.new.items) }
-    ensures count { N.faults (T.nv end.old.node) ≤ N.faults (T.nv end.new.node) }
-    ensures rose { IsTrue result.stopped → Rose (N.faults (T.nv end.old.node)) (N.faults (T.nv end.new.node)) }
-{
-    hear_stretch(end, bytes, out)
-}
-
-/// The first of these bytes come on the link.
-fn hear_stretch<N: Nv, T: LoneNode<N>>(end: &mut OneEnd<T>, bytes: &[u8], out: &mut Output) -> Heard
-    requires may { (l : Lone) × (older : List ℕ) × StandsAlone T.runs T.number end.old l older }
-    requires room { length out.old.items + ROOM ≤ 52224 }
-    ensures form { end.new.form ≡ end.old.form }
-    ensures some { 0 < length bytes.now → 0 < result.count }
-    ensures within { result.count ≤ length bytes.now }
-    ensures heard { (l : Lone) (older : List ℕ) → StandsAlone T.runs T.number end.old l older
-        → HasAnswered N.writes (T.nv end.old.node) (T.nv end.new.node)
-        (IsAlone T.runs T.number end.new (reverse (take result.count bytes.now) ++ older) result.stopped)
-        (λ m. all_answered (form_named end.old.form) (record l { memory = m })
-        (bytes_bring (form_named end.old.form) T.number older (take result.count bytes.now))) out.old.items out.new.items }
-    ensures count { N.faults (T.nv end.old.node) ≤ N.faults (T.nv end.new.node) }
-    ensures rose { IsTrue result.stopped → Rose (N.faults (T.nv end.old.node)) (N.faults (T.nv end.new.node)) }
+        → HasRun N.writes content first end.old false came (written ++ out.old.items)
+        → HasRun N.writes content first end.new result.stopped (came ++ take result.count bytes.now) (written ++ out.new.items) }
+    ensures count { N.faults end.old.node.store.journal.nv ≤ N.faults end.new.node.store.journal.nv }
+    ensures rose { IsTrue result.stopped → Rose (N.faults end.old.node.store.journal.nv) (N.faults end.new.node.store.journal.nv) }
+    ensures number { end.new.node.number ≡ end.old.node.number }
 {
     if let Some(lpdu) = end.reader.whole_frame(bytes) {
         let count = lpdu.len() + 4;
         let coming = Coming::Frame(lpdu_of(lpdu));
-        let stopped = answer(&mut end.node, end.form, end.is_clf, &coming, out);
+        let stopped = answer(&mut end.node, end.form, &coming, out);
         return Heard { count, stopped };
     }
     hear_in_parts(end, bytes, out)
@@ -151,23 +89,16 @@ fn hear_stretch<N: Nv, T: LoneNode<N>>(end: &mut OneEnd<T>, bytes: &[u8], out: &
 
 /// The same, byte by byte where one may bring something.
 #[inline(never)]
-fn hear_in_parts<N: Nv, T: LoneNode<N>>(
-    end: &mut OneEnd<T>,
-    bytes: &[u8],
-    out: &mut Output,
-) -> Heard
-    requires may { (l : Lone) × (older : List ℕ) × StandsAlone T.runs T.number end.old l older }
+fn hear_in_parts<N: Nv + Drop>(end: &mut OneEnd<N>, bytes: &[u8], out: &mut Output) -> Heard
+    requires may { (l : Lone) × (older : List ℕ) × StandsAlone end.old l older }
     requires room { length out.old.items + ROOM ≤ 52224 }
     ensures form { end.new.form ≡ end.old.form }
     ensures some { 0 < length bytes.now → 0 < result.count }
     ensures within { result.count ≤ length bytes.now }
-    ensures heard { (l : Lone) (older : List ℕ) → StandsAlone T.runs T.number end.old l older
-        → HasAnswered N.writes (T.nv end.old.node) (T.nv end.new.node)
-        (IsAlone T.runs T.number end.new (reverse (take result.count bytes.now) ++ older) result.stopped)
-        (λ m. all_answered (form_named end.old.form) (record l { memory = m })
-        (bytes_bring (form_named end.old.form) T.number older (take result.count bytes.now))) out.old.items out.new.items }
-    ensures count { N.faults (T.nv end.old.node) ≤ N.faults (T.nv end.new.node) }
-    ensures rose { IsTrue result.stopped → Rose (N.faults (T.nv end.old.node)) (N.faults (T.nv end.new.node)) }
+    ensures heard { HasHeard N.writes end.old end.new result.stopped (take result.count bytes.now) out.old.items out.new.items }
+    ensures count { N.faults end.old.node.store.journal.nv ≤ N.faults end.new.node.store.journal.nv }
+    ensures rose { IsTrue result.stopped → Rose (N.faults end.old.node.store.journal.nv) (N.faults end.new.node.store.journal.nv) }
+    ensures number { end.new.node.number ≡ end.old.node.number }
 {
     let Stretch { count, brought } = end.reader.hear_stretch(bytes);
     if brought.is_nothing() {
@@ -177,7 +108,7 @@ fn hear_in_parts<N: Nv, T: LoneNode<N>>(
         };
     }
     let comings = comings_of(brought);
-    let stopped = answer_all(&mut end.node, end.form, end.is_clf, comings.as_slice(), out);
+    let stopped = answer_all(&mut end.node, end.form, comings.as_slice(), out);
     Heard { count, stopped }
 }
 
@@ -194,8 +125,8 @@ fn lpdu_of(bytes: &[u8]) -> Lpdu
 }
 
 /// The memory of a node that has run.
-pub fn memory_of<N: Nv, T: LoneNode<N>>(end: OneEnd<T>) -> N
-    ensures { result ≡ T.nv end.node }
+pub fn memory_of<N: Nv + Drop>(end: OneEnd<N>) -> N
+    ensures { result ≡ end.node.store.journal.nv }
 {
     end.node.into_nv()
 }

@@ -1,40 +1,80 @@
 //! A node alone does what comes to it.
-ghost use Rattle.std.specs.Prelude.{◌≡◌, ◌==◌, ◌≤◌, ◌+◌, ◌*◌, ◌++◌, [], List, ℕ, length, map, None, IsTrue};
+ghost use Rattle.std.specs.Prelude.{◌≡◌, ◌≤◌, ◌+◌, ◌*◌, ◌&&◌, ◌++◌, [], List, length, map, IsTrue};
 ghost use Rattle.swp_base.specs.Outside.{Rose};
 ghost use Rattle.swp_base.specs.declared.control_frames.Control.{Control};
-ghost use Rattle.link_laws.specs.machine.Machine.{reset_refusal};
-ghost use Rattle.lone_laws.specs.alone.Lone.{Lone};
-ghost use Rattle.lone_laws.specs.alone.Lone.LoneCause.{ResetComes};
-ghost use Rattle.one_end.specs.Writing.{form_named};
+ghost use Rattle.lone_laws.specs.alone.Lone.{Lone, LoneCause};
 ghost use Rattle.lone_laws.specs.alone.Ends.{asks_reset};
+ghost use Rattle.one_end.specs.Alone.{RunsAlone, TakesAlone};
 ghost use Rattle.one_end.specs.Running.{frames_written, cause_of, does_alone, answers_alone, all_answered, RunsYet, RunsReady, HasAnswered};
+ghost use Rattle.one_end.specs.Writing.{form_named};
 
-use crate::node::{Came, Coming, LoneNode};
+use crate::coming::Coming;
 use crate::writing::{Form, Output, write_out};
+use node_core::{NodeInput, RunningNode, a_reset_of_an_end_that_became_active_is_not_refused};
+use node_ends::LinkInput;
 use swp_base::Nv;
+use swp_lpdu::read_lpdu;
+use trace_model::{Entry, Watch};
+
+/// The host of the one link.
+const HOST: u8 = 2;
+
+/// With what activation begins: full power of a CLF, the identifier of a UICC.
+const START: u16 = 1;
 
 /// The most frames of a step.
 const MOST_FRAMES: u8 = 17;
 
-/// Appends the frames that are to go out, in their order.
-pub(crate) fn send_out<N: Nv, T: LoneNode<N>>(
-    node: &mut T,
-    form: Form,
-    is_clf: bool,
-    out: &mut Output,
-)
-    requires may { (l : Lone) × (frames : List Control) × T.runs node.old l frames × (length frames ≤ 17) }
-    requires role { (T.number == 0) ≡ is_clf }
-    requires room { length out.old.items + 17 * 323 ≤ 52224 }
-    ensures sent { (l : Lone) (frames : List Control) → T.runs node.old l frames → length frames ≤ 17 → T.runs node.new l [] }
-    ensures written { (l : Lone) (frames : List Control) → T.runs node.old l frames → length frames ≤ 17
-        → out.new.items ≡ out.old.items ++ frames_written (form_named form) T.number frames }
-    ensures sized { length out.new.items ≤ length out.old.items + 17 * 323 }
-    ensures nv { T.nv node.new ≡ T.nv node.old }
+/// Keeps nothing of what a node notes.
+#[derive(Drop)]
+struct Unwatched;
+
+impl Watch for Unwatched {
+    ghost use Rattle.std.specs.Prelude.{[], true};
+
+    ghost noted = { λ _. [] };
+
+    ghost is_short = { λ _. true };
+
+    fn note(&mut self, _entry: &Entry, _body: &[u8]) {}
+
+    fn short(&self) -> bool {
+        true
+    }
+}
+
+/// What became of a node by what came.
+#[derive(Clone, Copy)]
+struct Came {
+    /// A write to its memory failed: the node has lost its power.
+    stopped: bool,
+    /// It asks for a reset of its link: it is a CLF that became active.
+    asks_reset: bool,
+}
+
+/// A CLF asks for a reset where it becomes active.
+#[inline(always)]
+fn asks_for_reset(is_clf: bool, became_active: bool) -> bool
+    ensures { result ≡ (is_clf && became_active) }
 {
+    is_clf && became_active
+}
+
+/// Appends the frames that are to go out, in their order.
+fn send_out<N: Nv + Drop>(node: &mut RunningNode<N>, form: Form, out: &mut Output)
+    requires may { (l : Lone) × (frames : List Control) × RunsAlone node.old l frames × (length frames ≤ 17) }
+    requires room { length out.old.items + 17 * 323 ≤ 52224 }
+    ensures sent { (l : Lone) (frames : List Control) → RunsAlone node.old l frames → length frames ≤ 17 → RunsAlone node.new l [] }
+    ensures written { (l : Lone) (frames : List Control) → RunsAlone node.old l frames → length frames ≤ 17
+        → out.new.items ≡ out.old.items ++ frames_written (form_named form) node.old.number frames }
+    ensures sized { length out.new.items ≤ length out.old.items + 17 * 323 }
+    ensures store { node.new.store ≡ node.old.store }
+    ensures number { node.new.number ≡ node.old.number }
+{
+    let is_clf = node.number() == 0;
     for _ in 0..MOST_FRAMES {
         // A frame is long to move, so it is written from where it lies.
-        let next = node.next_out();
+        let next = node.next_out(HOST);
         let Some(lpdu) = &next else {
             return;
         };
@@ -42,99 +82,135 @@ pub(crate) fn send_out<N: Nv, T: LoneNode<N>>(
     }
 }
 
-/// This comes to the node, and what it writes then is appended.
-fn step<N: Nv, T: LoneNode<N>>(
-    node: &mut T,
+/// The node makes a step, and what it writes then is appended.
+fn step<N: Nv + Drop>(
+    node: &mut RunningNode<N>,
     form: Form,
-    is_clf: bool,
-    coming: &Coming,
+    input: NodeInput<'_>,
     out: &mut Output,
 ) -> Came
-    requires may { (l : Lone) × T.runs node.old l [] }
-    requires role { (T.number == 0) ≡ is_clf }
+    requires may { (l : Lone) × (c : LoneCause) × TakesAlone node.old l c input }
     requires room { length out.old.items + 17 * 323 ≤ 52224 }
-    ensures done { (l : Lone) → T.runs node.old l [] → HasAnswered N.writes (T.nv node.old) (T.nv node.new)
-        (RunsReady (T.runs node.new) result.stopped result.asks_reset)
-        (λ m. does_alone (form_named form) (record l { memory = m }) (cause_of coming.now)) out.old.items out.new.items }
-    ensures asks { (l : Lone) → T.runs node.old l [] → result.asks_reset ≡ asks_reset l (cause_of coming.now) }
+    ensures done { (l : Lone) (c : LoneCause) → TakesAlone node.old l c input.entry
+        → HasAnswered N.writes node.old.store.journal.nv node.new.store.journal.nv (RunsReady node.new result.stopped result.asks_reset)
+        (λ m. does_alone (form_named form) (record l { memory = m }) c) out.old.items out.new.items }
+    ensures asks { (l : Lone) (c : LoneCause) → TakesAlone node.old l c input.entry → result.asks_reset ≡ asks_reset l c }
     ensures sized { length out.new.items ≤ length out.old.items + 17 * 323 }
-    ensures count { N.faults (T.nv node.old) ≤ N.faults (T.nv node.new) }
-    ensures rose { IsTrue result.stopped → Rose (N.faults (T.nv node.old)) (N.faults (T.nv node.new)) }
+    ensures count { N.faults node.old.store.journal.nv ≤ N.faults node.new.store.journal.nv }
+    ensures rose { IsTrue result.stopped → Rose (N.faults node.old.store.journal.nv) (N.faults node.new.store.journal.nv) }
+    ensures number { node.new.number ≡ node.old.number }
 {
-    let came = node.comes(coming);
-    if !came.stopped {
-        send_out(node, form, is_clf, out);
+    a_reset_of_an_end_that_became_active_is_not_refused::<N>();
+    let is_clf = node.number() == 0;
+    let Ok(stepped) = node.step(input, &mut Unwatched) else {
+        return Came {
+            stopped: false,
+            asks_reset: false,
+        };
+    };
+    let runs = stepped.ran.is_done();
+    let came = Came {
+        stopped: !runs,
+        asks_reset: asks_for_reset(is_clf, stepped.became_active),
+    };
+    if runs {
+        send_out(node, form, out);
     }
     came
 }
 
-/// The node's link is reset, and what it writes then is appended. Whether it has lost its power.
-fn reset<N: Nv, T: LoneNode<N>>(node: &mut T, form: Form, is_clf: bool, out: &mut Output) -> bool
-    requires may { (l : Lone) × T.runs node.old l [] × (reset_refusal l.side ≡ None) }
-    requires role { (T.number == 0) ≡ is_clf }
+/// This comes to the node, and what it writes then is appended. A frame that was refused counts, and makes no step.
+fn comes<N: Nv + Drop>(
+    node: &mut RunningNode<N>,
+    form: Form,
+    coming: &Coming,
+    out: &mut Output,
+) -> Came
+    requires may { (l : Lone) × RunsAlone node.old l [] }
     requires room { length out.old.items + 17 * 323 ≤ 52224 }
-    ensures done { (l : Lone) → T.runs node.old l [] → reset_refusal l.side ≡ None → HasAnswered N.writes (T.nv node.old) (T.nv node.new)
-        (RunsYet (T.runs node.new) result) (λ m. does_alone (form_named form) (record l { memory = m }) (ResetComes None)) out.old.items out.new.items }
+    ensures done { (l : Lone) → RunsAlone node.old l []
+        → HasAnswered N.writes node.old.store.journal.nv node.new.store.journal.nv (RunsReady node.new result.stopped result.asks_reset)
+        (λ m. does_alone (form_named form) (record l { memory = m }) (cause_of coming.now)) out.old.items out.new.items }
+    ensures asks { (l : Lone) → RunsAlone node.old l [] → result.asks_reset ≡ asks_reset l (cause_of coming.now) }
     ensures sized { length out.new.items ≤ length out.old.items + 17 * 323 }
-    ensures count { N.faults (T.nv node.old) ≤ N.faults (T.nv node.new) }
-    ensures rose { IsTrue result → Rose (N.faults (T.nv node.old)) (N.faults (T.nv node.new)) }
+    ensures count { N.faults node.old.store.journal.nv ≤ N.faults node.new.store.journal.nv }
+    ensures rose { IsTrue result.stopped → Rose (N.faults node.old.store.journal.nv) (N.faults node.new.store.journal.nv) }
+    ensures number { node.new.number ≡ node.old.number }
 {
-    let stopped = node.reset();
-    if !stopped {
-        send_out(node, form, is_clf, out);
+    match coming {
+        Coming::Frame(lpdu) => {
+            let read = read_lpdu(lpdu);
+            let what = LinkInput::Frame(&read);
+            step(node, form, NodeInput::At { host: HOST, what }, out)
+        }
+        Coming::Refused(_) => {
+            node.refused(HOST);
+            Came {
+                stopped: false,
+                asks_reset: false,
+            }
+        }
+        Coming::Tick => step(node, form, NodeInput::Tick, out),
+        Coming::Start => {
+            let what = LinkInput::Start(START);
+            step(node, form, NodeInput::At { host: HOST, what }, out)
+        }
+        Coming::Stop => {
+            let what = LinkInput::Stop;
+            step(node, form, NodeInput::At { host: HOST, what }, out)
+        }
     }
-    stopped
 }
 
 /// This comes to the node, and then the reset that it asks for, if it does; what it writes then is appended. Whether it has lost its
 /// power.
-pub(crate) fn answer<N: Nv, T: LoneNode<N>>(
-    node: &mut T,
+pub(crate) fn answer<N: Nv + Drop>(
+    node: &mut RunningNode<N>,
     form: Form,
-    is_clf: bool,
     coming: &Coming,
     out: &mut Output,
 ) -> bool
-    requires may { (l : Lone) × T.runs node.old l [] }
-    requires role { (T.number == 0) ≡ is_clf }
+    requires may { (l : Lone) × RunsAlone node.old l [] }
     requires room { length out.old.items + 34 * 323 ≤ 52224 }
-    ensures done { (l : Lone) → T.runs node.old l [] → HasAnswered N.writes (T.nv node.old) (T.nv node.new)
-        (RunsYet (T.runs node.new) result) (λ m. answers_alone (form_named form) (record l { memory = m }) (cause_of coming.now)) out.old.items
-        out.new.items }
+    ensures done { (l : Lone) → RunsAlone node.old l []
+        → HasAnswered N.writes node.old.store.journal.nv node.new.store.journal.nv (RunsYet node.new result)
+        (λ m. answers_alone (form_named form) (record l { memory = m }) (cause_of coming.now)) out.old.items out.new.items }
     ensures sized { length out.new.items ≤ length out.old.items + 34 * 323 }
-    ensures count { N.faults (T.nv node.old) ≤ N.faults (T.nv node.new) }
-    ensures rose { IsTrue result → Rose (N.faults (T.nv node.old)) (N.faults (T.nv node.new)) }
+    ensures count { N.faults node.old.store.journal.nv ≤ N.faults node.new.store.journal.nv }
+    ensures rose { IsTrue result → Rose (N.faults node.old.store.journal.nv) (N.faults node.new.store.journal.nv) }
+    ensures number { node.new.number ≡ node.old.number }
 {
-    let came = step(node, form, is_clf, coming, out);
+    let came = comes(node, form, coming, out);
     if came.stopped {
         return true;
     }
     if !came.asks_reset {
         return false;
     }
-    reset(node, form, is_clf, out)
+    let what = LinkInput::Reset(None);
+    let reset = step(node, form, NodeInput::At { host: HOST, what }, out);
+    reset.stopped
 }
 
 /// These come to the node, one after another, until it loses its power; what it writes then is appended. Whether it has lost its power.
-pub(crate) fn answer_all<N: Nv, T: LoneNode<N>>(
-    node: &mut T,
+pub(crate) fn answer_all<N: Nv + Drop>(
+    node: &mut RunningNode<N>,
     form: Form,
-    is_clf: bool,
     comings: &[Coming],
     out: &mut Output,
 ) -> bool
-    requires may { (l : Lone) × T.runs node.old l [] }
-    requires role { (T.number == 0) ≡ is_clf }
+    requires may { (l : Lone) × RunsAlone node.old l [] }
     requires few { length comings.now ≤ 4 }
     requires room { length out.old.items + 44032 ≤ 52224 }
-    ensures done { (l : Lone) → T.runs node.old l [] → HasAnswered N.writes (T.nv node.old) (T.nv node.new)
-        (RunsYet (T.runs node.new) result) (λ m. all_answered (form_named form) (record l { memory = m }) (map cause_of comings.now)) out.old.items
-        out.new.items }
-    ensures count { N.faults (T.nv node.old) ≤ N.faults (T.nv node.new) }
-    ensures rose { IsTrue result → Rose (N.faults (T.nv node.old)) (N.faults (T.nv node.new)) }
+    ensures done { (l : Lone) → RunsAlone node.old l []
+        → HasAnswered N.writes node.old.store.journal.nv node.new.store.journal.nv (RunsYet node.new result)
+        (λ m. all_answered (form_named form) (record l { memory = m }) (map cause_of comings.now)) out.old.items out.new.items }
+    ensures count { N.faults node.old.store.journal.nv ≤ N.faults node.new.store.journal.nv }
+    ensures rose { IsTrue result → Rose (N.faults node.old.store.journal.nv) (N.faults node.new.store.journal.nv) }
+    ensures number { node.new.number ≡ node.old.number }
 {
     for coming in comings {
-        if answer(node, form, is_clf, coming, out) {
+        if answer(node, form, coming, out) {
             return true;
         }
     }

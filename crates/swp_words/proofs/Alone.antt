@@ -1,13 +1,11 @@
 -- How a run of one node ended.
-use Rattle.std.proofs.Common.{◌≡◌, ◌==◌, ℕ, zero, suc, ◌+◌, ◌-◌, ◌<◌, ◌≤◌, arith, Bool, true, false, cond, IsTrue, List, [], ◌∷◌, ◌++◌, length, take, drop}
+use Rattle.std.proofs.Common.{◌≡◌, ℕ, zero, suc, ◌+◌, ◌-◌, ◌<◌, ◌≤◌, arith, Bool, true, false, cond, IsTrue, List, [], ◌∷◌, ◌++◌, length, take, drop}
 use Rattle.std.proofs.Common.{get_or, refl, sym, ap, subst}
 use Rattle.std.proofs.Common.{◌∙◌, inl, inr, append_assoc, append-nil, length-append}
-use Rattle.std.specs.Prelude.{◌⊎◌, Option, Some, None}
+use Rattle.std.specs.Prelude.{Option, Some, None}
 use Rattle.std.proofs.lemmas.List.{take-append-drop, length-take-le, length-drop}
-use Rattle.swp_base.specs.declared.control_frames.Control.{Control}
 use Rattle.nv_journal.specs.declared.JournalFault.{JournalFault}
 use Rattle.nv_journal.specs.declared.JournalFault.TheVariants as image
-use Rattle.lone_laws.specs.alone.Lone.{Lone}
 use Rattle.lone_laws.specs.alone.Ends.{EndForm}
 use Rattle.one_end.specs.declared.one_end.OneEnd.{OneEnd}
 use Rattle.one_end.specs.Standing.{HasRun, IsRunOfBytes, IsNotBooted}
@@ -15,7 +13,8 @@ use Rattle.one_end.specs.Writing.{form_named}
 use Rattle.one_end.proofs.Growing.{is_run_of}
 use Rattle.swp_words.specs.declared.status.Status.{Status}
 use Rattle.swp_words.specs.declared.status.Status.TheVariants as status
-use Rattle.swp_words.specs.Ends.{Began, HasHeardAlone, HasGoneOut, IsWaitingAlone, IsCutAlone, IsWrittenBefore, IsBrokenAlone, IsStoppedAlone, IsTooLongAlone}
+use Rattle.swp_words.specs.Ends.{Began, IsEndOf, HasHeardAlone, HasGoneOut, IsWaitingAlone, IsCutAlone, IsWrittenBefore, IsBrokenAlone}
+use Rattle.swp_words.specs.Ends.{IsStoppedAlone, IsTooLongAlone}
 use Rattle.swp_words.specs.Ends.{IsHearing, EndedAlone, HasRunAlone, IsRunBefore}
 use Rattle.swp_words.specs.Ends.{IsRunBrokenOff, IsRunStopped, IsRunCutOff, RanSo, EndedSo, HasNextGeneration}
 use Rattle.swp_words.specs.Ends.{status_of_boot, IsOfLone, IsOfEndWord}
@@ -27,33 +26,30 @@ use Rattle.hci_store.specs.Image.{image_fault}
 use Rattle.swp_base.specs.Outside.{Rose}
 use Rattle.hci_store.specs.Starting.{ready_writes, HasWritten}
 
-module _ {N T : Type 0} (writes : N → ℕ → List ℕ → Bool → N → Type 0) (nv : T → N) (Runs : T → Lone → List Control → Type 0) (number : ℕ) (is_clf : Bool)
-    (role : number ≡ cond is_clf 0 2) (o : Began N) where
-  pub run_is : (e : OneEnd T) (stopped : Bool) (bytes written : List ℕ) → e.form ≡ o.form
-      → HasRun writes nv Runs number o.content o.first e stopped bytes written
-      → IsRunOfBytes writes o.first (nv e.node) stopped (form_named o.form) is_clf o.content bytes written
+module _ {N : Type 0} (writes : N → ℕ → List ℕ → Bool → N → Type 0) (is_clf : Bool) (o : Began N) (role : o.number ≡ cond is_clf 0 2) where
+  pub run_is : (e : OneEnd N) (stopped : Bool) (bytes written : List ℕ) → IsEndOf o e → HasRun writes o.content o.first e stopped bytes written
+      → IsRunOfBytes writes o.first e.node.store.journal.nv stopped (form_named o.form) is_clf o.content bytes written
   run_is e stopped bytes written same h =
-      subst (λ f. IsRunOfBytes writes o.first (nv e.node) stopped (form_named f) is_clf o.content bytes written) same
-      (is_run_of writes nv Runs is_clf o.content o.first e stopped bytes written
-      (subst (λ k. HasRun writes nv Runs k o.content o.first e stopped bytes written) role h))
+      subst (λ f. IsRunOfBytes writes o.first e.node.store.journal.nv stopped (form_named f) is_clf o.content bytes written) same.0
+      (is_run_of writes is_clf o.content o.first e stopped bytes written (same.1 ∙ role) h)
 
-  heard_is : (tells : Bool) (e : OneEnd T) (stopped : Bool) (bytes before after : List ℕ)
-      → HasHeardAlone writes nv Runs number tells o e stopped bytes before after
-      → HasRunAlone writes tells (form_named o.form) is_clf o.content o.first (nv e.node) stopped bytes before after
+  heard_is : (tells : Bool) (e : OneEnd N) (stopped : Bool) (bytes before after : List ℕ)
+      → HasHeardAlone writes tells o e stopped bytes before after
+      → HasRunAlone writes tells (form_named o.form) is_clf o.content o.first e.node.store.journal.nv stopped bytes before after
   heard_is tells e stopped bytes before after h = record {
     written = h.written;
-    run = run_is e stopped bytes h.written h.form_is h.run;
+    run = run_is e stopped bytes h.written h.end_is h.run;
     after_is = h.after_is;
   }
 
-  before_is : (front piece earlier : List ℕ) → IsWrittenBefore writes nv Runs number o front piece earlier
+  before_is : (front piece earlier : List ℕ) → IsWrittenBefore writes o front piece earlier
       → IsRunBefore writes (form_named o.form) is_clf o.content o.first front piece earlier
   before_is front piece earlier (inl none) = inl none
-  before_is front piece earlier (inr h) = inr (nv h.0.node, run_is h.0 false front earlier h.1 h.2)
+  before_is front piece earlier (inr h) = inr (h.0.node.store.journal.nv, run_is h.0 false front earlier h.1 h.2)
 
-  pub broken_is : (tells : Bool) (given : ℕ) (e : OneEnd T) (input left before after : List ℕ)
-      → IsBrokenAlone writes nv Runs number tells given o e input left before after
-      → IsRunBrokenOff writes tells given (form_named o.form) is_clf o.content o.first (nv e.node) input left before after
+  pub broken_is : (tells : Bool) (given : ℕ) (e : OneEnd N) (input left before after : List ℕ)
+      → IsBrokenAlone writes tells given o e input left before after
+      → IsRunBrokenOff writes tells given (form_named o.form) is_clf o.content o.first e.node.store.journal.nv input left before after
   broken_is tells given e input left before after h = record {
     front = h.front;
     came = h.came;
@@ -65,14 +61,14 @@ module _ {N T : Type 0} (writes : N → ℕ → List ℕ → Bool → N → Type
     earlier = h.earlier;
     last = h.cut.last;
     before_it = before_is h.front (h.came ++ h.ahead) h.earlier h.before_it;
-    run = run_is e h.cut.stopped (h.front ++ h.came) (h.earlier ++ h.cut.last) h.cut.form_is h.cut.run;
+    run = run_is e h.cut.stopped (h.front ++ h.came) (h.earlier ++ h.cut.last) h.cut.end_is h.cut.run;
     n = h.cut.n;
     after_is = h.cut.after_is;
   }
 
-  pub stopped_is : (tells : Bool) (given : ℕ) (e : OneEnd T) (input left before after : List ℕ)
-      → IsStoppedAlone writes nv Runs number tells given o e input left before after
-      → IsRunStopped writes tells given (form_named o.form) is_clf o.content o.first (nv e.node) input left before after
+  pub stopped_is : (tells : Bool) (given : ℕ) (e : OneEnd N) (input left before after : List ℕ)
+      → IsStoppedAlone writes tells given o e input left before after
+      → IsRunStopped writes tells given (form_named o.form) is_clf o.content o.first e.node.store.journal.nv input left before after
   stopped_is tells given e input left before after h = record {
     bytes = h.bytes;
     ahead = h.ahead;
@@ -82,9 +78,9 @@ module _ {N T : Type 0} (writes : N → ℕ → List ℕ → Bool → N → Type
     run = heard_is tells e true h.bytes before after h.heard;
   }
 
-  cut_off_is : (tells : Bool) (e : OneEnd T) (count : ℕ) (input left before after : List ℕ) → count ≤ most_bytes
-      → IsHearing writes nv Runs number tells o e count input left before after
-      → IsRunCutOff writes tells (form_named o.form) is_clf o.content o.first (nv e.node) input left before after
+  cut_off_is : (tells : Bool) (e : OneEnd N) (count : ℕ) (input left before after : List ℕ) → count ≤ most_bytes
+      → IsHearing writes tells o e count input left before after
+      → IsRunCutOff writes tells (form_named o.form) is_clf o.content o.first e.node.store.journal.nv input left before after
   cut_off_is tells e count input left before after few h = record {
     bytes = h.bytes;
     input_is = h.input_is;
@@ -92,9 +88,9 @@ module _ {N T : Type 0} (writes : N → ℕ → List ℕ → Bool → N → Type
     run = heard_is tells e false h.bytes before after h.heard;
   }
 
-  pub ended_ran : (tells : Bool) (given : ℕ) (e : OneEnd T) (count : ℕ) (s : Status) (input left before after : List ℕ)
-      → EndedAlone writes nv Runs number tells given o e count s input left before after
-      → RanSo writes tells given (form_named o.form) is_clf o.content o.first (nv e.node) s input left before after
+  pub ended_ran : (tells : Bool) (given : ℕ) (e : OneEnd N) (count : ℕ) (s : Status) (input left before after : List ℕ)
+      → EndedAlone writes tells given o e count s input left before after
+      → RanSo writes tells given (form_named o.form) is_clf o.content o.first e.node.store.journal.nv s input left before after
   ended_ran tells given e count status.Done input left before after h = (h.0, h.1, heard_is tells e false input before after h.2)
   ended_ran tells given e count status.ReadFault input left before after h = cut_off_is tells e count input left before after h.0 h.1
   ended_ran tells given e count status.WriteFault input left before after h = broken_is tells given e input left before after h
@@ -120,12 +116,11 @@ module _ {N T : Type 0} (writes : N → ℕ → List ℕ → Bool → N → Type
 
 -- ## Before the first byte
 
-module _ {N T : Type 0} (writes : N → ℕ → List ℕ → Bool → N → Type 0) (nv : T → N) (Runs : T → Lone → List Control → Type 0) (number : ℕ)
-    (o : Began N) (tells : Bool) (e : OneEnd T) where
-  pub begins_broken : (given : ℕ) (stopped : Bool) (input was after items : List ℕ) → e.form ≡ o.form
-      → HasRun writes nv Runs number o.content o.first e stopped [] items → (n : ℕ) → (IsTrue tells → after ≡ was ++ take n items)
-      → IsBrokenAlone writes nv Runs number tells given o e input input was after
-  begins_broken given stopped input was after items same h n is = record {
+module _ {N : Type 0} (writes : N → ℕ → List ℕ → Bool → N → Type 0) (o : Began N) (tells : Bool) (e : OneEnd N) (same : IsEndOf o e) where
+  pub begins_broken : (given : ℕ) (stopped : Bool) (input was after items : List ℕ)
+      → HasRun writes o.content o.first e stopped [] items → (n : ℕ) → (IsTrue tells → after ≡ was ++ take n items)
+      → IsBrokenAlone writes tells given o e input input was after
+  begins_broken given stopped input was after items h n is = record {
     front = [];
     came = [];
     ahead = [];
@@ -134,34 +129,34 @@ module _ {N T : Type 0} (writes : N → ℕ → List ℕ → Bool → N → Type
     at_once = omega arith;
     earlier = [];
     before_it = inl (refl, refl, refl);
-    cut = record { form_is = same; stopped = stopped; last = items; run = h; n = n; after_is = is };
+    cut = record { end_is = same; stopped = stopped; last = items; run = h; n = n; after_is = is };
   }
 
-  begun_heard : (stopped : Bool) (was after items : List ℕ) → e.form ≡ o.form
-      → HasRun writes nv Runs number o.content o.first e stopped [] items → (IsTrue tells → after ≡ was ++ items)
-      → HasHeardAlone writes nv Runs number tells o e stopped [] was after
-  begun_heard stopped was after items same h is = record { form_is = same; written = items; run = h; after_is = is }
+  begun_heard : (stopped : Bool) (was after items : List ℕ)
+      → HasRun writes o.content o.first e stopped [] items → (IsTrue tells → after ≡ was ++ items)
+      → HasHeardAlone writes tells o e stopped [] was after
+  begun_heard stopped was after items h is = record { end_is = same; written = items; run = h; after_is = is }
 
-  pub begins_stopped : (given : ℕ) (input was after items : List ℕ) → e.form ≡ o.form
-      → HasRun writes nv Runs number o.content o.first e true [] items → (IsTrue tells → after ≡ was ++ items)
-      → IsStoppedAlone writes nv Runs number tells given o e input input was after
-  begins_stopped given input was after items same h is = record {
+  pub begins_stopped : (given : ℕ) (input was after items : List ℕ)
+      → HasRun writes o.content o.first e true [] items → (IsTrue tells → after ≡ was ++ items)
+      → IsStoppedAlone writes tells given o e input input was after
+  begins_stopped given input was after items h is = record {
     bytes = [];
     ahead = [];
     input_is = refl;
     near = omega arith;
     at_once = omega arith;
-    heard = begun_heard true was after items same h is;
+    heard = begun_heard true was after items h is;
   }
 
-  pub begins_hearing : (count : ℕ) (input was after items : List ℕ) → count ≡ 0 → e.form ≡ o.form
-      → HasRun writes nv Runs number o.content o.first e false [] items → (IsTrue tells → after ≡ was ++ items)
-      → IsHearing writes nv Runs number tells o e count input input was after
-  begins_hearing count input was after items none same h is = record {
+  pub begins_hearing : (count : ℕ) (input was after items : List ℕ) → count ≡ 0
+      → HasRun writes o.content o.first e false [] items → (IsTrue tells → after ≡ was ++ items)
+      → IsHearing writes tells o e count input input was after
+  begins_hearing count input was after items none h is = record {
     bytes = [];
     input_is = refl;
     counted = none;
-    heard = begun_heard false was after items same h is;
+    heard = begun_heard false was after items h is;
   }
 
 -- ## While bytes come
@@ -173,71 +168,70 @@ take-take (suc n) zero xs h = absurd (omega arith)
 take-take (suc n) (suc m) [] h = refl
 take-take (suc n) (suc m) (x ∷ xs) h = ap (λ ys. x ∷ ys) (take-take n m xs (omega arith))
 
-module _ {N T : Type 0} (writes : N → ℕ → List ℕ → Bool → N → Type 0) (nv : T → N) (Runs : T → Lone → List Control → Type 0) (number : ℕ)
-    (tells : Bool) (o : Began N) where
+module _ {N : Type 0} (writes : N → ℕ → List ℕ → Bool → N → Type 0) (tells : Bool) (o : Began N) where
   -- nothing waits yet
-  pub waits : (e : OneEnd T) (stopped : Bool) (bytes before after : List ℕ) (h : HasHeardAlone writes nv Runs number tells o e stopped bytes before after)
-      (waiting : List ℕ) → waiting ≡ [] → IsWaitingAlone writes nv Runs number tells o e stopped bytes h.written waiting before after
+  pub waits : (e : OneEnd N) (stopped : Bool) (bytes before after : List ℕ) (h : HasHeardAlone writes tells o e stopped bytes before after)
+      (waiting : List ℕ) → waiting ≡ [] → IsWaitingAlone writes tells o e stopped bytes h.written waiting before after
   waits e stopped bytes before after h waiting none = record {
-    form_is = h.form_is;
+    end_is = h.end_is;
     sent = [];
-    run = subst (HasRun writes nv Runs number o.content o.first e stopped bytes)
+    run = subst (HasRun writes o.content o.first e stopped bytes)
         (sym (append-nil h.written) ∙ (sym (append-nil (h.written ++ [])) ∙ ap (λ l. (h.written ++ []) ++ l) (sym none))) h.run;
     after_is = λ told. h.after_is told ∙ ap (λ l. before ++ l) (sym (append-nil h.written));
   }
 
   -- some of what waited went out
-  pub waits_on : (e : OneEnd T) (stopped : Bool) (bytes earlier waited waiting before was now : List ℕ)
-      → IsWaitingAlone writes nv Runs number tells o e stopped bytes earlier waited before was → HasGoneOut tells waited waiting was now
-      → IsWaitingAlone writes nv Runs number tells o e stopped bytes earlier waiting before now
+  pub waits_on : (e : OneEnd N) (stopped : Bool) (bytes earlier waited waiting before was now : List ℕ)
+      → IsWaitingAlone writes tells o e stopped bytes earlier waited before was → HasGoneOut tells waited waiting was now
+      → IsWaitingAlone writes tells o e stopped bytes earlier waiting before now
   waits_on e stopped bytes earlier waited waiting before was now h out =
       let all : (earlier ++ h.sent) ++ out.sent ≡ earlier ++ (h.sent ++ out.sent) = append_assoc earlier h.sent out.sent in
       record {
-        form_is = h.form_is;
+        end_is = h.end_is;
         sent = h.sent ++ out.sent;
-        run = subst (HasRun writes nv Runs number o.content o.first e stopped bytes)
+        run = subst (HasRun writes o.content o.first e stopped bytes)
             (ap (λ l. (earlier ++ h.sent) ++ l) out.parts ∙ (sym (append_assoc (earlier ++ h.sent) out.sent waiting) ∙ ap (λ l. l ++ waiting) all)) h.run;
         after_is = λ told.
             out.now_is told ∙ (ap (λ l. l ++ out.sent) (h.after_is told) ∙ (append_assoc before (earlier ++ h.sent) out.sent ∙ ap (λ l. before ++ l) all));
       }
 
   -- the first of what is left of a piece came
-  pub heard_more : (d e : OneEnd T) (stopped : Bool) (came piece : List ℕ) (at n : ℕ) (earlier waited waiting before after : List ℕ) → e.form ≡ d.form
-      → at ≤ length piece → (w : IsWaitingAlone writes nv Runs number tells o d false (came ++ take at piece) earlier waited before after)
-      → HasRun writes nv Runs number o.content o.first e stopped ((came ++ take at piece) ++ take n (take (length piece - at) (drop at piece)))
+  pub heard_more : (d e : OneEnd N) (stopped : Bool) (came piece : List ℕ) (at n : ℕ) (earlier waited waiting before after : List ℕ) → e.form ≡ d.form
+      → e.node.number ≡ d.node.number → at ≤ length piece → (w : IsWaitingAlone writes tells o d false (came ++ take at piece) earlier waited before after)
+      → HasRun writes o.content o.first e stopped ((came ++ take at piece) ++ take n (take (length piece - at) (drop at piece)))
       ((earlier ++ w.sent) ++ waiting)
-      → IsWaitingAlone writes nv Runs number tells o e stopped (came ++ take (at + n) piece) earlier waiting before after
-  heard_more d e stopped came piece at n earlier waited waiting before after same within w run = record {
-    form_is = same ∙ w.form_is;
+      → IsWaitingAlone writes tells o e stopped (came ++ take (at + n) piece) earlier waiting before after
+  heard_more d e stopped came piece at n earlier waited waiting before after same own within w run = record {
+    end_is = (same ∙ w.end_is.0, own ∙ w.end_is.1);
     sent = w.sent;
-    run = subst (λ l. HasRun writes nv Runs number o.content o.first e stopped l ((earlier ++ w.sent) ++ waiting))
+    run = subst (λ l. HasRun writes o.content o.first e stopped l ((earlier ++ w.sent) ++ waiting))
         (append_assoc came (take at piece) (take n (take (length piece - at) (drop at piece)))
         ∙ ap (λ l. came ++ l) (ap (λ l. take at piece ++ take n l) (left_of piece at within) ∙ sym (take-add at n piece))) run;
     after_is = w.after_is;
   }
 
   -- all of it did
-  pub waits_no_more : (e : OneEnd T) (stopped : Bool) (bytes earlier waited before was now : List ℕ)
-      → IsWaitingAlone writes nv Runs number tells o e stopped bytes earlier waited before was → (IsTrue tells → now ≡ was ++ waited)
-      → HasHeardAlone writes nv Runs number tells o e stopped bytes before now
+  pub waits_no_more : (e : OneEnd N) (stopped : Bool) (bytes earlier waited before was now : List ℕ)
+      → IsWaitingAlone writes tells o e stopped bytes earlier waited before was → (IsTrue tells → now ≡ was ++ waited)
+      → HasHeardAlone writes tells o e stopped bytes before now
   waits_no_more e stopped bytes earlier waited before was now h is = record {
-    form_is = h.form_is;
+    end_is = h.end_is;
     written = (earlier ++ h.sent) ++ waited;
     run = h.run;
     after_is = λ told. is told ∙ (ap (λ l. l ++ waited) (h.after_is told) ∙ append_assoc before (earlier ++ h.sent) waited);
   }
 
   -- a front of it did
-  pub is_cut : (e : OneEnd T) (stopped : Bool) (bytes earlier waited before was now : List ℕ)
-      → IsWaitingAlone writes nv Runs number tells o e stopped bytes earlier waited before was
-      → (n : ℕ) × (IsTrue tells → now ≡ was ++ take n waited) → IsCutAlone writes nv Runs number tells o e bytes earlier before now
+  pub is_cut : (e : OneEnd N) (stopped : Bool) (bytes earlier waited before was now : List ℕ)
+      → IsWaitingAlone writes tells o e stopped bytes earlier waited before was
+      → (n : ℕ) × (IsTrue tells → now ≡ was ++ take n waited) → IsCutAlone writes tells o e bytes earlier before now
   is_cut e stopped bytes earlier waited before was now h part =
       let front = front_of_both part.0 h.sent waited in
       record {
-        form_is = h.form_is;
+        end_is = h.end_is;
         stopped = stopped;
         last = h.sent ++ waited;
-        run = subst (HasRun writes nv Runs number o.content o.first e stopped bytes) (append_assoc earlier h.sent waited) h.run;
+        run = subst (HasRun writes o.content o.first e stopped bytes) (append_assoc earlier h.sent waited) h.run;
         n = front.0;
         after_is = λ told.
             part.1 told ∙ (ap (λ l. l ++ take part.0 waited) (h.after_is told) ∙ (append_assoc before (earlier ++ h.sent) (take part.0 waited)
@@ -245,10 +239,10 @@ module _ {N T : Type 0} (writes : N → ℕ → List ℕ → Bool → N → Type
       }
 
   -- a write failed behind the first bytes of a piece
-  pub broken_in : (given : ℕ) (d e : OneEnd T) (bytes piece left before was now : List ℕ) (n : ℕ) → length piece ≤ 8192 → length piece ≤ given
-      → (h : HasHeardAlone writes nv Runs number tells o d false bytes before was)
-      → IsCutAlone writes nv Runs number tells o e (bytes ++ take n piece) h.written before now
-      → IsBrokenAlone writes nv Runs number tells given o e (bytes ++ piece ++ left) left before now
+  pub broken_in : (given : ℕ) (d e : OneEnd N) (bytes piece left before was now : List ℕ) (n : ℕ) → length piece ≤ 8192 → length piece ≤ given
+      → (h : HasHeardAlone writes tells o d false bytes before was)
+      → IsCutAlone writes tells o e (bytes ++ take n piece) h.written before now
+      → IsBrokenAlone writes tells given o e (bytes ++ piece ++ left) left before now
   broken_in given d e bytes piece left before was now n near some h cut =
       let all : take n piece ++ drop n piece ≡ piece = take-append-drop n piece in
       record {
@@ -259,14 +253,14 @@ module _ {N T : Type 0} (writes : N → ℕ → List ℕ → Bool → N → Type
         near = subst (λ l. length l ≤ 8192) (sym all) near;
         at_once = subst (λ l. length l ≤ given) (sym all) some;
         earlier = h.written;
-        before_it = inr (d, h.form_is, h.run);
+        before_it = inr (d, h.end_is, h.run);
         cut = cut;
       }
 
   -- the node lost its power in them
-  pub stopped_in : (given : ℕ) (e : OneEnd T) (bytes piece left before now : List ℕ) (n : ℕ) → length piece ≤ 8192 → length piece ≤ given
-      → HasHeardAlone writes nv Runs number tells o e true (bytes ++ take n piece) before now
-      → IsStoppedAlone writes nv Runs number tells given o e (bytes ++ piece ++ left) left before now
+  pub stopped_in : (given : ℕ) (e : OneEnd N) (bytes piece left before now : List ℕ) (n : ℕ) → length piece ≤ 8192 → length piece ≤ given
+      → HasHeardAlone writes tells o e true (bytes ++ take n piece) before now
+      → IsStoppedAlone writes tells given o e (bytes ++ piece ++ left) left before now
   stopped_in given e bytes piece left before now n near some h = record {
     bytes = bytes ++ take n piece;
     ahead = drop n piece;
@@ -277,10 +271,10 @@ module _ {N T : Type 0} (writes : N → ℕ → List ℕ → Bool → N → Type
   }
 
   -- the last of them is one too many
-  pub too_long_in : (given : ℕ) (e : OneEnd T) (bytes piece left before now : List ℕ) (n : ℕ) → length piece ≤ 8192 → length piece ≤ given
+  pub too_long_in : (given : ℕ) (e : OneEnd N) (bytes piece left before now : List ℕ) (n : ℕ) → length piece ≤ 8192 → length piece ≤ given
       → n < length piece → length bytes + n ≡ most_bytes
-      → HasHeardAlone writes nv Runs number tells o e false (bytes ++ take n piece) before now
-      → IsTooLongAlone writes nv Runs number tells given o e (bytes ++ piece ++ left) left before now
+      → HasHeardAlone writes tells o e false (bytes ++ take n piece) before now
+      → IsTooLongAlone writes tells given o e (bytes ++ piece ++ left) left before now
   too_long_in given e bytes piece left before now n near some within most h =
       let front = bytes ++ take n piece in
       let byte = get_or piece n 0 in
@@ -326,11 +320,6 @@ refused_ended reads writes faults nv_tells content tells given form is_clf old n
 refused_ended reads writes faults nv_tells content tells given form is_clf old new (Some image.GenerationsSpent) input before told k =
     let only = k.unwritten spent_is_other in
     record { nothing = (refl, λ t. refl); why = inr (refl, k.spent told refl); read = only.read; same = only.kept told }
-
--- the number of a node says whether it is the CLF's
-pub role_is : {number : ℕ} (is_clf : Bool) → number ≡ cond is_clf 0 2 → (number == 0) ≡ is_clf
-role_is true q = ap (λ n. n == 0) q
-role_is false q = ap (λ n. n == 0) q
 
 -- ## A run behind a boot
 

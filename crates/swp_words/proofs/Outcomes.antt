@@ -65,6 +65,14 @@ module _ {N : Type 0} (reads : N → Bool → N → Type 0) (writes : N → ℕ 
   too_many_ended (status.BadSchedule line why) h kind more read write nv = absurd kind
   too_many_ended (status.Undetected line) h kind more read write nv = absurd kind
 
+-- a boot that was refused read and wrote nothing that could fail but its memory
+pub boot_unfailed : (fault : Option JournalFault) (s : Status) → s ≡ status_of_boot fault → (¬ (s ≡ status.ReadFault)) × (¬ (s ≡ status.WriteFault))
+boot_unfailed None s is = (λ q. cc, λ q. cc)
+boot_unfailed (Some image.NvFault) s is = (λ q. cc, λ q. cc)
+boot_unfailed (Some (image.UnknownFormat version)) s is = (λ q. cc, λ q. cc)
+boot_unfailed (Some (image.BadRecord at)) s is = (λ q. cc, λ q. cc)
+boot_unfailed (Some image.GenerationsSpent) s is = (λ q. cc, λ q. cc)
+
 -- a boot that was refused for a memory with a fault was refused for that fault
 pub image_refused : {N : Type 0} (reads : N → Bool → N → Type 0) (writes : N → ℕ → List ℕ → Bool → N → Type 0) (faults : N → ℕ) (nv_tells : Bool)
     (content : N → List ℕ) (old new : N) (fault : Option JournalFault) (s : Status) (f : JournalFault)

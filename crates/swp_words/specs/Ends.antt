@@ -1,6 +1,5 @@
 -- What a node alone has read and written, by the status with which it ended.
 use Rattle.std.specs.Prelude.{◌≡◌, ◌≢◌, ◌⊎◌, ℕ, ◌≤◌, Bool, true, false, IsTrue, List, [], ◌∷◌, ◌++◌, length, take, codes, Option, Some, None}
-use Rattle.swp_base.specs.declared.control_frames.Control.{Control}
 use Rattle.lone_laws.specs.alone.Lone.{Lone}
 pub use Rattle.lone_laws.specs.alone.Ends.{EndForm}
 pub use Rattle.one_end.specs.Writing.{form_named}
@@ -23,19 +22,24 @@ use Rattle.swp_words.specs.declared.status.Status.TheVariants as status
 use Rattle.swp_words.specs.Images.{status_of_fault}
 use Rattle.swp_words.specs.Records.{most_bytes}
 
--- how a node began: on this form of link, where its boot found this content in its memory and left this memory
+-- how a node began: with this number, on this form of link, where its boot found this content in its memory and left this memory
 pub record Began (N : Type 0) : Type 0 where
   pub form : Form
+  pub number : ℕ
   pub content : List ℕ
   pub first : N
 
+-- that node is at this end
+abbrev pub IsEndOf : {N : Type 0} → Began N → OneEnd N → Type 0
+IsEndOf o e = (e.form ≡ o.form) × (e.node.number ≡ o.number)
+
 -- These bytes came to a node, and all that it wrote for them went out. Whether the sink tells what was written comes behind what the node
 -- is; what it held before and holds now comes last.
-pub record HasHeardAlone {N T : Type 0} (writes : N → ℕ → List ℕ → Bool → N → Type 0) (nv : T → N) (Runs : T → Lone → List Control → Type 0)
-    (number : ℕ) (tells : Bool) (o : Began N) (e : OneEnd T) (stopped : Bool) (bytes before after : List ℕ) : Type 0 where
-  pub form_is : e.form ≡ o.form
+pub record HasHeardAlone {N : Type 0} (writes : N → ℕ → List ℕ → Bool → N → Type 0) (tells : Bool)
+    (o : Began N) (e : OneEnd N) (stopped : Bool) (bytes before after : List ℕ) : Type 0 where
+  pub end_is : IsEndOf o e
   pub written : List ℕ
-  pub run : HasRun writes nv Runs number o.content o.first e stopped bytes written
+  pub run : HasRun writes o.content o.first e stopped bytes written
   pub after_is : IsTrue tells → after ≡ before ++ written
 
 -- Of the text that waited the other is left, and what stood before it went out. Whether the sink tells what was written comes first, what it
@@ -46,34 +50,33 @@ pub record HasGoneOut (tells : Bool) (waited waiting was now : List ℕ) : Type 
   pub now_is : IsTrue tells → now ≡ was ++ sent
 
 -- These bytes came to a node. What it wrote for them begins with a text that went out; more of it may have gone out, and the rest waits.
-pub record IsWaitingAlone {N T : Type 0} (writes : N → ℕ → List ℕ → Bool → N → Type 0) (nv : T → N) (Runs : T → Lone → List Control → Type 0)
-    (number : ℕ) (tells : Bool) (o : Began N) (e : OneEnd T) (stopped : Bool) (bytes earlier waiting before after : List ℕ) : Type 0 where
-  pub form_is : e.form ≡ o.form
+pub record IsWaitingAlone {N : Type 0} (writes : N → ℕ → List ℕ → Bool → N → Type 0) (tells : Bool)
+    (o : Began N) (e : OneEnd N) (stopped : Bool) (bytes earlier waiting before after : List ℕ) : Type 0 where
+  pub end_is : IsEndOf o e
   pub sent : List ℕ
-  pub run : HasRun writes nv Runs number o.content o.first e stopped bytes ((earlier ++ sent) ++ waiting)
+  pub run : HasRun writes o.content o.first e stopped bytes ((earlier ++ sent) ++ waiting)
   pub after_is : IsTrue tells → after ≡ before ++ (earlier ++ sent)
 
 -- These bytes came to a node. What it wrote for them begins with a text that went out; of the rest a front did.
-pub record IsCutAlone {N T : Type 0} (writes : N → ℕ → List ℕ → Bool → N → Type 0) (nv : T → N) (Runs : T → Lone → List Control → Type 0)
-    (number : ℕ) (tells : Bool) (o : Began N) (e : OneEnd T) (bytes earlier before after : List ℕ) : Type 0 where
-  pub form_is : e.form ≡ o.form
+pub record IsCutAlone {N : Type 0} (writes : N → ℕ → List ℕ → Bool → N → Type 0) (tells : Bool)
+    (o : Began N) (e : OneEnd N) (bytes earlier before after : List ℕ) : Type 0 where
+  pub end_is : IsEndOf o e
   pub stopped : Bool
   pub last : List ℕ
-  pub run : HasRun writes nv Runs number o.content o.first e stopped bytes (earlier ++ last)
+  pub run : HasRun writes o.content o.first e stopped bytes (earlier ++ last)
   pub n : ℕ
   pub after_is : IsTrue tells → after ≡ before ++ (earlier ++ take n last)
 
 -- This was written before the last read gave these bytes: for all bytes before them. Where none were read yet, nothing was.
-abbrev pub IsWrittenBefore : {N T : Type 0} → (N → ℕ → List ℕ → Bool → N → Type 0) → (T → N) → (T → Lone → List Control → Type 0) → ℕ → Began N
-    → List ℕ → List ℕ → List ℕ → Type 0
-IsWrittenBefore {N} {T} writes nv Runs number o front piece earlier =
+abbrev pub IsWrittenBefore : {N : Type 0} → (N → ℕ → List ℕ → Bool → N → Type 0) → Began N → List ℕ → List ℕ → List ℕ → Type 0
+IsWrittenBefore {N} writes o front piece earlier =
     ((front ≡ []) × (piece ≡ []) × (earlier ≡ []))
-    ⊎ ((d : OneEnd T) × (d.form ≡ o.form) × HasRun writes nv Runs number o.content o.first d false front earlier)
+    ⊎ ((d : OneEnd N) × IsEndOf o d × HasRun writes o.content o.first d false front earlier)
 
 -- A write failed: all that the node wrote for the bytes before those of the last read went out, and a front of what it wrote for some of these.
 -- No more was read than these.
-pub record IsBrokenAlone {N T : Type 0} (writes : N → ℕ → List ℕ → Bool → N → Type 0) (nv : T → N) (Runs : T → Lone → List Control → Type 0)
-    (number : ℕ) (tells : Bool) (given : ℕ) (o : Began N) (e : OneEnd T) (input left before after : List ℕ) : Type 0 where
+pub record IsBrokenAlone {N : Type 0} (writes : N → ℕ → List ℕ → Bool → N → Type 0) (tells : Bool) (given : ℕ)
+    (o : Began N) (e : OneEnd N) (input left before after : List ℕ) : Type 0 where
   pub front : List ℕ
   pub came : List ℕ
   pub ahead : List ℕ
@@ -81,22 +84,22 @@ pub record IsBrokenAlone {N T : Type 0} (writes : N → ℕ → List ℕ → Boo
   pub near : length (came ++ ahead) ≤ 8192
   pub at_once : length (came ++ ahead) ≤ given
   pub earlier : List ℕ
-  pub before_it : IsWrittenBefore writes nv Runs number o front (came ++ ahead) earlier
-  pub cut : IsCutAlone writes nv Runs number tells o e (front ++ came) earlier before after
+  pub before_it : IsWrittenBefore writes o front (came ++ ahead) earlier
+  pub cut : IsCutAlone writes tells o e (front ++ came) earlier before after
 
 -- The node lost its power with the last of these bytes. Behind it no more was read than the last read gave.
-pub record IsStoppedAlone {N T : Type 0} (writes : N → ℕ → List ℕ → Bool → N → Type 0) (nv : T → N) (Runs : T → Lone → List Control → Type 0)
-    (number : ℕ) (tells : Bool) (given : ℕ) (o : Began N) (e : OneEnd T) (input left before after : List ℕ) : Type 0 where
+pub record IsStoppedAlone {N : Type 0} (writes : N → ℕ → List ℕ → Bool → N → Type 0) (tells : Bool) (given : ℕ)
+    (o : Began N) (e : OneEnd N) (input left before after : List ℕ) : Type 0 where
   pub bytes : List ℕ
   pub ahead : List ℕ
   pub input_is : input ≡ bytes ++ (ahead ++ left)
   pub near : length ahead ≤ 8192
   pub at_once : length ahead ≤ given
-  pub heard : HasHeardAlone writes nv Runs number tells o e true bytes before after
+  pub heard : HasHeardAlone writes tells o e true bytes before after
 
 -- One byte came more than may come. Behind it no more was read than the last read gave.
-pub record IsTooLongAlone {N T : Type 0} (writes : N → ℕ → List ℕ → Bool → N → Type 0) (nv : T → N) (Runs : T → Lone → List Control → Type 0)
-    (number : ℕ) (tells : Bool) (given : ℕ) (o : Began N) (e : OneEnd T) (input left before after : List ℕ) : Type 0 where
+pub record IsTooLongAlone {N : Type 0} (writes : N → ℕ → List ℕ → Bool → N → Type 0) (tells : Bool) (given : ℕ)
+    (o : Began N) (e : OneEnd N) (input left before after : List ℕ) : Type 0 where
   pub bytes : List ℕ
   pub byte : ℕ
   pub ahead : List ℕ
@@ -104,18 +107,18 @@ pub record IsTooLongAlone {N T : Type 0} (writes : N → ℕ → List ℕ → Bo
   pub near : length ahead ≤ 8192
   pub at_once : length ahead ≤ given
   pub most : length bytes ≡ most_bytes
-  pub heard : HasHeardAlone writes nv Runs number tells o e false bytes before after
+  pub heard : HasHeardAlone writes tells o e false bytes before after
 
 -- how a run ended while bytes of this input came
-abbrev pub EndedInBytes : {N T : Type 0} → (N → ℕ → List ℕ → Bool → N → Type 0) → (T → N) → (T → Lone → List Control → Type 0) → ℕ → Bool → ℕ
-    → Began N → OneEnd T → Status → List ℕ → List ℕ → List ℕ → List ℕ → Type 0
-EndedInBytes writes nv Runs number tells given o e status.WriteFault input left before after =
-    IsBrokenAlone writes nv Runs number tells given o e input left before after
-EndedInBytes writes nv Runs number tells given o e status.NvFault input left before after =
-    IsStoppedAlone writes nv Runs number tells given o e input left before after
-EndedInBytes writes nv Runs number tells given o e (status.TooMany count) input left before after =
-    (count ≡ 16777217) × IsTooLongAlone writes nv Runs number tells given o e input left before after
-EndedInBytes writes nv Runs number tells given o e _ input left before after = ⊥
+abbrev pub EndedInBytes : {N : Type 0} → (N → ℕ → List ℕ → Bool → N → Type 0) → Bool → ℕ → Began N → OneEnd N
+    → Status → List ℕ → List ℕ → List ℕ → List ℕ → Type 0
+EndedInBytes writes tells given o e status.WriteFault input left before after =
+    IsBrokenAlone writes tells given o e input left before after
+EndedInBytes writes tells given o e status.NvFault input left before after =
+    IsStoppedAlone writes tells given o e input left before after
+EndedInBytes writes tells given o e (status.TooMany count) input left before after =
+    (count ≡ 16777217) × IsTooLongAlone writes tells given o e input left before after
+EndedInBytes writes tells given o e _ input left before after = ⊥
 
 -- how a run with the word `end` can end while bytes come
 abbrev pub IsOfEnd : Status → Type 0
@@ -125,34 +128,34 @@ IsOfEnd (status.TooMany count) = count ≡ 16777217
 IsOfEnd _ = ⊥
 
 -- so many bytes came, nothing of what the node wrote for them waits, and more may come
-pub record MayHearOn {T : Type 0} (Runs : T → Lone → List Control → Type 0) (number : ℕ) (e : OneEnd T) (waiting : List ℕ) (count : ℕ) : Type 0 where
+pub record MayHearOn {N : Type 0} (e : OneEnd N) (waiting : List ℕ) (count : ℕ) : Type 0 where
   pub few : count ≤ most_bytes
   pub none : waiting ≡ []
-  pub may : (l : Lone) × (older : List ℕ) × StandsAlone Runs number e l older
+  pub may : (l : Lone) × (older : List ℕ) × StandsAlone e l older
 
 -- a front of the input came, and all that the node wrote for it went out
-pub record IsHearing {N T : Type 0} (writes : N → ℕ → List ℕ → Bool → N → Type 0) (nv : T → N) (Runs : T → Lone → List Control → Type 0)
-    (number : ℕ) (tells : Bool) (o : Began N) (e : OneEnd T) (count : ℕ) (input left before after : List ℕ) : Type 0 where
+pub record IsHearing {N : Type 0} (writes : N → ℕ → List ℕ → Bool → N → Type 0) (tells : Bool)
+    (o : Began N) (e : OneEnd N) (count : ℕ) (input left before after : List ℕ) : Type 0 where
   pub bytes : List ℕ
   pub input_is : input ≡ bytes ++ left
   pub counted : count ≡ length bytes
-  pub heard : HasHeardAlone writes nv Runs number tells o e false bytes before after
+  pub heard : HasHeardAlone writes tells o e false bytes before after
 
 -- How a run of this input ended. On Done all of it came, and what the node wrote for it went out; where reading failed, a front; where a write to
 -- its memory failed or too much came, what it wrote up to there; where writing failed, a front of that.
-abbrev pub EndedAlone : {N T : Type 0} → (N → ℕ → List ℕ → Bool → N → Type 0) → (T → N) → (T → Lone → List Control → Type 0) → ℕ → Bool → ℕ
-    → Began N → OneEnd T → ℕ → Status → List ℕ → List ℕ → List ℕ → List ℕ → Type 0
-EndedAlone writes nv Runs number tells given o e count status.Done input left before after =
-    (left ≡ []) × (length input ≤ most_bytes) × HasHeardAlone writes nv Runs number tells o e false input before after
-EndedAlone writes nv Runs number tells given o e count status.ReadFault input left before after =
-    (count ≤ most_bytes) × IsHearing writes nv Runs number tells o e count input left before after
-EndedAlone writes nv Runs number tells given o e count status.WriteFault input left before after =
-    EndedInBytes writes nv Runs number tells given o e status.WriteFault input left before after
-EndedAlone writes nv Runs number tells given o e count status.NvFault input left before after =
-    EndedInBytes writes nv Runs number tells given o e status.NvFault input left before after
-EndedAlone writes nv Runs number tells given o e count (status.TooMany n) input left before after =
-    EndedInBytes writes nv Runs number tells given o e (status.TooMany n) input left before after
-EndedAlone writes nv Runs number tells given o e count _ input left before after = ⊥
+abbrev pub EndedAlone : {N : Type 0} → (N → ℕ → List ℕ → Bool → N → Type 0) → Bool → ℕ → Began N → OneEnd N
+    → ℕ → Status → List ℕ → List ℕ → List ℕ → List ℕ → Type 0
+EndedAlone writes tells given o e count status.Done input left before after =
+    (left ≡ []) × (length input ≤ most_bytes) × HasHeardAlone writes tells o e false input before after
+EndedAlone writes tells given o e count status.ReadFault input left before after =
+    (count ≤ most_bytes) × IsHearing writes tells o e count input left before after
+EndedAlone writes tells given o e count status.WriteFault input left before after =
+    EndedInBytes writes tells given o e status.WriteFault input left before after
+EndedAlone writes tells given o e count status.NvFault input left before after =
+    EndedInBytes writes tells given o e status.NvFault input left before after
+EndedAlone writes tells given o e count (status.TooMany n) input left before after =
+    EndedInBytes writes tells given o e (status.TooMany n) input left before after
+EndedAlone writes tells given o e count _ input left before after = ⊥
 
 -- how such a run can end
 abbrev pub IsOfLone : Status → Type 0

@@ -9,8 +9,9 @@ ghost use Rattle.nv_journal.specs.declared.JournalFault.{JournalFault as Bad};
 ghost use Rattle.swp_words.specs.Records.{most_bytes};
 ghost use Rattle.lone_laws.specs.alone.Lone.{Lone};
 ghost use Rattle.lone_laws.specs.alone.Memories.{IsTakenMemory};
+ghost use Rattle.one_end.specs.Alone.{RunsAlone};
 ghost use Rattle.one_end.specs.Standing.{StandsAlone, HasRun, HasBooted};
-ghost use Rattle.swp_words.specs.Ends.{Began, HasHeardAlone, IsWaitingAlone, IsCutAlone, HasGoneOut, EndedInBytes, IsOfEnd, IsOfLone, RanSo, EndedSo};
+ghost use Rattle.swp_words.specs.Ends.{Began, IsEndOf, HasHeardAlone, IsWaitingAlone, IsCutAlone, HasGoneOut, EndedInBytes, IsOfEnd, IsOfLone, RanSo, EndedSo};
 ghost use Rattle.swp_words.specs.Ends.{IsOfEndWord, status_of_boot};
 ghost use Rattle.swp_words.specs.Ends.{AnsweredSo, HasNextGeneration, IsRefusedFor};
 ghost use Rattle.one_end.specs.Writing.{form_named};
@@ -21,22 +22,19 @@ use crate::records::piece_behind;
 use crate::status::{Ended, Status};
 use crate::tables::refused;
 use one_end::{
-    Form, Heard, LoneNode, NotBooted, OneEnd, Output, ROOM, begin, boot_controller, boot_host,
-    hear, memory_of,
+    Form, Heard, NotBooted, OneEnd, Output, ROOM, RunningNode, begin, boot, hear, memory_of,
 };
 use std::alloc::Global;
-use std::marker::PhantomData;
 use swp_base::{Failed, Nv, Sink, Source};
 use swp_decode::Decoder;
 
 /// A node that runs alone.
 #[derive(Drop)]
-pub struct Ending<N: Nv, T: LoneNode<N> + Drop> {
-    pub end: OneEnd<T>,
+pub struct Ending<N: Nv + Drop> {
+    pub end: OneEnd<N>,
     /// What it wrote that hasn't gone out.
     pub out: Output,
     pub count: u32,
-    of: PhantomData<N>,
 }
 
 /// The most that waits as bytes come: behind it there is room for what they cause.
@@ -73,30 +71,30 @@ fn make_room<K: Sink>(sink: &mut K, out: &mut Output) -> Result<(), Failed>
 }
 
 /// Bytes come, until the node loses its power or all came. What it writes for them waits, as far as there is room for it.
-fn hear_bytes<K: Sink, N: Nv, T: LoneNode<N> + Drop>(
+fn hear_bytes<K: Sink, N: Nv + Drop>(
     sink: &mut K,
-    ending: &mut Ending<N, T>,
+    ending: &mut Ending<N>,
     bytes: &[u8],
 ) -> Result<Heard, Failed>
-    requires may { (l : Lone) × (older : List ℕ) × StandsAlone T.runs T.number ending.old.end l older }
+    requires may { (l : Lone) × (older : List ℕ) × StandsAlone ending.old.end l older }
     ensures count { K.faults sink.old ≤ K.faults sink.new }
     ensures fault { OnErr result (Rose (K.faults sink.old) (K.faults sink.new)) }
-    ensures nv_count { N.faults (T.nv ending.old.end.node) ≤ N.faults (T.nv ending.new.end.node) }
+    ensures nv_count { N.faults ending.old.end.node.store.journal.nv ≤ N.faults ending.new.end.node.store.journal.nv }
     ensures nv_fault { IfOk result (λ heard. IsTrue heard.stopped
-        → Rose (N.faults (T.nv ending.old.end.node)) (N.faults (T.nv ending.new.end.node))) }
+        → Rose (N.faults ending.old.end.node.store.journal.nv) (N.faults ending.new.end.node.store.journal.nv)) }
     ensures within { IfOk result (λ heard. heard.count ≤ length bytes.now) }
     ensures all { IfOk result (λ heard. heard.stopped ≡ false → heard.count ≡ length bytes.now) }
     ensures may { IfOk result (λ heard. heard.stopped ≡ false
-        → (l : Lone) × (older : List ℕ) × StandsAlone T.runs T.number ending.new.end l older) }
+        → (l : Lone) × (older : List ℕ) × StandsAlone ending.new.end l older) }
     ensures counted { ending.new.count ≡ ending.old.count }
     ensures goes { IfOk result (λ heard. (o : Began N) (came earlier before : List ℕ)
-        → IsWaitingAlone N.writes T.nv T.runs T.number K.tells o ending.old.end false came earlier ending.old.out.items before (K.written sink.old)
-        → IsWaitingAlone N.writes T.nv T.runs T.number K.tells o ending.new.end heard.stopped (came ++ take heard.count bytes.now) earlier ending.new.out.items
+        → IsWaitingAlone N.writes K.tells o ending.old.end false came earlier ending.old.out.items before (K.written sink.old)
+        → IsWaitingAlone N.writes K.tells o ending.new.end heard.stopped (came ++ take heard.count bytes.now) earlier ending.new.out.items
         before (K.written sink.new)) }
     ensures ends { OnErr result ((o : Began N) (came earlier before : List ℕ)
-        → IsWaitingAlone N.writes T.nv T.runs T.number K.tells o ending.old.end false came earlier ending.old.out.items before (K.written sink.old)
+        → IsWaitingAlone N.writes K.tells o ending.old.end false came earlier ending.old.out.items before (K.written sink.old)
         → (n : ℕ) × (n ≤ length bytes.now)
-        × IsCutAlone N.writes T.nv T.runs T.number K.tells o ending.new.end (came ++ take n bytes.now) earlier before (K.written sink.new)) }
+        × IsCutAlone N.writes K.tells o ending.new.end (came ++ take n bytes.now) earlier before (K.written sink.new)) }
 {
     let mut at = 0;
     'bytes: while at < bytes.len() {
@@ -117,31 +115,31 @@ fn hear_bytes<K: Sink, N: Nv, T: LoneNode<N> + Drop>(
 }
 
 /// The bytes of a piece come, and all that the node writes for them goes out.
-fn take_bytes<K: Sink, N: Nv, T: LoneNode<N> + Drop>(
+fn take_bytes<K: Sink, N: Nv + Drop>(
     sink: &mut K,
-    ending: &mut Ending<N, T>,
+    ending: &mut Ending<N>,
     piece: &[u8],
 ) -> Result<(), Status>
     requires few { ending.old.count ≤ 16777216 }
     requires size { length piece.now ≤ 8192 }
-    requires may { (l : Lone) × (older : List ℕ) × StandsAlone T.runs T.number ending.old.end l older }
+    requires may { (l : Lone) × (older : List ℕ) × StandsAlone ending.old.end l older }
     requires none { ending.old.out.items ≡ [] }
     ensures count { K.faults sink.old ≤ K.faults sink.new }
     ensures write_fault { result ≡ Err Status.WriteFault → Rose (K.faults sink.old) (K.faults sink.new) }
-    ensures nv_count { N.faults (T.nv ending.old.end.node) ≤ N.faults (T.nv ending.new.end.node) }
-    ensures nv_fault { result ≡ Err Status.NvFault → Rose (N.faults (T.nv ending.old.end.node)) (N.faults (T.nv ending.new.end.node)) }
+    ensures nv_count { N.faults ending.old.end.node.store.journal.nv ≤ N.faults ending.new.end.node.store.journal.nv }
+    ensures nv_fault { result ≡ Err Status.NvFault → Rose (N.faults ending.old.end.node.store.journal.nv) (N.faults ending.new.end.node.store.journal.nv) }
     ensures kind { IfErr result IsOfEnd }
     ensures few { OnOk result (ending.new.count ≤ 16777216) }
     ensures counted { OnOk result (ending.new.count ≡ ending.old.count + length piece.now) }
-    ensures may { OnOk result ((l : Lone) × (older : List ℕ) × StandsAlone T.runs T.number ending.new.end l older) }
+    ensures may { OnOk result ((l : Lone) × (older : List ℕ) × StandsAlone ending.new.end l older) }
     ensures none { OnOk result (ending.new.out.items ≡ []) }
     ensures goes { OnOk result ((o : Began N) (bytes before : List ℕ)
-        → HasHeardAlone N.writes T.nv T.runs T.number K.tells o ending.old.end false bytes before (K.written sink.old)
-        → HasHeardAlone N.writes T.nv T.runs T.number K.tells o ending.new.end false (bytes ++ piece.now) before (K.written sink.new)) }
+        → HasHeardAlone N.writes K.tells o ending.old.end false bytes before (K.written sink.old)
+        → HasHeardAlone N.writes K.tells o ending.new.end false (bytes ++ piece.now) before (K.written sink.new)) }
     ensures ends { IfErr result (λ status. (given : ℕ) (o : Began N) (bytes left before : List ℕ) → ending.old.count ≡ length bytes
         → length piece.now ≤ given
-        → HasHeardAlone N.writes T.nv T.runs T.number K.tells o ending.old.end false bytes before (K.written sink.old)
-        → EndedInBytes N.writes T.nv T.runs T.number K.tells given o ending.new.end status (bytes ++ piece.now ++ left) left before (K.written sink.new)) }
+        → HasHeardAlone N.writes K.tells o ending.old.end false bytes before (K.written sink.old)
+        → EndedInBytes N.writes K.tells given o ending.new.end status (bytes ++ piece.now ++ left) left before (K.written sink.new)) }
 {
     let few = piece
         .len()
@@ -166,12 +164,12 @@ fn take_bytes<K: Sink, N: Nv, T: LoneNode<N> + Drop>(
     }
 }
 
-impl<N: Nv, T: LoneNode<N> + Drop> Job for Ending<N, T> {
+impl<N: Nv + Drop> Job for Ending<N> {
     ghost use Rattle.std.specs.Prelude.{◌+◌, ◌-◌, ◌≤◌, length};
     ghost use Rattle.swp_words.specs.Records.{most_bytes, piece_of};
     ghost use Rattle.swp_words.specs.Ends.{Began, MayHearOn, IsHearing, EndedAlone, IsOfLone};
 
-    ghost goes_on = { λ e. MayHearOn T.runs T.number e.end e.out.items e.count };
+    ghost goes_on = { λ e. MayHearOn e.end e.out.items e.count };
 
     ghost bound = { λ e. most_bytes - e.count };
 
@@ -180,12 +178,12 @@ impl<N: Nv, T: LoneNode<N> + Drop> Job for Ending<N, T> {
     ghost Origin = { Began N };
 
     ghost under_way = { λ tells o e input left before after.
-        IsHearing N.writes T.nv T.runs T.number tells o e.end e.count input left before after };
+        IsHearing N.writes tells o e.end e.count input left before after };
 
     ghost ended = { λ tells given o e status input left before after.
-        EndedAlone N.writes T.nv T.runs T.number tells given o e.end e.count status input left before after };
+        EndedAlone N.writes tells given o e.end e.count status input left before after };
 
-    ghost memory_faults = { λ e. N.faults (T.nv e.end.node) };
+    ghost memory_faults = { λ e. N.faults e.end.node.store.journal.nv };
 
     ghost is_ending = { IsOfLone };
 
@@ -213,25 +211,26 @@ impl<N: Nv, T: LoneNode<N> + Drop> Job for Ending<N, T> {
 
 /// What a node wrote as it began goes out, and then the bytes come that the source has left, unless it has lost its power. What the bytes of a
 /// read cause is written before the next one.
-fn hear_all<S: Source, K: Sink, N: Nv, T: LoneNode<N> + Drop>(
+fn hear_all<S: Source, K: Sink, N: Nv + Drop>(
     alloc: Global,
     source: &mut S,
     sink: &mut K,
-    ending: &mut Ending<N, T>,
+    ending: &mut Ending<N>,
     stopped: bool,
 ) -> Status
     requires none { ending.old.count ≡ 0 }
-    requires may { stopped ≡ false → (l : Lone) × (older : List ℕ) × StandsAlone T.runs T.number ending.old.end l older }
+    requires may { stopped ≡ false → (l : Lone) × (older : List ℕ) × StandsAlone ending.old.end l older }
     ensures kind { IsOfLone result }
-    ensures nv_fault { result ≡ Status.NvFault → (stopped ≡ true) ⊎ Rose (N.faults (T.nv ending.old.end.node)) (N.faults (T.nv ending.new.end.node)) }
+    ensures nv_fault { result ≡ Status.NvFault → (stopped ≡ true)
+        ⊎ Rose (N.faults ending.old.end.node.store.journal.nv) (N.faults ending.new.end.node.store.journal.nv) }
     ensures nv_kept { stopped ≡ true → ending.new.end ≡ ending.old.end }
-    ensures ran { IsTrue S.tells → (o : Began N) (is_clf : Bool) → ending.old.end.form ≡ o.form → T.number ≡ (if is_clf then 0 else 2)
-        → HasRun N.writes T.nv T.runs T.number o.content o.first ending.old.end stopped [] ending.old.out.items
+    ensures ran { IsTrue S.tells → (o : Began N) (is_clf : Bool) → IsEndOf o ending.old.end → o.number ≡ (if is_clf then 0 else 2)
+        → HasRun N.writes o.content o.first ending.old.end stopped [] ending.old.out.items
         → RanSo N.writes K.tells (S.end source.new).given
-        (form_named o.form) is_clf o.content o.first (T.nv ending.new.end.node) result (S.left source.old) (S.left source.new)
+        (form_named o.form) is_clf o.content o.first ending.new.end.node.store.journal.nv result (S.left source.old) (S.left source.new)
         (K.written sink.old) (K.written sink.new) }
-    ensures ahead { IsTrue S.tells → (o : Began N) → ending.old.end.form ≡ o.form
-        → HasRun N.writes T.nv T.runs T.number o.content o.first ending.old.end stopped [] ending.old.out.items
+    ensures ahead { IsTrue S.tells → (o : Began N) → IsEndOf o ending.old.end
+        → HasRun N.writes o.content o.first ending.old.end stopped [] ending.old.out.items
         → length (S.left source.old) ≤ most_bytes + 4096 + length (S.left source.new) }
     ensures read_fault { result ≡ Status.ReadFault → Rose (S.faults source.old) (S.faults source.new) }
     ensures write_fault { result ≡ Status.WriteFault → Rose (K.faults sink.old) (K.faults sink.new) }
@@ -250,36 +249,30 @@ fn hear_all<S: Source, K: Sink, N: Nv, T: LoneNode<N> + Drop>(
 }
 
 /// A node that has booted runs at the end of a link.
-fn run_alone<S: Source, K: Sink, N: Nv, T: LoneNode<N> + Drop>(
+fn run_alone<S: Source, K: Sink, N: Nv + Drop>(
     alloc: Global,
     source: &mut S,
     sink: &mut K,
-    node: T,
-    form: Form,
-    is_clf: bool,
+    node: RunningNode<N>,
+    asked: EndAsked,
 ) -> Ended<N>
-    requires may { (l : Lone) × T.runs node l [] }
-    requires role { T.number ≡ (if is_clf then 0 else 2) }
+    requires may { (l : Lone) × RunsAlone node l [] }
+    requires role { node.number ≡ (if asked.is_clf then 0 else 2) }
     ensures kind { IsOfLone result.status }
-    ensures nv_fault { result.status ≡ Status.NvFault → Rose (N.faults (T.nv node)) (N.faults result.nv) }
-    ensures ran { IsTrue S.tells → (content : List ℕ) → HasBooted N.writes T.nv T.runs T.number content (T.nv node) node
+    ensures nv_fault { result.status ≡ Status.NvFault → Rose (N.faults node.store.journal.nv) (N.faults result.nv) }
+    ensures ran { IsTrue S.tells → (content : List ℕ) → HasBooted N.writes content node.store.journal.nv node
         → RanSo N.writes K.tells (S.end source.new).given
-        (form_named form) is_clf content (T.nv node) result.nv result.status (S.left source.old) (S.left source.new)
+        (form_named asked.form) asked.is_clf content node.store.journal.nv result.nv result.status (S.left source.old) (S.left source.new)
         (K.written sink.old) (K.written sink.new) }
-    ensures ahead { IsTrue S.tells → (content : List ℕ) → HasBooted N.writes T.nv T.runs T.number content (T.nv node) node
+    ensures ahead { IsTrue S.tells → (content : List ℕ) → HasBooted N.writes content node.store.journal.nv node
         → length (S.left source.old) ≤ most_bytes + 4096 + length (S.left source.new) }
     ensures read_fault { result.status ≡ Status.ReadFault → Rose (S.faults source.old) (S.faults source.new) }
     ensures write_fault { result.status ≡ Status.WriteFault → Rose (K.faults sink.old) (K.faults sink.new) }
     ensures late { (S.end source.old).ended ≡ false → (S.end source.new).late ≡ (S.end source.old).late }
 {
     let mut out = Output::new();
-    let (end, stopped) = begin(node, form, is_clf, &mut out);
-    let mut ending = Ending {
-        end,
-        out,
-        count: 0,
-        of: PhantomData,
-    };
+    let (end, stopped) = begin(node, asked.form, &mut out);
+    let mut ending = Ending { end, out, count: 0 };
     let status = hear_all(alloc, source, sink, &mut ending, stopped);
     Ended {
         status,
@@ -342,73 +335,8 @@ pub fn run_end<S: Source, K: Sink, N: Nv + Drop>(
         → most_bytes < length (S.left source.old) → ¬ Rose (S.faults source.old) (S.faults source.new) → ¬ Rose (K.faults sink.old) (K.faults sink.new)
         → ¬ Rose (N.faults nv) (N.faults result.nv) → (result.status ≡ Status.TooMany 16777217) ⊎ (result.status ≡ Status.NoMemory) }
 {
-    if asked.is_clf {
-        run_controller(alloc, source, sink, nv, asked.form)
-    } else {
-        run_host(alloc, source, sink, nv, asked.form)
-    }
-}
-
-/// Host 02 runs alone at the end of the UICC, over a memory.
-fn run_host<S: Source, K: Sink, N: Nv + Drop>(
-    alloc: Global,
-    source: &mut S,
-    sink: &mut K,
-    nv: N,
-    form: Form,
-) -> Ended<N>
-    requires { N.capacity nv ≡ 65536 }
-    ensures ended { IsTrue S.tells → IsTrue N.tells → EndedSo N.reads N.writes N.content K.tells (S.end source.new).given
-        (form_named form) false nv result.nv result.status
-        (S.left source.old) (S.left source.new) (K.written sink.old) (K.written sink.new) }
-    ensures ahead { IsTrue S.tells → IsTrue N.tells → length (S.left source.old) ≤ most_bytes + 4096 + length (S.left source.new) }
-    ensures image { IsTrue N.tells → (f : Bad) → image_fault (N.content nv) ≡ Some f → ¬ Rose (N.faults nv) (N.faults result.nv)
-        → (result.status ≡ Status.BadImage f) ⊎ (result.status ≡ Status.NoMemory) }
-    ensures refuses { IsTrue N.tells → (f : Bad) → (result.status ≡ Status.BadImage f)
-        ↔ (IsRefusedFor f (N.content nv) × (result.status ≢ Status.NoMemory) × (result.status ≢ Status.NvFault)) }
-    ensures untouched { (f : Bad) → result.status ≡ Status.BadImage f → (source.new ≡ source.old) × (sink.new ≡ sink.old) }
-    ensures unwritten { (f : Bad) → result.status ≡ Status.BadImage f → IsOnlyRead N.reads N.tells N.content nv result.nv }
-    ensures never_begins { IsTrue N.tells → (f : Bad) → IsRefusedFor f (N.content nv) → (source.new ≡ source.old) × (sink.new ≡ sink.old) }
-    ensures kind { IsOfEndWord result.status }
-    ensures nv_fault { result.status ≡ Status.NvFault → Rose (N.faults nv) (N.faults result.nv) }
-    ensures read_fault { result.status ≡ Status.ReadFault → Rose (S.faults source.old) (S.faults source.new) }
-    ensures write_fault { result.status ≡ Status.WriteFault → Rose (K.faults sink.old) (K.faults sink.new) }
-    ensures late { (S.end source.old).ended ≡ false → (S.end source.new).late ≡ (S.end source.old).late }
-{
-    match boot_host(alloc, nv) {
-        Ok(node) => run_alone(alloc, source, sink, node, form, false),
-        Err(unbooted) => refused_boot(unbooted),
-    }
-}
-
-/// The controller runs alone at the end of the CLF, over a memory.
-fn run_controller<S: Source, K: Sink, N: Nv + Drop>(
-    alloc: Global,
-    source: &mut S,
-    sink: &mut K,
-    nv: N,
-    form: Form,
-) -> Ended<N>
-    requires { N.capacity nv ≡ 65536 }
-    ensures ended { IsTrue S.tells → IsTrue N.tells → EndedSo N.reads N.writes N.content K.tells (S.end source.new).given
-        (form_named form) true nv result.nv result.status
-        (S.left source.old) (S.left source.new) (K.written sink.old) (K.written sink.new) }
-    ensures ahead { IsTrue S.tells → IsTrue N.tells → length (S.left source.old) ≤ most_bytes + 4096 + length (S.left source.new) }
-    ensures image { IsTrue N.tells → (f : Bad) → image_fault (N.content nv) ≡ Some f → ¬ Rose (N.faults nv) (N.faults result.nv)
-        → (result.status ≡ Status.BadImage f) ⊎ (result.status ≡ Status.NoMemory) }
-    ensures refuses { IsTrue N.tells → (f : Bad) → (result.status ≡ Status.BadImage f)
-        ↔ (IsRefusedFor f (N.content nv) × (result.status ≢ Status.NoMemory) × (result.status ≢ Status.NvFault)) }
-    ensures untouched { (f : Bad) → result.status ≡ Status.BadImage f → (source.new ≡ source.old) × (sink.new ≡ sink.old) }
-    ensures unwritten { (f : Bad) → result.status ≡ Status.BadImage f → IsOnlyRead N.reads N.tells N.content nv result.nv }
-    ensures never_begins { IsTrue N.tells → (f : Bad) → IsRefusedFor f (N.content nv) → (source.new ≡ source.old) × (sink.new ≡ sink.old) }
-    ensures kind { IsOfEndWord result.status }
-    ensures nv_fault { result.status ≡ Status.NvFault → Rose (N.faults nv) (N.faults result.nv) }
-    ensures read_fault { result.status ≡ Status.ReadFault → Rose (S.faults source.old) (S.faults source.new) }
-    ensures write_fault { result.status ≡ Status.WriteFault → Rose (K.faults sink.old) (K.faults sink.new) }
-    ensures late { (S.end source.old).ended ≡ false → (S.end source.new).late ≡ (S.end source.old).late }
-{
-    match boot_controller(alloc, nv) {
-        Ok(node) => run_alone(alloc, source, sink, node, form, true),
+    match boot(alloc, asked.is_clf, nv) {
+        Ok(node) => run_alone(alloc, source, sink, node, asked),
         Err(unbooted) => refused_boot(unbooted),
     }
 }

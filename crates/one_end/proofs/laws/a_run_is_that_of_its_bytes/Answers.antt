@@ -1,10 +1,6 @@
 -- A run is that of its bytes.
-use Rattle.std.proofs.Common.{subst}
-use Rattle.one_end.specs.Standing.{HasRun}
 use Rattle.one_end.proofs.Growing.{is_run_of}
 use Rattle.one_end.proofs.laws.a_run_is_that_of_its_bytes.Goals as goal
 
 pub returns : goal.returns
-returns g c is_clf content first stopped bytes written is b =
-    is_run_of g.N.Nv.writes g.T.LoneNode.nv g.T.LoneNode.runs is_clf content first c.args.end.now stopped bytes written
-    (subst (λ n. HasRun g.N.Nv.writes g.T.LoneNode.nv g.T.LoneNode.runs n content first c.args.end.now stopped bytes written) is b)
+returns g c is_clf content first stopped bytes written is b = is_run_of g.N.Nv.writes is_clf content first c.args.end.now stopped bytes written is b

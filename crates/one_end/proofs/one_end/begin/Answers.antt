@@ -1,6 +1,7 @@
 -- A node begins.
-use Rattle.std.proofs.Common.{◌≡◌, ◌∙◌, [], map, ap, subst}
+use Rattle.std.proofs.Common.{◌≡◌, ◌∙◌, ◌==◌, [], map, ap, sym, subst}
 use Rattle.lone_laws.specs.alone.Ends.{first_comes}
+use Rattle.one_end.specs.declared.one_end.OneEnd.{OneEnd}
 use Rattle.one_end.specs.Running.{cause_of, all_answered, HasAnswered, RunsYet}
 use Rattle.one_end.specs.Standing.{IsAlone}
 use Rattle.one_end.specs.Writing.{form_named}
@@ -11,20 +12,20 @@ use Rattle.one_end.proofs.one_end.begin.Goals as goal
 pub returns-clause-begun : goal.returns-clause-begun
 returns-clause-begun g c l runs =
     let form = form_named c.args.form in
-    let given : map cause_of c.as_slice.result.now ≡ first_comes form g.T.LoneNode.number =
-    ap (map cause_of) c.as_slice.ensures.value ∙ c.first_comings-comings.ensures.causes g.T.LoneNode.number c.requires.role in
-    same_causes g.N.Nv.writes form (first_comes form g.T.LoneNode.number) l given
-    (stands_as g.N.Nv.writes form (RunsYet (g.T.LoneNode.runs c.answer_all-stopped.new.node) c.answer_all-stopped.result)
-    (IsAlone g.T.LoneNode.runs g.T.LoneNode.number
-    (record { form = c.args.form; is_clf = c.args.is_clf; reader = c.new.result; node = c.answer_all-stopped.new.node }) [] c.answer_all-stopped.result)
-    (map cause_of c.as_slice.result.now) l
+    let number = c.args.node.number in
+    let behind = c.answer_all-stopped.new.node in
+    let role : (number == 0) ≡ (c.number-is_clf.result == 0) = ap (λ n. n == 0) (sym c.number-is_clf.ensures) in
+    let given : map cause_of c.as_slice.result.now ≡ first_comes form number =
+    ap (map cause_of) c.as_slice.ensures.value ∙ c.first_comings-comings.ensures.causes number role in
+    same_causes g.N.Nv.writes form (first_comes form number) l given
+    (stands_as g.N.Nv.writes form (RunsYet behind c.answer_all-stopped.result)
+    (IsAlone (record { form = c.args.form; reader = c.new.result; node = behind }) [] c.answer_all-stopped.result) (map cause_of c.as_slice.result.now) l
     (λ k b. (
       b.0,
       λ on. record {
         runs = b.1 on;
-        role = c.requires.role;
         form_is = c.new.ensures.form;
-        reads = c.new.ensures.stands g.T.LoneNode.number c.requires.role;
+        reads = c.new.ensures.stands behind.number (ap (λ n. n == 0) c.answer_all-stopped.ensures.number ∙ role);
       },
     )) (c.answer_all-stopped.ensures.done l runs))
 
@@ -36,11 +37,9 @@ returns-clause-may g c on =
 
 pub returns-clause-run : goal.returns-clause-run
 returns-clause-run g c content first b =
-    has_begun g.N.Nv.writes g.T.LoneNode.nv g.T.LoneNode.runs g.T.LoneNode.number content first c.args.node
-    (record { form = c.args.form; is_clf = c.args.is_clf; reader = c.new.result; node = c.answer_all-stopped.new.node }) c.answer_all-stopped.result
-    c.answer_all-stopped.new.out.items b
-    (λ l runs. subst (λ z. HasAnswered g.N.Nv.writes (g.T.LoneNode.nv c.args.node) (g.T.LoneNode.nv c.answer_all-stopped.new.node)
-    (IsAlone g.T.LoneNode.runs g.T.LoneNode.number
-    (record { form = c.args.form; is_clf = c.args.is_clf; reader = c.new.result; node = c.answer_all-stopped.new.node }) [] c.answer_all-stopped.result)
-    (λ m. all_answered (form_named c.args.form) (over l m) (first_comes (form_named c.args.form) g.T.LoneNode.number)) z
+    let behind = c.answer_all-stopped.new.node in
+    let e : OneEnd g.row.N.Denot = record { form = c.args.form; reader = c.new.result; node = behind } in
+    has_begun g.N.Nv.writes content first c.args.node e c.answer_all-stopped.result c.answer_all-stopped.new.out.items c.answer_all-stopped.ensures.number b
+    (λ l runs. subst (λ z. HasAnswered g.N.Nv.writes c.args.node.store.journal.nv behind.store.journal.nv (IsAlone e [] c.answer_all-stopped.result)
+    (λ m. all_answered (form_named c.args.form) (over l m) (first_comes (form_named c.args.form) c.args.node.number)) z
     c.answer_all-stopped.new.out.items) c.requires.empty (returns-clause-begun g c l runs))

@@ -1,16 +1,35 @@
--- Bytes come.
-use Rattle.std.proofs.Common.{◌++◌, reverse, take}
-use Rattle.one_end.proofs.Growing.{has_heard}
+-- Bytes come, which begin with a whole unit of a byte link, or not.
+use Rattle.std.proofs.Common.{◌+◌, length, take, refl}
+use Rattle.one_end.proofs.Growing.{unit_heard, has_heard, goes_on}
 use Rattle.one_end.proofs.one_end.hear.Goals as goal
 
-pub returns-clause-may : goal.returns-clause-may
-returns-clause-may g c on =
-    let may = c.requires.may in
-    let b = (c.hear_stretch.ensures.heard may.0 may.1 may.2).brings in
-    (b.after, reverse (take c.hear_stretch.result.count c.args.bytes.now) ++ may.1, b.stands.1 on)
+-- they begin with a whole unit
+pub returns-in-Some-clause-run : goal.returns-in-Some-clause-run
+returns-in-Some-clause-run g c content came written first b =
+    let d = c.args.end.now in
+    let k = c.answer-stopped in
+    let unit = take (length c.in-Some.lpdu.now + 4) c.args.bytes.now in
+    has_heard g.N.Nv.writes content first d (record d { node = k.new.node }) unit k.result came written c.args.out.now.items k.new.out.items
+    refl k.ensures.number b
+    (unit_heard g.N.Nv.writes d k.new.node unit c.in-Some.lpdu.now c.lpdu_of.result c.lpdu_of.ensures k.ensures.number c.in-Some.ensures.stands
+    c.in-Some.ensures.brings k.ensures.done)
+
+pub returns-in-Some-clause-may : goal.returns-in-Some-clause-may
+returns-in-Some-clause-may g c on =
+    let d = c.args.end.now in
+    let k = c.answer-stopped in
+    let unit = take (length c.in-Some.lpdu.now + 4) c.args.bytes.now in
+    goes_on g.N.Nv.writes d (record d { node = k.new.node }) unit k.result
+    (unit_heard g.N.Nv.writes d k.new.node unit c.in-Some.lpdu.now c.lpdu_of.result c.lpdu_of.ensures k.ensures.number c.in-Some.ensures.stands
+    c.in-Some.ensures.brings k.ensures.done) c.requires.may on
 
 pub returns-clause-run : goal.returns-clause-run
 returns-clause-run g c content came written first b =
-    has_heard g.N.Nv.writes g.T.LoneNode.nv g.T.LoneNode.runs g.T.LoneNode.number content first c.args.end.now c.hear_stretch.new.end
-    (take c.hear_stretch.result.count c.args.bytes.now) c.hear_stretch.result.stopped came written c.args.out.now.items c.hear_stretch.new.out.items
-    c.hear_stretch.ensures.form b (λ l s. c.hear_stretch.ensures.heard l (reverse came) s)
+    let k = c.hear_in_parts in
+    has_heard g.N.Nv.writes content first c.args.end.now k.new.end (take k.result.count c.args.bytes.now) k.result.stopped came written
+    c.args.out.now.items k.new.out.items k.ensures.form k.ensures.number b k.ensures.heard
+
+pub returns-clause-may : goal.returns-clause-may
+returns-clause-may g c on =
+    let k = c.hear_in_parts in
+    goes_on g.N.Nv.writes c.args.end.now k.new.end (take k.result.count c.args.bytes.now) k.result.stopped k.ensures.heard c.requires.may on

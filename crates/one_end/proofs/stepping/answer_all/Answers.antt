@@ -2,6 +2,7 @@
 use Rattle.std.proofs.Common.{◌≡◌, ◌≤◌, ◌+◌, ◌∙◌, ◌++◌, ◌∷◌, Bool, true, false, [], ℕ, length, map, take, drop, refl, sym, ap, subst, arith}
 use Rattle.std.proofs.Common.{take_all}
 use Rattle.lone_laws.specs.alone.Lone.{Lone}
+use Rattle.one_end.specs.Alone.{RunsAlone}
 use Rattle.one_end.specs.Running.{cause_of, answers_alone, all_answered, HasAnswered, RunsYet}
 use Rattle.one_end.specs.Writing.{form_named}
 use Rattle.one_end.proofs.Answering.{over, none_came, one_more, stopped_with, next_of, parts_of}
@@ -10,8 +11,8 @@ use Rattle.one_end.proofs.stepping.answer_all.Goals as goal
 pub loop-coming-init : goal.loop-coming-init
 loop-coming-init g c = record {
   some = c.requires.may;
-  done = λ k on. none_came g.N.Nv.writes (form_named c.args.form) (g.T.LoneNode.runs c.args.node.now) k c.args.out.now.items on
-      (g.T.LoneNode.live c.args.node.now k [] on);
+  done = λ k on. none_came g.N.Nv.writes (form_named c.args.form) c.args.node.now k c.args.out.now.items on;
+  number = refl;
   counted = omega arith;
   sized = omega arith;
 }
@@ -21,7 +22,6 @@ answer-requires g c =
     let few : length c.args.comings.now ≤ 4 = c.requires.few in
     record {
       may = c.loop-coming.invariant.some;
-      role = c.requires.role;
       room = omega (arith, few, c.requires.room, c.loop-coming.invariant.sized, c.loop-coming-test.true);
     }
 
@@ -30,15 +30,15 @@ returns-then-answer-clause-done g c l runs =
     let i : ℕ = c.loop-coming.coming-index in
     let cs = c.args.comings.now in
     let x = c.coming-item.result in
-    let F : Bool → Lone → Type 0 = RunsYet (g.T.LoneNode.runs c.answer.new.node) in
-    let one = one_more g.N.Nv.writes (form_named c.args.form) (g.T.LoneNode.runs c.loop-coming.node) (g.T.LoneNode.runs c.answer.new.node)
+    let F : Bool → Lone → Type 0 = RunsYet c.answer.new.node in
+    let one = one_more g.N.Nv.writes (form_named c.args.form) c.loop-coming.node c.answer.new.node
     (map cause_of (take i cs)) (cause_of x) l (c.loop-coming.invariant.done l runs)
-    (λ k on. subst (λ s. HasAnswered g.N.Nv.writes (g.T.LoneNode.nv c.loop-coming.node) (g.T.LoneNode.nv c.answer.new.node) (F s)
+    (λ k on. subst (λ s. HasAnswered g.N.Nv.writes c.loop-coming.node.store.journal.nv c.answer.new.node.store.journal.nv (F s)
     (λ m. answers_alone (form_named c.args.form) (over k m) (cause_of x)) c.loop-coming.out.items c.answer.new.out.items) c.if-answer.true
     (c.answer.ensures.done k on)) in
-    let all = stopped_with g.N.Nv.writes (form_named c.args.form) (g.T.LoneNode.runs c.answer.new.node)
+    let all = stopped_with g.N.Nv.writes (form_named c.args.form) c.answer.new.node
     (map cause_of (take i cs) ++ cause_of x ∷ []) (map cause_of (drop (i + 1) cs)) l one in
-    subst (λ causes. HasAnswered g.N.Nv.writes (g.T.LoneNode.nv c.args.node.now) (g.T.LoneNode.nv c.answer.new.node) (F true)
+    subst (λ causes. HasAnswered g.N.Nv.writes c.args.node.now.store.journal.nv c.answer.new.node.store.journal.nv (F true)
     (λ m. all_answered (form_named c.args.form) (over l m) causes) c.args.out.now.items c.answer.new.out.items)
     (ap (λ first. first ++ map cause_of (drop (i + 1) cs)) (sym (next_of cause_of cs i x c.loop-coming-test.true c.coming-item.is))
     ∙ parts_of cause_of cs (i + 1)) all
@@ -48,11 +48,11 @@ loop-coming-preserved g c =
     let i : ℕ = c.loop-coming.coming-index in
     let cs = c.args.comings.now in
     let x = c.coming-item.result in
-    let F : Bool → Lone → Type 0 = RunsYet (g.T.LoneNode.runs c.answer.new.node) in
-    let goes : (k : Lone) → g.T.LoneNode.runs c.loop-coming.node k []
-    → HasAnswered g.N.Nv.writes (g.T.LoneNode.nv c.loop-coming.node) (g.T.LoneNode.nv c.answer.new.node) (F false)
+    let F : Bool → Lone → Type 0 = RunsYet c.answer.new.node in
+    let goes : (k : Lone) → RunsAlone c.loop-coming.node k []
+    → HasAnswered g.N.Nv.writes c.loop-coming.node.store.journal.nv c.answer.new.node.store.journal.nv (F false)
     (λ m. answers_alone (form_named c.args.form) (over k m) (cause_of x)) c.loop-coming.out.items c.answer.new.out.items =
-    λ k on. subst (λ s. HasAnswered g.N.Nv.writes (g.T.LoneNode.nv c.loop-coming.node) (g.T.LoneNode.nv c.answer.new.node) (F s)
+    λ k on. subst (λ s. HasAnswered g.N.Nv.writes c.loop-coming.node.store.journal.nv c.answer.new.node.store.journal.nv (F s)
     (λ m. answers_alone (form_named c.args.form) (over k m) (cause_of x)) c.loop-coming.out.items c.answer.new.out.items) c.if-answer.false
     (c.answer.ensures.done k on) in
     let some = c.loop-coming.invariant.some in
@@ -60,11 +60,12 @@ loop-coming-preserved g c =
     record {
       some = (b.after, b.stands.1 refl);
       done = λ l runs.
-          let one = one_more g.N.Nv.writes (form_named c.args.form) (g.T.LoneNode.runs c.loop-coming.node) (g.T.LoneNode.runs c.answer.new.node)
+          let one = one_more g.N.Nv.writes (form_named c.args.form) c.loop-coming.node c.answer.new.node
           (map cause_of (take i cs)) (cause_of x) l (c.loop-coming.invariant.done l runs) goes in
-          subst (λ causes. HasAnswered g.N.Nv.writes (g.T.LoneNode.nv c.args.node.now) (g.T.LoneNode.nv c.answer.new.node) (F false)
+          subst (λ causes. HasAnswered g.N.Nv.writes c.args.node.now.store.journal.nv c.answer.new.node.store.journal.nv (F false)
           (λ m. all_answered (form_named c.args.form) (over l m) causes) c.args.out.now.items c.answer.new.out.items)
           (sym (next_of cause_of cs i x c.loop-coming-test.true c.coming-item.is)) one;
+      number = c.answer.ensures.number ∙ c.loop-coming.invariant.number;
       counted = omega (arith, c.loop-coming.invariant.counted, c.answer.ensures.count);
       sized = omega (arith, c.loop-coming.invariant.sized, c.answer.ensures.sized);
     }
@@ -73,6 +74,6 @@ pub returns-clause-done : goal.returns-clause-done
 returns-clause-done g c l runs =
     let cs = c.args.comings.now in
     let most : c.loop-coming.coming-index ≡ length cs = omega (arith, c.loop-coming-test.false, c.loop-coming.auto.coming-index-end) in
-    subst (λ causes. HasAnswered g.N.Nv.writes (g.T.LoneNode.nv c.args.node.now) (g.T.LoneNode.nv c.loop-coming.node)
-    (RunsYet (g.T.LoneNode.runs c.loop-coming.node) false) (λ m. all_answered (form_named c.args.form) (over l m) causes) c.args.out.now.items
+    subst (λ causes. HasAnswered g.N.Nv.writes c.args.node.now.store.journal.nv c.loop-coming.node.store.journal.nv
+    (RunsYet c.loop-coming.node false) (λ m. all_answered (form_named c.args.form) (over l m) causes) c.args.out.now.items
     c.loop-coming.out.items) (ap (map cause_of) (take_all c.loop-coming.coming-index cs c.loop-coming-test.false)) (c.loop-coming.invariant.done l runs)

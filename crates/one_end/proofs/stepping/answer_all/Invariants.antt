@@ -1,6 +1,7 @@
 -- The first of them came.
-use Rattle.std.proofs.Common.{◌≤◌, ◌+◌, ◌*◌, false, [], length, map, take}
+use Rattle.std.proofs.Common.{◌≡◌, ◌≤◌, ◌+◌, ◌*◌, false, [], length, map, take}
 use Rattle.lone_laws.specs.alone.Lone.{Lone}
+use Rattle.one_end.specs.Alone.{RunsAlone}
 use Rattle.one_end.specs.Running.{cause_of, all_answered, HasAnswered, RunsYet}
 use Rattle.one_end.specs.Writing.{form_named}
 use Rattle.one_end.proofs.Answering.{over}
@@ -8,10 +9,11 @@ use Rattle.one_end.proofs.stepping.answer_all.Given as goal
 
 abbrev pub invariant-loop-coming : goal.invariant-loop-coming
 invariant-loop-coming g l = record {
-  some : (k : Lone) × g.T.LoneNode.runs l.node k [];
-  done : (k : Lone) → g.T.LoneNode.runs l.fn.node k [] → HasAnswered g.N.Nv.writes (g.T.LoneNode.nv l.fn.node) (g.T.LoneNode.nv l.node)
-      (RunsYet (g.T.LoneNode.runs l.node) false) (λ m. all_answered (form_named l.fn.form) (over k m) (map cause_of (take l.coming-index l.fn.comings)))
+  some : (k : Lone) × RunsAlone l.node k [];
+  done : (k : Lone) → RunsAlone l.fn.node k [] → HasAnswered g.N.Nv.writes l.fn.node.store.journal.nv l.node.store.journal.nv
+      (RunsYet l.node false) (λ m. all_answered (form_named l.fn.form) (over k m) (map cause_of (take l.coming-index l.fn.comings)))
       l.fn.out.items l.out.items;
-  counted : g.N.Nv.faults (g.T.LoneNode.nv l.fn.node) ≤ g.N.Nv.faults (g.T.LoneNode.nv l.node);
+  number : l.node.number ≡ l.fn.node.number;
+  counted : g.N.Nv.faults l.fn.node.store.journal.nv ≤ g.N.Nv.faults l.node.store.journal.nv;
   sized : length l.out.items ≤ length l.fn.out.items + l.coming-index * 10982;
 }

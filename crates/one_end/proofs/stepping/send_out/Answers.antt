@@ -1,10 +1,11 @@
 -- Frames go out one after another.
-use Rattle.std.proofs.Common.{◌≡◌, ◌∙◌, [], List, append-nil, refl, sym, subst, arith}
+use Rattle.std.proofs.Common.{◌≡◌, ◌∙◌, ◌==◌, ◌∷◌, [], List, append-nil, refl, sym, ap, subst, arith}
 use Rattle.swp_base.specs.declared.control_frames.Control.{Control}
 use Rattle.lone_laws.specs.alone.Lone.{Lone}
-use Rattle.one_end.specs.Running.{HasSentFirst}
+use Rattle.one_end.specs.Alone.{RunsAlone}
 use Rattle.one_end.specs.Writing.{form_named}
-use Rattle.one_end.proofs.Sending.{HasSent, all_sent, sent_most, one_sent, left_then}
+use Rattle.one_end.proofs.Alone.{sends_first}
+use Rattle.one_end.proofs.Sending.{HasSent, HasSentFirst, all_sent, sent_most, one_sent, left_then}
 use Rattle.one_end.proofs.stepping.send_out.Goals as goal
 
 pub loop-init : goal.loop-init
@@ -23,23 +24,28 @@ loop-init g c =
         };
         sized = omega arith;
       };
-      nv = refl;
+      store = refl;
+      number = refl;
     }
 
 pub next_out-next-requires : goal.next_out-next-requires
-next_out-next-requires g c = record { may = c.loop.invariant.sends.some }
+next_out-next-requires g c = let a = c.loop.invariant.sends.some.2 in record { runs = (a.core, a.port ∷ [], a.runs) }
 
 pub returns-in_default-clause-sent : goal.returns-in_default-clause-sent
 returns-in_default-clause-sent g c l frames runs few =
-    let Later : Lone → List Control → Type 0 = g.T.LoneNode.runs c.next_out-next.new.self in
+    let k = c.next_out-next in
+    let Later : Lone → List Control → Type 0 = RunsAlone k.new.self in
     (all_sent (c.loop.invariant.sends.all l frames runs few) Later
-    (λ left r. subst (λ o. HasSentFirst Later l o left) c.in_default.is (c.next_out-next.ensures.sent l left r))).0
+    (λ left a. subst (λ o. HasSentFirst Later l o left) c.in_default.is
+    (sends_first l left a k.result (k.ensures.answer a.core (a.port ∷ []) a.runs) (k.ensures.runs a.core (a.port ∷ []) a.runs)))).0
 
 pub returns-in_default-clause-written : goal.returns-in_default-clause-written
 returns-in_default-clause-written g c l frames runs few =
-    let Later : Lone → List Control → Type 0 = g.T.LoneNode.runs c.next_out-next.new.self in
+    let k = c.next_out-next in
+    let Later : Lone → List Control → Type 0 = RunsAlone k.new.self in
     (all_sent (c.loop.invariant.sends.all l frames runs few) Later
-    (λ left r. subst (λ o. HasSentFirst Later l o left) c.in_default.is (c.next_out-next.ensures.sent l left r))).1
+    (λ left a. subst (λ o. HasSentFirst Later l o left) c.in_default.is
+    (sends_first l left a k.result (k.ensures.answer a.core (a.port ∷ []) a.runs) (k.ensures.runs a.core (a.port ∷ []) a.runs)))).1
 
 pub returns-in_default-clause-sized : goal.returns-in_default-clause-sized
 returns-in_default-clause-sized g c = omega (arith, c.loop.invariant.sends.sized, c.loop.auto.counter-end)
@@ -49,38 +55,34 @@ write_out-requires g c = record { room = omega (arith, c.loop.invariant.sends.si
 
 pub loop-preserved : goal.loop-preserved
 loop-preserved g c =
-    let Later : Lone → List Control → Type 0 = g.T.LoneNode.runs c.next_out-next.new.self in
+    let k = c.next_out-next in
+    let Later : Lone → List Control → Type 0 = RunsAlone k.new.self in
+    let first : (l : Lone) (left : List Control) → RunsAlone c.loop.node l left → HasSentFirst Later l k.result left = λ l left a.
+    sends_first l left a k.result (k.ensures.answer a.core (a.port ∷ []) a.runs) (k.ensures.runs a.core (a.port ∷ []) a.runs) in
     let some = c.loop.invariant.sends.some in
     record {
       sends = record {
-        some = left_then Later some.0 c.next_out-next.result some.1 (c.next_out-next.ensures.sent some.0 some.1 some.2);
+        some = left_then Later some.0 k.result some.1 (first some.0 some.1 some.2);
         all = λ l frames runs few. one_sent (c.loop.invariant.sends.all l frames runs few) Later
-            (λ left r. subst (λ o. HasSentFirst Later l o left) c.in-Some.is (c.next_out-next.ensures.sent l left r))
-            (c.write_out.ensures.written g.T.LoneNode.number c.requires.role);
+            (λ left a. subst (λ o. HasSentFirst Later l o left) c.in-Some.is (first l left a))
+            (c.write_out.ensures.written c.args.node.now.number (ap (λ n. n == 0) (sym c.number-is_clf.ensures)));
         sized = omega (arith, c.loop.invariant.sends.sized, c.write_out.ensures.sized);
       };
-      nv = c.next_out-next.ensures.nv ∙ c.loop.invariant.nv;
+      store = k.ensures.store ∙ c.loop.invariant.store;
+      number = k.ensures.number ∙ c.loop.invariant.number;
     }
 
 pub returns-clause-sent : goal.returns-clause-sent
 returns-clause-sent g c l frames runs few =
     let most : c.loop.counter ≡ 17 = omega (arith, c.loop.auto.counter-end, c.loop-test.false) in
-    (sent_most (subst (λ i. HasSent (g.T.LoneNode.runs c.loop.node) (form_named c.args.form) g.T.LoneNode.number i
-    c.args.out.now.items c.loop.out.items l frames)
+    (sent_most (subst (λ i. HasSent (RunsAlone c.loop.node) (form_named c.args.form) c.args.node.now.number i c.args.out.now.items c.loop.out.items l frames)
     most (c.loop.invariant.sends.all l frames runs few))).0
 
 pub returns-clause-written : goal.returns-clause-written
 returns-clause-written g c l frames runs few =
     let most : c.loop.counter ≡ 17 = omega (arith, c.loop.auto.counter-end, c.loop-test.false) in
-    (sent_most (subst (λ i. HasSent (g.T.LoneNode.runs c.loop.node) (form_named c.args.form) g.T.LoneNode.number i
-    c.args.out.now.items c.loop.out.items l frames)
+    (sent_most (subst (λ i. HasSent (RunsAlone c.loop.node) (form_named c.args.form) c.args.node.now.number i c.args.out.now.items c.loop.out.items l frames)
     most (c.loop.invariant.sends.all l frames runs few))).1
 
 pub returns-clause-sized : goal.returns-clause-sized
 returns-clause-sized g c = omega (arith, c.loop.invariant.sends.sized, c.loop.auto.counter-end)
-
-pub returns-in_default-clause-nv : goal.returns-in_default-clause-nv
-returns-in_default-clause-nv g c = c.next_out-next.ensures.nv ∙ c.loop.invariant.nv
-
-pub returns-clause-nv : goal.returns-clause-nv
-returns-clause-nv g c = c.loop.invariant.nv

@@ -22,13 +22,13 @@ bytes-preserved g c =
           let now = g.K.Sink.written c.make_room.new.sink in
           let front = came ++ take at bytes in
           let n : ℕ = c.hear-heard.result.count in
-          let w = waits_on g.N.Nv.writes g.T.LoneNode.nv g.T.LoneNode.runs g.T.LoneNode.number g.K.Sink.tells o d false front earlier
+          let w = waits_on g.N.Nv.writes g.K.Sink.tells o d false front earlier
           c.bytes.ending.out.items c.make_room.new.out.items before
           (g.K.Sink.written c.bytes.sink) now (kept.waits o came earlier before h) c.in_ok-make_room.ensures.wrote in
-          heard_more g.N.Nv.writes g.T.LoneNode.nv g.T.LoneNode.runs g.T.LoneNode.number g.K.Sink.tells o d e false came bytes at n earlier
+          heard_more g.N.Nv.writes g.K.Sink.tells o d e false came bytes at n earlier
           c.make_room.new.out.items c.hear-heard.new.out.items before now
-          c.hear-heard.ensures.form kept.within w
-          (subst (λ s. HasRun g.N.Nv.writes g.T.LoneNode.nv g.T.LoneNode.runs g.T.LoneNode.number o.content o.first e s
+          c.hear-heard.ensures.form c.hear-heard.ensures.number kept.within w
+          (subst (λ s. HasRun g.N.Nv.writes o.content o.first e s
           (front ++ take n (take (length bytes - at) (drop at bytes)))
           ((earlier ++ w.sent) ++ c.hear-heard.new.out.items)) c.if-heard.false
           (c.hear-heard.ensures.run o.content front (earlier ++ w.sent) o.first w.run));
@@ -44,23 +44,29 @@ returns-then-heard-clause-goes g c o came earlier before h =
     let now = g.K.Sink.written c.make_room.new.sink in
     let front = came ++ take at bytes in
     let n : ℕ = c.hear-heard.result.count in
-    let w = waits_on g.N.Nv.writes g.T.LoneNode.nv g.T.LoneNode.runs g.T.LoneNode.number g.K.Sink.tells o d false front earlier c.bytes.ending.out.items
+    let w = waits_on g.N.Nv.writes g.K.Sink.tells o d false front earlier c.bytes.ending.out.items
     c.make_room.new.out.items before
     (g.K.Sink.written c.bytes.sink) now (kept.waits o came earlier before h) c.in_ok-make_room.ensures.wrote in
-    heard_more g.N.Nv.writes g.T.LoneNode.nv g.T.LoneNode.runs g.T.LoneNode.number g.K.Sink.tells o d e true came bytes at n earlier
+    heard_more g.N.Nv.writes g.K.Sink.tells o d e true came bytes at n earlier
     c.make_room.new.out.items c.hear-heard.new.out.items before now
-    c.hear-heard.ensures.form kept.within w
-    (subst (λ s. HasRun g.N.Nv.writes g.T.LoneNode.nv g.T.LoneNode.runs g.T.LoneNode.number o.content o.first e s
+    c.hear-heard.ensures.form c.hear-heard.ensures.number kept.within w
+    (subst (λ s. HasRun g.N.Nv.writes o.content o.first e s
     (front ++ take n (take (length bytes - at) (drop at bytes)))
     ((earlier ++ w.sent) ++ c.hear-heard.new.out.items)) c.if-heard.true
     (c.hear-heard.ensures.run o.content front (earlier ++ w.sent) o.first w.run))
+
+pub returns-then-heard-clause-nv_fault : goal.returns-then-heard-clause-nv_fault
+returns-then-heard-clause-nv_fault g c on =
+    let rose = c.hear-heard.ensures.rose c.if-heard.true in
+    let count = c.bytes.invariant.memory in
+    omega (arith, rose, count)
 
 pub returns-in_err-make_room-clause-ends : goal.returns-in_err-make_room-clause-ends
 returns-in_err-make_room-clause-ends g c =
     on_err _ c.from_residual.result (λ o came earlier before h. (
       c.bytes.at,
       c.bytes.invariant.within,
-      is_cut g.N.Nv.writes g.T.LoneNode.nv g.T.LoneNode.runs g.T.LoneNode.number g.K.Sink.tells o c.bytes.ending.end false
+      is_cut g.N.Nv.writes g.K.Sink.tells o c.bytes.ending.end false
           (came ++ take c.bytes.at c.args.bytes.now) earlier c.bytes.ending.out.items before
           (g.K.Sink.written c.bytes.sink) (g.K.Sink.written c.make_room.new.sink) (c.bytes.invariant.waits o came earlier before h)
           c.in_err-make_room.ensures.front,

@@ -10,12 +10,12 @@ invariant-bytes g l = record {
   within : l.at ≤ length l.bytes;
   counted : l.ending.count ≡ l.fn.ending.count;
   writes : g.K.Sink.faults l.fn.sink ≤ g.K.Sink.faults l.sink;
-  memory : g.N.Nv.faults (g.T.LoneNode.nv l.fn.ending.end.node) ≤ g.N.Nv.faults (g.T.LoneNode.nv l.ending.end.node);
-  may : (k : Lone) × (older : List ℕ) × StandsAlone g.T.LoneNode.runs g.T.LoneNode.number l.ending.end k older;
+  memory : g.N.Nv.faults l.fn.ending.end.node.store.journal.nv ≤ g.N.Nv.faults l.ending.end.node.store.journal.nv;
+  may : (k : Lone) × (older : List ℕ) × StandsAlone l.ending.end k older;
   waits : (o : Began g.row.N.Denot) (came earlier before : List ℕ)
-      → IsWaitingAlone g.N.Nv.writes g.T.LoneNode.nv g.T.LoneNode.runs g.T.LoneNode.number g.K.Sink.tells o l.fn.ending.end false came earlier
+      → IsWaitingAlone g.N.Nv.writes g.K.Sink.tells o l.fn.ending.end false came earlier
       l.fn.ending.out.items before (g.K.Sink.written l.fn.sink)
-      → IsWaitingAlone g.N.Nv.writes g.T.LoneNode.nv g.T.LoneNode.runs g.T.LoneNode.number g.K.Sink.tells o l.ending.end false (came ++ take l.at l.bytes)
+      → IsWaitingAlone g.N.Nv.writes g.K.Sink.tells o l.ending.end false (came ++ take l.at l.bytes)
       earlier l.ending.out.items before (g.K.Sink.written l.sink);
 }
 

@@ -1,4 +1,4 @@
--- g.N.Nv.writes g.T.LoneNode.nv g.T.LoneNode.runs g.T.LoneNode.number piece comes to a node alone.
+-- A piece comes to a node alone.
 use Rattle.std.proofs.Common.{◌≡◌, ◌≤◌, ◌<◌, ◌+◌, ◌++◌, ◌∙◌, ℕ, List, true, false, length, take, arith, subst, refl, ap}
 use Rattle.std.proofs.Common.{take_all}
 use Rattle.std.proofs.lemmas.List.{length-take-le}
@@ -16,14 +16,14 @@ returns-in-Err-clause-ends g c given o bytes left before count some h =
     let mid = g.K.Sink.written c.hear_bytes.new.sink in
     let few : ℕ = c.min-few.result in
     let small : few ≤ length piece = omega (arith, c.min-few.ensures) in
-    let w = waits g.N.Nv.writes g.T.LoneNode.nv g.T.LoneNode.runs g.T.LoneNode.number g.K.Sink.tells o d false bytes before was h c.args.ending.now.out.items
+    let w = waits g.N.Nv.writes g.K.Sink.tells o d false bytes before was h c.args.ending.now.out.items
     c.requires.none in
     let cut = c.in-Err.ensures.ends o bytes h.written before w in
     let n : ℕ = cut.0 in
     let within : n ≤ few = omega (arith, cut.1, length-take-le few piece small) in
-    broken_in g.N.Nv.writes g.T.LoneNode.nv g.T.LoneNode.runs g.T.LoneNode.number g.K.Sink.tells o given d e bytes piece left before was mid n
+    broken_in g.N.Nv.writes g.K.Sink.tells o given d e bytes piece left before was mid n
     c.requires.size some h
-    (subst (λ l. IsCutAlone g.N.Nv.writes g.T.LoneNode.nv g.T.LoneNode.runs g.T.LoneNode.number g.K.Sink.tells o e (bytes ++ l) h.written before mid)
+    (subst (λ l. IsCutAlone g.N.Nv.writes g.K.Sink.tells o e (bytes ++ l) h.written before mid)
     (take-take n few piece within) cut.2)
 
 pub returns-in-Err-put_out-clause-ends : goal.returns-in-Err-put_out-clause-ends
@@ -35,19 +35,19 @@ returns-in-Err-put_out-clause-ends g c given o bytes left before count some h =
     let mid = g.K.Sink.written c.hear_bytes.new.sink in
     let few : ℕ = c.min-few.result in
     let small : few ≤ length piece = omega (arith, c.min-few.ensures) in
-    let w = waits g.N.Nv.writes g.T.LoneNode.nv g.T.LoneNode.runs g.T.LoneNode.number g.K.Sink.tells o d false bytes before was h c.args.ending.now.out.items
+    let w = waits g.N.Nv.writes g.K.Sink.tells o d false bytes before was h c.args.ending.now.out.items
     c.requires.none in
     let now = g.K.Sink.written c.put_out.new.sink in
     let items = c.hear_bytes.new.ending.out.items in
     let stopped = c.in-Ok.heard.stopped in
     let n : ℕ = c.in-Ok.heard.count in
     let within : n ≤ few = omega (arith, c.in-Ok.ensures.within, length-take-le few piece small) in
-    let k = subst (λ l. IsWaitingAlone g.N.Nv.writes g.T.LoneNode.nv g.T.LoneNode.runs g.T.LoneNode.number g.K.Sink.tells o e stopped (bytes ++ l) h.written
+    let k = subst (λ l. IsWaitingAlone g.N.Nv.writes g.K.Sink.tells o e stopped (bytes ++ l) h.written
     items before mid) (take-take n few piece within)
     (c.in-Ok.ensures.goes o bytes h.written before w) in
-    broken_in g.N.Nv.writes g.T.LoneNode.nv g.T.LoneNode.runs g.T.LoneNode.number g.K.Sink.tells o given d e bytes piece left before was now n
+    broken_in g.N.Nv.writes g.K.Sink.tells o given d e bytes piece left before was now n
     c.requires.size some h
-    (is_cut g.N.Nv.writes g.T.LoneNode.nv g.T.LoneNode.runs g.T.LoneNode.number g.K.Sink.tells o e stopped (bytes ++ take n piece) h.written items before mid
+    (is_cut g.N.Nv.writes g.K.Sink.tells o e stopped (bytes ++ take n piece) h.written items before mid
     now k c.in-Err-put_out.ensures.front)
 
 pub returns-then-heard-clause-ends : goal.returns-then-heard-clause-ends
@@ -59,20 +59,20 @@ returns-then-heard-clause-ends g c given o bytes left before count some h =
     let mid = g.K.Sink.written c.hear_bytes.new.sink in
     let few : ℕ = c.min-few.result in
     let small : few ≤ length piece = omega (arith, c.min-few.ensures) in
-    let w = waits g.N.Nv.writes g.T.LoneNode.nv g.T.LoneNode.runs g.T.LoneNode.number g.K.Sink.tells o d false bytes before was h c.args.ending.now.out.items
+    let w = waits g.N.Nv.writes g.K.Sink.tells o d false bytes before was h c.args.ending.now.out.items
     c.requires.none in
     let now = g.K.Sink.written c.put_out.new.sink in
     let items = c.hear_bytes.new.ending.out.items in
     let stopped = c.in-Ok.heard.stopped in
     let n : ℕ = c.in-Ok.heard.count in
     let within : n ≤ few = omega (arith, c.in-Ok.ensures.within, length-take-le few piece small) in
-    let k = subst (λ l. IsWaitingAlone g.N.Nv.writes g.T.LoneNode.nv g.T.LoneNode.runs g.T.LoneNode.number g.K.Sink.tells o e stopped (bytes ++ l) h.written
+    let k = subst (λ l. IsWaitingAlone g.N.Nv.writes g.K.Sink.tells o e stopped (bytes ++ l) h.written
     items before mid) (take-take n few piece within)
     (c.in-Ok.ensures.goes o bytes h.written before w) in
-    stopped_in g.N.Nv.writes g.T.LoneNode.nv g.T.LoneNode.runs g.T.LoneNode.number g.K.Sink.tells o given e bytes piece left before now n c.requires.size some
-    (subst (λ s. HasHeardAlone g.N.Nv.writes g.T.LoneNode.nv g.T.LoneNode.runs g.T.LoneNode.number g.K.Sink.tells o e s (bytes ++ take n piece) before now)
+    stopped_in g.N.Nv.writes g.K.Sink.tells o given e bytes piece left before now n c.requires.size some
+    (subst (λ s. HasHeardAlone g.N.Nv.writes g.K.Sink.tells o e s (bytes ++ take n piece) before now)
     c.if-heard.true
-    (waits_no_more g.N.Nv.writes g.T.LoneNode.nv g.T.LoneNode.runs g.T.LoneNode.number g.K.Sink.tells o e stopped (bytes ++ take n piece) h.written items
+    (waits_no_more g.N.Nv.writes g.K.Sink.tells o e stopped (bytes ++ take n piece) h.written items
     before mid now k c.in-Ok-put_out.ensures.wrote))
 
 pub returns-then-few-piece-clause-ends : goal.returns-then-few-piece-clause-ends
@@ -84,26 +84,26 @@ returns-then-few-piece-clause-ends g c given o bytes left before count some h =
     let mid = g.K.Sink.written c.hear_bytes.new.sink in
     let few : ℕ = c.min-few.result in
     let small : few ≤ length piece = omega (arith, c.min-few.ensures) in
-    let w = waits g.N.Nv.writes g.T.LoneNode.nv g.T.LoneNode.runs g.T.LoneNode.number g.K.Sink.tells o d false bytes before was h c.args.ending.now.out.items
+    let w = waits g.N.Nv.writes g.K.Sink.tells o d false bytes before was h c.args.ending.now.out.items
     c.requires.none in
     let now = g.K.Sink.written c.put_out.new.sink in
     let items = c.hear_bytes.new.ending.out.items in
     let stopped = c.in-Ok.heard.stopped in
     let n : ℕ = c.in-Ok.heard.count in
     let within : n ≤ few = omega (arith, c.in-Ok.ensures.within, length-take-le few piece small) in
-    let k = subst (λ l. IsWaitingAlone g.N.Nv.writes g.T.LoneNode.nv g.T.LoneNode.runs g.T.LoneNode.number g.K.Sink.tells o e stopped (bytes ++ l) h.written
+    let k = subst (λ l. IsWaitingAlone g.N.Nv.writes g.K.Sink.tells o e stopped (bytes ++ l) h.written
     items before mid) (take-take n few piece within)
     (c.in-Ok.ensures.goes o bytes h.written before w) in
     let all : n ≡ few = c.in-Ok.ensures.all c.if-heard.false ∙ length-take-le few piece small in
-    let heard = subst (λ s. HasHeardAlone g.N.Nv.writes g.T.LoneNode.nv g.T.LoneNode.runs g.T.LoneNode.number g.K.Sink.tells o e s (bytes ++ take n piece)
+    let heard = subst (λ s. HasHeardAlone g.N.Nv.writes g.K.Sink.tells o e s (bytes ++ take n piece)
     before now) c.if-heard.false
-    (waits_no_more g.N.Nv.writes g.T.LoneNode.nv g.T.LoneNode.runs g.T.LoneNode.number g.K.Sink.tells o e stopped (bytes ++ take n piece) h.written items
+    (waits_no_more g.N.Nv.writes g.K.Sink.tells o e stopped (bytes ++ take n piece) h.written items
     before mid now k c.in-Ok-put_out.ensures.wrote) in
     let most : length bytes + few ≡ most_bytes = omega (arith, c.min-few.ensures, c.if-few-piece.true, c.requires.few, count) in (
       refl,
-      too_long_in g.N.Nv.writes g.T.LoneNode.nv g.T.LoneNode.runs g.T.LoneNode.number g.K.Sink.tells o given e bytes piece left before now few
+      too_long_in g.N.Nv.writes g.K.Sink.tells o given e bytes piece left before now few
           c.requires.size some c.if-few-piece.true most
-          (subst (λ m. HasHeardAlone g.N.Nv.writes g.T.LoneNode.nv g.T.LoneNode.runs g.T.LoneNode.number g.K.Sink.tells o e false (bytes ++ take m piece)
+          (subst (λ m. HasHeardAlone g.N.Nv.writes g.K.Sink.tells o e false (bytes ++ take m piece)
           before now) all heard),
     )
 
@@ -116,21 +116,21 @@ returns-else-few-piece-clause-goes g c o bytes before h =
     let mid = g.K.Sink.written c.hear_bytes.new.sink in
     let few : ℕ = c.min-few.result in
     let small : few ≤ length piece = omega (arith, c.min-few.ensures) in
-    let w = waits g.N.Nv.writes g.T.LoneNode.nv g.T.LoneNode.runs g.T.LoneNode.number g.K.Sink.tells o d false bytes before was h c.args.ending.now.out.items
+    let w = waits g.N.Nv.writes g.K.Sink.tells o d false bytes before was h c.args.ending.now.out.items
     c.requires.none in
     let now = g.K.Sink.written c.put_out.new.sink in
     let items = c.hear_bytes.new.ending.out.items in
     let stopped = c.in-Ok.heard.stopped in
     let n : ℕ = c.in-Ok.heard.count in
     let within : n ≤ few = omega (arith, c.in-Ok.ensures.within, length-take-le few piece small) in
-    let k = subst (λ l. IsWaitingAlone g.N.Nv.writes g.T.LoneNode.nv g.T.LoneNode.runs g.T.LoneNode.number g.K.Sink.tells o e stopped (bytes ++ l) h.written
+    let k = subst (λ l. IsWaitingAlone g.N.Nv.writes g.K.Sink.tells o e stopped (bytes ++ l) h.written
     items before mid) (take-take n few piece within)
     (c.in-Ok.ensures.goes o bytes h.written before w) in
     let all : n ≡ few = c.in-Ok.ensures.all c.if-heard.false ∙ length-take-le few piece small in
     let whole : few ≡ length piece = omega (arith, small, c.if-few-piece.false) in
-    subst (λ l. HasHeardAlone g.N.Nv.writes g.T.LoneNode.nv g.T.LoneNode.runs g.T.LoneNode.number g.K.Sink.tells o e false (bytes ++ l) before now)
+    subst (λ l. HasHeardAlone g.N.Nv.writes g.K.Sink.tells o e false (bytes ++ l) before now)
     (ap (λ m. take m piece) (all ∙ whole) ∙ take_all (length piece) piece (omega arith))
-    (subst (λ s. HasHeardAlone g.N.Nv.writes g.T.LoneNode.nv g.T.LoneNode.runs g.T.LoneNode.number g.K.Sink.tells o e s (bytes ++ take n piece) before now)
+    (subst (λ s. HasHeardAlone g.N.Nv.writes g.K.Sink.tells o e s (bytes ++ take n piece) before now)
     c.if-heard.false
-    (waits_no_more g.N.Nv.writes g.T.LoneNode.nv g.T.LoneNode.runs g.T.LoneNode.number g.K.Sink.tells o e stopped (bytes ++ take n piece) h.written items
+    (waits_no_more g.N.Nv.writes g.K.Sink.tells o e stopped (bytes ++ take n piece) h.written items
     before mid now k c.in-Ok-put_out.ensures.wrote))
