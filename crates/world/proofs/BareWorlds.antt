@@ -1,6 +1,6 @@
 -- The world stands for the history of its header, and for a history with one line or one round more.
 use Rattle.std.proofs.Common.{◌≡◌, ℕ, ◌+◌, ◌<◌, Bool, true, false, List, [], ◌∷◌, ◌++◌, refl, sym, ap, ◌∙◌, arith, subst}
-use Rattle.std.proofs.Common.{◌^◌, true≢false, append-nil, append_assoc}
+use Rattle.std.proofs.Common.{true≢false, append-nil, append_assoc}
 use Rattle.std.specs.Prelude.{IsTrue, Option, Some, None}
 use Rattle.std.specs.List.{AllByRecursion, list_any}
 use Rattle.std.proofs.lemmas.List.Concat.{flat_map-append}
@@ -42,7 +42,7 @@ use Rattle.world.specs.BareWorlds.{WorldStandsFor, HasBareRoom, HasBareRoomToSet
 use Rattle.world.proofs.Given.{sent_line}
 use Rattle.world.proofs.LineLemmas.{seen_back, seen_here}
 use Rattle.world.proofs.RoundLemmas.{sent_round}
-use Rattle.world.proofs.RsetsOfPlays.{fewer, line_few, round_few, most_said, most_round, rsets_short}
+use Rattle.world.proofs.RsetsOfPlays.{fewer, line_few, round_few, most_said, most_round}
 
 -- ## A history with one line more
 
@@ -335,10 +335,6 @@ few_sent h =
     let few = h.few.said in
     record { here = omega (arith, a, few); there = omega (arith, b, few) }
 
--- and few RSETs were put on its link
-pub few_resets : {w : BareWorld} {header : Header} {plays : List Play} {t : History} → WorldStandsFor w header plays t → w.resets + 2400 < 2 ^ 32
-few_resets {w} {plays} h = let a = h.link.count in let b = h.resets.made in rsets_short plays w.resets h.few (omega (arith, a, b))
-
 -- behind whichever plays a world stands, they are as many
 pub few_said : {w : BareWorld} {plays : List Play} {t : History} → HasBareRoom w → WorldStandsFor w w.header plays t → lines_said plays < 320000
 few_said room h = let n = h.stepped in let m = room.stands.stepped in let few = room.few in omega (arith, n, m, few)
@@ -355,19 +351,6 @@ none_misread l line (Some other) q h = absurd (let z : Some other ≡ None = q i
 pub one_misread : (l : Link) (line : Line) (o : Option Misread) (other : Misread) → o ≡ Some other → IsMisread l line o
     → (misread l line ≡ Some other.read) × (damaged_by l line ≡ Some other.sent)
 one_misread l line o other q h = let P : Option Misread → Type 0 = λ x. IsMisread l line x in subst P q h
-
--- a world that stands for a history of few enough lines can be stepped
-pub has_room : (w : BareWorld) (header : Header) (plays : List Play) (t : History) → WorldStandsFor w header plays t → lines_said plays < 320000
-    → HasBareRoom w
-has_room w header plays t h few =
-    let P : Header → Type 0 = λ x. WorldStandsFor w x plays t in
-    record { plays = plays; history = t; stands = subst P (sym h.header_is) h; few = few }
-
-pub has_room_to_settle : (w : BareWorld) (header : Header) (plays : List Play) (t : History) → WorldStandsFor w header plays t
-    → rounds_played plays < 400000000 → HasBareRoomToSettle w
-has_room_to_settle w header plays t h few =
-    let P : Header → Type 0 = λ x. WorldStandsFor w x plays t in
-    record { plays = plays; history = t; stands = subst P (sym h.header_is) h; few = few }
 
 -- ## A round
 

@@ -1,5 +1,5 @@
 -- The world below a bare header: what it stands for, what is told of a line there, and what can be asked of it.
-use Rattle.std.proofs.Common.{◌≡◌, ℕ, false, true, List, refl, sym, ap, ◌∙◌, subst}
+use Rattle.std.proofs.Common.{◌≡◌, false, List, sym, ap, ◌∙◌, subst}
 use Rattle.trace_model.specs.declared.line.End.{End}
 use Rattle.trace_model.specs.declared.line.Header.{Header}
 use Rattle.trace_model.specs.declared.line.Line.{Line}
@@ -18,7 +18,7 @@ use Rattle.world.specs.declared.world_steps.Below.{Below}
 use Rattle.world.specs.declared.world_steps.Below.TheVariants.{Bare}
 use Rattle.world.specs.Lines.{damaged_by}
 use Rattle.world.specs.BareWorlds.{WorldStandsFor, IsFaultOf, bare_header}
-use Rattle.lines_told.specs.lines.Below.{frames_below, runs_below}
+use Rattle.lines_told.specs.lines.Below.{frames_below}
 use Rattle.world.specs.Worlds.{StandsBelow, IsFaultThere, damaged_below}
 
 -- ## On the link that lines leave
@@ -26,9 +26,6 @@ use Rattle.world.specs.Worlds.{StandsBelow, IsFaultThere, damaged_below}
 module _ (header : Header) (off : header.hci ≡ false) (before : List Line) (l : Link) (leads : l ≡ bare_link_behind header before) where
   frames_there : (e : End) → frames_below header before e ≡ frames_to l e
   frames_there e = rw off (ap (λ (m : Link). frames_to m e) (sym leads))
-
-  runs_there : (node : ℕ) → runs_below header before node ≡ true
-  runs_there node = rw off refl
 
   module _ (said : Line) where
     told_there : told_below header before said ≡ noted (outcome_of (host_of header) l said)
@@ -55,9 +52,6 @@ module _ (w : BareWorld) (header : Header) (plays : List Play) (t : History) (h 
 
   pub frames_bare : (e : End) → frames_below header (lines_played header plays) e ≡ frames_to (link_at t) e
   frames_bare = frames_there header h.is_header.bare (lines_played header plays) (link_at t) leads
-
-  pub runs_bare : (node : ℕ) → runs_below header (lines_played header plays) node ≡ true
-  runs_bare = runs_there header h.is_header.bare (lines_played header plays) (link_at t) leads
 
   pub told_bare : (said : Line) → told_below header (lines_played header plays) said ≡ noted (outcome_of (host_of header) (link_at t) said)
   told_bare = told_there header h.is_header.bare (lines_played header plays) (link_at t) leads

@@ -1,5 +1,5 @@
 -- Lines and rounds have a link make few RSETs.
-use Rattle.std.proofs.Common.{◌≡◌, ℕ, zero, suc, ◌+◌, ◌*◌, ◌≤◌, ◌<◌, ◌^◌, true, false, List, [], ◌∷◌, ◌++◌, length, replicate, sym, subst, arith}
+use Rattle.std.proofs.Common.{◌≡◌, ℕ, zero, suc, ◌+◌, ◌*◌, ◌≤◌, true, false, List, [], ◌∷◌, ◌++◌, length, replicate, sym, subst, arith}
 use Rattle.std.specs.Prelude.{Option, Some, None, IfSome, unwrap_or}
 use Rattle.trace_model.specs.declared.entry.NoCause.{NoCause}
 use Rattle.trace_model.specs.declared.line.End.{End}
@@ -20,7 +20,6 @@ use Rattle.history.specs.Steps.{events_at, link_after, link_after_all}
 use Rattle.history.specs.Follows.{causes_in, damage_causes, first_verdict, frames_to, link_after_line, link_after_lines, outcome_of, refusal, taken_of}
 use Rattle.history.proofs.RsetsInBareWorlds.{few_after}
 use Rattle.lines_told.specs.lines.Plays.{Play, round_on, taking_on}
-use Rattle.node_world.specs.Worlds.{AreFewWithParts}
 use Rattle.lines_told.specs.lines.Plays.Play.{Said, Round}
 use Rattle.lines_told.proofs.lines.Plays.{one_said, no_more_rounds, no_more_said, one_round}
 use Rattle.lines_told.proofs.lines.BareRounds.{lines-append, takes_on}
@@ -113,7 +112,3 @@ most_said plays said = let a = one_said plays said in let b = no_more_rounds pla
 
 pub most_round : (plays : List Play) → most_rsets plays + 2 ≡ most_rsets (plays ++ Round ∷ [])
 most_round plays = let a = no_more_said plays in let b = one_round plays in omega (arith, a, b)
-
--- so there is room for those of any line
-pub rsets_short : (plays : List Play) (n : ℕ) → AreFewWithParts plays → n ≤ most_rsets plays → n + 2400 < 2 ^ 32
-rsets_short plays n few most = let a = few.said in let b = few.rounds in omega (arith, a, b, most)

@@ -1,5 +1,5 @@
 //! A line that damages a frame.
-ghost use Rattle.std.specs.Prelude.{◌≡◌, ℕ, ◌+◌, ◌<◌, ◌≤◌, ◌^◌, [], List, length, IfOk, OnErr, None};
+ghost use Rattle.std.specs.Prelude.{◌≡◌, ℕ, ◌+◌, ◌<◌, ◌≤◌, ◌^◌, [], List, length, OnOk, OnErr, None};
 ghost use Rattle.trace_model.specs.declared.line.Line.TheVariants as line;
 ghost use Rattle.link_laws.specs.messages.Links.{Link};
 ghost use Rattle.history.specs.Follows.{machine_of, misread};
@@ -13,7 +13,7 @@ use std::alloc::AllocError;
 use trace_model::{End, Entry};
 
 /// A line `damage`: the first frame on the wire to the end is taken as it was, or lost, or the line is refused. Where another
-/// frame is read in its place, that is answered, and nothing happens.
+/// frame is read in its place, both are put into `other`, which was none before, and nothing happens.
 pub(crate) fn damage_line(
     spare: &mut Vec<u8>,
     at: End,
@@ -22,14 +22,16 @@ pub(crate) fn damage_line(
     far: &mut Side,
     resets: &mut u32,
     entries: &mut Vec<Entry>,
-) -> Result<Option<Misread>, AllocError>
+    other: &mut Option<Misread>,
+) -> Result<(), AllocError>
     requires state { (l : Link) × SidesStandFor near.old far.old resets.old at l × (length (machine_of l at).sent < 2 ^ 32) }
     requires room { resets.old + 12 < 2 ^ 32 }
     requires nothing { entries.old.items ≡ [] }
+    requires none { other.old ≡ None }
     ensures stands { (l : Link) → SidesStandFor near.old far.old resets.old at l → length (machine_of l at).sent < 2 ^ 32
-        → IfOk result (λ other. other ≡ None → Does near.new far.new resets.new at l (line.Damage at places.now) entries.new.items) }
+        → OnOk result (other.new ≡ None → Does near.new far.new resets.new at l (line.Damage at places.now) entries.new.items) }
     ensures misread { (l : Link) → SidesStandFor near.old far.old resets.old at l
-        → IfOk result (IsMisread l (line.Damage at places.now)) }
+        → OnOk result (IsMisread l (line.Damage at places.now) other.new) }
     ensures told { (l : Link) → SidesStandFor near.old far.old resets.old at l
         → OnErr result (misread l (line.Damage at places.now) ≡ None) }
     ensures grows { resets.new ≤ resets.old + 12 }
@@ -37,16 +39,19 @@ pub(crate) fn damage_line(
     match damaged_first(&near.wire, places.as_slice()) {
         Damaged::Refused(cause) => {
             entries.push(Entry::No { cause })?;
-            Ok(None)
+            Ok(())
         }
         Damaged::Same => {
             take_frame(spare, at, near, far, resets, entries)?;
-            Ok(None)
+            Ok(())
         }
         Damaged::Lost(cause) => {
             lose_first(at, cause, &mut near.wire, entries)?;
-            Ok(None)
+            Ok(())
         }
-        Damaged::Undetected(misread) => Ok(Some(misread)),
+        Damaged::Undetected(misread) => {
+            *other = Some(misread);
+            Ok(())
+        }
     }
 }

@@ -5,25 +5,20 @@ use std::alloc::AllocError;
 use std::mem::replace;
 use trace_model::{Entry, Octets};
 
-// An entry is let go; the memory of a message in it is left over.
-fn let_go(entry: Entry, spare: &mut Vec<u8>) {
-    match entry {
-        Entry::Emit { lpdu, .. } | Entry::Took { lpdu, .. } | Entry::Lost { lpdu, .. } => {
-            drop(lpdu);
-        }
-        Entry::Sent { message, .. } | Entry::Got { message, .. } => *spare = message.bytes,
-        Entry::No { .. } | Entry::Acked { .. } | Entry::Up { .. } | Entry::Down { .. } => {}
-        other => drop(other),
-    }
-}
-
-/// Nothing is noted any more.
+/// Nothing is noted any more. The memory of a message that was noted is left over.
 #[inline(always)]
 pub(crate) fn forget(entries: &mut Vec<Entry>, spare: &mut Vec<u8>)
     ensures { entries.new.items ≡ [] }
 {
     'entries: while let Some(entry) = entries.pop() {
-        let_go(entry, spare);
+        match entry {
+            Entry::Emit { lpdu, .. } | Entry::Took { lpdu, .. } | Entry::Lost { lpdu, .. } => {
+                drop(lpdu);
+            }
+            Entry::Sent { message, .. } | Entry::Got { message, .. } => *spare = message.bytes,
+            Entry::No { .. } | Entry::Acked { .. } | Entry::Up { .. } | Entry::Down { .. } => {}
+            other => drop(other),
+        }
     }
 }
 

@@ -1,11 +1,11 @@
 //! What each line does, seen from the end that it speaks of.
-ghost use Rattle.std.specs.Prelude.{◌≡◌, ◌+◌, ◌<◌, ◌≤◌, ◌^◌, [], length, OnOk, OnErr, None, false};
+ghost use Rattle.std.specs.Prelude.{◌≡◌, ◌+◌, ◌<◌, ◌≤◌, ◌^◌, [], OnOk, OnErr, None, false};
 ghost use Rattle.trace_model.specs.declared.line.Header.{Header};
 ghost use Rattle.trace_model.specs.declared.line.Line.TheVariants as line;
 ghost use Rattle.trace_model.specs.declared.line.End.{End as NamedEnd};
 ghost use Rattle.trace_model.specs.Lines.{IsLineOf};
 ghost use Rattle.link_laws.specs.messages.Links.{Link};
-ghost use Rattle.history.specs.Follows.{machine_of, misread};
+ghost use Rattle.history.specs.Follows.{misread};
 ghost use Rattle.world.specs.Lines.{SidesStandFor, Does, HaveSent, IsMisread, end_for};
 
 use crate::damage_line::damage_line;
@@ -13,7 +13,6 @@ use crate::lines::{lose_line, reset_line, send_line};
 use crate::repeats::{deliver_line, tick_line};
 use crate::side::Side;
 use crate::steps::set_ready;
-use arrayvec::ArrayVec;
 use link_wires::Misread;
 use std::alloc::AllocError;
 use trace_model::{End, Entry, Line};
@@ -32,32 +31,6 @@ pub(crate) fn end_of(line: &Line, controller: End) -> End
         Line::Ready { at } => *at,
         _ => controller,
     }
-}
-
-// Plays a line `damage`: where another frame is read in place of the first one on the wire, it is put into `other`.
-fn play_damage(
-    spare: &mut Vec<u8>,
-    at: End,
-    places: &ArrayVec<u16, 16>,
-    near: &mut Side,
-    far: &mut Side,
-    resets: &mut u32,
-    entries: &mut Vec<Entry>,
-    other: &mut Option<Misread>,
-) -> Result<(), AllocError>
-    requires state { (l : Link) × SidesStandFor near.old far.old resets.old at l × (length (machine_of l at).sent < 2 ^ 32) }
-    requires room { resets.old + 12 < 2 ^ 32 }
-    requires nothing { entries.old.items ≡ [] }
-    ensures stands { (l : Link) → SidesStandFor near.old far.old resets.old at l → length (machine_of l at).sent < 2 ^ 32
-        → OnOk result (other.new ≡ None → Does near.new far.new resets.new at l (line.Damage at places.now) entries.new.items) }
-    ensures misread { (l : Link) → SidesStandFor near.old far.old resets.old at l
-        → OnOk result (IsMisread l (line.Damage at places.now) other.new) }
-    ensures told { (l : Link) → SidesStandFor near.old far.old resets.old at l
-        → OnErr result (misread l (line.Damage at places.now) ≡ None) }
-    ensures grows { resets.new ≤ resets.old + 12 }
-{
-    *other = damage_line(spare, at, places, near, far, resets, entries)?;
-    Ok(())
 }
 
 /// Plays a line on a link, seen from the end that it speaks of; the near side is that of this end. Where the line damages a frame
@@ -98,7 +71,7 @@ pub(crate) fn play_line(
             Ok(())
         }
         Line::Damage { places, .. } => {
-            play_damage(spare, at, places, near, far, resets, entries, other)
+            damage_line(spare, at, places, near, far, resets, entries, other)
         }
         Line::Tick { times } => {
             tick_line(at, *times, near, far, resets, entries)?;
