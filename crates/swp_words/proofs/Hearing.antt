@@ -13,7 +13,7 @@ use Rattle.swp_tap.specs.Hearing.{TapValue}
 use Rattle.swp_tap.proofs.Hearing.{tapped-append}
 use Rattle.swp_words.specs.declared.tapping.Tapping.{Tapping}
 use Rattle.swp_words.specs.Records.{IsFront}
-use Rattle.swp_words.specs.Taps.{report_line, report_lines, IsTapping}
+use Rattle.swp_words.specs.Taps.{report_line, report_lines, HasHeard, IsTapping}
 use Rattle.swp_words.proofs.Recording.{newest, front_further}
 
 -- how many bytes were read
@@ -73,6 +73,16 @@ front_of_frames {tells} {least} {before} {after} bare frames more rest all front
     subst (λ l. IsFront tells least (report_lines bare l) before after) is (front_of_more bare (frames ++ more) rest front longer)
 
 -- ## A tap
+
+-- what was heard and what was written are told of the same frames, said otherwise
+pub heard_as : {bare tells : Bool} {tap : TapValue} {gathered : List ℕ} {least : ℕ} {frames others : List (Bool × List ℕ)} {before after : List ℕ}
+    → frames ≡ others → HasHeard bare tells tap gathered least frames before after → HasHeard bare tells tap gathered least others before after
+heard_as {bare} {tells} {tap} {gathered} {least} {frames} {others} {before} {after} is h =
+    subst (λ l. HasHeard bare tells tap gathered least l before after) is h
+
+pub front_as : {tells : Bool} {least : ℕ} {before after : List ℕ} (bare : Bool) (frames others : List (Bool × List ℕ)) → frames ≡ others
+    → IsFront tells least (report_lines bare frames) before after → IsFront tells least (report_lines bare others) before after
+front_as {tells} {least} {before} {after} bare frames others is h = subst (λ l. IsFront tells least (report_lines bare l) before after) is h
 
 -- the frames of a record with one byte more
 pub byte_frames : (read : List ℕ) (byte : ℕ)

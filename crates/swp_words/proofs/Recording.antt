@@ -1,7 +1,7 @@
 -- What a command that reads a line record has written and gathered.
 use Rattle.std.proofs.Common.{◌≡◌, ℕ, ◌+◌, ◌≤◌, arith, Bool, true, false, IsTrue, List, [], ◌∷◌, ◌++◌, length, take, min, refl, sym, ap, ◌∙◌, append_assoc}
 use Rattle.std.proofs.Common.{subst, inl}
-use Rattle.std.specs.Prelude.{reverse, nat_lt, if◌then◌else◌, Result, Ok, Err, OnErr, OnOk, IfOk}
+use Rattle.std.specs.Prelude.{reverse, nat_lt, if◌then◌else◌, Result, Ok, Err, OnErr, OnOk}
 use Rattle.std.proofs.lemmas.List.{append-nil, reverse-append, length-reverse, length-append, take-append-le, take_min}
 use Rattle.std.proofs.Math.Seq.{take-append-add}
 use Rattle.swp_decode.specs.Decoded.{record_lines, last_line, line_at, lines_with, transcript}
@@ -90,10 +90,6 @@ map_err P Q (Err e) f h = f h
 pub map_ok : {T E : Type 0} (P Q : Type 0) (r : Result T E) → (P → Q) → OnOk r P → OnOk r Q
 map_ok P Q (Ok x) f h = f h
 map_ok P Q (Err e) f h = h
-
-pub map_some : {T E : Type 0} (P Q : T → Type 0) (r : Result T E) → ((x : T) → P x → Q x) → IfOk r P → IfOk r Q
-map_some P Q (Ok x) f h = f x h
-map_some P Q (Err e) f h = h
 
 -- ## Records
 

@@ -20,6 +20,12 @@ whole_after bytes piece rest n =
 pub left_of : (piece : List ℕ) (n : ℕ) → n ≤ length piece → take (length piece - n) (drop n piece) ≡ drop n piece
 left_of piece n h = grind (arith, common_steps)
 
+-- what was read before a piece, the front of it that was read and what is left of it
+pub whole_taken : (bytes piece : List ℕ) (n : ℕ) → n ≤ length piece → (bytes ++ take n piece) ++ take (length piece - n) (drop n piece) ≡ bytes ++ piece
+whole_taken bytes piece n h =
+    ap (λ l. (bytes ++ take n piece) ++ l) (left_of piece n h)
+    ∙ (append_assoc bytes (take n piece) (drop n piece) ∙ ap (λ l. bytes ++ l) (take-append-drop n piece))
+
 -- text that was written behind text, by a sink that tells it
 pub behind : (tells : Bool) (before text items written after : List ℕ) → (IsTrue tells → written ≡ before ++ text)
     → (IsTrue tells → after ≡ written ++ items) → IsTrue tells → after ≡ before ++ (text ++ items)

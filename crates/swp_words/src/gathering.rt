@@ -62,21 +62,6 @@ pub fn gather<K: Sink>(sink: &mut K, text: &mut Text, bytes: &[u8]) -> Result<()
     Ok(())
 }
 
-/// Gathers a few bytes in hexadecimal, two digits each.
-fn gather_few_hex<K: Sink>(sink: &mut K, text: &mut Text, bytes: &[u8]) -> Result<(), Failed>
-    requires few { length bytes.now ≤ 1024 }
-    ensures count { K.faults sink.old ≤ K.faults sink.new }
-    ensures fault { OnErr result (Rose (K.faults sink.old) (K.faults sink.new)) }
-    ensures goes { OnOk result ((least : ℕ) (lines before : List ℕ) → IsGathered K.tells text.old.items least lines before (K.written sink.old)
-        → IsGathered K.tells text.new.items least (lines ++ hex_of bytes.now) before (K.written sink.new)) }
-    ensures ends { OnErr result ((least : ℕ) (lines before : List ℕ) → IsGathered K.tells text.old.items least lines before (K.written sink.old)
-        → IsFront K.tells least lines before (K.written sink.new)) }
-{
-    make_room(sink, text)?;
-    push_hex(text, bytes);
-    Ok(())
-}
-
 /// Gathers bytes in hexadecimal, two digits each.
 pub fn gather_hex<K: Sink>(sink: &mut K, text: &mut Text, bytes: &[u8]) -> Result<(), Failed>
     ensures count { K.faults sink.old ≤ K.faults sink.new }
@@ -89,7 +74,8 @@ pub fn gather_hex<K: Sink>(sink: &mut K, text: &mut Text, bytes: &[u8]) -> Resul
     let mut gathered = 0;
     'parts: while gathered < bytes.len() {
         let to = (gathered + AT_ONCE).min(bytes.len());
-        gather_few_hex(sink, text, &bytes[gathered..to])?;
+        make_room(sink, text)?;
+        push_hex(text, &bytes[gathered..to]);
         gathered = to;
     }
     Ok(())

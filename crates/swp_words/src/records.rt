@@ -118,37 +118,7 @@ fn take_many<K: Sink, R: RecordReader>(
     Ok(read)
 }
 
-/// Reads a byte of the record, unless the record has its most bytes already.
-fn take_next<K: Sink, R: RecordReader>(sink: &mut K, reader: &mut R, byte: u8) -> Result<(), Status>
-    requires few { R.count reader.old ≤ 16777216 }
-    requires sound { R.is_sound reader.old }
-    ensures count { K.faults sink.old ≤ K.faults sink.new }
-    ensures write_fault { result ≡ Err Status.WriteFault → Rose (K.faults sink.old) (K.faults sink.new) }
-    ensures read_fault { result ≢ Err Status.ReadFault }
-    ensures words { result ≢ Err Status.BadWords }
-    ensures kind { IfErr result IsOfRecord }
-    ensures few { OnOk result (R.count reader.new ≤ 16777216) }
-    ensures sound { OnOk result (R.is_sound reader.new) }
-    ensures progress { OnOk result (R.count reader.new ≡ R.count reader.old + 1) }
-    ensures goes { OnOk result ((earlier bytes before : List ℕ) → R.is_reading K.tells reader.old earlier bytes before (K.written sink.old)
-        → R.is_reading K.tells reader.new earlier (bytes ++ byte ∷ []) before (K.written sink.new)) }
-    ensures ends { IfErr result (λ status. (earlier bytes ahead before : List ℕ)
-        → R.is_reading K.tells reader.old earlier bytes before (K.written sink.old)
-        → EndedIn R.lines K.tells status earlier (bytes ++ byte ∷ ahead) before (K.written sink.new)) }
-{
-    if reader.bytes_read() == Decoder::MAX_BYTES {
-        return match reader.write_out(sink) {
-            Ok(()) => Err(Status::TooMany { count: 16_777_217 }),
-            Err(Failed) => Err(Status::WriteFault),
-        };
-    }
-    match reader.take_byte(sink, byte) {
-        Ok(()) => Ok(()),
-        Err(Failed) => Err(Status::WriteFault),
-    }
-}
-
-/// Reads the bytes of a piece of the record one after another.
+/// Reads the bytes of a piece of the record one after another, as far as the record may have so many.
 fn take_each<K: Sink, R: RecordReader>(
     sink: &mut K,
     reader: &mut R,
@@ -171,39 +141,18 @@ fn take_each<K: Sink, R: RecordReader>(
         → EndedIn R.lines K.tells status earlier (bytes ++ piece.now ++ rest) before (K.written sink.new)) }
 {
     for byte in piece {
-        if let Err(status) = take_next(sink, reader, *byte) {
-            return Err(status);
+        if reader.bytes_read() == Decoder::MAX_BYTES {
+            return match reader.write_out(sink) {
+                Ok(()) => Err(Status::TooMany { count: 16_777_217 }),
+                Err(Failed) => Err(Status::WriteFault),
+            };
+        }
+        match reader.take_byte(sink, *byte) {
+            Ok(()) => {}
+            Err(Failed) => return Err(Status::WriteFault),
         }
     }
     Ok(())
-}
-
-/// Reads the bytes of a piece of the record.
-fn take_all<K: Sink, R: RecordReader>(
-    sink: &mut K,
-    reader: &mut R,
-    piece: &[u8],
-) -> Result<(), Status>
-    requires few { R.count reader.old ≤ 16777216 }
-    requires sound { R.is_sound reader.old }
-    ensures count { K.faults sink.old ≤ K.faults sink.new }
-    ensures write_fault { result ≡ Err Status.WriteFault → Rose (K.faults sink.old) (K.faults sink.new) }
-    ensures read_fault { result ≢ Err Status.ReadFault }
-    ensures words { result ≢ Err Status.BadWords }
-    ensures kind { IfErr result IsOfRecord }
-    ensures few { OnOk result (R.count reader.new ≤ 16777216) }
-    ensures sound { OnOk result (R.is_sound reader.new) }
-    ensures progress { OnOk result (R.count reader.new ≡ R.count reader.old + length piece.now) }
-    ensures goes { OnOk result ((earlier bytes before : List ℕ) → R.is_reading K.tells reader.old earlier bytes before (K.written sink.old)
-        → R.is_reading K.tells reader.new earlier (bytes ++ piece.now) before (K.written sink.new)) }
-    ensures ends { IfErr result (λ status. (earlier bytes rest before : List ℕ)
-        → R.is_reading K.tells reader.old earlier bytes before (K.written sink.old)
-        → EndedIn R.lines K.tells status earlier (bytes ++ piece.now ++ rest) before (K.written sink.new)) }
-{
-    match take_many(sink, reader, piece) {
-        Ok(read) => take_each(sink, reader, &piece[read..]),
-        Err(Failed) => Err(Status::WriteFault),
-    }
 }
 
 /// How many bytes are read at once behind so many of the record: at most 4,096 behind the last byte that a record may have.
@@ -251,7 +200,11 @@ impl<R: RecordReader + Drop> Job for Recording<R> {
     }
 
     fn take<K: Sink>(&mut self, _: Global, sink: &mut K, piece: &[u8]) -> Result<(), Status> {
-        if let Err(status) = take_all(sink, &mut self.reader, piece) {
+        let read = match take_many(sink, &mut self.reader, piece) {
+            Ok(read) => read,
+            Err(Failed) => return Err(Status::WriteFault),
+        };
+        if let Err(status) = take_each(sink, &mut self.reader, &piece[read..]) {
             return Err(status);
         }
         match self.reader.write_out(sink) {

@@ -1,9 +1,8 @@
 //! The commands `tap bare` and `tap hci`: a record of a line in, a line of text for each message that an end got out.
-ghost use Rattle.std.specs.Prelude.{◌≡◌, ◌≢◌, ◌≤◌, ◌<◌, ◌+◌, ◌*◌, ◌++◌, [], ◌∷◌, List, ℕ, Bool, length, take, IsTrue, OnOk, OnErr, IfOk, false};
+ghost use Rattle.std.specs.Prelude.{◌≡◌, ◌≢◌, ◌≤◌, ◌<◌, ◌+◌, ◌++◌, [], ◌∷◌, List, ℕ, Bool, length, IsTrue, OnOk, OnErr, false};
 ghost use Rattle.swp_base.specs.Outside.{Rose};
-ghost use Rattle.tap_reading.specs.Tap.{TapReport};
-ghost use Rattle.swp_tap.specs.Hearing.{report_of, reports_in};
-ghost use Rattle.swp_words.specs.Records.{most_bytes, whole_record, IsGathered, IsFront, IsFrontOfSome};
+ghost use Rattle.swp_tap.specs.Hearing.{report_of};
+ghost use Rattle.swp_words.specs.Records.{most_bytes, IsGathered, IsFront};
 ghost use Rattle.swp_words.specs.Taps.{end_word, report_head, report_line, report_lines, tap_lines, HasHeard, HasHeardFew, IsTapping, TappedBy};
 ghost use Rattle.swp_words.specs.Taps.{IsOfTap};
 
@@ -131,71 +130,6 @@ fn hear_frames<K: Sink>(
     Ok(())
 }
 
-/// Reads the first of some bytes of the record, at least one, and hears the frames that they give. It answers how many were read.
-#[inline(always)]
-fn hear_first<K: Sink>(
-    sink: &mut K,
-    tapping: &mut Tapping,
-    bytes: &[u8; 64],
-) -> Result<usize, Failed>
-    requires few { tapping.old.decoder.count + 64 ≤ 16777216 }
-    requires sound { HasHeardFew tapping.old }
-    ensures count { K.faults sink.old ≤ K.faults sink.new }
-    ensures fault { OnErr result (Rose (K.faults sink.old) (K.faults sink.new)) }
-    ensures some { IfOk result (λ n. 0 < n) }
-    ensures within { IfOk result (λ n. n ≤ 64) }
-    ensures sound { OnOk result (HasHeardFew tapping.new) }
-    ensures read { IfOk result (λ n. tapping.new.decoder.count ≡ tapping.old.decoder.count + n) }
-    ensures goes { IfOk result (λ n. (bare : Bool) (earlier read before : List ℕ)
-        → IsTapping bare K.tells tapping.old earlier read before (K.written sink.old)
-        → IsTapping bare K.tells tapping.new earlier (read ++ take n bytes.now) before (K.written sink.new)) }
-    ensures ends { OnErr result ((bare : Bool) (earlier read rest before : List ℕ)
-        → IsTapping bare K.tells tapping.old earlier read before (K.written sink.old)
-        → IsFrontOfSome (tap_lines bare) K.tells earlier (read ++ bytes.now ++ rest) before (K.written sink.new)) }
-{
-    tapping.frames.clear();
-    let read = tapping.decoder.hear_many(bytes, &mut tapping.frames);
-    hear_frames(sink, &mut tapping.tap, &mut tapping.text, &tapping.frames)?;
-    Ok(read)
-}
-
-/// Reads a byte of the record, and hears the frames that it gives.
-fn hear_byte<K: Sink>(sink: &mut K, tapping: &mut Tapping, byte: u8) -> Result<(), Failed>
-    requires few { tapping.old.decoder.count < 16777216 }
-    requires sound { HasHeardFew tapping.old }
-    ensures count { K.faults sink.old ≤ K.faults sink.new }
-    ensures fault { OnErr result (Rose (K.faults sink.old) (K.faults sink.new)) }
-    ensures sound { OnOk result (HasHeardFew tapping.new) }
-    ensures read { OnOk result (tapping.new.decoder.count ≡ tapping.old.decoder.count + 1) }
-    ensures goes { OnOk result ((bare : Bool) (earlier read before : List ℕ)
-        → IsTapping bare K.tells tapping.old earlier read before (K.written sink.old)
-        → IsTapping bare K.tells tapping.new earlier (read ++ byte ∷ []) before (K.written sink.new)) }
-    ensures ends { OnErr result ((bare : Bool) (earlier read rest before : List ℕ)
-        → IsTapping bare K.tells tapping.old earlier read before (K.written sink.old)
-        → IsFrontOfSome (tap_lines bare) K.tells earlier (read ++ byte ∷ rest) before (K.written sink.new)) }
-{
-    tapping.frames.clear();
-    tapping.decoder.hear(byte, &mut tapping.frames);
-    hear_frames(sink, &mut tapping.tap, &mut tapping.text, &tapping.frames)?;
-    Ok(())
-}
-
-/// Writes the lines that are gathered, and the last one.
-fn end_lines<K: Sink>(sink: &mut K, tapping: &mut Tapping) -> Result<(), Failed>
-    ensures count { K.faults sink.old ≤ K.faults sink.new }
-    ensures fault { OnErr result (Rose (K.faults sink.old) (K.faults sink.new)) }
-    ensures wrote { OnOk result ((bare : Bool) (earlier read before : List ℕ)
-        → IsTapping bare K.tells tapping.old earlier read before (K.written sink.old)
-        → IsTrue K.tells → K.written sink.new ≡ before ++ whole_record (tap_lines bare) read) }
-    ensures ends { OnErr result ((bare : Bool) (earlier read before : List ℕ)
-        → IsTapping bare K.tells tapping.old earlier read before (K.written sink.old)
-        → IsFront K.tells (length (tap_lines bare earlier)) (whole_record (tap_lines bare) read) before (K.written sink.new)) }
-{
-    make_room(sink, &mut tapping.text)?;
-    tapping.decoder.finish(&mut tapping.text);
-    flush(sink, &mut tapping.text)
-}
-
 impl<const BARE: bool> RecordReader for TapOn<BARE> {
     ghost use Rattle.swp_words.specs.Taps.{tap_lines, IsTapping, HasHeardFew};
 
@@ -212,11 +146,18 @@ impl<const BARE: bool> RecordReader for TapOn<BARE> {
     }
 
     fn take_first<K: Sink>(&mut self, sink: &mut K, bytes: &[u8; 64]) -> Result<usize, Failed> {
-        hear_first(sink, &mut self.tapping, bytes)
+        let tapping = &mut self.tapping;
+        tapping.frames.clear();
+        let read = tapping.decoder.hear_many(bytes, &mut tapping.frames);
+        hear_frames(sink, &mut tapping.tap, &mut tapping.text, &tapping.frames)?;
+        Ok(read)
     }
 
     fn take_byte<K: Sink>(&mut self, sink: &mut K, byte: u8) -> Result<(), Failed> {
-        hear_byte(sink, &mut self.tapping, byte)
+        let tapping = &mut self.tapping;
+        tapping.frames.clear();
+        tapping.decoder.hear(byte, &mut tapping.frames);
+        hear_frames(sink, &mut tapping.tap, &mut tapping.text, &tapping.frames)
     }
 
     fn write_out<K: Sink>(&mut self, sink: &mut K) -> Result<(), Failed> {
@@ -224,7 +165,9 @@ impl<const BARE: bool> RecordReader for TapOn<BARE> {
     }
 
     fn finish<K: Sink>(&mut self, sink: &mut K) -> Result<(), Failed> {
-        end_lines(sink, &mut self.tapping)
+        make_room(sink, &mut self.tapping.text)?;
+        self.tapping.decoder.finish(&mut self.tapping.text);
+        flush(sink, &mut self.tapping.text)
     }
 }
 
