@@ -53,11 +53,6 @@ schedule_text-push header lines line =
     ap entry_lines (schedule_told-push header lines line)
     ∙ flat_map-append entry_line (schedule_told header lines) (entry.Echo line ∷ told_of_line header (plays_of header lines) line)
 
-pub schedule_text-first : (header : Header)
-    → entry_line (entry.Head header) ++ entry_lines (opening_told header) ≡ entry_lines (schedule_told header [])
-schedule_text-first header =
-    ap (λ (es : List Entry). entry_line (entry.Head header) ++ entry_lines es) (sym (append-nil (opening_told header)))
-
 -- ## A line that lets no links settle
 
 said_line : (header : Header) (before : List Play) (line : Line) → is_settling line ≡ false → plays_of_line header before line ≡ Said line ∷ []

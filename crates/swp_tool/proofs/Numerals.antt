@@ -1,12 +1,11 @@
 -- How a number is written: by its last digit, and those before it.
 use Rattle.std.proofs.Common.{◌≡◌, ◌⊎◌, inl, inr, ℕ, ◌+◌, ◌/◌, ◌%◌, ◌<◌, ◌≤◌, ◌^◌, List, [], ◌∷◌}
-use Rattle.std.proofs.Common.{◌++◌, refl, ap, sym, ◌∙◌, arith, length, length-append, Bool, true, false, IsTrue, subst, ◌==◌, suc, map, get_or}
+use Rattle.std.proofs.Common.{◌++◌, refl, ap, sym, ◌∙◌, arith, length, length-append, Bool, false, IsTrue, subst, ◌==◌, suc, map, get_or}
 use Rattle.std.proofs.lemmas.Bool.{ne_eqb}
 use Rattle.std.specs.Prelude.{Result, Ok, codes}
 use Rattle.std.specs.Fmt.{decimal}
 use Rattle.std.proofs.lemmas.Fmt.{decimal_digit, decimal_step, decimal_injective}
 use Rattle.swp_tool.specs.Generated.{IsGen}
-use Rattle.swp_tool.specs.Runs.{IsTap}
 
 -- two lists with a last element are the same part by part
 last_same : (xs ys : List ℕ) (x y : ℕ) → xs ++ x ∷ [] ≡ ys ++ y ∷ [] → (x ≡ y) × (xs ≡ ys)
@@ -108,15 +107,3 @@ second_same a b x y q = cc
 pub given_alone : (n : ℕ) (words : List (List ℕ)) → IsGen n words → (m : ℕ) → IsGen m words → n ≡ m
 given_alone n words (few, is) m (fits, same) =
     decimal_injective n m (omega (arith, few)) (omega (arith, fits)) (second_same (codes "gen") (codes "gen") (decimal n) (decimal m) (sym is ∙ same))
-
-first_same : (a b x y : List ℕ) → a ∷ x ∷ [] ≡ b ∷ y ∷ [] → a ≡ b
-first_same a b x y q = cc
-
--- the word `gen` isn't the word `tap`
-not_tap : codes "gen" ≡ codes "tap" → ⊥
-not_tap same = let letters : 103 ≡ 116 = ap (λ l. get_or l 0 0) same in omega (arith, letters)
-
--- words that ask for a generated run ask for no tap
-pub gen_is_no_tap : (n : ℕ) (words : List (List ℕ)) (bare : Bool) → IsGen n words → IsTap bare words → ⊥
-gen_is_no_tap n words true (few, is) tap = not_tap (first_same (codes "gen") (codes "tap") (decimal n) (codes "bare") (sym is ∙ tap))
-gen_is_no_tap n words false (few, is) tap = not_tap (first_same (codes "gen") (codes "tap") (decimal n) (codes "hci") (sym is ∙ tap))

@@ -7,10 +7,8 @@ use Rattle.trace_model.specs.declared.line.Header.{Header}
 use Rattle.trace_model.specs.declared.line.Line.{Line}
 use Rattle.trace_model.specs.declared.line.Line.TheVariants as saying
 use Rattle.trace_model.specs.Lines.{MayFollow}
-use Rattle.history.specs.Follows.{misread}
-use Rattle.node_machine.specs.world.Lines.{misread_in}
 use Rattle.schedule_text.specs.Entries.{entry_lines}
-use Rattle.lines_told.specs.lines.Below.{bare_link_behind, is_settling, misread_below, nodes_behind}
+use Rattle.lines_told.specs.lines.Below.{is_settling, misread_below}
 use Rattle.lines_told.specs.lines.Plays.{Play, lines_played, plays_of, plays_of_line, rounds_to_rest, schedule_told}
 use Rattle.lines_told.proofs.lines.Plays.{none_said, played-append, said-append, so_many_rounds}
 use Rattle.lines_told.proofs.lines.Resting.{at_most}
@@ -87,15 +85,6 @@ settles_few header line rounds is may = let within : MayFollow header (saying.Se
 pub settles_not : (line : Line) → ((rounds : ℕ) → line ≡ saying.Settle rounds → ⊥) → is_settling line ≡ false
 settles_not (saying.Settle rounds) other = absurd (other rounds refl)
 settles_not line other = refl
-
--- such a line damages no frame
-pub settling_is_read : (header : Header) (before : List Line) (rounds : ℕ) → misread_below header before (saying.Settle rounds) ≡ None
-settling_is_read header before rounds = go header.hci
-  where
-    go : (nodes : Bool) → cond nodes (misread_in (nodes_behind header before) (saying.Settle rounds))
-        (misread (bare_link_behind header before) (saying.Settle rounds)) ≡ None
-    go true = refl
-    go false = refl
 
 -- before a header nothing was gathered
 before_header : (w : Option World) (header : Option Header) (lines : List Line) (text : List ℕ) → header ≡ None → IsAt w header lines text

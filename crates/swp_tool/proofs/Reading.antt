@@ -1,5 +1,5 @@
 -- What a piece of a schedule adds to what was read before it.
-use Rattle.std.proofs.Common.{◌≡◌, ℕ, ◌+◌, ◌-◌, ◌<◌, Bool, true, false, cond, eqb, ltb, List, [], ◌∷◌, ◌++◌, length, map, refl, sym, ap, ◌∙◌, append_assoc}
+use Rattle.std.proofs.Common.{◌≡◌, ℕ, ◌+◌, ◌<◌, Bool, true, false, cond, eqb, ltb, List, [], ◌∷◌, ◌++◌, length, map, refl, sym, ap, ◌∙◌, append_assoc}
 use Rattle.std.proofs.Common.{arith, subst, ◌⊎◌, ⊎_elim}
 use Rattle.std.specs.Prelude.{Option, Some, None, Result, Ok, Err}
 use Rattle.std.specs.List.{flat_map}
@@ -213,23 +213,6 @@ halts_too_long p before written bytes room long lacks h = λ rest.
         (ap (λ b. (cond b (record s { count = s.count + 1; stop = Some Too_many }) (and_said (record s { stop = None }) (line_of s.header line))).stop)
         below
         ∙ ap (λ r. (and_said (record s { stop = None }) r).stop) fault_is)
-
--- ## Bytes of a line that has not ended
-
--- they are kept
-pub read_more : (p q : Pieces) (before written bytes : List ℕ) → LacksLineFeed bytes → q.partial.items ≡ p.partial.items ++ bytes → q.replay ≡ p.replay
-    → HasRead p before written → HasRead q (before ++ bytes) written
-read_more p q before written bytes lacks items replay h =
-    let P : List ℕ → Type 0 = λ l. LacksLineFeed l in
-    let Q : Replay → Type 0 = λ r. HasPlayed r (schedule_so_far h.whole) written in
-    record {
-      whole = h.whole;
-      cut = ap (λ b. b ++ bytes) h.cut
-          ∙ (append_assoc (flat_map ended_line h.whole) p.partial.items bytes ∙ ap (λ l. flat_map ended_line h.whole ++ l) (sym items));
-      lack = h.lack;
-      partial_lacks = subst P (sym items) (lacks_append p.partial.items bytes h.partial_lacks lacks);
-      played = subst Q (sym replay) h.played;
-    }
 
 -- ## A line that has ended
 

@@ -6,8 +6,10 @@ use Rattle.std.specs.List.Sorted.{IsStrictlyIncreasing}
 use Rattle.std.proofs.lemmas.List.Elements.{All-from_recursion, filter-append}
 use Rattle.std.specs.Prelude.{length, map, min}
 use Rattle.std.specs.List.{AllByRecursion, filter, fold}
+use Rattle.hci_tables.specs.declared.command.Command.{Command}
 use Rattle.trace_model.specs.declared.entry.Entry.{Entry}
 use Rattle.trace_model.specs.declared.entry.Entry.TheVariants as entry
+use Rattle.trace_model.specs.declared.line.End.{End}
 use Rattle.trace_model.specs.declared.line.Line.{Line}
 use Rattle.trace_model.specs.declared.line.Line.TheVariants as saying
 use Rattle.trace_model.specs.Lines.{IsHost, IsNodeHeader}
@@ -24,7 +26,7 @@ use Rattle.drawn_schedule.specs.Schedule.{the_header, drawn_lines, is_harmless, 
 use Rattle.drawn_schedule.proofs.HarmlessLemmas.{lines_may_be_played}
 use Rattle.drawn_schedule.proofs.ReadLemmas.{lines_count}
 use Rattle.told_laws.specs.told.NodesTold.{nodes_told}
-use Rattle.lines_told.specs.lines.Below.{IsPlayedLine, is_settling, told_below}
+use Rattle.lines_told.specs.lines.Below.{is_settling, told_below}
 use Rattle.lines_told.specs.lines.Plays.{Play, lines_of_play, lines_played, lines_said}
 use Rattle.lines_told.specs.lines.Plays.Play.{Said}
 use Rattle.world.specs.Worlds.{HasRoomForLine}
@@ -32,9 +34,7 @@ use Rattle.swp_tool.specs.declared.counts.Counts.{Counts}
 use Rattle.swp_tool.specs.Transcripts.{nodes_history}
 use Rattle.swp_tool.specs.Generated.{count_of_kind, AreCountsOf, is_noted_sent, is_noted_got, is_noted_acked, is_noted_up, is_noted_command}
 use Rattle.swp_tool.specs.declared.generating.Generating.{Generating}
-use Rattle.swp_tool.specs.Generated.{HasCounted, told_line, summary_line, IsSummary, Generated, WroteText}
-use Rattle.swp_words.specs.declared.status.Status.{Status}
-use Rattle.swp_words.specs.declared.status.Status.TheVariants as status
+use Rattle.swp_tool.specs.Generated.{HasCounted, told_line, summary_line, IsSummary}
 use Rattle.swp_tool.proofs.Playing.{under_own_header}
 use Rattle.swp_tool.proofs.Texts.{nodes_told-push}
 
@@ -56,25 +56,35 @@ kind_more kind es e = go (kind e) refl
 abbrev pub IsOneMoreIf : ℕ → ℕ → Bool → Type 0
 IsOneMoreIf old new is_one = new ≡ cond is_one (min (old + 1) (2 ^ 64 - 1)) old
 
-more_of : (kind : Entry → Bool) (es : List Entry) (e : Entry) (old new : ℕ) (is_one : Bool) → IsOneMoreIf old new is_one → is_one ≡ kind e
-    → old ≡ count_of_kind kind es → new ≡ count_of_kind kind (es ++ e ∷ [])
-more_of kind es e old new is_one new_is kind_is old_is =
-    new_is ∙ ap (λ b. cond b (min (old + 1) (2 ^ 64 - 1)) old) kind_is ∙ ap (λ n. cond (kind e) (min (n + 1) (2 ^ 64 - 1)) n) old_is
-    ∙ sym (kind_more kind es e)
+more_of : (kind : Entry → Bool) (es : List Entry) (e : Entry) (old new : ℕ) → IsOneMoreIf old new (kind e) → old ≡ count_of_kind kind es
+    → new ≡ count_of_kind kind (es ++ e ∷ [])
+more_of kind es e old new new_is old_is =
+    new_is ∙ ap (λ n. cond (kind e) (min (n + 1) (2 ^ 64 - 1)) n) old_is ∙ sym (kind_more kind es e)
 
 -- five counts, each one more where an entry is of its kind
-pub counts_more : (a b : Counts) (e : Entry) (sent got acked up commands : Bool) → IsOneMoreIf a.sent b.sent sent → IsOneMoreIf a.got b.got got
-    → IsOneMoreIf a.acked b.acked acked → IsOneMoreIf a.up b.up up → IsOneMoreIf a.commands b.commands commands
-    → sent ≡ is_noted_sent e → got ≡ is_noted_got e → acked ≡ is_noted_acked e → up ≡ is_noted_up e → commands ≡ is_noted_command e
+pub counts_more : (a b : Counts) (e : Entry) → IsOneMoreIf a.sent b.sent (is_noted_sent e) → IsOneMoreIf a.got b.got (is_noted_got e)
+    → IsOneMoreIf a.acked b.acked (is_noted_acked e) → IsOneMoreIf a.up b.up (is_noted_up e) → IsOneMoreIf a.commands b.commands (is_noted_command e)
     → (es : List Entry) → AreCountsOf a es → AreCountsOf b (es ++ e ∷ [])
-counts_more a b e sent got acked up commands s g k u c is_s is_g is_k is_u is_c es old =
+counts_more a b e s g k u c es old =
     record {
-      sent = more_of is_noted_sent es e a.sent b.sent sent s is_s old.sent;
-      got = more_of is_noted_got es e a.got b.got got g is_g old.got;
-      acked = more_of is_noted_acked es e a.acked b.acked acked k is_k old.acked;
-      up = more_of is_noted_up es e a.up b.up up u is_u old.up;
-      commands = more_of is_noted_command es e a.commands b.commands commands c is_c old.commands;
+      sent = more_of is_noted_sent es e a.sent b.sent s old.sent;
+      got = more_of is_noted_got es e a.got b.got g old.got;
+      acked = more_of is_noted_acked es e a.acked b.acked k old.acked;
+      up = more_of is_noted_up es e a.up b.up u old.up;
+      commands = more_of is_noted_command es e a.commands b.commands c old.commands;
     }
+
+-- an entry of none of the five kinds is counted nowhere
+pub of_no_kind : (a : Counts) (e : Entry) → ((at : End) (session pid : ℕ) (message : List ℕ) → e ≡ entry.Sent at session pid message → ⊥)
+    → ((at : End) (session pid : ℕ) (message : List ℕ) → e ≡ entry.Got at session pid message → ⊥)
+    → ((at : End) (session count : ℕ) → e ≡ entry.Acked at session count → ⊥) → ((at : End) (session : ℕ) → e ≡ entry.Up at session → ⊥)
+    → ((node : ℕ) (command : Command) → e ≡ entry.Command node command → ⊥) → (es : List Entry) → AreCountsOf a es → AreCountsOf a (es ++ e ∷ [])
+of_no_kind a (entry.Sent at session pid message) s g k u c es old = absurd (s at session pid message refl)
+of_no_kind a (entry.Got at session pid message) s g k u c es old = absurd (g at session pid message refl)
+of_no_kind a (entry.Acked at session count) s g k u c es old = absurd (k at session count refl)
+of_no_kind a (entry.Up at session) s g k u c es old = absurd (u at session refl)
+of_no_kind a (entry.Command node command) s g k u c es old = absurd (c node command refl)
+of_no_kind a e s g k u c es old = counts_more a a e refl refl refl refl refl es old
 
 -- an entry of no kind between others isn't counted
 skipped : (kind : Entry → Bool) (es : List Entry) (x : Entry) (more : List Entry) → kind x ≡ false
@@ -101,10 +111,6 @@ line_counted c lines line a =
     subst (AreCountsOf c) (sym (nodes_told-push the_header lines line))
     (echo_skipped c (nodes_told (nodes_history the_header lines)) line (told_below the_header lines line) a)
 
--- before the first line only the header is told
-pub nothing_counted : (c : Counts) → AreCountsOf c [] → AreCountsOf c (nodes_told (nodes_history the_header []))
-nothing_counted c a = record { sent = a.sent; got = a.got; acked = a.acked; up = a.up; commands = a.commands }
-
 -- ## Lines
 
 settles_not : (l : Line) → is_harmless l ≡ true → is_settling l ≡ false
@@ -123,9 +129,6 @@ settles_not (saying.Activate host sync power) q = refl
 settles_not (saying.Arm node nth fill) q = refl
 settles_not (saying.Init at identity pipes) q = refl
 settles_not (saying.Tables node) q = refl
-
-pub line_is_played : (l : Line) → IsHarmless l → IsPlayedLine the_header l
-line_is_played l a = record { may_follow = a.0; settles_not = settles_not l a.1 }
 
 read_right : (w : NodeWorld) (l : Line) → is_harmless l ≡ true → misread_in w l ≡ None
 read_right w (saying.Damage at places) q = absurd (cc q)
@@ -256,18 +259,3 @@ pub counts_are_summary : (n : ℕ) (c : Counts) (text : List ℕ) → AreCountsO
     → text ≡ told_line n c.sent c.got c.acked c.up c.commands → IsSummary n text
 counts_are_summary n c text a is =
     drawn_summary n text drawn_header_is (is ∙ told_as_counted n c (nodes_told (nodes_history the_header (drawn_lines n))) a)
-
--- a run that wrote a summary ended so
-pub generated_by : (tells : Bool) (st : Status) (n : ℕ) (text before after : List ℕ) → IsSummary n text → WroteText tells st text before after
-    → Generated tells st n before after
-generated_by tells status.Done n text before after s w = (text, s, w)
-generated_by tells status.WriteFault n text before after s w =
-    (take w.0 text, record { whole = text; summary = s; long = w.0; front = refl }, w.1)
-generated_by tells status.NoMemory n text before after s w = absurd w
-generated_by tells status.BadWords n text before after s w = absurd w
-generated_by tells (status.BadSchedule line why) n text before after s w = absurd w
-generated_by tells (status.Undetected line) n text before after s w = absurd w
-generated_by tells status.ReadFault n text before after s w = absurd w
-generated_by tells status.NvFault n text before after s w = absurd w
-generated_by tells (status.TooMany count) n text before after s w = absurd w
-generated_by tells (status.BadImage why) n text before after s w = absurd w

@@ -97,12 +97,6 @@ pub record IsFrontOfSummary (n : ℕ) (text : List ℕ) : Type 0 where
 abbrev pub IsGen : ℕ → List (List ℕ) → Type 0
 IsGen n words = (n ≤ 4294967295) × (words ≡ codes "gen" ∷ decimal n ∷ [])
 
--- how the writing of a text ended: it was written, or a front of it, or nothing
-abbrev pub WroteText : Bool → Status → List ℕ → List ℕ → List ℕ → Type 0
-WroteText tells status.Done text before after = IsTrue tells → after ≡ before ++ text
-WroteText tells status.WriteFault text before after = (long : ℕ) × (IsTrue tells → after ≡ before ++ take long text)
-WroteText tells _ text before after = ⊥
-
 -- How such a run ended: on Done the summary was written, on a fault of writing a front of it, and nothing without memory. Whether the
 -- sink tells what was written comes first: without it there is such a text, and nothing is said of where it went.
 abbrev pub Generated : Bool → Status → ℕ → List ℕ → List ℕ → Type 0

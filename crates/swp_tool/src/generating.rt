@@ -4,16 +4,15 @@ ghost use Rattle.std.specs.List.{AllByRecursion};
 ghost use Rattle.std.specs.Fmt.{decimal};
 ghost use Rattle.swp_base.specs.Outside.{Rose};
 ghost use Rattle.trace_model.specs.declared.line.Line.{Line as Said};
-ghost use Rattle.trace_model.specs.declared.entry.Entry.{Entry as Told};
-ghost use Rattle.drawn_schedule.specs.Schedule.{the_header, drawn_lines, IsHarmless};
+ghost use Rattle.drawn_schedule.specs.Schedule.{the_header, IsHarmless};
 ghost use Rattle.told_laws.specs.told.NodesTold.{nodes_told};
 ghost use Rattle.swp_tool.specs.Transcripts.{nodes_history};
-ghost use Rattle.swp_tool.specs.Generated.{AreCountsOf, HasCounted, IsSummary, Generated, WroteText, IsOfGen, told_line};
+ghost use Rattle.swp_tool.specs.Generated.{AreCountsOf, HasCounted, IsSummary, Generated, IsOfGen, told_line};
 
 use crate::counts::Counts;
 use drawn_schedule::{draw_lines, drawn_header};
 use std::alloc::{AllocError, Global};
-use swp_base::{NoMemory, Sink};
+use swp_base::{Failed, NoMemory, Sink};
 use swp_words::output::write_all;
 use swp_words::status::Status;
 use trace_model::Line;
@@ -76,27 +75,19 @@ pub fn generate<K: Sink>(alloc: Global, n: u32, sink: &mut K) -> Status
     let Ok(text) = summary(alloc, n) else {
         return Status::NoMemory;
     };
-    write_out(sink, text.as_slice())
-}
-
-/// Writes a text.
-fn write_out<K: Sink>(sink: &mut K, text: &[u8]) -> Status
-    ensures wrote { WroteText K.tells result text.now (K.written sink.old) (K.written sink.new) }
-    ensures kind { IsOfGen result }
-    ensures write_fault { result ≡ Status.WriteFault → Rose (K.faults sink.old) (K.faults sink.new) }
-    ensures complete { ¬ Rose (K.faults sink.old) (K.faults sink.new) → result ≡ Status.Done }
-{
-    if write_all(sink, text).is_err() {
-        return Status::WriteFault;
+    match write_all(sink, text.as_slice()) {
+        Ok(()) => Status::Done,
+        Err(Failed) => Status::WriteFault,
     }
-    Status::Done
 }
 
 /// The summary of the schedule that is drawn from `n`.
 fn summary(alloc: Global, n: u32) -> Result<Vec<u8>, NoMemory>
     ensures { IfOk result (λ text. IsSummary n text.items) }
 {
-    let counts = run_drawn(alloc, n)?;
+    let lines = draw_lines(alloc, n)?;
+    let mut running = Generating::new(alloc)?;
+    let counts = running.play_all(alloc, lines.as_slice())?;
     let text = counts_text(alloc, n, counts)?;
     Ok(text)
 }
@@ -129,13 +120,4 @@ fn append_count(
     let digits = format!(in alloc; "{count}")?;
     text.extend_from_slice(digits.as_bytes())?;
     Ok(())
-}
-
-/// Runs the schedule that is drawn from `n`, and counts what is noted.
-fn run_drawn(alloc: Global, n: u32) -> Result<Counts, NoMemory>
-    ensures { IfOk result (λ counts. AreCountsOf counts (nodes_told (nodes_history the_header (drawn_lines n)))) }
-{
-    let lines = draw_lines(alloc, n)?;
-    let mut running = Generating::new(alloc)?;
-    running.play_all(alloc, lines.as_slice())
 }

@@ -5,9 +5,8 @@ ghost use Rattle.trace_model.specs.declared.line.Header.{Header};
 ghost use Rattle.trace_model.specs.declared.line.Line.{Line as Said};
 ghost use Rattle.trace_model.specs.declared.line.Line.TheVariants as line;
 ghost use Rattle.schedule_text.specs.Entries.{entry_line, entry_lines};
-ghost use Rattle.lines_told.specs.lines.Plays.{Play, lines_played, plays_of_line, rounds_to_rest, told_of_line, told_of_play};
-ghost use Rattle.lines_told.specs.lines.Plays.Play.{Round};
-ghost use Rattle.world.specs.Worlds.{IsWorldAt, HasRoomToSettle};
+ghost use Rattle.lines_told.specs.lines.Plays.{Play, plays_of_line, rounds_to_rest, told_of_line};
+ghost use Rattle.world.specs.Worlds.{IsWorldAt};
 ghost use Rattle.swp_tool.specs.Replays.{Runs, WasStepped, HasGoneThrough, HasRoundsLeft};
 
 use crate::replay::Halt;
@@ -82,22 +81,10 @@ fn play_rounds(
         if world.quiet() {
             return Ok(done);
         }
-        play_round(alloc, world, text)?;
+        match world.round() {
+            Ok(()) => write_entries(alloc, world.entries(), text)?,
+            Err(_) => return Err(NoMemory),
+        }
     }
     Ok(most)
-}
-
-// Plays one round, and gathers what it tells.
-fn play_round(alloc: Global, world: &mut World, text: &mut Transcript) -> Result<(), NoMemory>
-    requires { HasRoomToSettle world.old }
-    ensures stands { OnOk result ((header : Header) (plays : List Play) → IsWorldAt world.old header plays
-        → IsWorldAt world.new header (plays ++ Round ∷ [])) }
-    ensures told { OnOk result ((header : Header) (plays : List Play) → IsWorldAt world.old header plays
-        → text.new.items ≡ text.old.items ++ entry_lines (told_of_play header (lines_played header plays) Round)) }
-    ensures more { OnErr result ((more : List ℕ) × (text.new.items ≡ text.old.items ++ more)) }
-{
-    match world.round() {
-        Ok(()) => write_entries(alloc, world.entries(), text),
-        Err(_) => Err(NoMemory),
-    }
 }

@@ -1,13 +1,18 @@
-use Rattle.std.proofs.Common.{List, ℕ, sym, subst, inl}
-use Rattle.swp_tool.specs.Generated.{IsSummary}
-use Rattle.swp_tool.proofs.Summing.{generated_by}
+use Rattle.std.proofs.Common.{◌++◌, ◌∙◌, ap, take, refl}
 use Rattle.swp_tool.proofs.generating.generate.Goals as goal
+
+pub returns-in-Ok-write_all-clause-generated : goal.returns-in-Ok-write_all-clause-generated
+returns-in-Ok-write_all-clause-generated g c = (
+  c.in-Ok.text.items,
+  c.in-Ok.ensures,
+  λ told. c.in-Ok-write_all.ensures.wrote told ∙ ap (λ l. g.K.Sink.written c.args.sink.now ++ l) c.as_slice.ensures.value,
+)
 
 pub returns-clause-generated : goal.returns-clause-generated
 returns-clause-generated g c =
-    generated_by g.K.Sink.tells c.write_out.result c.args.n c.as_slice.result.now (g.K.Sink.written c.args.sink.now)
-    (g.K.Sink.written c.write_out.new.sink) (subst (λ (l : List ℕ). IsSummary c.args.n l) (sym c.as_slice.ensures.value) c.in-Ok.ensures)
-    c.write_out.ensures.wrote
-
-pub returns-clause-complete : goal.returns-clause-complete
-returns-clause-complete g c = λ fine. inl (c.write_out.ensures.complete fine)
+    let front = c.in-Err.ensures.front in
+    let text = c.in-Ok.text.items in (
+      take front.0 text,
+      record { whole = text; summary = c.in-Ok.ensures; long = front.0; front = refl },
+      λ told. front.1 told ∙ ap (λ l. g.K.Sink.written c.args.sink.now ++ take front.0 l) c.as_slice.ensures.value,
+    )
