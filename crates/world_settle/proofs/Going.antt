@@ -51,22 +51,6 @@ pub record WentOn (w : World) (header : Header) (plays : List Play) (most k : �
   pub left : (n : ℕ) → k + n ≡ most → rounds_to_rest header plays most ≡ k + rounds_to_rest header (plays ++ replicate k Round) n
   pub noted_are : short ≡ false → now ≡ before ++ told_of_rounds header plays k
 
-pub went_none : {w : World} {header : Header} {plays : List Play} {most : ℕ} {short : Bool} {now : List Entry} → IsWorldWithin w header plays most []
-    → WentOn w header plays most 0 short now now
-went_none {w} {header} {plays} {most} {now = now} within =
-    record {
-      parts = [];
-      within = within;
-      lines_are = refl;
-      few = omega arith;
-      left = λ n is.
-          (let same : n ≡ most = omega (arith, is) in
-          let e : rounds_to_rest header plays most ≡ rounds_to_rest header (plays ++ []) n =
-          ap (rounds_to_rest header plays) (sym same) ∙ ap (λ (ps : List Play). rounds_to_rest header ps n) (sym (append-nil plays)) in
-          omega (arith, e));
-      noted_are = λ long. sym (append-nil now);
-    }
-
 -- the lines behind which the next round begins
 abbrev pub begun : Header → List Play → List Line → List Line
 begun header plays parts = lines_played header plays ++ parts
