@@ -23,7 +23,7 @@ use Rattle.node_machine.specs.Carrying.{port_at, with_port, changed_if}
 use Rattle.node_ends.specs.Ends.{has_sent}
 use Rattle.node_sites.specs.declared.wires.Wires.{Wires}
 use Rattle.node_sites.specs.LinksKept.{WiresStandFor}
-use Rattle.node_sites.specs.WorldNodes.{GoesOutWhole}
+use Rattle.node_core.specs.Running.{SendsOneByOne}
 use Rattle.node_sites.specs.FramesOut.{IsOnly, sent_port}
 
 -- ## An end that has none
@@ -47,7 +47,7 @@ none_first zero e q = refl
 none_first (suc n) e q = rw q refl
 
 -- an end from which no frame can be fetched has sent all
-idle_same : (e : LinkEnd) → GoesOutWhole e → next_frame e ≡ None → frame_fetched e ≡ e
+idle_same : (e : LinkEnd) → SendsOneByOne e → next_frame e ≡ None → frame_fetched e ≡ e
 idle_same e w q =
     let none : frames_out e ≡ [] = sym w.frames ∙ none_first (most_fetches e) e q in
     let acts : e.acts ≡ [] = no_acts e none in
@@ -55,7 +55,7 @@ idle_same e w q =
     let now : frame_fetched e ≡ record e { shdlc = fetched e.shdlc } = rw acts refl in
     now ∙ ap (λ s. record e { shdlc = s }) (fetched_idle e.shdlc due)
 
-pub idle_after : (n : ℕ) (e : LinkEnd) → GoesOutWhole e → next_frame e ≡ None → after_fetches n e ≡ e
+pub idle_after : (n : ℕ) (e : LinkEnd) → SendsOneByOne e → next_frame e ≡ None → after_fetches n e ≡ e
 idle_after zero e w q = refl
 idle_after (suc n) e w q = ap (after_fetches n) (idle_same e w q) ∙ idle_after n e w q
 
@@ -124,7 +124,7 @@ pub record Sending (Runs : List Port → Type 0) (kept : Wires) (at : End) (port
   pub noted : AreNoted at before now notes
 
 pub sending_starts : {runs : List Port → Type 0} {wires : Wires} {at : End} {ports : List Port} {p : Port} {l : Link} {entries : List Entry}
-    → runs ports → IsOnly at.link p ports → GoesOutWhole p.side → WiresStandFor wires (seen_from at l)
+    → runs ports → IsOnly at.link p ports → SendsOneByOne p.side → WiresStandFor wires (seen_from at l)
     → Sending runs wires at ports p l entries entries (most_fetches p.side)
 sending_starts {runs} {at = at} {ports} {p} {l} {entries} r only whole w =
     let same : ports ≡ with_port at.link (with_side p.side) ports =
@@ -216,7 +216,7 @@ pub read_of : (o : Option Control) (c : Control) → o ≡ Some c → IfSome o (
 read_of o c q r = let P : Option Control → Type 0 = λ x. IfSome x (λ c. control_of (lpdu_of c) ≡ Ok c) in subst P q r
 
 pub sending_next : {Runs Again : List Port → Type 0} {wires new : Wires} {at : End} {ports : List Port} {p : Port} {l : Link} {mid now : List Entry}
-    (before : List Entry) (n i left : ℕ) (c : Control) → left ≡ n - i → (s : Sending Runs wires at ports p l before mid left) → GoesOutWhole p.side
+    (before : List Entry) (n i left : ℕ) (c : Control) → left ≡ n - i → (s : Sending Runs wires at ports p l before mid left) → SendsOneByOne p.side
     → next_frame s.e ≡ Some c → Again (with_port at.link has_sent (with_port at.link (with_side s.e) ports))
     → WiresStandFor new (seen_from at (put s.link c)) × AreNoted at mid now (put_entries (side_of at) s.link c)
     → Sending Again new at ports p l before now (n - (i + 1))
@@ -228,7 +228,7 @@ sending_next {Again = Again} {new = new} {at = at} {ports} {p} {l} {now = now} b
     subst P less (sending_goes_on before c s next runs r)
 
 pub sending_stops : {Runs : List Port → Type 0} {wires : Wires} {at : End} {ports : List Port} {p : Port} {l : Link} {now : List Entry} {left : ℕ}
-    (Again : List Port → Type 0) (before : List Entry) (s : Sending Runs wires at ports p l before now left) → IsOnly at.link p ports → GoesOutWhole s.e
+    (Again : List Port → Type 0) (before : List Entry) (s : Sending Runs wires at ports p l before now left) → IsOnly at.link p ports → SendsOneByOne s.e
     → next_frame s.e ≡ None → Again (with_port at.link has_sent (with_port at.link (with_side s.e) ports)) → AllSent Again wires at ports p l before now
 sending_stops {at = at} {ports} {left = left} Again before s only whole none runs =
     let same : with_port at.link has_sent (with_port at.link (with_side s.e) ports) ≡ with_port at.link (with_side s.e) ports =

@@ -16,23 +16,22 @@ use Rattle.node_core.specs.Giving.{IsAsked}
 use Rattle.node_core.specs.Running.{RunsAs, HasStepped}
 use Rattle.node_core.proofs.Sendings.{given_order, given_other, given_both}
 use Rattle.node_sites.specs.Powers.{node_memory}
-use Rattle.node_sites.specs.WorldNodes.{BeginsOver, HasGone, IsNotedSo, RunsAsHost}
+use Rattle.node_sites.specs.WorldNodes.{BeginsOver, HasGone, IsNotedSo}
 use Rattle.node_sites.specs.declared.noted.Noted.{Noted}
 use Rattle.node_sites.specs.Numbers.{as_told}
 use Rattle.node_sites.proofs.Renumbered.{as_watched}
 use Rattle.node_sites.proofs.Regardless.{bare, all_regardless}
-use Rattle.node_sites.proofs.NodesRun.{still_host}
 
 -- ## As it begins
 
-pub asked_so : {n : Node Memory} {noted : Noted} {sessions : List ℕ} {start : List Entry} {w : Work} → BeginsOver RunsAsHost n w
+pub asked_so : {n : Node Memory} {noted : Noted} {sessions : List ℕ} {start : List Entry} {w : Work} → BeginsOver n w
     → IsNotedSo noted sessions start w.entries → IsAsked n (as_told noted.sessions noted.entries.items) noted.short (as_told sessions start) w
-asked_so b noted = record { runs = b.runs.runs; none_ended = b.fresh; power = b.power; noted_are = as_watched noted }
+asked_so b noted = record { runs = b.runs; none_ended = b.fresh; power = b.power; noted_are = as_watched noted }
 
-pub asked_bare : {n : Node Memory} (noted : List Entry) (short : Bool) {w : Work} → BeginsOver RunsAsHost n w
+pub asked_bare : {n : Node Memory} (noted : List Entry) (short : Bool) {w : Work} → BeginsOver n w
     → IsAsked n noted short noted (bare w)
 asked_bare noted short b =
-    record { runs = b.runs.runs; none_ended = b.fresh; power = b.power; noted_are = λ kept. sym (append-nil noted) }
+    record { runs = b.runs; none_ended = b.fresh; power = b.power; noted_are = λ kept. sym (append-nil noted) }
 
 -- ## Without a write
 
@@ -52,17 +51,17 @@ beginning_writes h identity pipes w live =
 -- ## Behind it
 
 -- the host runs on over its memory
-pub gives_so : {n n2 : Node Memory} {noted start : List Entry} {short : Bool} {w : Work} (h : ℕ) (deeds : List Deed) → BeginsOver RunsAsHost n w
-    → n2.store ≡ n.store → n2.number ≡ n.number → (all_done h deeds w).writes ≡ w.writes
-    → HasStepped n2 noted short start (all_done h deeds (bare w)) → HasGone RunsAsHost n n2 (all_done h deeds w) true
-gives_so {n} {n2} {w = w} h deeds b store number writes stepped =
+pub gives_so : {n n2 : Node Memory} {noted start : List Entry} {short : Bool} {w : Work} (h : ℕ) (deeds : List Deed) → BeginsOver n w
+    → n2.store ≡ n.store → (all_done h deeds w).writes ≡ w.writes
+    → HasStepped n2 noted short start (all_done h deeds (bare w)) → HasGone n n2 (all_done h deeds w) true
+gives_so {n} {n2} {w = w} h deeds b store writes stepped =
     let same : bare (all_done h deeds w) ≡ bare (all_done h deeds (bare w)) = all_regardless h deeds w in
-    let live : n2.store.journal.live ≡ true = ap (λ (s : Stored Memory). s.journal.live) store ∙ b.runs.runs.live in
+    let live : n2.store.journal.live ≡ true = ap (λ (s : Stored Memory). s.journal.live) store ∙ b.runs.live in
     let power : (all_done h deeds (bare w)).cut ≡ false = stepped.power ∙ ap not live in
     let R : Work → Type 0 = λ v. RunsAs n2 v.core v.ports in
     let W : List Write → Type 0 = λ ws. node_memory n2 ≡ after_planned ws (node_memory n) in
     record {
       power = ap (λ (v : Work). v.cut) same ∙ power;
       memory = subst W (sym (writes ∙ b.writes)) (ap (λ (s : Stored Memory). s.journal.nv) store);
-      runs = λ up. still_host number b.runs.number (all_done h deeds w).core (all_done h deeds w).ports (subst R (sym same) (stepped.runs power));
+      runs = λ up. subst R (sym same) (stepped.runs power);
     }

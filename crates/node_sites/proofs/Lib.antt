@@ -2,6 +2,7 @@ pub mod Numbered
 pub mod Renumbered
 pub mod Powers
 pub mod Links
+pub mod Arrivals
 pub mod FramesGoOut
 pub mod Regardless
 pub mod NodesRun

@@ -1,5 +1,6 @@
 pub mod Numbers
 pub mod LinksKept
+pub mod Arrivals
 pub mod WorldNodes
 pub mod WorldBoots
 pub mod FramesOut

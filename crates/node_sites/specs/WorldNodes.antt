@@ -1,52 +1,32 @@
--- What the world knows of a node that runs, by what stands for its machine: `RunsAs` for the controller, `RunsAsHost` for a host.
-use Rattle.std.specs.Prelude.{◌≡◌, ◌≢◌, ℕ, Bool, true, false, not, List, [], ◌++◌, map, Some, None}
+-- What the world knows of a node that runs, controller or host.
+use Rattle.std.specs.Prelude.{◌≡◌, ℕ, Bool, true, false, not, List, [], ◌++◌, map, None}
 use Rattle.std.specs.List.{AllByRecursion}
 use Rattle.swp_base.specs.InMemory.{Memory}
 use Rattle.journal_laws.specs.Planned.{after_planned}
 use Rattle.trace_model.specs.declared.entry.Entry.{Entry}
-use Rattle.link_laws.specs.machine.Machine.{LinkEnd, next_frame}
-use Rattle.node_machine.specs.Parts.{Core, Port, Work}
-use Rattle.node_machine.specs.Carrying.{port_at}
+use Rattle.link_laws.specs.machine.Machine.{next_frame}
+use Rattle.node_machine.specs.Parts.{Port, Work}
 use Rattle.node_sites.specs.declared.noted.Noted.{Noted}
 use Rattle.node_sites.specs.Numbers.{with_session_number, session_at}
-use Rattle.node_core.specs.Running.{RunsAs, SendsOneByOne, between}
+use Rattle.node_core.specs.Running.{RunsAs}
 use Rattle.node_core.specs.declared.node.Node.{Node}
 use Rattle.node_sites.specs.Powers.{node_memory}
 
--- the frames that are fetched of an end one after another are all that are due, and behind them none is
-abbrev pub GoesOutWhole : LinkEnd → Type 0
-GoesOutWhole e = SendsOneByOne e
-
--- what a node keeps of an end between steps: neither the number of its session nor what was done to it in a step
-abbrev pub as_kept : Port → Port
-as_kept p = between p
-
 -- a node as a step of it begins, all of whose frames went out: over its memory, in which nothing was written yet
-pub record BeginsOver (Runs : Node Memory → Core → List Port → Type 0) (n : Node Memory) (w : Work) : Type 0 where
-  pub runs : Runs n w.core w.ports
+pub record BeginsOver (n : Node Memory) (w : Work) : Type 0 where
+  pub runs : RunsAs n w.core w.ports
   pub sent : AllByRecursion (λ (p : Port). next_frame p.side ≡ None) w.ports
   pub fresh : AllByRecursion (λ (p : Port). (p.late ≡ false) × (p.ended ≡ false)) w.ports
   pub power : w.cut ≡ false
   pub plan : w.plan ≡ (node_memory n).plan
   pub writes : w.writes ≡ []
 
--- It has an end of the link with this host.
-pub record BeginsAt (Runs : Node Memory → Core → List Port → Type 0) (n : Node Memory) (host : ℕ) (w : Work) : Type 0 where
-  pub begins : BeginsOver Runs n w
-  pub port : Port
-  pub here : port_at w.ports host ≡ Some port
-
 -- A node that was old has become new in a step behind which it is k: it runs on, or has lost its power, over a memory in which the step's
 -- writes were made. These were noted, while there was memory for them, and nothing is said of them where there wasn't.
-pub record HasGone (Runs : Node Memory → Core → List Port → Type 0) (old new : Node Memory) (k : Work) (live : Bool) : Type 0 where
+pub record HasGone (old new : Node Memory) (k : Work) (live : Bool) : Type 0 where
   pub power : k.cut ≡ not live
   pub memory : node_memory new ≡ after_planned k.writes (node_memory old)
-  pub runs : live ≡ true → Runs new k.core k.ports
-
--- a host runs so, whose number isn't that of a controller
-pub record RunsAsHost (n : Node Memory) (core : Core) (ports : List Port) : Type 0 where
-  pub runs : RunsAs n core ports
-  pub number : n.number ≢ 0
+  pub runs : live ≡ true → RunsAs new k.core k.ports
 
 -- These were noted behind what was there, with the numbers of these sessions, while there was memory.
 pub record IsNotedSo (n : Noted) (sessions : List ℕ) (start entries : List Entry) : Type 0 where

@@ -12,7 +12,7 @@ ghost use Rattle.node_sites.specs.Powers.{memory_kept};
 ghost use Rattle.node_sites.specs.Places.{IsFinishing, RunsOn, WentOff};
 
 use crate::noted::Noted;
-use crate::power::{HostPower, Power};
+use crate::power::Power;
 use crate::sending::send_frames;
 use crate::wires::Wires;
 use swp_base::NoMemory;
@@ -23,7 +23,7 @@ use trace_model::End;
 pub struct HostSite {
     pub host: u8,
     pub wires: Wires,
-    pub power: HostPower,
+    pub power: Power,
 }
 
 /// The power of a host goes: both wires of its link are empty, and its memory stays.

@@ -5,6 +5,7 @@ ghost use Rattle.link_laws.specs.entries.Entries.{aged_entries};
 ghost use Rattle.link_wires.specs.Notes.{side_of, AreNoted};
 ghost use Rattle.link_wires.specs.Wires.{WireStandsFor};
 
+use crate::incoming::{Arrived, Incoming};
 use circular_buffer::HeapCircularBuffer;
 use link_wires::{Damaged, Flying, damaged_first, empty_wire, grow_older, lose_first, put_frame};
 use std::alloc::{AllocError, Global};
@@ -33,11 +34,10 @@ pub struct Wires {
 }
 
 impl WireEnd {
-    ghost use Rattle.std.specs.Prelude.{◌≡◌, ℕ, List, [], ◌++◌, Option, IfOk, OnOk, map, max, option_to_list};
-    ghost use Rattle.trace_model.specs.declared.entry.Entry.TheVariants as note;
+    ghost use Rattle.std.specs.Prelude.{◌≡◌, [], IfOk, max};
     ghost use Rattle.link_laws.specs.machine.Machine.{LinkEnd};
     ghost use Rattle.link_laws.specs.messages.Links.{Link, new_numbered_end};
-    ghost use Rattle.node_sites.specs.LinksKept.{WireEndIs, without_first, IsFirst, IsReadFirst};
+    ghost use Rattle.node_sites.specs.LinksKept.{WireEndIs, without_first, IsTakenFirst};
 
     // An end that put and took no RSET yet, with no frame on the way to it.
     fn make(alloc: Global) -> Result<WireEnd, AllocError>
@@ -57,31 +57,27 @@ impl WireEnd {
         self.emitted.max(self.took)
     }
 
-    /// What the first frame on the way to the end says; `None` where there is none.
-    pub fn reads_first(&self) -> Option<Result<Control, LpduFault>>
-        ensures { (l : Link) → WireEndIs self.now l.controller l.to_controller → IsReadFirst l.to_controller result }
-    {
-        match self.wire.front() {
-            Some(first) => Some(read_lpdu(&first.lpdu)),
-            None => None,
-        }
-    }
-
-    /// The first frame on the way to the end, which has this name, is taken, and noted. Nothing happens where there is none.
-    pub fn take_first(&mut self, at: End, entries: &mut Vec<Entry>) -> Result<(), AllocError>
-        ensures { (l : Link) (lpdu : Option (List ℕ)) → WireEndIs self.old l.controller l.to_controller → IsFirst l.to_controller lpdu
-            → OnOk result (WireEndIs self.new (without_first l).controller (without_first l).to_controller
-            × (entries.new.items ≡ entries.old.items ++ map (note.Took at) (option_to_list lpdu))) }
+    // The first frame on the way to the end, which has this name, is taken, and noted: what it says, or `None` where there is none.
+    #[inline(always)]
+    fn take_first(
+        &mut self,
+        at: End,
+        entries: &mut Vec<Entry>,
+    ) -> Result<Option<Result<Control, LpduFault>>, AllocError>
+        ensures { (l : Link) → WireEndIs self.old l.controller l.to_controller
+            → IfOk result (IsTakenFirst at l (WireEndIs self.new (without_first l).controller (without_first l).to_controller)
+            entries.old.items entries.new.items) }
     {
         let Some(flying) = self.wire.pop_front() else {
-            return Ok(());
+            return Ok(None);
         };
+        let read = read_lpdu(&flying.lpdu);
         entries.push(Entry::Took {
             at,
             lpdu: flying.lpdu,
         })?;
         self.took = self.took.max(flying.number);
-        Ok(())
+        Ok(Some(read))
     }
 }
 
@@ -113,7 +109,8 @@ impl Wires {
     ghost use Rattle.history.specs.Follows.{seen_from, frames_to};
     ghost use Rattle.link_wires.specs.Notes.{side_of, AreNoted};
     ghost use Rattle.link_wires.specs.Damages.{Finds};
-    ghost use Rattle.node_sites.specs.LinksKept.{WiresStandFor, with_bare_wires, without_first, IsFirst};
+    ghost use Rattle.node_sites.specs.Arrivals.{ComesTo};
+    ghost use Rattle.node_sites.specs.LinksKept.{WiresStandFor, with_bare_wires, without_first, IsTakenFirst};
 
     /// The wires of a new link: no frame stands on them.
     ///
@@ -175,6 +172,52 @@ impl Wires {
     {
         self.controller.wire.clear();
         self.host.wire.clear();
+    }
+
+    // The first frame on the way to an end is taken, and noted: what it says, or `None` where there is none.
+    #[inline(always)]
+    fn take_first(
+        &mut self,
+        to: End,
+        entries: &mut Vec<Entry>,
+    ) -> Result<Option<Result<Control, LpduFault>>, AllocError>
+        ensures { (l : Link) → WiresStandFor self.old (seen_from to l)
+            → IfOk result (IsTakenFirst to l (WiresStandFor self.new (seen_from to (without_first l))) entries.old.items entries.new.items) }
+    {
+        if to.at_host {
+            self.host.take_first(to, entries)
+        } else {
+            self.controller.take_first(to, entries)
+        }
+    }
+
+    /// This comes to an end of the link: the first frame on its way there is taken and noted, or activation empties both wires. `None`
+    /// where no frame is on its way: nothing happens then.
+    ///
+    /// # Errors
+    ///
+    /// No memory is left; what the wires stand for then isn't said.
+    #[inline(always)]
+    pub fn comes(
+        &mut self,
+        to: End,
+        what: Incoming,
+        entries: &mut Vec<Entry>,
+    ) -> Result<Option<Arrived>, AllocError>
+        ensures { (l : Link) → WiresStandFor self.old (seen_from to l)
+            → IfOk result (ComesTo self.new to l what entries.old.items entries.new.items) }
+    {
+        match what {
+            Incoming::NextFrame => match self.take_first(to, entries)? {
+                Some(read) => Ok(Some(Arrived::Frame(read))),
+                None => Ok(None),
+            },
+            Incoming::Reset(window) => Ok(Some(Arrived::Reset(window))),
+            Incoming::Start(value) => {
+                self.empty();
+                Ok(Some(Arrived::Start(value)))
+            }
+        }
     }
 
     /// How many frames stand on the wire to an end.

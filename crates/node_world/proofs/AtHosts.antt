@@ -24,15 +24,15 @@ use Rattle.node_world.specs.Bounds.{AcksWithin, FewOn, FewBehind, IsFromOutside}
 use Rattle.node_world.specs.Controllers.{SitesAre, MayGoOn, StandsAt}
 use Rattle.node_world.specs.HostSteps.{IsHostOf, CountsOn, CountsComing, HasBecome}
 use Rattle.node_sites.specs.declared.power.Power.TheVariants.{On, Off}
-use Rattle.node_sites.specs.Powers.{IsNodePlace, is_on, NodePower}
+use Rattle.node_sites.specs.Powers.{IsNodePlace, is_on}
 use Rattle.node_sites.specs.Places.{SiteIs}
 use Rattle.node_world.specs.Whole.{IsWithinBounds, SitesBecome}
 use Rattle.node_world.proofs.CountsStay.{counts_few_at_end, resets_fit}
 use Rattle.node_world.proofs.FramesToAll.{others_before, of_these}
 use Rattle.node_world.proofs.HostsInWorlds.{ChangesSite}
 use Rattle.node_world.proofs.SitesKept.{read_there, written_there}
-use Rattle.node_sites.specs.WorldNodes.{RunsAsHost}
 use Rattle.node_sites.specs.GivenMessages.{given_messages}
+use Rattle.node_sites.specs.declared.power.Power.{Power}
 
 -- ## Where it stands
 
@@ -119,10 +119,10 @@ sendable_on k s r is host runs = go k.power s.node refl is.place host.ends runs
     near : ℕ → NumberedEnd
     near h = s.link.host
 
-    go : (power : NodePower) (node : Option Running) → s.node ≡ node → IsNodePlace RunsAsHost power s.memory node near
+    go : (power : Power) (node : Option Running) → s.node ≡ node → IsNodePlace power s.memory node near
         → IfItRuns s.host (s.host ∷ []) node → node ≡ Some r → AreSendable s.link.host.side.sent
     go (On n) (Some q) e place ends runs =
-        first_sendable s.link.host s.host q.desks ends.ends (given_messages n q.core (map (λ (d : Desk). port_for s.link.host d) q.desks) place.1.runs)
+        first_sendable s.link.host s.host q.desks ends.ends (given_messages n q.core (map (λ (d : Desk). port_for s.link.host d) q.desks) place.1)
     go power None e place ends runs = absurd (cc runs)
     go (Off m) (Some q) e place ends runs = absurd place
 
@@ -169,7 +169,7 @@ at_place ks w i h a k all read ready =
 pub runs_alike : (k : HostSite) (s : Site) → SiteIs k s → is_on k.power ≡ is_some s.node
 runs_alike k s is = go k.power s.node is.place
   where
-    go : (power : NodePower) (node : Option Running) → IsNodePlace RunsAsHost power s.memory node (λ h. s.link.host) → is_on power ≡ is_some node
+    go : (power : Power) (node : Option Running) → IsNodePlace power s.memory node (λ h. s.link.host) → is_on power ≡ is_some node
     go (On n) (Some r) place = refl
     go (On n) None place = absurd place
     go (Off m) None place = refl

@@ -25,9 +25,9 @@ use Rattle.node_laws.proofs.telling.Keeping.{steps_keep}
 use Rattle.node_laws.proofs.telling.Events.{site_map}
 use Rattle.node_sites.specs.declared.wires.Wires.{Wires}
 use Rattle.node_sites.specs.LinksKept.{WiresStandFor}
-use Rattle.node_sites.specs.WorldNodes.{as_kept}
 use Rattle.node_sites.specs.FramesOut.{sent_port}
 use Rattle.node_world.proofs.EndsGo.{EndGoes, controller_ends}
+use Rattle.node_core.specs.Running.{between}
 
 -- ## One link
 
@@ -78,8 +78,8 @@ each_found {X} key (x ∷ xs) d =
 -- the ends of a node as the next step begins are those of the step before, whose frames went out
 pub next_ports : (near_ends : ℕ → NumberedEnd) (ports : List Port)
     → AllByRecursion (λ (p : Port). (near_ends p.desk.host).side ≡ sent_all p.side) ports
-    → map as_kept (map sent_port ports)
-    ≡ map as_kept (map (λ (d : Desk). port_for (near_ends d.host) d) (map (λ (p : Port). p.desk) ports))
+    → map between (map sent_port ports)
+    ≡ map between (map (λ (d : Desk). port_for (near_ends d.host) d) (map (λ (p : Port). p.desk) ports))
 next_ports near_ends [] a = refl
 next_ports near_ends (p ∷ ports) a =
     ap₂ (λ (x : Port) xs. x ∷ xs)

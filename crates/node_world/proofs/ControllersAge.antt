@@ -12,9 +12,9 @@ use Rattle.node_laws.specs.telling.Telling.{IsTimely, hosts_in}
 use Rattle.node_laws.proofs.telling.Events.{orderly_map}
 use Rattle.node_sites.specs.declared.places.HostSite.{HostSite}
 use Rattle.node_sites.specs.Numbers.{CountsFew}
-use Rattle.node_sites.specs.Powers.{IsNodePlace, NodePower}
+use Rattle.node_sites.specs.Powers.{IsNodePlace}
 use Rattle.node_world.specs.Controllers.{SitesAre, WorldIs, WorldBecomes, MayGoOn, AreTimely, FewAreCounted, near_ticks}
-use Rattle.node_core.specs.Running.{RunsAs}
+use Rattle.node_sites.specs.declared.power.Power.{Power}
 
 -- a host whose frames have grown older
 abbrev pub older : Site → Site
@@ -86,12 +86,12 @@ older_few w few = go w.controller few
         let F : (ℕ → NumberedEnd) → Type 0 = λ near. CountsFew TimePasses (map (λ (d : Desk). port_for (near d.host) d) r.desks) in
         subst F (sym (all_near w.sites)) a
 
-pub older_is : (k : NodePower) (ks news : List HostSite) (w : NodeWorld) → WorldIs k ks w → SitesAre news (map older w.sites) → WorldIs k news (older_world w)
+pub older_is : (k : Power) (ks news : List HostSite) (w : NodeWorld) → WorldIs k ks w → SitesAre news (map older w.sites) → WorldIs k news (older_world w)
 older_is k ks news w world sites =
-    let Q : (ℕ → NumberedEnd) → Type 0 = λ near. IsNodePlace RunsAs k w.memory w.controller near in
+    let Q : (ℕ → NumberedEnd) → Type 0 = λ near. IsNodePlace k w.memory w.controller near in
     record { controller = subst Q (sym (all_near w.sites)) world.controller; sites = sites }
 
-pub then_ticks : (k : NodePower) (ks : List HostSite) (w : NodeWorld) (before mid now : List Entry) → mid ≡ before ++ (all_aged w).1
+pub then_ticks : (k : Power) (ks : List HostSite) (w : NodeWorld) (before mid now : List Entry) → mid ≡ before ++ (all_aged w).1
     → WorldBecomes k ks mid now (controller_ticks (older_world w)) → WorldBecomes k ks before now (near_ticks w)
 then_ticks k ks w before mid now noted b =
     let told : List Entry = (controller_ticks (older_world w)).1 in

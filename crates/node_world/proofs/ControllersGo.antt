@@ -29,7 +29,6 @@ use Rattle.node_sites.specs.Powers.{IsNodePlace}
 use Rattle.node_sites.specs.Places.{SiteIs}
 use Rattle.node_world.specs.Controllers.{SitesAre, due_at, sent_to, has_frames, frames_emitted, HasOneEnd, with_bare_link}
 use Rattle.node_world.proofs.GoingOn.{same_stand, silent_same, same_twice, ended_far}
-use Rattle.node_sites.specs.WorldNodes.{RunsAsHost}
 
 -- ## Its ends
 
@@ -185,7 +184,7 @@ module _ (v : Work) (starts out : Site → Link) (so : Site → Ending → Link)
 
   placed : (k : HostSite) (s : Site) (l m : Link) → m.host ≡ l.host → WiresStandFor k.wires m → Near k s l → Near k s m
   placed k s l m q wires a =
-      let Q : NumberedEnd → Type 0 = λ e. IsNodePlace RunsAsHost k.power s.memory s.node (λ h. e) in
+      let Q : NumberedEnd → Type 0 = λ e. IsNodePlace k.power s.memory s.node (λ h. e) in
       record { host = a.host; wires = wires; place = subst Q (sym q) a.place }
 
   pub midway_stands : (ks : List HostSite) (sites : List Site) (a : EachSteps sites) → SitesAre ks (map starts_so sites) → SitesAre ks (midway sites a)

@@ -1,37 +1,31 @@
 -- What is known of the controller by what is kept of it, and what comes to its ends.
-use Rattle.std.proofs.Common.{◌≡◌, ℕ, ◌+◌, ◌<◌, ◌^◌, ◌==◌, Bool, true, false, cond, List, [], ◌∷◌, ◌++◌, get_or, map, refl, ap, ap₂, sym, subst, ◌∙◌}
+use Rattle.std.proofs.Common.{◌≡◌, ℕ, ◌+◌, ◌<◌, ◌^◌, ◌==◌, true, false, List, [], ◌∷◌, ◌++◌, get_or, map, refl, ap, ap₂, sym, subst, ◌∙◌}
 use Rattle.std.specs.Prelude.{Option, Some, None, slice_set}
 use Rattle.std.specs.List.{AllByRecursion}
 use Rattle.swp_base.specs.InMemory.{Memory}
-use Rattle.swp_lpdu.specs.Controls.{lpdu_of}
-use Rattle.trace_model.specs.declared.entry.Entry.TheVariants as note
 use Rattle.link_laws.specs.sessions.Sessions.{OnWire}
 use Rattle.link_laws.proofs.entries.Lasting.{same_number}
 use Rattle.link_laws.specs.machine.Machine.{LinkInput}
 use Rattle.link_laws.specs.messages.Links.{Link, NumberedEnd, Comes}
 use Rattle.link_laws.specs.messages.Links.Comes.{NextFrame, AsksReset, Starts, Stops, NoInput}
-use Rattle.link_laws.specs.entries.Entries.End.{Controller}
-use Rattle.history.specs.Steps.{entries_for}
 use Rattle.node_machine.specs.Parts.{Running}
-use Rattle.node_machine.specs.world.World.{NodeWorld, Site, site_at, with_site, link_to, input_of, arrival, comes_to, comes_at, end_c}
+use Rattle.node_machine.specs.world.World.{NodeWorld, Site, site_at, with_site, link_to, input_of, comes_to, comes_at, end_c}
 use Rattle.node_machine.specs.Carrying.{changed_if}
 use Rattle.node_laws.specs.kept.Hosts.{AreDifferent}
 use Rattle.node_laws.specs.telling.Telling.{hosts_in}
-use Rattle.node_sites.specs.Numbers.{with_session_number}
+use Rattle.node_laws.proofs.telling.Nodes.{link_is}
 use Rattle.node_sites.specs.declared.places.HostSite.{HostSite}
-use Rattle.node_sites.specs.declared.wires.WireEnd.{WireEnd}
 use Rattle.node_sites.specs.declared.wires.Wires.{Wires}
-use Rattle.node_sites.specs.LinksKept.{WiresStandFor, WireEndIs, without_first, as_it_comes, IsFirst}
+use Rattle.node_sites.specs.LinksKept.{WiresStandFor, as_it_comes}
 use Rattle.node_sites.specs.declared.power.Power.TheVariants.{On, Off}
-use Rattle.node_sites.specs.Powers.{IsNodePlace, NodePower}
+use Rattle.node_sites.specs.Powers.{IsNodePlace}
 use Rattle.node_sites.specs.Places.{SiteIs}
-use Rattle.node_world.specs.Controllers.{SitesAre, HaveRoom, StandsAt, as_it_comes_to}
+use Rattle.node_world.specs.Controllers.{SitesAre, HaveRoom, MayGoOn, IsThere, StandsAt, as_it_comes_to}
 use Rattle.node_world.proofs.Behind.{each_found}
 use Rattle.node_world.proofs.FramesToAll.{of_these, others_before}
 use Rattle.node_world.proofs.SitesKept.{read_there, written_there}
 use Rattle.node_core.specs.declared.node.Node.{Node}
-use Rattle.node_core.specs.Running.{RunsAs}
-use Rattle.node_sites.specs.WorldNodes.{RunsAsHost}
+use Rattle.node_sites.specs.declared.power.Power.{Power}
 
 -- ## Its place
 
@@ -39,21 +33,21 @@ use Rattle.node_sites.specs.WorldNodes.{RunsAsHost}
 pub record PlaceIsOn (m : Memory) (node : Option Running) (near : ℕ → NumberedEnd) (n : Node Memory) : Type 0 where
   pub running : Running
   pub runs : node ≡ Some running
-  pub place : IsNodePlace RunsAs (On n) m (Some running) near
+  pub place : IsNodePlace (On n) m (Some running) near
 
-pub place_is_on : (k : NodePower) (m : Memory) (node : Option Running) (near : ℕ → NumberedEnd) (n : Node Memory) → k ≡ On n
-    → IsNodePlace RunsAs k m node near → PlaceIsOn m node near n
+pub place_is_on : (k : Power) (m : Memory) (node : Option Running) (near : ℕ → NumberedEnd) (n : Node Memory) → k ≡ On n
+    → IsNodePlace k m node near → PlaceIsOn m node near n
 place_is_on k m node near n q place =
-    let Q : NodePower → Type 0 = λ a. IsNodePlace RunsAs a m node near in
+    let Q : Power → Type 0 = λ a. IsNodePlace a m node near in
     go node refl (subst Q q place)
   where
-    go : (o : Option Running) → node ≡ o → IsNodePlace RunsAs (On n) m o near → PlaceIsOn m node near n
+    go : (o : Option Running) → node ≡ o → IsNodePlace (On n) m o near → PlaceIsOn m node near n
     go (Some r) runs p = record { running = r; runs = runs; place = p }
     go None runs p = absurd p
 
 -- or it doesn't
-pub place_is_off : (k : NodePower) (m : Memory) (node : Option Running) (near : ℕ → NumberedEnd) → ((n : Node Memory) → k ≡ On n → ⊥)
-    → IsNodePlace RunsAs k m node near → node ≡ None
+pub place_is_off : (k : Power) (m : Memory) (node : Option Running) (near : ℕ → NumberedEnd) → ((n : Node Memory) → k ≡ On n → ⊥)
+    → IsNodePlace k m node near → node ≡ None
 place_is_off (On n) m node near q place = absurd (q n refl)
 place_is_off (Off x) m None near q place = refl
 place_is_off (Off x) m (Some r) near q place = absurd place
@@ -91,15 +85,6 @@ others_left h comes (s ∷ sites) a =
     let q : (s.host == h) ≡ false = a.0 in
     let one : as_it_comes s.link (comes_to h comes s.host) ≡ s.link = rw q refl in
     ap₂ (λ (l : Link) xs. record s { link = l } ∷ xs) one (others_left h comes sites a.1)
-
--- where a reset is asked for, all links are left
-pub asked_there : (h : ℕ) (window : Option ℕ) (sites : List Site) → as_it_comes_to h (AsksReset window) sites ≡ sites
-asked_there h window [] = refl
-asked_there h window (s ∷ sites) = ap₂ (λ (l : Link) xs. record s { link = l } ∷ xs) (go (s.host == h)) (asked_there h window sites)
-  where
-    go : (b : Bool) → as_it_comes s.link (cond b (AsksReset window) NoInput) ≡ s.link
-    go true = refl
-    go false = refl
 
 map-parts : (f : Site → Site) (front : List Site) (s : Site) (back : List Site) → map f (front ++ s ∷ back) ≡ map f front ++ f s ∷ map f back
 map-parts f [] s back = refl
@@ -175,11 +160,23 @@ pub site_read : (i h : ℕ) (ks : List HostSite) (sites : List Site) (s : Site) 
 site_read i h ks sites s k p is a read =
     subst (SiteIs k) is (read_there ks p.front p.site p.back i k p.place (subst (SitesAre ks) p.is a) read)
 
+-- what comes leaves the far end of a link
+pub come_far : (l : Link) (comes : Comes) → (as_it_comes l comes).host ≡ l.host
+come_far l NextFrame = go l.to_controller
+  where
+    go : (w : List OnWire) → (as_it_comes (record l { to_controller = w }) NextFrame).host ≡ l.host
+    go [] = refl
+    go (x ∷ xs) = refl
+come_far l (AsksReset window) = refl
+come_far l (Starts value) = refl
+come_far l Stops = refl
+come_far l NoInput = refl
+
 -- it has these wires now
 pub site_with : (k : HostSite) (wires : Wires) (s : Site) (l : Link) → l.host ≡ s.link.host → WiresStandFor wires l → SiteIs k s
     → SiteIs (record k { wires = wires }) (record s { link = l })
 site_with k wires s l same w a =
-    let Q : NumberedEnd → Type 0 = λ e. IsNodePlace RunsAsHost k.power s.memory s.node (λ h. e) in
+    let Q : NumberedEnd → Type 0 = λ e. IsNodePlace k.power s.memory s.node (λ h. e) in
     record { host = a.host; wires = w; place = subst Q (sym same) a.place }
 
 -- where all links have as many RSETs, there is as much room
@@ -198,7 +195,7 @@ room_kept [] news (s ∷ sites) after a b q r = absurd a
 room_kept [] (n ∷ news) [] (t ∷ after) a b q r = absurd (cc q)
 room_kept (k ∷ ks) [] (s ∷ sites) [] a b q r = absurd (cc q)
 
-come_resets : (l : Link) (comes : Comes) → (as_it_comes l comes).resets ≡ l.resets
+pub come_resets : (l : Link) (comes : Comes) → (as_it_comes l comes).resets ≡ l.resets
 come_resets l NextFrame = go l.to_controller
   where
     go : (w : List OnWire) → (as_it_comes (record l { to_controller = w }) NextFrame).resets ≡ l.resets
@@ -215,26 +212,33 @@ resets_as_it_comes h comes [] = refl
 resets_as_it_comes h comes (s ∷ sites) =
     ap₂ (λ n ns. n ∷ ns) (come_resets s.link (comes_to h comes s.host)) (resets_as_it_comes h comes sites)
 
--- ## The first frame
+-- ## Where it comes
 
--- the wires where it was taken off
-pub first_off : (k : Wires) (end : WireEnd) (l : Link) → WiresStandFor k l
-    → WireEndIs end (without_first l).controller (without_first l).to_controller → WiresStandFor (record k { controller = end }) (without_first l)
-first_off k end l w = go l.to_controller w
-  where
-    go : (ws : List OnWire) → WiresStandFor k (record l { to_controller = ws })
-        → WireEndIs end (without_first (record l { to_controller = ws })).controller (without_first (record l { to_controller = ws })).to_controller
-        → WiresStandFor (record k { controller = end }) (without_first (record l { to_controller = ws }))
-    go [] w e = record { here = e; there = w.there; count = w.count }
-    go (x ∷ xs) w e = record { here = e; there = w.there; count = w.count }
+-- the host at this place, to whose link something comes
+module _ (w : NodeWorld) (h : ℕ) (may : MayGoOn w) (there : IsThere h w) (i : ℕ) (ks : List HostSite) (k : HostSite) (st : StandsAt i h w.sites)
+    (all : SitesAre ks w.sites) (read : k ≡ get_or ks i k) where
+  is : st.site ≡ there.0
+  is = found_there i h w.sites there.0 st may.orderly.different there.1
 
--- what is noted of a frame that is taken
-pub taken_noted : (session : ℕ → ℕ) (h : ℕ) (l : Link) (lpdu : List ℕ) → IsFirst l.to_controller (Some lpdu)
-    → map (with_session_number session) (entries_for h (arrival Controller l NextFrame)) ≡ note.Took (record { link = h; at_host = false }) lpdu ∷ []
-taken_noted session h l lpdu = go l.to_controller
-  where
-    go : (w : List OnWire) → IsFirst w (Some lpdu)
-        → map (with_session_number session) (entries_for h (arrival Controller (record l { to_controller = w }) NextFrame))
-        ≡ note.Took (record { link = h; at_host = false }) lpdu ∷ []
-    go [] q = absurd (cc q)
-    go (x ∷ xs) q = let bytes : lpdu ≡ lpdu_of x.frame = cc in ap (λ b. note.Took (record { link = h; at_host = false }) b ∷ []) (sym bytes)
+  here : SiteIs k there.0
+  here = site_read i h ks w.sites there.0 k st is all read
+
+  link : link_to w.sites h ≡ there.0.link
+  link = link_is w.sites h there.0 there.1
+
+  pub wires_there : WiresStandFor k.wires (link_to w.sites h)
+  wires_there = let W : Link → Type 0 = λ l. WiresStandFor k.wires l in subst W (sym link) here.wires
+
+  -- it has come
+  pub sites_with : (comes : Comes) (new : Wires) → WiresStandFor new (as_it_comes (link_to w.sites h) comes)
+      → SitesAre (slice_set ks i (record k { wires = new })) (as_it_comes_to h comes w.sites)
+  sites_with comes new stand =
+      let W : Link → Type 0 = λ l. WiresStandFor new (as_it_comes l comes) in
+      comes_there i h comes ks w.sites there.0 (record k { wires = new }) st may.orderly.different is all
+      (site_with k new there.0 (as_it_comes there.0.link comes) (come_far there.0.link comes) (subst W link stand) here)
+
+  -- nothing has
+  pub sites_still : (new : Wires) → WiresStandFor new (link_to w.sites h) → SitesAre (slice_set ks i (record k { wires = new })) w.sites
+  sites_still new stand =
+      let W : Link → Type 0 = λ l. WiresStandFor new l in
+      stays_there i h ks w.sites there.0 (record k { wires = new }) st is all (site_with k new there.0 there.0.link refl (subst W link stand) here)

@@ -21,13 +21,14 @@ use Rattle.node_laws.specs.telling.Telling.{HasEnds, IfItRuns, hosts_in}
 use Rattle.node_laws.proofs.telling.Nodes.{link_is, stands, Stands}
 use Rattle.node_sites.specs.declared.places.HostSite.{HostSite}
 use Rattle.node_sites.specs.declared.power.Power.TheVariants.{On}
-use Rattle.node_sites.specs.Powers.{IsNodePlace, node_memory, NodePower}
+use Rattle.node_sites.specs.Powers.{IsNodePlace, node_memory}
 use Rattle.node_world.specs.HostSteps.{IsHostOf, is_broken}
 use Rattle.node_world.specs.Controllers.{SitesAre, WorldBecomes, MayGoOn, StandsAt}
 use Rattle.node_world.proofs.HostsLose.{counts_plain, counts_none, counts_one}
 use Rattle.node_world.proofs.FramesToAll.{of_these}
 use Rattle.node_world.proofs.ControllersHear.{hosts-parts}
 use Rattle.node_core.specs.declared.node.Node.{Node}
+use Rattle.node_sites.specs.declared.power.Power.{Power}
 
 -- a link on which it was lost
 abbrev pub lost_on : Loss → Site → Site
@@ -95,36 +96,36 @@ end_there w h s r may runs found =
 
 -- it counts the frame that was refused
 pub counted_there : (w : NodeWorld) (h : ℕ) (r : Running) (n m : Node Memory) (why : Loss) → w.controller ≡ Some r → is_broken why ≡ true
-    → IsNodePlace RunsAs (On n) w.memory (Some r) (near_ends w.sites) → node_memory m ≡ node_memory n
+    → IsNodePlace (On n) w.memory (Some r) (near_ends w.sites) → node_memory m ≡ node_memory n
     → RunsAs m r.core (with_port h one_more_error (map (λ (d : Desk). port_for (near_ends w.sites d.host) d) r.desks))
-    → IsNodePlace RunsAs (On m) w.memory (counts why h w.controller) (near_ends w.sites)
+    → IsNodePlace (On m) w.memory (counts why h w.controller) (near_ends w.sites)
 counted_there w h r n m why runs broken place memory now =
-    let O : Option Running → Type 0 = λ o. IsNodePlace RunsAs (On m) w.memory o (near_ends w.sites) in
+    let O : Option Running → Type 0 = λ o. IsNodePlace (On m) w.memory o (near_ends w.sites) in
     let R : List Port → Type 0 = λ ps. RunsAs m r.core ps in
     subst O (sym (ap (counts why h) runs ∙ counts_one why h r broken))
     (memory ∙ place.0, subst R (error_ends h (near_ends w.sites) r.desks) now, still_sent h (near_ends w.sites) r.desks place.2)
 
 -- what is kept stands for the world behind the loss
-pub lost_there : (k : NodePower) (ks : List HostSite) (w : NodeWorld) (h : ℕ) (s : Site) (why : Loss) (before now : List Entry)
-    → site_at w.sites h ≡ Some s → IsNodePlace RunsAs k w.memory (counts why h w.controller) (near_ends w.sites)
+pub lost_there : (k : Power) (ks : List HostSite) (w : NodeWorld) (h : ℕ) (s : Site) (why : Loss) (before now : List Entry)
+    → site_at w.sites h ≡ Some s → IsNodePlace k w.memory (counts why h w.controller) (near_ends w.sites)
     → SitesAre ks (with_site h (lost_on why) w.sites) → now ≡ before ++ entries_for h (first_lost Controller why s.link.to_controller)
     → WorldBecomes k ks before now (frame_lost w (end_c h) why)
 lost_there k ks w h s why before now found place sites noted =
-    let Q : (ℕ → NumberedEnd) → Type 0 = λ near. IsNodePlace RunsAs k w.memory (counts why h w.controller) near in
+    let Q : (ℕ → NumberedEnd) → Type 0 = λ near. IsNodePlace k w.memory (counts why h w.controller) near in
     record {
       world = record { controller = subst Q (sym (all_near h why w.sites)) place; sites = sites };
       noted = noted ∙ ap (λ (l : Link). before ++ entries_for h (first_lost Controller why l.to_controller)) (sym (link_is w.sites h s found));
     }
 
 -- nothing counts: it wasn't refused, or the controller doesn't run
-pub plain_there : (k : NodePower) (w : NodeWorld) (h : ℕ) (why : Loss) → is_broken why ≡ false
-    → IsNodePlace RunsAs k w.memory w.controller (near_ends w.sites) → IsNodePlace RunsAs k w.memory (counts why h w.controller) (near_ends w.sites)
+pub plain_there : (k : Power) (w : NodeWorld) (h : ℕ) (why : Loss) → is_broken why ≡ false
+    → IsNodePlace k w.memory w.controller (near_ends w.sites) → IsNodePlace k w.memory (counts why h w.controller) (near_ends w.sites)
 plain_there k w h why q place =
-    let O : Option Running → Type 0 = λ o. IsNodePlace RunsAs k w.memory o (near_ends w.sites) in
+    let O : Option Running → Type 0 = λ o. IsNodePlace k w.memory o (near_ends w.sites) in
     subst O (sym (counts_plain why h w.controller q)) place
 
-pub off_there : (k : NodePower) (w : NodeWorld) (h : ℕ) (why : Loss) → w.controller ≡ None
-    → IsNodePlace RunsAs k w.memory w.controller (near_ends w.sites) → IsNodePlace RunsAs k w.memory (counts why h w.controller) (near_ends w.sites)
+pub off_there : (k : Power) (w : NodeWorld) (h : ℕ) (why : Loss) → w.controller ≡ None
+    → IsNodePlace k w.memory w.controller (near_ends w.sites) → IsNodePlace k w.memory (counts why h w.controller) (near_ends w.sites)
 off_there k w h why q place =
-    let O : Option Running → Type 0 = λ o. IsNodePlace RunsAs k w.memory o (near_ends w.sites) in
+    let O : Option Running → Type 0 = λ o. IsNodePlace k w.memory o (near_ends w.sites) in
     subst O (q ∙ (sym (counts_none why h) ∙ ap (counts why h) (sym q))) place

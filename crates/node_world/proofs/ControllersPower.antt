@@ -23,17 +23,17 @@ use Rattle.node_ends.specs.Making.{new_port}
 use Rattle.node_laws.specs.telling.Telling.{IfOff, hosts_in}
 use Rattle.node_laws.proofs.telling.Nodes.{link_is}
 use Rattle.node_sites.specs.declared.places.HostSite.{HostSite}
-use Rattle.node_sites.specs.WorldNodes.{as_kept, RunsAsHost}
 use Rattle.node_sites.specs.declared.power.Power.TheVariants.{On, Off}
-use Rattle.node_sites.specs.Powers.{IsNodePlace, memory_kept, NodePower}
+use Rattle.node_sites.specs.Powers.{IsNodePlace, memory_kept}
 use Rattle.node_sites.specs.WorldBoots.{EndsBoot}
 use Rattle.node_sites.proofs.Powers.{kept_is}
 use Rattle.node_world.specs.Controllers.{SitesAre, WorldBecomes, MayGoOn, AreTimely, with_bare_link}
 use Rattle.node_world.proofs.Behind.{each_found}
 use Rattle.node_world.proofs.GoingOn.{goes_on, cut_same, same_stand, ended_far}
 use Rattle.node_core.specs.declared.node.Node.{Node}
-use Rattle.node_core.specs.Running.{RunsAs}
+use Rattle.node_core.specs.Running.{RunsAs, between}
 use Rattle.node_core.proofs.Between.{kept_alike}
+use Rattle.node_sites.specs.declared.power.Power.{Power}
 
 -- a host whose link the controller has left
 abbrev pub left_alone : Site → Site
@@ -45,7 +45,7 @@ all_left [] (s ∷ sites) a = absurd a
 all_left (k ∷ ks) [] a = absurd a
 all_left (k ∷ ks) (s ∷ sites) a =
     let g = goes_on s.link NoInput None [] refl tt in
-    let Q : NumberedEnd → Type 0 = λ e. IsNodePlace RunsAsHost k.power s.memory s.node (λ h. e) in
+    let Q : NumberedEnd → Type 0 = λ e. IsNodePlace k.power s.memory s.node (λ h. e) in
     (record { host = a.0.host; wires = same_stand (cut_same g) a.0.wires; place = subst Q (sym (far s.link)) a.0.place }, all_left ks sites a.1)
   where
     far : (l : Link) → (happens_at_controller l (Step NoInput [] CutOff)).host ≡ l.host
@@ -53,15 +53,15 @@ all_left (k ∷ ks) (s ∷ sites) a =
         let g = goes_on l NoInput None [] refl tt in
         ap (λ (m : Link). m.host) g.cut ∙ (ended_far _ _ ∙ g.far)
 
-pub was_cut : (k new : NodePower) (ks : List HostSite) (w : NodeWorld) (before now : List Entry)
-    → IsNodePlace RunsAs k w.memory w.controller (λ h. (link_to w.sites h).controller) → new ≡ Off (memory_kept k)
+pub was_cut : (k new : Power) (ks : List HostSite) (w : NodeWorld) (before now : List Entry)
+    → IsNodePlace k w.memory w.controller (λ h. (link_to w.sites h).controller) → new ≡ Off (memory_kept k)
     → SitesAre ks (map with_bare_link w.sites) → now ≡ before ++ note.Cut 0 ∷ [] → WorldBecomes new ks before now (controller_cut w, note.Cut 0 ∷ [])
 was_cut k new ks w before now place off sites noted =
     let near : ℕ → NumberedEnd = λ h. (link_to w.sites h).controller in
-    let N : NodePower → Type 0 = λ a. IsNodePlace RunsAs a w.memory None (λ h. (link_to (map left_alone w.sites) h).controller) in
+    let N : Power → Type 0 = λ a. IsNodePlace a w.memory None (λ h. (link_to (map left_alone w.sites) h).controller) in
     record {
       world = record {
-        controller = subst N (sym off) (kept_is RunsAs k w.memory w.controller near place);
+        controller = subst N (sym off) (kept_is k w.memory w.controller near place);
         sites = all_left ks w.sites sites;
       };
       noted = noted;
@@ -91,7 +91,7 @@ new_sides w (x ∷ sites) off timely a =
     )
 
 new_ends : (near : ℕ → NumberedEnd) (hosts : List ℕ) → AllByRecursion (λ h. (near h).side ≡ new_link_end (Clf new_clf)) hosts
-    → map as_kept (map (new_port named.Clf) hosts) ≡ map as_kept (map (λ (d : Desk). port_for (near d.host) d) (map new_desk hosts))
+    → map between (map (new_port named.Clf) hosts) ≡ map between (map (λ (d : Desk). port_for (near d.host) d) (map new_desk hosts))
 new_ends near [] a = refl
 new_ends near (h ∷ hosts) a =
     ap₂ (λ (e : LinkEnd) xs. record { desk = new_desk h; side = e; session = 0; late = false; ended = false; turns = [] } ∷ xs) (sym a.0)
@@ -102,28 +102,28 @@ none_sent : (near : ℕ → NumberedEnd) (hosts : List ℕ) → AllByRecursion (
 none_sent near [] a = tt
 none_sent near (h ∷ hosts) a = (ap next_frame a.0, none_sent near hosts a.1)
 
-pub boot_lost : (new : NodePower) (ks : List HostSite) (w : NodeWorld) (before now : List Entry) (left : Memory) → new ≡ Off left
-    → EndsBoot RunsAs 0 (hosts_in w.sites) named.Clf w.memory new → SitesAre ks (map with_bare_link w.sites)
+pub boot_lost : (new : Power) (ks : List HostSite) (w : NodeWorld) (before now : List Entry) (left : Memory) → new ≡ Off left
+    → EndsBoot 0 (hosts_in w.sites) w.memory new → SitesAre ks (map with_bare_link w.sites)
     → now ≡ before ++ note.Cut 0 ∷ [] → WorldBecomes new ks before now (boots w 0)
 boot_lost new ks w before now left off booted sites noted =
-    let b = subst (EndsBoot RunsAs 0 (hosts_in w.sites) named.Clf w.memory) off booted in
+    let b = subst (EndsBoot 0 (hosts_in w.sites) w.memory) off booted in
     let D : NodeWorld × List Entry → Type 0 = λ x. WorldBecomes new ks before now x in
     let near : ℕ → NumberedEnd = λ h. (link_to (map left_alone w.sites) h).controller in
-    let N : NodePower → Type 0 = λ a. IsNodePlace RunsAs a (after_planned (boot_writes w.memory.content) w.memory) None near in
+    let N : Power → Type 0 = λ a. IsNodePlace a (after_planned (boot_writes w.memory.content) w.memory) None near in
     subst D (sym (boot_stops w b.0))
     (record { world = record { controller = subst N (sym off) b.1; sites = all_left ks w.sites sites }; noted = noted })
 
-pub boot_runs : (new : NodePower) (ks : List HostSite) (w : NodeWorld) (before now : List Entry) (n : Node Memory) (count : ℕ) → new ≡ On n
-    → w.controller ≡ None → MayGoOn w → AreTimely w → EndsBoot RunsAs 0 (hosts_in w.sites) named.Clf w.memory new
+pub boot_runs : (new : Power) (ks : List HostSite) (w : NodeWorld) (before now : List Entry) (n : Node Memory) (count : ℕ) → new ≡ On n
+    → w.controller ≡ None → MayGoOn w → AreTimely w → EndsBoot 0 (hosts_in w.sites) w.memory new
     → SitesAre ks w.sites → ((core : Core) (ports : List Port) → RunsAs n core ports → count ≡ count_of core.journal)
     → now ≡ before ++ note.Booted 0 count ∷ [] → WorldBecomes new ks before now (boots w 0)
 boot_runs new ks w before now n count on not_on may timely booted sites counts noted =
     let near : ℕ → NumberedEnd = λ h. (link_to w.sites h).controller in
-    let b = subst (EndsBoot RunsAs 0 (hosts_in w.sites) named.Clf w.memory) on booted in
+    let b = subst (EndsBoot 0 (hosts_in w.sites) w.memory) on booted in
     let r : Running = found 0 (hosts_in w.sites) w.memory.content in
     let sides = new_sides w w.sites not_on timely (each_found (λ (x : Site). x.host) w.sites may.orderly.different) in
     let D : NodeWorld × List Entry → Type 0 = λ x. WorldBecomes new ks before now x in
-    let N : NodePower → Type 0 = λ a. IsNodePlace RunsAs a (after_planned (boot_writes w.memory.content) w.memory) (Some r) near in
+    let N : Power → Type 0 = λ a. IsNodePlace a (after_planned (boot_writes w.memory.content) w.memory) (Some r) near in
     let ports = kept_alike (map (new_port named.Clf) (hosts_in w.sites)) (map (λ (d : Desk). port_for (near d.host) d) (map new_desk (hosts_in w.sites)))
     (new_ends near (hosts_in w.sites) sides) b.2 in
     subst D (sym (boot_goes w b.0))

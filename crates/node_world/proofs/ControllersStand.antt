@@ -16,16 +16,16 @@ use Rattle.node_laws.specs.kept.Hosts.{AreDifferent}
 use Rattle.node_laws.specs.telling.Telling.{hosts_in}
 use Rattle.node_sites.specs.declared.power.Power.TheVariants.{On}
 use Rattle.node_sites.specs.declared.places.HostSite.{HostSite}
-use Rattle.node_sites.specs.WorldNodes.{as_kept, GoesOutWhole}
 use Rattle.node_sites.specs.FramesOut.{sent_port}
-use Rattle.node_sites.specs.Powers.{IsNodePlace, node_memory, NodePower}
+use Rattle.node_sites.specs.Powers.{IsNodePlace, node_memory}
 use Rattle.node_world.specs.Controllers.{SitesAre, WorldBecomes, SendsTo, HasOneEnd, sent_to, GoesOnWith, WentOffWith}
 use Rattle.node_world.proofs.Behind.{each_found, next_ports, all_sides}
 use Rattle.node_world.proofs.ControllersGo.{EndSteps, EachSteps, midway, midway_hosts, each_one, sent_everywhere, told_alike, none_told, midway_stands}
 use Rattle.node_world.proofs.ControllersGo.{out_stands, off_stands}
 use Rattle.node_core.specs.declared.node.Node.{Node}
-use Rattle.node_core.specs.Running.{RunsAs}
+use Rattle.node_core.specs.Running.{RunsAs, between, SendsOneByOne}
 use Rattle.node_core.proofs.Between.{kept_alike, all_one_by_one}
+use Rattle.node_sites.specs.declared.power.Power.{Power}
 
 -- a step of the controller that has become v, in a world w: each link is one as it begins, and so behind it
 module _ (w : NodeWorld) (v : Work) (starts out : Site → Link) (so : Site → Ending → Link) (different : AreDifferent (hosts_in w.sites))
@@ -62,7 +62,7 @@ module _ (w : NodeWorld) (v : Work) (starts out : Site → Link) (so : Site → 
       record { port = e.port; here = e.here; side = ap (λ (l : Link). l.controller.side) e.goes_out })
 
   none_left : (near_ends : ℕ → NumberedEnd) (ports : List Port) → AllByRecursion (λ (p : Port). (near_ends p.desk.host).side ≡ sent_all p.side) ports
-      → AllByRecursion (λ (p : Port). GoesOutWhole p.side) ports
+      → AllByRecursion (λ (p : Port). SendsOneByOne p.side) ports
       → AllByRecursion (λ (d : Desk). next_frame (near_ends d.host).side ≡ None) (map (λ (p : Port). p.desk) ports)
   none_left near_ends [] a b = tt
   none_left near_ends (p ∷ ports) a b = (ap next_frame a.0 ∙ b.0.none, none_left near_ends ports a.1 b.1)
@@ -79,10 +79,10 @@ module _ (w : NodeWorld) (v : Work) (starts out : Site → Link) (so : Site → 
         ends = subst (AllByRecursion (HasOneEnd v.ports)) (sym same) (each_one v starts out so w.sites all_steps ends_different);
       }
 
-  abbrev Becomes : NodePower → List HostSite → List Entry → List Entry → NodeWorld × List Entry → Type 0
+  abbrev Becomes : Power → List HostSite → List Entry → List Entry → NodeWorld × List Entry → Type 0
   Becomes k ks before now after = WorldBecomes k ks before now after
 
-  pub went_on : (k : NodePower) (ks : List HostSite) (n : Node Memory) (before now : List Entry) → v.cut ≡ false
+  pub went_on : (k : Power) (ks : List HostSite) (n : Node Memory) (before now : List Entry) → v.cut ≡ false
       → node_memory n ≡ after_planned v.writes w.memory → RunsAs n v.core v.ports
       → GoesOnWith k ks n v mid_hosts before now → Becomes k ks before now behind_step
   went_on k ks n before now on memory runs r =
@@ -92,9 +92,9 @@ module _ (w : NodeWorld) (v : Work) (starts out : Site → Link) (so : Site → 
       ap (λ hs. sent_to hs v.ports) (midway_hosts v starts out so w.sites all_steps) ∙ sent_everywhere (hosts_in w.sites) v.ports different hosts in
       let ports : RunsAs r.node v.core (map (λ (d : Desk). port_for (near_ends d.host) d) left.desks) =
       kept_alike (sent_to (hosts_in mid_hosts) v.ports) (map (λ (d : Desk). port_for (near_ends d.host) d) left.desks)
-      (ap (map as_kept) names ∙ next_ports near_ends v.ports sides) r.runs in
+      (ap (map between) names ∙ next_ports near_ends v.ports sides) r.runs in
       let m : Memory = after_planned v.writes w.memory in
-      let Place : NodePower → Type 0 = λ a. IsNodePlace RunsAs a m (Some left) near_ends in
+      let Place : Power → Type 0 = λ a. IsNodePlace a m (Some left) near_ends in
       let place : Place (On r.node) = (r.memory ∙ memory, ports, none_left near_ends v.ports sides (all_one_by_one runs)) in
       let told : List Entry = flat_map (λ (s : Site). frames_noted Controller s.host (out s) v) w.sites in
       let World : Bool → NodeWorld = λ b. record { memory = m; controller = cond b None (Some left); sites = sites_so (cond b CutOff GoesOut) } in
@@ -105,13 +105,13 @@ module _ (w : NodeWorld) (v : Work) (starts out : Site → Link) (so : Site → 
         noted = r.noted ∙ (ap (λ es. (before ++ v.entries) ++ es) (told_alike v starts out so w.sites all_steps on) ∙ append_assoc before v.entries told);
       })
 
-  pub went_off : (k : NodePower) (ks : List HostSite) (n : Node Memory) (before now : List Entry) → v.cut ≡ true
+  pub went_off : (k : Power) (ks : List HostSite) (n : Node Memory) (before now : List Entry) → v.cut ≡ true
       → node_memory n ≡ after_planned v.writes w.memory → WentOffWith k ks n v mid_hosts before now → Becomes k ks before now behind_step
   went_off k ks n before now off memory r =
       let near_ends : ℕ → NumberedEnd = λ h. (link_to (sites_so CutOff) h).controller in
       let left : Running = record { core = v.core; desks = map (λ (p : Port). p.desk) v.ports } in
       let m : Memory = after_planned v.writes w.memory in
-      let Place : NodePower → Type 0 = λ a. IsNodePlace RunsAs a m None near_ends in
+      let Place : Power → Type 0 = λ a. IsNodePlace a m None near_ends in
       let told : List Entry = flat_map (λ (s : Site). frames_noted Controller s.host (out s) v) w.sites in
       let World : Bool → NodeWorld = λ b. record { memory = m; controller = cond b None (Some left); sites = sites_so (cond b CutOff GoesOut) } in
       let Is : Bool → Type 0 = λ b. Becomes k ks before now (World b, v.entries ++ told) in

@@ -1,12 +1,12 @@
 -- A step of the controller in which something comes to one of its ends: how it begins, how what it notes is numbered, and what is behind it.
 use Rattle.std.proofs.Common.{◌≡◌, ℕ, ◌==◌, Bool, true, false, not, List, [], ◌∷◌, get_or, map, refl, ap, ap₂, sym, subst, ◌∙◌}
-use Rattle.std.specs.Prelude.{if◌then◌else◌, Option, Some, None, Result, OnOk, option_map}
+use Rattle.std.specs.Prelude.{if◌then◌else◌, Option, Some, None, Result, OnOk}
 use Rattle.std.specs.List.{AllByRecursion}
 use Rattle.swp_base.specs.InMemory.{Memory}
 use Rattle.trace_model.specs.declared.entry.Entry.{Entry}
 use Rattle.link_laws.specs.sessions.Sessions.{OnWire}
 use Rattle.journal_laws.specs.Planned.{after_planned}
-use Rattle.link_laws.specs.machine.Machine.{LinkEnd, LinkInput, next_frame, after_input, reset_refusal}
+use Rattle.link_laws.specs.machine.Machine.{LinkEnd, LinkInput, next_frame, after_input}
 use Rattle.link_laws.specs.machine.Machine.LinkInput.{Tick, Reset}
 use Rattle.link_laws.specs.messages.Links.{Link, NumberedEnd, Comes, Ending, number_of, happens_at_controller}
 use Rattle.link_laws.specs.messages.Links.Comes.{NextFrame, AsksReset, Starts, Stops, NoInput}
@@ -15,15 +15,14 @@ use Rattle.link_laws.specs.entries.Entries.End.{Controller}
 use Rattle.history.specs.Steps.{entries_for}
 use Rattle.link_wires.proofs.Results.{on_ok}
 use Rattle.link_end.specs.declared.report.ResetRefused.{ResetRefused}
-use Rattle.link_end.specs.Reports.{reset_refused}
-use Rattle.trace_model.specs.declared.entry.NoCause.{NoCause}
-use Rattle.trace_model.specs.declared.line.Line.TheVariants as line
-use Rattle.history.specs.Follows.{as_noted}
 use Rattle.node_machine.specs.Carrying.{port_at}
-use Rattle.node_machine.specs.world.Lines.{refusal_in}
-use Rattle.node_core.specs.Running.{reset_refusal_at, RunsAs}
-use Rattle.node_world.specs.HostSteps.{reset_noted}
-use Rattle.node_world.proofs.HostsRefuse.{told_so}
+use Rattle.node_core.specs.Running.{RunsAs, between}
+use Rattle.node_sites.specs.declared.incoming.Incoming.{Incoming}
+use Rattle.node_sites.specs.declared.incoming.Arrived.{Arrived}
+use Rattle.node_sites.specs.Arrivals.{as_comes, refusal_arrived, IsOf}
+use Rattle.node_world.specs.HostSteps.{refusal_coming}
+use Rattle.node_world.proofs.Comings.{refused_so}
+use Rattle.node_world.proofs.ControllersHear.{come_far}
 use Rattle.node_machine.specs.Parts.{Desk, Running, Port, Work}
 use Rattle.node_machine.specs.Node.{NodeInput, steps, input_at, has_come}
 use Rattle.node_machine.specs.Node.NodeInput.{AtEnd, TimePasses}
@@ -36,9 +35,9 @@ use Rattle.node_laws.proofs.telling.Parts.{AreAlike}
 use Rattle.node_sites.specs.declared.power.Power.TheVariants.{On}
 use Rattle.node_sites.specs.declared.places.HostSite.{HostSite}
 use Rattle.node_sites.specs.LinksKept.{SameWires, as_it_comes}
-use Rattle.node_sites.specs.WorldNodes.{BeginsOver, as_kept, HasGone}
+use Rattle.node_sites.specs.WorldNodes.{BeginsOver, HasGone}
 use Rattle.node_sites.specs.Numbers.{AreNumbered, CountsFew, StaysCounted}
-use Rattle.node_sites.specs.Powers.{IsNodePlace, node_memory, NodePower}
+use Rattle.node_sites.specs.Powers.{IsNodePlace, node_memory}
 use Rattle.node_world.specs.Controllers.{SitesAre, WorldBecomes, MayGoOn, FewAreCounted, AreSessions, as_it_comes_to, SendsTo, EndsStep}
 use Rattle.node_world.specs.Controllers.{GoesOnWith, WentOffWith}
 use Rattle.node_world.proofs.HostsBegin.{near_side}
@@ -51,21 +50,11 @@ use Rattle.node_world.proofs.ControllersGo.{EndSteps}
 use Rattle.node_world.proofs.ControllersStand.{mid_hosts, sends_them, went_on, went_off}
 use Rattle.node_core.specs.declared.node.Node.{Node}
 use Rattle.node_core.proofs.Between.{kept_alike}
+use Rattle.node_sites.specs.declared.power.Power.{Power}
 
 -- ## As a step begins
 
--- what comes leaves the far end of a link, and the frames that note what goes out
-pub come_far : (l : Link) (comes : Comes) → (as_it_comes l comes).host ≡ l.host
-come_far l NextFrame = go l.to_controller
-  where
-    go : (w : List OnWire) → (as_it_comes (record l { to_controller = w }) NextFrame).host ≡ l.host
-    go [] = refl
-    go (x ∷ xs) = refl
-come_far l (AsksReset window) = refl
-come_far l (Starts value) = refl
-come_far l Stops = refl
-come_far l NoInput = refl
-
+-- it leaves what notes the frames that go out
 pub come_alike : (l : Link) (comes : Comes) → AreAlike (as_it_comes l comes) (wires_for l comes)
 come_alike l NextFrame = go l.to_controller
   where
@@ -82,7 +71,7 @@ alike_then s a = record { to_host = s.to_host ∙ a.to_host; resets = s.resets �
 
 -- ends with the same machines
 pub same_ends : (near far : ℕ → NumberedEnd) (desks : List Desk) → ((h : ℕ) → (near h).side ≡ (far h).side)
-    → map as_kept (map (λ (d : Desk). port_for (near d.host) d) desks) ≡ map as_kept (map (λ (d : Desk). port_for (far d.host) d) desks)
+    → map between (map (λ (d : Desk). port_for (near d.host) d) desks) ≡ map between (map (λ (d : Desk). port_for (far d.host) d) desks)
 same_ends near far [] q = refl
 same_ends near far (d ∷ desks) q =
     ap₂ (λ (x : Port) xs. x ∷ xs) (ap (λ (e : LinkEnd). record { desk = d; side = e; session = 0; late = false; ended = false; turns = [] }) (q d.host))
@@ -217,42 +206,19 @@ module _ (w : NodeWorld) (r : Running) (h : ℕ) (comes : Comes) (i : LinkInput)
       (arrival_numbered session h Controller (link_to w.sites h) comes)
       (numbers_of sessions r.desks w.sites node.ends all (each_number sessions w.sites a)))).entries
 
-  -- ## A reset
+  -- ## Its refusal
 
-  -- the end as its node has it
-  own_end : (p : Port) → port_at (map (λ (d : Desk). port_for (plain d.host) d) r.desks) h ≡ Some p → p.side ≡ s.link.controller.side
-  own_end p here =
+  -- what its node tells of what came
+  pub refused_there : (what : Incoming) (a : Arrived) (why : Option ResetRefused) → IsOf what a
+      → refusal_arrived a (port_at (map (λ (d : Desk). port_for (plain d.host) d) r.desks) h) ≡ why
+      → why ≡ refusal_coming w.controller (plain h).side (as_comes what)
+  refused_there what a why is_of told =
       let one : Stands plain r.desks h = stands plain r.desks w.sites h s node.ends found in
-      let same : Some p ≡ Some (port_for (plain h) one.desk) = sym here ∙ one.here in
-      let is : p ≡ port_for (plain h) one.desk = cc in
-      ap (λ (x : Port). x.side) is ∙ ap (λ (l : Link). l.controller.side) (link_is w.sites h s found)
-
-  refusal_is : (window : Option ℕ) → refusal_in w (line.Reset (end_c h) window) ≡ as_noted (reset_refusal s.link.controller.side)
-  refusal_is window = rw runs (ap (λ (l : Link). as_noted (reset_refusal l.controller.side)) (link_is w.sites h s found))
-
-  abbrev AtEndIs : Option ResetRefused → Type 0
-  AtEndIs o = (p : Port) → port_at (map (λ (d : Desk). port_for (plain d.host) d) r.desks) h ≡ Some p
-      → reset_refusal_at (port_at (map (λ (d : Desk). port_for (plain d.host) d) r.desks) h) ≡ o
-
-  answered : (o : Option ResetRefused) → AtEndIs o → option_map reset_refused (reset_refusal s.link.controller.side) ≡ o
-  answered o f =
-      let one : Stands plain r.desks h = stands plain r.desks w.sites h s node.ends found in
-      let p : Port = port_for (plain h) one.desk in
-      ap (λ e. option_map reset_refused (reset_refusal e)) (sym (own_end p one.here)) ∙ (ap reset_refusal_at (sym one.here) ∙ f p one.here)
-
-  pub reset_goes_on : (window : Option ℕ) → AtEndIs None → None ≡ refusal_in w (line.Reset (end_c h) window)
-  reset_goes_on window f =
-      sym (refusal_is window ∙ (told_so s.link.controller.side ∙ ap (option_map reset_noted) (answered None f)))
-
-  pub reset_stops_there : (window : Option ℕ) (why : ResetRefused) (cause : NoCause) → cause ≡ reset_noted why → AtEndIs (Some why)
-      → Some cause ≡ refusal_in w (line.Reset (end_c h) window)
-  reset_stops_there window why cause is f =
-      ap (λ x. Some x) is
-      ∙ sym (refusal_is window ∙ (told_so s.link.controller.side ∙ ap (option_map reset_noted) (answered (Some why) f)))
+      sym told ∙ (ap (refusal_arrived a) one.here ∙ refused_so what a (port_for (plain h) one.desk) w.controller r (plain h).side is_of refl runs)
 
   -- ## Both ways
 
-  pub begins_there : (n : Node Memory) → IsNodePlace RunsAs (On n) w.memory (Some r) plain → BeginsOver RunsAs n Start
+  pub begins_there : (n : Node Memory) → IsNodePlace (On n) w.memory (Some r) plain → BeginsOver n Start
   begins_there n place = record {
     runs = kept_alike (map (λ (d : Desk). port_for (plain d.host) d) r.desks) (map (λ (d : Desk). port_for (near d.host) d) r.desks)
         (same_ends plain near r.desks same_near) place.1;
@@ -267,32 +233,32 @@ module _ (w : NodeWorld) (r : Running) (h : ℕ) (comes : Comes) (i : LinkInput)
   sends_all ks runs a =
       sends_them w Then starts out so may.orderly.different hosts_then each ks runs a
 
-  pub step_midway : (old n : Node Memory) (ks : List HostSite) (live : Bool) → HasGone RunsAs old n Then live → SitesAre ks (as_it_comes_to h comes w.sites)
+  pub step_midway : (old n : Node Memory) (ks : List HostSite) (live : Bool) → HasGone old n Then live → SitesAre ks (as_it_comes_to h comes w.sites)
       → EndsStep (On n) ks n live Then mid_sites
   step_midway old n ks live gone a = record { on = refl; sends = sends_all ks gone.runs a }
 
-  abbrev Becomes : NodePower → List HostSite → List Entry → List Entry → Type 0
+  abbrev Becomes : Power → List HostSite → List Entry → List Entry → Type 0
   Becomes k ks before now = WorldBecomes k ks before now (comes_at w (end_c h) comes)
 
   step_is : comes_at w (end_c h) comes ≡ after_controller w h comes Then
   step_is = rw (input, runs) refl
 
-  pub step_went_on : (k : NodePower) (ks : List HostSite) (n : Node Memory) (before now : List Entry) → Then.cut ≡ false
+  pub step_went_on : (k : Power) (ks : List HostSite) (n : Node Memory) (before now : List Entry) → Then.cut ≡ false
       → node_memory n ≡ after_planned Then.writes w.memory → RunsAs n Then.core Then.ports
       → GoesOnWith k ks n Then mid_sites before now → Becomes k ks before now
   step_went_on k ks n before now on memory run g =
       let B : NodeWorld × List Entry → Type 0 = λ x. WorldBecomes k ks before now x in
       subst B (sym step_is) (went_on w Then starts out so may.orderly.different hosts_then each k ks n before now on memory run g)
 
-  pub step_went_off : (k : NodePower) (ks : List HostSite) (n : Node Memory) (before now : List Entry) → Then.cut ≡ true
+  pub step_went_off : (k : Power) (ks : List HostSite) (n : Node Memory) (before now : List Entry) → Then.cut ≡ true
       → node_memory n ≡ after_planned Then.writes w.memory → WentOffWith k ks n Then mid_sites before now → Becomes k ks before now
   step_went_off k ks n before now off memory g =
       let B : NodeWorld × List Entry → Type 0 = λ x. WorldBecomes k ks before now x in
       subst B (sym step_is) (went_off w Then starts out so may.orderly.different hosts_then each k ks n before now off memory g)
 
   -- the step ends in either way
-  pub step_ends : {T F : Type 0} (result : Result T F) (live : Bool) (k : NodePower) (ks : List HostSite) (old n : Node Memory) (before now : List Entry)
-      → IsNodePlace RunsAs (On old) w.memory (Some r) plain → HasGone RunsAs old n Then live
+  pub step_ends : {T F : Type 0} (result : Result T F) (live : Bool) (k : Power) (ks : List HostSite) (old n : Node Memory) (before now : List Entry)
+      → IsNodePlace (On old) w.memory (Some r) plain → HasGone old n Then live
       → (live ≡ true → OnOk result (GoesOnWith k ks n Then mid_sites before now))
       → (live ≡ false → OnOk result (WentOffWith k ks n Then mid_sites before now)) → OnOk result (Becomes k ks before now)
   step_ends result live k ks old n before now place gone goes_on goes_off = go live refl

@@ -23,9 +23,9 @@ use Rattle.node_laws.proofs.telling.Nodes.{link_is, hosts_same}
 use Rattle.node_sites.specs.declared.power.Power.TheVariants.{On, Off}
 use Rattle.node_sites.specs.declared.places.HostSite.{HostSite}
 use Rattle.node_sites.specs.LinksKept.{SameWires}
-use Rattle.node_sites.specs.WorldNodes.{BeginsOver, HasGone, RunsAsHost}
+use Rattle.node_sites.specs.WorldNodes.{BeginsOver, HasGone}
 use Rattle.node_sites.specs.Numbers.{AreNumbered, CountsFew}
-use Rattle.node_sites.specs.Powers.{IsNodePlace, node_memory, NodePower}
+use Rattle.node_sites.specs.Powers.{IsNodePlace, node_memory}
 use Rattle.node_sites.specs.Places.{SiteIs}
 use Rattle.node_world.specs.Controllers.{SitesAre, WorldIs, WorldBecomes, MayGoOn, AreTimely, FewAreCounted, AreSessions, EndsStep, GoesOnWith, WentOffWith}
 use Rattle.node_world.proofs.GoingOn.{same_stand, same_twice}
@@ -38,7 +38,7 @@ use Rattle.node_world.proofs.ControllersGo.{EndSteps}
 use Rattle.node_world.proofs.ControllersStand.{mid_hosts, sends_them, went_on, went_off}
 use Rattle.node_world.proofs.ControllersStep.{ends_sent, ends_fresh}
 use Rattle.node_core.specs.declared.node.Node.{Node}
-use Rattle.node_core.specs.Running.{RunsAs, MayStep}
+use Rattle.node_sites.specs.declared.power.Power.{Power}
 
 -- ## While it doesn't run
 
@@ -64,21 +64,21 @@ all_still (k ∷ ks) (s ∷ sites) q a = (one, all_still ks sites q.1 a.1)
   where
     one : SiteIs k (site_unticked s)
     one =
-        let Q : NumberedEnd → Type 0 = λ e. IsNodePlace RunsAsHost k.power s.memory s.node (λ h. e) in
+        let Q : NumberedEnd → Type 0 = λ e. IsNodePlace k.power s.memory s.node (λ h. e) in
         record { host = a.0.host; wires = same_stand (still_wires s.link q.0) a.0.wires; place = subst Q (sym (still_far s.link)) a.0.place }
 
-off_place : (k : NodePower) (m : Memory) (near far : ℕ → NumberedEnd) → IsNodePlace RunsAs k m None near → IsNodePlace RunsAs k m None far
+off_place : (k : Power) (m : Memory) (near far : ℕ → NumberedEnd) → IsNodePlace k m None near → IsNodePlace k m None far
 off_place (On n) m near far p = p
 off_place (Off x) m near far p = p
 
-pub ticks_off : (k : NodePower) (ks : List HostSite) (w : NodeWorld) (entries : List Entry) → w.controller ≡ None → AreTimely w → MayGoOn w
+pub ticks_off : (k : Power) (ks : List HostSite) (w : NodeWorld) (entries : List Entry) → w.controller ≡ None → AreTimely w → MayGoOn w
     → WorldIs k ks w → WorldBecomes k ks entries entries (controller_ticks w)
 ticks_off k ks w entries off timely may world =
     let none : controller_ticks w ≡ (record w { sites = map site_unticked w.sites }, []) = rw off refl in
     let all = each_found (λ (x : Site). x.host) w.sites may.orderly.different in
     let B : NodeWorld × List Entry → Type 0 = λ x. WorldBecomes k ks entries entries x in
-    let Here : Option Running → Type 0 = λ o. IsNodePlace RunsAs k w.memory o (λ h. (link_to w.sites h).controller) in
-    let There : Option Running → Type 0 = λ o. IsNodePlace RunsAs k w.memory o (λ h. (link_to (map site_unticked w.sites) h).controller) in
+    let Here : Option Running → Type 0 = λ o. IsNodePlace k w.memory o (λ h. (link_to w.sites h).controller) in
+    let There : Option Running → Type 0 = λ o. IsNodePlace k w.memory o (λ h. (link_to (map site_unticked w.sites) h).controller) in
     subst B (sym none)
     (record {
       world = record {
@@ -158,7 +158,7 @@ module _ (w : NodeWorld) (r : Running) (may : MayGoOn w) (timely : AreTimely w) 
       (stepped session TimePasses Begun counted
       (work_numbers session r w.memory.plan plain [] tt (numbers_of sessions r.desks w.sites node.ends all a))).entries
 
-  pub tick_begins : (n : Node Memory) → IsNodePlace RunsAs (On n) w.memory (Some r) plain → BeginsOver RunsAs n Begun
+  pub tick_begins : (n : Node Memory) → IsNodePlace (On n) w.memory (Some r) plain → BeginsOver n Begun
   tick_begins n place = record {
     runs = place.1;
     sent = ends_sent plain plain r.desks (λ h. refl) place.2;
@@ -168,11 +168,7 @@ module _ (w : NodeWorld) (r : Running) (may : MayGoOn w) (timely : AreTimely w) 
     writes = refl;
   }
 
-  pub tick_may : (n : Node Memory) → IsNodePlace RunsAs (On n) w.memory (Some r) plain → MayStep n
-  tick_may n place =
-      let b = tick_begins n place in record { core = r.core; ports = Begun.ports; runs = b.runs; sent = b.sent }
-
-  pub tick_midway : (old n : Node Memory) (ks : List HostSite) (live : Bool) → HasGone RunsAs old n Ticked live
+  pub tick_midway : (old n : Node Memory) (ks : List HostSite) (live : Bool) → HasGone old n Ticked live
       → SitesAre ks w.sites → EndsStep (On n) ks n live Ticked mid_sites
   tick_midway old n ks live gone a =
       let S : List Site → Type 0 = λ xs. SitesAre ks xs in
@@ -186,12 +182,12 @@ module _ (w : NodeWorld) (r : Running) (may : MayGoOn w) (timely : AreTimely w) 
       same_sites [] = refl
       same_sites (s ∷ sites) = ap (λ xs. s ∷ xs) (same_sites sites)
 
-  abbrev Becomes : NodePower → List HostSite → List Entry → List Entry → Type 0
+  abbrev Becomes : Power → List HostSite → List Entry → List Entry → Type 0
   Becomes k ks before now = WorldBecomes k ks before now (controller_ticks w)
 
   -- the tick ends in either way
-  pub tick_ends : {T F : Type 0} (result : Result T F) (live : Bool) (k : NodePower) (ks : List HostSite) (old n : Node Memory) (before now : List Entry)
-      → IsNodePlace RunsAs (On old) w.memory (Some r) plain → HasGone RunsAs old n Ticked live
+  pub tick_ends : {T F : Type 0} (result : Result T F) (live : Bool) (k : Power) (ks : List HostSite) (old n : Node Memory) (before now : List Entry)
+      → IsNodePlace (On old) w.memory (Some r) plain → HasGone old n Ticked live
       → (live ≡ true → OnOk result (GoesOnWith k ks n Ticked mid_sites before now))
       → (live ≡ false → OnOk result (WentOffWith k ks n Ticked mid_sites before now)) → OnOk result (Becomes k ks before now)
   tick_ends result live k ks old n before now place gone goes_on goes_off = go live refl

@@ -27,7 +27,6 @@ use Rattle.node_sites.specs.Places.{SiteIs}
 use Rattle.node_world.specs.Controllers.{SitesAre, HaveRoom, due_at, sent_to, has_frames, frames_emitted, HasOneEnd}
 use Rattle.node_world.proofs.Behind.{all_far}
 use Rattle.node_world.proofs.SitesKept.{Walked, Next, walk_begins, walk_next, walk_ends}
-use Rattle.node_sites.specs.WorldNodes.{RunsAsHost}
 
 -- ## Ends to which nothing was sent yet
 
@@ -150,7 +149,7 @@ sends_next Runs ports now hosts before after i k different ends s lt read =
     with_frames : (k : HostSite) (new : Wires) (x : Site) (cs : List Control) → SiteIs k x → WiresStandFor new (put_all x.link cs)
         → SiteIs (record k { wires = new }) (record x { link = put_all x.link cs })
     with_frames k new x cs a wires =
-        let Q : NumberedEnd → Type 0 = λ e. IsNodePlace RunsAsHost k.power x.memory x.node (λ h. e) in
+        let Q : NumberedEnd → Type 0 = λ e. IsNodePlace k.power x.memory x.node (λ h. e) in
         record { host = a.host; wires = wires; place = subst Q (sym (all_far x.link cs)) a.place }
 
 pub all_sent : (Runs : List Port → Type 0) (ports : List Port) (now : List HostSite) (hosts : List Site) (before after : List Entry) (i : ℕ)

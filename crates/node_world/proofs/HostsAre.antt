@@ -1,16 +1,10 @@
 -- What is known of a host of the world by what is kept of it, and what happens at it, case by case.
-use Rattle.std.proofs.Common.{◌≡◌, ℕ, List, [], ◌∷◌, ◌++◌, refl, sym, subst, ◌∙◌, append-nil}
-use Rattle.std.specs.Prelude.{Option, Some, None, option_map, Result, Ok}
+use Rattle.std.proofs.Common.{◌≡◌, List, [], ◌++◌, refl, sym, subst, append-nil}
+use Rattle.std.specs.Prelude.{Option, Some, None}
 use Rattle.swp_base.specs.InMemory.{Memory}
-use Rattle.swp_base.specs.declared.control_frames.Control.{Control}
-use Rattle.swp_lpdu.specs.declared.LpduFault.{LpduFault}
-use Rattle.swp_lpdu.specs.Controls.{lpdu_of, control_of}
 use Rattle.trace_model.specs.declared.entry.Entry.{Entry}
-use Rattle.link_laws.specs.sessions.Sessions.{OnWire}
 use Rattle.link_laws.specs.machine.Machine.{LinkInput, Turn}
-use Rattle.link_laws.specs.machine.Machine.LinkInput.{Take}
 use Rattle.link_laws.specs.messages.Links.{Link, Comes, Ending, exchanged, happens_at_controller}
-use Rattle.link_laws.specs.messages.Links.Comes.{NextFrame}
 use Rattle.link_laws.specs.messages.Links.EndEvent.{Step}
 use Rattle.link_laws.specs.entries.Entries.End.{Host}
 use Rattle.node_machine.specs.Parts.{Running, Work}
@@ -19,13 +13,12 @@ use Rattle.node_machine.specs.Node.NodeInput.{AtEnd}
 use Rattle.node_machine.specs.world.World.{Site, input_of, wires_for, frames_noted, host_work, host_ticks}
 use Rattle.node_machine.proofs.world.Cases.{host_tick, after_tick}
 use Rattle.node_sites.specs.declared.places.HostSite.{HostSite}
-use Rattle.node_sites.specs.LinksKept.{IsFirst, IsReadFirst}
 use Rattle.node_sites.specs.declared.power.Power.TheVariants.{On, Off}
-use Rattle.node_sites.specs.Powers.{IsNodePlace, node_memory, NodePower}
+use Rattle.node_sites.specs.Powers.{IsNodePlace, node_memory}
 use Rattle.node_sites.specs.Places.{SiteIs}
 use Rattle.node_world.specs.HostSteps.{host_stepped, host_hears, host_behind, HasBecome}
 use Rattle.node_core.specs.declared.node.Node.{Node}
-use Rattle.node_sites.specs.WorldNodes.{RunsAsHost}
+use Rattle.node_sites.specs.declared.power.Power.{Power}
 
 -- ## What is kept
 
@@ -37,10 +30,10 @@ pub record IsOn (k : HostSite) (s : Site) (n : Node Memory) : Type 0 where
 
 pub is_on : {k : HostSite} {s : Site} {n : Node Memory} → SiteIs k s → k.power ≡ On n → IsOn k s n
 is_on {k} {s} {n} is on =
-    let Q : NodePower → Type 0 = λ a. IsNodePlace RunsAsHost a s.memory s.node (λ h. s.link.host) in
+    let Q : Power → Type 0 = λ a. IsNodePlace a s.memory s.node (λ h. s.link.host) in
     go s.node refl (subst Q on is.place)
   where
-    go : (o : Option Running) → s.node ≡ o → IsNodePlace RunsAsHost (On n) s.memory o (λ h. s.link.host) → IsOn k s n
+    go : (o : Option Running) → s.node ≡ o → IsNodePlace (On n) s.memory o (λ h. s.link.host) → IsOn k s n
     go (Some r) runs place = record { running = r; runs = runs; memory = place.0 }
     go None runs place = absurd place
 
@@ -48,7 +41,7 @@ is_on {k} {s} {n} is on =
 pub is_off : {k : HostSite} {s : Site} → SiteIs k s → ((n : Node Memory) → k.power ≡ On n → ⊥) → s.node ≡ None
 is_off {k} {s} is on = go k.power s.node on is.place
   where
-    go : (power : NodePower) (o : Option Running) → ((n : Node Memory) → power ≡ On n → ⊥) → IsNodePlace RunsAsHost power s.memory o (λ h. s.link.host)
+    go : (power : Power) (o : Option Running) → ((n : Node Memory) → power ≡ On n → ⊥) → IsNodePlace power s.memory o (λ h. s.link.host)
         → o ≡ None
     go (On n) o q place = absurd (q n refl)
     go (Off m) None q place = refl
@@ -96,48 +89,3 @@ hears_on s r comes i on is = rw (is, on) refl
 
 pub ticks_on : (s : Site) (r : Running) → s.node ≡ Some r → host_ticks s ≡ after_tick s (host_tick s r)
 ticks_on s r on = rw on refl
-
--- ## The first frame
-
-pub none_first : (l : Link) → IsFirst l.to_controller None → input_of l NextFrame ≡ None
-none_first l = go l.to_controller
-  where
-    go : (w : List OnWire) → IsFirst w None → input_of (record l { to_controller = w }) NextFrame ≡ None
-    go [] q = refl
-    go (x ∷ xs) q = cc q.0
-
--- the frame that is taken, as its bytes are read
-pub record IsTaken (l : Link) (lpdu : List ℕ) : Type 0 where
-  pub frame : Control
-  pub input : input_of l NextFrame ≡ Some (Take frame)
-  pub read : control_of lpdu ≡ Ok frame
-
-pub first_taken : (l : Link) (lpdu : List ℕ) → IsFirst l.to_controller (Some lpdu) → IsTaken l lpdu
-first_taken l lpdu = go l.to_controller refl
-  where
-    go : (w : List OnWire) → l.to_controller ≡ w → IsFirst w (Some lpdu) → IsTaken l lpdu
-    go [] is q = absurd (cc q)
-    go (x ∷ xs) is q =
-        let bytes : lpdu ≡ lpdu_of x.frame = cc in
-        record { frame = x.frame; input = rw is refl; read = rw bytes q.1 }
-
--- these are the bytes of the first frame, of which this is read
-pub record IsReadOf (wire : List OnWire) (read : Result Control LpduFault) : Type 0 where
-  pub lpdu : List ℕ
-  pub first : IsFirst wire (Some lpdu)
-  pub says : read ≡ control_of lpdu
-
-pub some_read : (wire : List OnWire) (now : Option (Result Control LpduFault)) (read : Result Control LpduFault) → now ≡ Some read → IsReadFirst wire now
-    → IsReadOf wire read
-some_read wire now read is f = go f.lpdu f.first f.says
-  where
-    go : (bytes : Option (List ℕ)) → IsFirst wire bytes → now ≡ option_map control_of bytes → IsReadOf wire read
-    go None first says = let z : None ≡ Some read = sym says ∙ is in absurd (cc z)
-    go (Some lpdu) first says = let z : Some (control_of lpdu) ≡ Some read = sym says ∙ is in record { lpdu = lpdu; first = first; says = cc }
-
-pub none_read : (wire : List OnWire) (now : Option (Result Control LpduFault)) → now ≡ None → IsReadFirst wire now → IsFirst wire None
-none_read wire now is f = go f.lpdu f.first f.says
-  where
-    go : (bytes : Option (List ℕ)) → IsFirst wire bytes → now ≡ option_map control_of bytes → IsFirst wire None
-    go None first says = first
-    go (Some lpdu) first says = let z : Some (control_of lpdu) ≡ None = sym says ∙ is in absurd (cc z)

@@ -1,5 +1,5 @@
 -- A host of the world as a step of it begins.
-use Rattle.std.proofs.Common.{◌≡◌, ℕ, false, List, [], ◌∷◌, map, refl, ap, ap₂, sym, subst}
+use Rattle.std.proofs.Common.{◌≡◌, false, List, [], ◌∷◌, map, refl, ap, ap₂, sym, subst}
 use Rattle.std.specs.Prelude.{Option, Some, None}
 use Rattle.std.specs.List.{AllByRecursion}
 use Rattle.swp_base.specs.InMemory.{Memory}
@@ -11,19 +11,16 @@ use Rattle.link_laws.specs.messages.Links.Comes.{NextFrame, AsksReset, Starts, S
 use Rattle.link_laws.specs.entries.Entries.End.{Host}
 use Rattle.history.specs.Steps.{entries_for}
 use Rattle.node_machine.specs.Parts.{Core, Desk, Running, Port, Work}
-use Rattle.node_machine.specs.Carrying.{port_at}
 use Rattle.node_machine.specs.world.World.{Site, near_end_in, arrival, port_for, work_of}
-use Rattle.node_laws.specs.telling.Telling.{HasEnds, IfItRuns}
-use Rattle.node_laws.proofs.telling.Nodes.{host_opened}
 use Rattle.node_sites.specs.declared.places.HostSite.{HostSite}
-use Rattle.node_sites.specs.WorldNodes.{as_kept, BeginsOver, BeginsAt, RunsAsHost}
+use Rattle.node_sites.specs.WorldNodes.{BeginsOver}
 use Rattle.node_sites.specs.declared.power.Power.TheVariants.{On}
-use Rattle.node_sites.specs.Powers.{IsNodePlace, NodePower}
+use Rattle.node_sites.specs.Powers.{IsNodePlace}
 use Rattle.node_sites.specs.Places.{SiteIs}
-use Rattle.node_world.specs.HostSteps.{IsHostOf}
 use Rattle.node_core.specs.declared.node.Node.{Node}
-use Rattle.node_core.specs.Running.{RunsAs, MayStep}
-use Rattle.node_sites.proofs.NodesRun.{host_alike, may_step, of_host}
+use Rattle.node_core.specs.Running.{RunsAs, between}
+use Rattle.node_core.proofs.Between.{kept_alike}
+use Rattle.node_sites.specs.declared.power.Power.{Power}
 
 -- what comes changes no end by itself
 pub near_side : (l : Link) (comes : Comes) → (near_end_in l comes).side ≡ l.controller.side
@@ -38,7 +35,7 @@ near_side l Stops = refl
 near_side l NoInput = refl
 
 same_ports : (a b : NumberedEnd) (desks : List Desk) → a.side ≡ b.side
-    → map as_kept (map (λ (d : Desk). port_for a d) desks) ≡ map as_kept (map (λ (d : Desk). port_for b d) desks)
+    → map between (map (λ (d : Desk). port_for a d) desks) ≡ map between (map (λ (d : Desk). port_for b d) desks)
 same_ports a b [] q = refl
 same_ports a b (d ∷ desks) q =
     ap₂ (λ (x : Port) xs. x ∷ xs) (ap (λ (e : LinkEnd). record { desk = d; side = e; session = 0; late = false; ended = false; turns = [] }) q)
@@ -56,13 +53,13 @@ ports_fresh b (d ∷ desks) = ((refl, refl), ports_fresh b desks)
 
 -- a host that runs begins a step in which this comes
 pub host_begins_so : (k : HostSite) (s : Site) (n : Node Memory) (r : Running) (comes : Comes) (entries : List Entry) → SiteIs k s → k.power ≡ On n
-    → s.node ≡ Some r → BeginsOver RunsAsHost n (work_of r s.memory.plan (λ j. near_end_in (exchanged s.link) comes) entries)
+    → s.node ≡ Some r → BeginsOver n (work_of r s.memory.plan (λ j. near_end_in (exchanged s.link) comes) entries)
 host_begins_so k s n r comes entries is on runs =
-    let Q : NodePower → Option Running → Type 0 = λ a b. IsNodePlace RunsAsHost a s.memory b (λ h. s.link.host) in
+    let Q : Power → Option Running → Type 0 = λ a b. IsNodePlace a s.memory b (λ h. s.link.host) in
     let place : Q (On n) (Some r) = subst (Q (On n)) runs (subst (λ a. Q a s.node) on is.place) in
     let side : s.link.host.side ≡ (near_end_in (exchanged s.link) comes).side = sym (near_side (exchanged s.link) comes) in
     record {
-      runs = host_alike (map (λ (d : Desk). port_for s.link.host d) r.desks) (map (λ (d : Desk). port_for (near_end_in (exchanged s.link) comes) d) r.desks)
+      runs = kept_alike (map (λ (d : Desk). port_for s.link.host d) r.desks) (map (λ (d : Desk). port_for (near_end_in (exchanged s.link) comes) d) r.desks)
           (same_ports s.link.host (near_end_in (exchanged s.link) comes) r.desks side) place.1;
       sent = ports_sent s.link.host (near_end_in (exchanged s.link) comes) r.desks side place.2;
       fresh = ports_fresh (near_end_in (exchanged s.link) comes) r.desks;
@@ -71,23 +68,12 @@ host_begins_so k s n r comes entries is on runs =
       writes = refl;
     }
 
--- It has the end of its own link.
-pub begins_at_end : (k : HostSite) (s : Site) (n : Node Memory) (r : Running) (comes : Comes) → SiteIs k s → IsHostOf s → k.power ≡ On n → s.node ≡ Some r
-    → BeginsAt RunsAsHost n k.host
-    (work_of r s.memory.plan (λ j. near_end_in (exchanged s.link) comes) (entries_for s.host (arrival Host (exchanged s.link) comes)))
-begins_at_end k s n r comes is host on runs =
-    let ends : HasEnds s.host (s.host ∷ []) r = subst (IfItRuns s.host (s.host ∷ [])) runs host.ends in
-    let first = host_opened s r comes host.number ends in
-    let w : Work = work_of r s.memory.plan (λ j. near_end_in (exchanged s.link) comes) (entries_for s.host (arrival Host (exchanged s.link) comes)) in
-    let H : ℕ → Type 0 = λ h. port_at w.ports h ≡ Some first.port in
-    record {
-      begins = host_begins_so k s n r comes (entries_for s.host (arrival Host (exchanged s.link) comes)) is on runs;
-      port = first.port;
-      here = subst H (sym is.host) first.here;
-    }
+-- something has come to its end
+pub begins_at_end : (k : HostSite) (s : Site) (n : Node Memory) (r : Running) (comes : Comes) → SiteIs k s → k.power ≡ On n → s.node ≡ Some r
+    → BeginsOver n (work_of r s.memory.plan (λ j. near_end_in (exchanged s.link) comes) (entries_for s.host (arrival Host (exchanged s.link) comes)))
+begins_at_end k s n r comes is on runs =
+    host_begins_so k s n r comes (entries_for s.host (arrival Host (exchanged s.link) comes)) is on runs
 
-pub has_end : {n : Node Memory} {h : ℕ} {w : Work} → BeginsAt RunsAsHost n h w → (core : Core) × (ports : List Port) × RunsAs n core ports
-has_end {w = w} b = (w.core, w.ports, b.begins.runs.runs)
-
-pub may_begin : {n : Node Memory} {h : ℕ} {w : Work} → BeginsAt RunsAsHost n h w → MayStep n
-may_begin b = may_step RunsAsHost of_host b.begins
+-- it runs
+pub has_end : {n : Node Memory} {w : Work} → BeginsOver n w → (core : Core) × (ports : List Port) × RunsAs n core ports
+has_end {w = w} b = (w.core, w.ports, b.runs)

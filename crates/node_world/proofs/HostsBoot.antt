@@ -1,7 +1,8 @@
 -- A host of the world boots.
-use Rattle.std.proofs.Common.{◌≡◌, ℕ, true, false, List, [], ◌∷◌, ◌++◌, length, map, refl, ap, ap₂, sym, subst, ◌∙◌}
+use Rattle.std.proofs.Common.{◌≡◌, ℕ, ◌==◌, true, false, List, [], ◌∷◌, ◌++◌, length, map, refl, ap, ap₂, sym, subst, ◌∙◌}
 use Rattle.std.specs.Prelude.{Some, None}
 use Rattle.swp_base.specs.InMemory.{Memory}
+use Rattle.swp_base.specs.declared.link_terms.Role.{Role as Named}
 use Rattle.swp_base.specs.declared.link_terms.Role.TheVariants as named
 use Rattle.swp_act.specs.Activation.{new_uicc}
 use Rattle.trace_model.specs.declared.entry.Entry.{Entry}
@@ -16,18 +17,21 @@ use Rattle.node_machine.specs.Parts.{Core, Running, Port}
 use Rattle.node_machine.specs.Node.{found, boot_writes, new_desk}
 use Rattle.node_machine.specs.world.World.{Site, host_cut, port_for}
 use Rattle.node_ends.specs.Making.{new_port}
+use Rattle.node_core.specs.Booting.{hosts_linked, role_at}
 use Rattle.node_sites.specs.declared.places.HostSite.{HostSite}
 use Rattle.node_sites.specs.declared.wires.Wires.{Wires}
 use Rattle.node_sites.specs.LinksKept.{WiresStandFor, with_bare_wires}
 use Rattle.node_sites.specs.declared.power.Power.TheVariants.{On, Off}
-use Rattle.node_sites.specs.Powers.{IsNodePlace, NodePower}
+use Rattle.node_sites.specs.Powers.{IsNodePlace, memory_kept}
+use Rattle.node_sites.proofs.Powers.{kept_is}
 use Rattle.node_sites.specs.WorldBoots.{EndsBoot}
 use Rattle.node_sites.specs.Places.{SiteIs}
 use Rattle.node_world.specs.HostSteps.{host_boots, HasBecome}
 use Rattle.node_world.proofs.GoingOn.{goes_on, cut_same, same_stand, same_exchanged}
 use Rattle.node_core.specs.declared.node.Node.{Node}
-use Rattle.node_sites.specs.WorldNodes.{RunsAsHost}
-use Rattle.node_sites.proofs.NodesRun.{host_alike}
+use Rattle.node_core.proofs.Between.{kept_alike}
+use Rattle.node_sites.specs.declared.power.Power.{Power}
+use Rattle.node_core.specs.Running.{RunsAs}
 
 pub boot_goes : (s : Site) → fails_within (length (boot_writes s.memory.content)) s.memory.plan ≡ false
     → host_boots s ≡ (
@@ -41,39 +45,52 @@ pub boot_stops : (s : Site) → fails_within (length (boot_writes s.memory.conte
 boot_stops s q = rw q refl
 
 new_ports : (n : Node Memory) (core : Core) (s : Site) → s.link.host.side ≡ new_link_end (Uicc new_uicc)
-    → RunsAsHost n core (map (new_port named.Uicc) (s.host ∷ [])) → RunsAsHost n core (map (λ d. port_for s.link.host d) (map new_desk (s.host ∷ [])))
+    → RunsAs n core (map (new_port named.Uicc) (s.host ∷ [])) → RunsAs n core (map (λ d. port_for s.link.host d) (map new_desk (s.host ∷ [])))
 new_ports n core s side runs =
-    host_alike (map (new_port named.Uicc) (s.host ∷ [])) (map (λ d. port_for s.link.host d) (map new_desk (s.host ∷ [])))
+    kept_alike (map (new_port named.Uicc) (s.host ∷ [])) (map (λ d. port_for s.link.host d) (map new_desk (s.host ∷ [])))
     (ap (λ (e : LinkEnd). record { desk = new_desk s.host; side = e; session = 0; late = false; ended = false; turns = [] } ∷ []) (sym side)) runs
 
-pub runs_now : (k : HostSite) (new : NodePower) (s : Site) (n : Node Memory) (count : ℕ) (before : List Entry) {now : List Entry} → new ≡ On n
-    → SiteIs k s → s.link.host.side ≡ new_link_end (Uicc new_uicc) → EndsBoot RunsAsHost s.host (s.host ∷ []) named.Uicc s.memory new
-    → ((core : Core) (ports : List Port) → RunsAsHost n core ports → count ≡ count_of core.journal) → now ≡ before ++ note.Booted k.host count ∷ []
+-- how its boot ended, by what is kept of it
+pub boots_here : (k : HostSite) (new : Power) (s : Site) → SiteIs k s → (s.host == 0) ≡ false
+    → EndsBoot k.host (hosts_linked k.host 0) (memory_kept k.power) new → EndsBoot s.host (s.host ∷ []) s.memory new
+boots_here k new s is other booted =
+    let links : hosts_linked s.host 0 ≡ s.host ∷ [] = rw other refl in
+    let E : ℕ → Memory → Type 0 = λ h m. EndsBoot h (hosts_linked h 0) m new in
+    let H : List ℕ → Type 0 = λ hs. EndsBoot s.host hs s.memory new in
+    subst H links (subst (E s.host) (kept_is k.power s.memory s.node (λ h. s.link.host) is.place)
+    (subst (λ h. E h (memory_kept k.power)) is.host booted))
+
+pub runs_now : (k : HostSite) (new : Power) (s : Site) (n : Node Memory) (count : ℕ) (before : List Entry) {now : List Entry} → new ≡ On n
+    → SiteIs k s → s.link.host.side ≡ new_link_end (Uicc new_uicc) → (s.host == 0) ≡ false → EndsBoot s.host (s.host ∷ []) s.memory new
+    → ((core : Core) (ports : List Port) → RunsAs n core ports → count ≡ count_of core.journal) → now ≡ before ++ note.Booted k.host count ∷ []
     → HasBecome (record k { power = new }) before now (host_boots s)
-runs_now k new s n count before {now} on is side booted counts noted =
-    let b = subst (EndsBoot RunsAsHost s.host (s.host ∷ []) named.Uicc s.memory) on booted in
+runs_now k new s n count before {now} on is side other booted counts noted =
+    let b = subst (EndsBoot s.host (s.host ∷ []) s.memory) on booted in
     let r : Running = found s.host (s.host ∷ []) s.memory.content in
+    let role : role_at s.host ≡ named.Uicc = rw other refl in
+    let R : Named → Type 0 = λ x. RunsAs n r.core (map (new_port x) (s.host ∷ [])) in
+    let runs : R named.Uicc = subst R role b.2 in
     let C : Site × List Entry → Type 0 = λ x. HasBecome (record k { power = new }) before now x in
-    let N : NodePower → Type 0 = λ a. IsNodePlace RunsAsHost a (after_planned (boot_writes s.memory.content) s.memory) (Some r) (λ h. s.link.host) in
+    let N : Power → Type 0 = λ a. IsNodePlace a (after_planned (boot_writes s.memory.content) s.memory) (Some r) (λ h. s.link.host) in
     subst C (sym (boot_goes s b.0))
     (record {
       site = record {
         host = is.host;
         wires = is.wires;
-        place = subst N (sym on) (b.1, new_ports n r.core s side b.2, (ap next_frame side, tt));
+        place = subst N (sym on) (b.1, new_ports n r.core s side runs, (ap next_frame side, tt));
       };
-      noted = noted ∙ ap₂ (λ h x. before ++ note.Booted h x ∷ []) is.host (counts r.core (map (new_port named.Uicc) (s.host ∷ [])) b.2);
+      noted = noted ∙ ap₂ (λ h x. before ++ note.Booted h x ∷ []) is.host (counts r.core (map (new_port named.Uicc) (s.host ∷ [])) runs);
     })
 
-pub lost_power : (k : HostSite) (new : NodePower) (s : Site) (left : Memory) (wires : Wires) (before : List Entry) {now : List Entry} → new ≡ Off left
-    → SiteIs k s → EndsBoot RunsAsHost s.host (s.host ∷ []) named.Uicc s.memory new
+pub lost_power : (k : HostSite) (new : Power) (s : Site) (left : Memory) (wires : Wires) (before : List Entry) {now : List Entry} → new ≡ Off left
+    → SiteIs k s → EndsBoot s.host (s.host ∷ []) s.memory new
     → WiresStandFor wires (with_bare_wires s.link) → now ≡ before ++ note.Cut k.host ∷ []
     → HasBecome (record { host = k.host; wires = wires; power = new }) before now (host_boots s)
 lost_power k new s left wires before {now} off is booted empty noted =
-    let b = subst (EndsBoot RunsAsHost s.host (s.host ∷ []) named.Uicc s.memory) off booted in
+    let b = subst (EndsBoot s.host (s.host ∷ []) s.memory) off booted in
     let C : Site × List Entry → Type 0 = λ x. HasBecome (record { host = k.host; wires = wires; power = new }) before now x in
     let gone : Site = host_cut (record s { memory = after_planned (boot_writes s.memory.content) s.memory }) in
-    let N : NodePower → Type 0 = λ a. IsNodePlace RunsAsHost a gone.memory None (λ h. gone.link.host) in
+    let N : Power → Type 0 = λ a. IsNodePlace a gone.memory None (λ h. gone.link.host) in
     let g = goes_on (exchanged s.link) NoInput None [] refl tt in
     subst C (sym (boot_stops s b.0))
     (record {

@@ -16,13 +16,13 @@ use Rattle.node_machine.specs.world.World.{Site, ending_of, frames_noted}
 use Rattle.node_laws.specs.kept.Books.{hosts_of_ends}
 use Rattle.node_sites.specs.declared.places.HostSite.{HostSite}
 use Rattle.node_sites.specs.LinksKept.{WiresStandFor}
-use Rattle.node_sites.specs.WorldNodes.{GoesOutWhole}
 use Rattle.node_sites.specs.FramesOut.{IsOnly}
 use Rattle.node_sites.specs.Places.{IsFinishing, RunsOn, WentOff}
 use Rattle.node_world.specs.HostSteps.{host_behind, IsToSend, HasBecome}
 use Rattle.node_sites.proofs.FramesGoOut.{at_found}
 use Rattle.node_world.proofs.HostsGo.{one_port, host_runs_on, host_went_off}
 use Rattle.node_core.proofs.Between.{all_one_by_one}
+use Rattle.node_core.specs.Running.{SendsOneByOne}
 
 -- the one end of a host is its only one
 pub only_one : (h : ℕ) (p : Port) (ports : List Port) → hosts_of_ends ports ≡ h ∷ [] → port_at ports h ≡ Some p → IsOnly h p ports
@@ -61,7 +61,7 @@ module _ (mid : HostSite) (live : Bool) (noted : List Entry) (short : Bool) (bef
       let p : Port = is.here.port in
       let power : w.cut ≡ false = is.power ∙ ap not up in
       let none : next_frame (sent_all p.side) ≡ None =
-      (at_found (λ (q : Port). GoesOutWhole q.side) s.host p w.ports (all_one_by_one (is.runs up).runs) is.here.here).none in
+      (at_found (λ (q : Port). SendsOneByOne q.side) s.host p w.ports (all_one_by_one (is.runs up)) is.here.here).none in
       record {
         site = host_runs_on s step w is.here mid new is.node is.memory (same ∙ is.host) power is.host is.ends none r;
         noted = notes.noted

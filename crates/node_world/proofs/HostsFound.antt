@@ -2,23 +2,23 @@
 use Rattle.std.proofs.Common.{◌≡◌, ℕ, ◌==◌, false, List, [], refl, ap, sym, subst, ◌∙◌}
 use Rattle.std.specs.Prelude.{slice_set, Option, Some, None}
 use Rattle.trace_model.specs.declared.entry.Entry.{Entry}
-use Rattle.trace_model.specs.declared.entry.NoCause.{NoCause}
 use Rattle.trace_model.specs.declared.line.Line.TheVariants as line
 use Rattle.node_machine.specs.Parts.{Work}
 use Rattle.link_laws.specs.messages.Links.{Comes}
-use Rattle.node_machine.specs.world.World.{NodeWorld, Site, site_at, end_h, host_does}
-use Rattle.node_machine.specs.world.Lines.{refusal_in}
+use Rattle.node_machine.specs.world.World.{NodeWorld, Site, site_at, node_at, node_of, end_h, host_does}
+use Rattle.node_machine.specs.world.Lines.{machine_in, refusal_in}
 use Rattle.node_laws.specs.telling.Telling.{IsOrderly}
 use Rattle.node_sites.specs.declared.places.HostSite.{HostSite}
 use Rattle.node_world.specs.Controllers.{SitesAre, StandsAt}
-use Rattle.node_world.specs.HostSteps.{host_stepped, reset_refused_at, sending_refused, BecomesUnless}
+use Rattle.node_world.specs.HostSteps.{host_stepped, refusal_coming, sending_refused, BecomesUnless}
 use Rattle.node_world.specs.Whole.{SitesBecome, if_accepted}
 use Rattle.node_world.proofs.AtHosts.{becomes, site_changes}
 use Rattle.node_world.proofs.HostsInWorlds.{ChangesSite, does_in_world}
 
 module _ (w : NodeWorld) (h : ℕ) (s : Site) (off : (h == 0) ≡ false) (found : site_at w.sites h ≡ Some s) where
-  pub reset_there : (window : Option ℕ) → refusal_in w (line.Reset (end_h h) window) ≡ reset_refused_at s
-  reset_there window = rw (off, found) refl
+  pub refusal_there : (comes : Comes)
+      → refusal_coming (node_at w (node_of (end_h h))) (machine_in w (end_h h)) comes ≡ refusal_coming s.node s.link.host.side comes
+  refusal_there comes = rw (off, found) refl
 
   pub send_there : (pid : ℕ) (message : List ℕ) → refusal_in w (line.Send (end_h h) pid message) ≡ sending_refused s (pid, message)
   send_there pid message = rw (off, found) refl
@@ -39,8 +39,8 @@ stays_so w i h a o =
       entries = refl;
     }
 
-pub becomes_unless : (ks : List HostSite) (w : NodeWorld) (i h : ℕ) (a : StandsAt i h w.sites) (new : HostSite) (before later : List Entry)
-    (after : Site × List Entry) (now : NodeWorld × List Entry) (cause : Option NoCause) → IsOrderly w → SitesAre ks w.sites
+pub becomes_unless : {Why : Type 0} (ks : List HostSite) (w : NodeWorld) (i h : ℕ) (a : StandsAt i h w.sites) (new : HostSite) (before later : List Entry)
+    (after : Site × List Entry) (now : NodeWorld × List Entry) (cause : Option Why) → IsOrderly w → SitesAre ks w.sites
     → ChangesSite w h a.site after now → BecomesUnless new before later a.site after cause
     → SitesBecome (slice_set ks i new) before later (if_accepted cause w now)
 becomes_unless ks w i h a new before later after now None o all c b = becomes ks w i h a new before later after now o all c b

@@ -16,15 +16,16 @@ use Rattle.node_laws.specs.kept.Books.{hosts_of_ends}
 use Rattle.node_laws.proofs.telling.Accounts.{at_host}
 use Rattle.node_sites.specs.declared.places.HostSite.{HostSite}
 use Rattle.node_sites.specs.LinksKept.{SameWires, with_bare_wires}
-use Rattle.node_sites.specs.WorldNodes.{as_kept, RunsAsHost}
 use Rattle.node_sites.specs.FramesOut.{sent_port}
 use Rattle.node_sites.specs.declared.power.Power.TheVariants.{On, Off}
-use Rattle.node_sites.specs.Powers.{IsNodePlace, node_memory, NodePower}
+use Rattle.node_sites.specs.Powers.{IsNodePlace, node_memory}
 use Rattle.node_sites.specs.Places.{SiteIs, RunsOn, WentOff}
 use Rattle.node_world.specs.HostSteps.{EndDoes, host_behind}
 use Rattle.node_world.proofs.GoingOn.{same_stand, same_exchanged, silent_same}
 use Rattle.node_core.specs.declared.node.Node.{Node}
-use Rattle.node_sites.proofs.NodesRun.{host_alike}
+use Rattle.node_core.proofs.Between.{kept_alike}
+use Rattle.node_core.specs.Running.{RunsAs, between}
+use Rattle.node_sites.specs.declared.power.Power.{Power}
 
 -- ## Its one end
 
@@ -40,15 +41,15 @@ one_port h p (x ∷ []) q f =
 -- as the next step begins, it has sent all
 ends_next : (h : ℕ) (p : Port) (near_end : NumberedEnd) (ports : List Port) → hosts_of_ends ports ≡ h ∷ [] → port_at ports h ≡ Some p
     → near_end.side ≡ sent_all p.side
-    → map as_kept (with_port h sent_port ports)
-    ≡ map as_kept (map (λ (d : Desk). port_for near_end d) (map (λ (x : Port). x.desk) ports))
+    → map between (with_port h sent_port ports)
+    ≡ map between (map (λ (d : Desk). port_for near_end d) (map (λ (x : Port). x.desk) ports))
 ends_next h p near_end ports q f side =
-    let Q : List Port → Type 0 = λ ps. map as_kept (with_port h sent_port ps)
-    ≡ map as_kept (map (λ (d : Desk). port_for near_end d) (map (λ (x : Port). x.desk) ps)) in
+    let Q : List Port → Type 0 = λ ps. map between (with_port h sent_port ps)
+    ≡ map between (map (λ (d : Desk). port_for near_end d) (map (λ (x : Port). x.desk) ps)) in
     let there : (p.desk.host == h) ≡ true = at_host ports h p f in
     let sent : changed_if (p.desk.host == h) sent_port p ≡ sent_port p = rw there refl in
-    let one : map as_kept (with_port h sent_port (p ∷ [])) ≡ map as_kept (map (λ (d : Desk). port_for near_end d) (p.desk ∷ [])) =
-    ap (λ (x : Port). as_kept x ∷ []) sent
+    let one : map between (with_port h sent_port (p ∷ [])) ≡ map between (map (λ (d : Desk). port_for near_end d) (p.desk ∷ [])) =
+    ap (λ (x : Port). between x ∷ []) sent
     ∙ ap (λ (e : LinkEnd). record { desk = p.desk; side = e; session = 0; late = false; ended = false; turns = [] } ∷ []) (sym side) in
     subst Q (sym (one_port h p ports q f)) one
 
@@ -78,10 +79,10 @@ module _ (s : Site) (step : List Turn → Ending → Link) (k : Work) (e : EndDo
       let is : host_behind s step k ≡ goes_to l (Some left) =
       ap (λ (b : Bool). goes_to (step_so b) (cond b None (Some left))) on ∙ ap (λ (x : Link). goes_to x (Some left)) e.out in
       let near_end : NumberedEnd = l.controller in
-      let ports : RunsAsHost r.node k.core (map (λ (d : Desk). port_for near_end d) left.desks) =
-      host_alike (with_port old.host sent_port k.ports) (map (λ (d : Desk). port_for near_end d) left.desks)
-      (ap (λ h. map as_kept (with_port h sent_port k.ports)) was ∙ ends_next s.host e.port near_end k.ports hosts e.here refl) r.runs in
-      let Place : NodePower → Type 0 = λ a. IsNodePlace RunsAsHost a (after_planned k.writes s.memory) (Some left) (λ h. near_end) in
+      let ports : RunsAs r.node k.core (map (λ (d : Desk). port_for near_end d) left.desks) =
+      kept_alike (with_port old.host sent_port k.ports) (map (λ (d : Desk). port_for near_end d) left.desks)
+      (ap (λ h. map between (with_port h sent_port k.ports)) was ∙ ends_next s.host e.port near_end k.ports hosts e.here refl) r.runs in
+      let Place : Power → Type 0 = λ a. IsNodePlace a (after_planned k.writes s.memory) (Some left) (λ h. near_end) in
       let place : Place (On r.node) = (r.memory ∙ memory, ports, all_sent left.desks (sent_all e.port.side) none) in
       let w = r.wires in
       let S : Site → Type 0 = λ x. SiteIs new x in
@@ -116,7 +117,7 @@ module _ (s : Site) (step : List Turn → Ending → Link) (k : Work) (e : EndDo
   pub host_went_off : {before now : List Entry} → k.cut ≡ true → WentOff new n k e.link before now → SiteIs new (host_behind s step k)
   host_went_off off r =
       let is : host_behind s step k ≡ goes_to (step_so true) None = ap (λ (b : Bool). goes_to (step_so b) (cond b None (Some left))) off in
-      let Place : NodePower → Type 0 = λ a. IsNodePlace RunsAsHost a (after_planned k.writes s.memory) None (λ h. (step_so true).controller) in
+      let Place : Power → Type 0 = λ a. IsNodePlace a (after_planned k.writes s.memory) None (λ h. (step_so true).controller) in
       let place : Place (Off (node_memory n)) = memory in
       let S : Site → Type 0 = λ x. SiteIs new x in
       subst S (sym is) (record { host = host; wires = same_stand (same_exchanged cut_so) r.wires; place = subst Place (sym r.off) place })

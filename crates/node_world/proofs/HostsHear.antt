@@ -32,7 +32,7 @@ use Rattle.node_sites.specs.declared.power.Power.TheVariants.{On}
 use Rattle.node_sites.specs.LinksKept.{WiresStandFor, SameWires, as_it_comes, without_first}
 use Rattle.node_sites.specs.declared.noted.Noted.{Noted}
 use Rattle.node_sites.specs.Numbers.{AreNumbered, StaysCounted, CountsFew, session_at}
-use Rattle.node_sites.specs.WorldNodes.{HasGone, IsNotedSo, RunsAsHost}
+use Rattle.node_sites.specs.WorldNodes.{HasGone, IsNotedSo}
 use Rattle.node_world.specs.HostSteps.{IsHostOf, CountsOn, EndDoes, IsToSend}
 use Rattle.node_sites.proofs.Numbered.{Numbers, stepped, begun}
 use Rattle.node_sites.proofs.Renumbered.{work_numbers, arrival_numbered, noted_behind}
@@ -213,7 +213,7 @@ module _ (s : Site) (r : Running) (is : IsHostOf s) (runs : s.node ≡ Some r) w
 -- its node has done it
 module _ (mid : HostSite) (was n : Node Memory) (live : Bool) where
   pub midway : {noted : Noted} {sessions : List ℕ} {before : List Entry} (s : Site) {step : List Turn → Ending → Link} {bare l : Link} {w : Work}
-      → HostDoes s step bare l w → node_memory was ≡ s.memory → HasGone RunsAsHost was n w live → mid.power ≡ On n
+      → HostDoes s step bare l w → node_memory was ≡ s.memory → HasGone was n w live → mid.power ≡ On n
       → mid.host ≡ s.host → WiresStandFor mid.wires (exchanged bare) → sessions ≡ replicate 8 (max mid.wires.host.emitted mid.wires.host.took)
       → IsNotedSo noted sessions before w.entries → IsToSend mid live noted.entries.items noted.short before s step l w
   midway s {bare = bare} {l} {w} d memory gone on host wires numbers noted =

@@ -13,17 +13,16 @@ use Rattle.node_machine.specs.Parts.{Core, Desk, Running, Port}
 use Rattle.node_machine.specs.Carrying.{with_port, changed_if}
 use Rattle.node_machine.specs.Node.{with_error}
 use Rattle.node_machine.specs.world.World.{Site, port_for, counts}
-use Rattle.node_core.specs.Running.{one_more_error}
+use Rattle.node_core.specs.Running.{one_more_error, RunsAs}
 use Rattle.node_sites.specs.declared.places.HostSite.{HostSite}
 use Rattle.node_sites.specs.LinksKept.{WiresStandFor}
 use Rattle.node_sites.specs.declared.power.Power.TheVariants.{On}
-use Rattle.node_sites.specs.Powers.{IsNodePlace, node_memory, NodePower}
+use Rattle.node_sites.specs.Powers.{IsNodePlace, node_memory}
 use Rattle.node_sites.specs.Places.{SiteIs}
-use Rattle.node_world.specs.HostSteps.{IsHostOf, is_broken, site_loses}
+use Rattle.node_world.specs.HostSteps.{is_broken, site_loses}
 use Rattle.node_world.proofs.Plainly.{same_host}
-use Rattle.node_world.proofs.HostsRefuse.{OwnEnd, own_end}
 use Rattle.node_core.specs.declared.node.Node.{Node}
-use Rattle.node_sites.specs.WorldNodes.{RunsAsHost}
+use Rattle.node_sites.specs.declared.power.Power.{Power}
 
 -- ## What counts
 
@@ -92,13 +91,13 @@ as_lost {k} q is = let S : Site → Type 0 = λ x. SiteIs k x in subst S (sym q)
 -- where another node runs there with one more error
 pub counted : {new : HostSite} (k : HostSite) (s : Site) (n m : Node Memory) (to : End) (why : Loss) → SiteIs k s → k.power ≡ On n
     → to.at_host ≡ true → is_broken why ≡ true → new.host ≡ k.host → new.power ≡ On m → node_memory m ≡ node_memory n
-    → ((core : Core) (desks : List Desk) → RunsAsHost n core (map (λ (d : Desk). port_for s.link.host d) desks)
+    → ((core : Core) (desks : List Desk) → RunsAs n core (map (λ (d : Desk). port_for s.link.host d) desks)
     → s.node ≡ Some (record { core = core; desks = desks })
-    → RunsAsHost m core (with_port k.host one_more_error (map (λ (d : Desk). port_for s.link.host d) desks)))
+    → RunsAs m core (with_port k.host one_more_error (map (λ (d : Desk). port_for s.link.host d) desks)))
     → WiresStandFor new.wires (happens s.link (at to (Lose why))) → SiteIs new (site_loses to why s)
 counted {new} k s n m to why is on at_host broken host new_on memory runs wires =
-    let Q : NodePower → Type 0 = λ a. IsNodePlace RunsAsHost a s.memory s.node (λ h. s.link.host) in
-    let N : NodePower → Type 0 = λ a. IsNodePlace RunsAsHost a s.memory (counts why s.host s.node) (λ h. (happens s.link (at to (Lose why))).host) in
+    let Q : Power → Type 0 = λ a. IsNodePlace a s.memory s.node (λ h. s.link.host) in
+    let N : Power → Type 0 = λ a. IsNodePlace a s.memory (counts why s.host s.node) (λ h. (happens s.link (at to (Lose why))).host) in
     let S : Site → Type 0 = λ x. SiteIs new x in
     subst S (sym (by_node to why s (counts why s.host s.node) at_host refl))
     (record {
@@ -107,19 +106,14 @@ counted {new} k s n m to why is on at_host broken host new_on memory runs wires 
       place = subst N (sym new_on) (go s.node refl (subst Q on is.place));
     })
   where
-    go : (o : Option Running) → s.node ≡ o → IsNodePlace RunsAsHost (On n) s.memory o (λ h. s.link.host)
-        → IsNodePlace RunsAsHost (On m) s.memory (counts why s.host o) (λ h. (happens s.link (at to (Lose why))).host)
+    go : (o : Option Running) → s.node ≡ o → IsNodePlace (On n) s.memory o (λ h. s.link.host)
+        → IsNodePlace (On m) s.memory (counts why s.host o) (λ h. (happens s.link (at to (Lose why))).host)
     go None q place = absurd place
     go (Some r) q place =
-        let E : NumberedEnd → Type 0 = λ e. IsNodePlace RunsAsHost (On m) s.memory (counts why s.host (Some r)) (λ h. e) in
-        let O : Option Running → Type 0 = λ x. IsNodePlace RunsAsHost (On m) s.memory x (λ h. s.link.host) in
-        let R : List Port → Type 0 = λ ps. RunsAsHost m r.core ps in
-        let H : ℕ → Type 0 = λ h. RunsAsHost m r.core (map (λ (d : Desk). port_for s.link.host d) (with_error h r.desks)) in
+        let E : NumberedEnd → Type 0 = λ e. IsNodePlace (On m) s.memory (counts why s.host (Some r)) (λ h. e) in
+        let O : Option Running → Type 0 = λ x. IsNodePlace (On m) s.memory x (λ h. s.link.host) in
+        let R : List Port → Type 0 = λ ps. RunsAs m r.core ps in
+        let H : ℕ → Type 0 = λ h. RunsAs m r.core (map (λ (d : Desk). port_for s.link.host d) (with_error h r.desks)) in
         let now : H k.host = subst R (error_ports k.host s.link.host r.desks) (runs r.core r.desks place.1 q) in
         subst E (sym (same_host to s.link why))
         (subst O (sym (counts_one why s.host r broken)) (memory ∙ place.0, subst H is.host now, all_still s.host s.link.host r.desks place.2))
-
--- the end of a host that runs, under its number
-pub its_end : (k : ℕ) (s : Site) (core : Core) (desks : List Desk) → IsHostOf s → k ≡ s.host → s.node ≡ Some (record { core = core; desks = desks })
-    → OwnEnd s k (map (λ (d : Desk). port_for s.link.host d) desks)
-its_end k s core desks host same on = own_end k s (record { core = core; desks = desks }) host same on

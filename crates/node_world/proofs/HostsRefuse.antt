@@ -1,57 +1,48 @@
 -- What is refused of a host of the world, by what its node refuses.
-use Rattle.std.proofs.Common.{◌≡◌, ℕ, ◌==◌, ◌&&◌, Bool, true, false, cond, List, [], ◌∷◌, map, refl, ap, sym, subst, ◌∙◌, append-nil}
-use Rattle.std.specs.Prelude.{Option, Some, None, is_some, option_map}
+use Rattle.std.proofs.Common.{◌≡◌, ℕ, ◌≤◌, ◌==◌, ◌&&◌, Bool, true, false, cond, List, [], ◌∷◌, map, refl, ap, sym, subst, ◌∙◌, append-nil, arith}
+use Rattle.std.specs.Prelude.{Option, Some, None, is_some}
 use Rattle.swp_base.specs.InMemory.{Memory}
 use Rattle.trace_model.specs.declared.entry.Entry.{Entry}
 use Rattle.trace_model.specs.declared.entry.NoCause.{NoCause}
 use Rattle.trace_model.specs.declared.entry.NoCause.TheVariants as no
-use Rattle.shdlc_core.specs.Machine.{is_waiting}
-use Rattle.link_laws.specs.machine.Machine.{LinkEnd, Message, is_open, reset_refusal, give_refusal}
+use Rattle.link_laws.specs.machine.Machine.{LinkEnd, Message, give_refusal}
 use Rattle.link_end.specs.declared.report.ResetRefused.{ResetRefused}
-use Rattle.link_end.specs.Reports.{reset_refused}
 use Rattle.link_laws.specs.messages.Links.Comes.{NoInput}
-use Rattle.history.specs.Follows.{as_noted}
 use Rattle.node_machine.specs.Parts.{Core, Desk, Running, Port}
 use Rattle.node_machine.specs.Parts.Deed.{Sends, Orders}
 use Rattle.node_machine.specs.Carrying.{port_at}
 use Rattle.node_machine.specs.Controller.{is_command_message}
 use Rattle.node_machine.specs.world.World.{Site, port_for, sending, beginning}
 use Rattle.node_machine.specs.world.Lines.{if_waiting}
-use Rattle.node_core.specs.Running.{reset_refusal_at}
+use Rattle.node_core.specs.Running.{RunsAs}
+use Rattle.node_core.proofs.Asking.{asked_may}
+use Rattle.node_ends.specs.Ends.{MayStartAt}
+use Rattle.node_ends.specs.declared.inputs.LinkInput.TheVariants as asks
+use Rattle.std.proofs.lemmas.Bool.{eqb-false}
 use Rattle.node_laws.specs.telling.Telling.{HasEnds, IfItRuns}
 use Rattle.node_laws.proofs.telling.Mute.{AreMute}
 use Rattle.node_laws.proofs.telling.Nodes.{host_opened}
 use Rattle.node_sites.specs.declared.places.HostSite.{HostSite}
 use Rattle.node_sites.specs.declared.power.Power.TheVariants.{On}
-use Rattle.node_sites.specs.Powers.{IsNodePlace, node_memory, NodePower}
+use Rattle.node_sites.specs.Powers.{IsNodePlace, node_memory}
 use Rattle.node_sites.specs.Places.{SiteIs}
-use Rattle.node_world.specs.HostSteps.{IsHostOf, HasBecome, reset_noted, reset_refused_at, sending_refused}
+use Rattle.node_world.specs.HostSteps.{IsHostOf, HasBecome, refusal_coming, sending_refused}
+use Rattle.node_sites.specs.declared.incoming.Incoming.{Incoming}
+use Rattle.node_sites.specs.declared.incoming.Arrived.{Arrived}
+use Rattle.node_sites.specs.declared.wires.Wires.{Wires}
+use Rattle.node_sites.specs.Arrivals.{as_comes, refusal_arrived, IsOf}
+use Rattle.node_sites.specs.LinksKept.{WiresStandFor}
+use Rattle.node_world.proofs.Comings.{refused_so}
 use Rattle.node_world.proofs.HostsAre.{is_on}
 use Rattle.node_core.specs.declared.node.Node.{Node}
-use Rattle.node_sites.specs.WorldNodes.{RunsAsHost}
+use Rattle.node_sites.specs.declared.power.Power.{Power}
 
 -- ## A host that doesn't run
-
-pub reset_off : (s : Site) → s.node ≡ None → reset_refused_at s ≡ Some no.Off
-reset_off s off = rw off refl
 
 pub sending_off : (s : Site) (m : Message) → s.node ≡ None → sending_refused s m ≡ Some no.Off
 sending_off s m off = rw off refl
 
--- ## A reset
-
--- an end that isn't reset tells so in one of two ways
-pub told_so : (e : LinkEnd) → as_noted (reset_refusal e) ≡ option_map reset_noted (option_map reset_refused (reset_refusal e))
-told_so e = go (is_open e.role) (is_waiting e.shdlc) refl refl
-  where
-    go : (a b : Bool) → is_open e.role ≡ a → is_waiting e.shdlc ≡ b
-        → as_noted (reset_refusal e) ≡ option_map reset_noted (option_map reset_refused (reset_refusal e))
-    go true true p q = rw (p, q) refl
-    go true false p q = rw (p, q) refl
-    go false b p q = rw p refl
-
-reset_on : (s : Site) (r : Running) → s.node ≡ Some r → reset_refused_at s ≡ as_noted (reset_refusal s.link.host.side)
-reset_on s r on = rw on refl
+-- ## What comes
 
 -- the end of a host that runs, as its node has it between steps
 pub record OwnEnd (s : Site) (h : ℕ) (ports : List Port) : Type 0 where
@@ -72,54 +63,58 @@ module _ (k : HostSite) (s : Site) (n : Node Memory) (is : SiteIs k s) (host : I
   pub record RunsHere : Type 0 where
     pub running : Running
     pub on_is : s.node ≡ Some running
-    pub runs : RunsAsHost n running.core (map (λ (d : Desk). port_for s.link.host d) running.desks)
+    pub runs : RunsAs n running.core (map (λ (d : Desk). port_for s.link.host d) running.desks)
     pub end : OwnEnd s k.host (map (λ (d : Desk). port_for s.link.host d) running.desks)
+    pub number : n.number ≡ s.host
 
   pub runs_here : RunsHere
   runs_here =
       let here = is_on is on in
       let r : Running = here.running in
-      let Q : NodePower → Option Running → Type 0 = λ a o. IsNodePlace RunsAsHost a s.memory o (λ h. s.link.host) in
+      let Q : Power → Option Running → Type 0 = λ a o. IsNodePlace a s.memory o (λ h. s.link.host) in
       let place : Q (On n) (Some r) = subst (Q (On n)) here.runs (subst (λ a. Q a s.node) on is.place) in
-      record { running = r; on_is = here.runs; runs = place.1; end = own_end k.host s r host is.host here.runs }
+      let node : HasEnds s.host (s.host ∷ []) r = subst (IfItRuns s.host (s.host ∷ [])) here.runs host.ends in
+      record {
+        running = r;
+        on_is = here.runs;
+        runs = place.1;
+        end = own_end k.host s r host is.host here.runs;
+        number = sym place.1.node ∙ node.number;
+      }
 
-  pub reset_goes : ((core : Core) (ports : List Port) (p : Port) → RunsAsHost n core ports → port_at ports k.host ≡ Some p
-      → reset_refusal_at (port_at ports k.host) ≡ None) → None ≡ reset_refused_at s
-  reset_goes f =
+  pub is_some_host : 1 ≤ n.number
+  is_some_host = let some = eqb-false s.host 0 host.number in let same = runs_here.number in omega (arith, some, same)
+
+  -- what its node tells of what came
+  pub refused_here : (what : Incoming) (a : Arrived) (why : Option ResetRefused) → IsOf what a
+      → ((core : Core) (ports : List Port) → RunsAs n core ports → refusal_arrived a (port_at ports k.host) ≡ why)
+      → why ≡ refusal_coming s.node s.link.host.side (as_comes what)
+  refused_here what a why is_of f =
       let r = runs_here in
       let e = r.end in
-      let ports : List Port = map (λ (d : Desk). port_for s.link.host d) r.running.desks in
-      let told : reset_refusal_at (Some e.port) ≡ None = sym (ap reset_refusal_at e.here) ∙ f r.running.core ports e.port r.runs e.here in
-      let same : option_map reset_refused (reset_refusal s.link.host.side) ≡ None =
-      ap (λ (x : LinkEnd). option_map reset_refused (reset_refusal x)) (sym e.side) ∙ told in
-      sym (reset_on s r.running r.on_is ∙ (told_so s.link.host.side ∙ ap (option_map reset_noted) same))
+      sym (f r.running.core (map (λ (d : Desk). port_for s.link.host d) r.running.desks) r.runs)
+      ∙ (ap (refusal_arrived a) e.here ∙ refused_so what a e.port s.node r.running s.link.host.side is_of e.side r.on_is)
 
-  pub reset_stops : (why : ResetRefused) (cause : NoCause) → cause ≡ reset_noted why
-      → ((core : Core) (ports : List Port) (p : Port) → RunsAsHost n core ports → port_at ports k.host ≡ Some p
-      → reset_refusal_at (port_at ports k.host) ≡ Some why) → Some cause ≡ reset_refused_at s
-  reset_stops why cause is_so f =
-      let r = runs_here in
-      let e = r.end in
-      let ports : List Port = map (λ (d : Desk). port_for s.link.host d) r.running.desks in
-      let told : reset_refusal_at (Some e.port) ≡ Some why = sym (ap reset_refusal_at e.here) ∙ f r.running.core ports e.port r.runs e.here in
-      let same : option_map reset_refused (reset_refusal s.link.host.side) ≡ Some why =
-      ap (λ (x : LinkEnd). option_map reset_refused (reset_refusal x)) (sym e.side) ∙ told in
-      ap Some is_so ∙ sym (reset_on s r.running r.on_is ∙ (told_so s.link.host.side ∙ ap (option_map reset_noted) same))
+  -- the end of its own link is activated with any identifier
+  pub may_start : (value : ℕ) (core : Core) (ports : List Port) → RunsAs n core ports → MayStartAt value (port_at ports k.host)
+  may_start value core ports runs =
+      let some = is_some_host in
+      asked_may (asks.Start value) k.host core ports tt (λ none. (let z : n.number ≡ 0 = sym runs.node ∙ none in omega (arith, some, z))) runs.order
 
 -- ## Nothing changed
 
-pub still_stands : (k : HostSite) (s : Site) (n m : Node Memory) → SiteIs k s → k.power ≡ On n
-    → ((core : Core) (ports : List Port) → RunsAsHost n core ports → RunsAsHost m core ports) → node_memory m ≡ node_memory n
+pub still_stands : (k : HostSite) (s : Site) (n m : Node Memory) (wires : Wires) → SiteIs k s → k.power ≡ On n → WiresStandFor wires s.link
+    → ((core : Core) (ports : List Port) → RunsAs n core ports → RunsAs m core ports) → node_memory m ≡ node_memory n
     → (before now : List Entry) → now ≡ before
-    → HasBecome (record { host = k.host; wires = k.wires; power = On m }) before now (s, [])
-still_stands k s n m is on runs memory before now q =
-    let Q : NodePower → Type 0 = λ a. IsNodePlace RunsAsHost a s.memory s.node (λ h. s.link.host) in
+    → HasBecome (record { host = k.host; wires = wires; power = On m }) before now (s, [])
+still_stands k s n m wires is on stand runs memory before now q =
+    let Q : Power → Type 0 = λ a. IsNodePlace a s.memory s.node (λ h. s.link.host) in
     record {
-      site = record { host = is.host; wires = is.wires; place = go s.node (subst Q on is.place) };
+      site = record { host = is.host; wires = stand; place = go s.node (subst Q on is.place) };
       noted = q ∙ sym (append-nil before);
     }
   where
-    go : (o : Option Running) → IsNodePlace RunsAsHost (On n) s.memory o (λ h. s.link.host) → IsNodePlace RunsAsHost (On m) s.memory o (λ h. s.link.host)
+    go : (o : Option Running) → IsNodePlace (On n) s.memory o (λ h. s.link.host) → IsNodePlace (On m) s.memory o (λ h. s.link.host)
     go (Some r) p = (memory ∙ p.0, runs r.core (map (λ (d : Desk). port_for s.link.host d) r.desks) p.1, p.2)
     go None p = p
 
@@ -141,11 +136,12 @@ sending_on s r m on = rw on refl
 
 module _ (k : HostSite) (s : Site) (n : Node Memory) (is : SiteIs k s) (host : IsHostOf s) (on : k.power ≡ On n) (m : Message) where
   -- what a node tells is what the line is refused for
-  pub sending_so : (told : Option NoCause) → ((core : Core) (ports : List Port) (p : Port) → RunsAsHost n core ports → port_at ports k.host ≡ Some p
+  pub sending_so : (told : Option NoCause) → ((core : Core) (ports : List Port) (p : Port) → RunsAs n core ports → port_at ports n.number ≡ Some p
       → told ≡ if_waiting (m.0 == 1 && is_command_message m.1 && is_some core.command) (give_refusal p.side m)) → told ≡ sending_refused s m
   sending_so told f =
       let r = runs_here k s n is host on in
       let e = r.end in
       let ports : List Port = map (λ (d : Desk). port_for s.link.host d) r.running.desks in
       let waits : Bool = m.0 == 1 && is_command_message m.1 && is_some r.running.core.command in
-      f r.running.core ports e.port r.runs e.here ∙ (ap (λ (x : LinkEnd). if_waiting waits (give_refusal x m)) e.side ∙ sym (sending_on s r.running m r.on_is))
+      let here : port_at ports n.number ≡ Some e.port = ap (port_at ports) (r.number ∙ sym is.host) ∙ e.here in
+      f r.running.core ports e.port r.runs here ∙ (ap (λ (x : LinkEnd). if_waiting waits (give_refusal x m)) e.side ∙ sym (sending_on s r.running m r.on_is))

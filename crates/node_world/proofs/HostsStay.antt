@@ -15,12 +15,12 @@ use Rattle.node_laws.specs.telling.Telling.{IfOff}
 use Rattle.node_sites.specs.declared.places.HostSite.{HostSite}
 use Rattle.node_sites.specs.LinksKept.{SameWires}
 use Rattle.node_sites.specs.declared.power.Power.TheVariants.{On, Off}
-use Rattle.node_sites.specs.Powers.{IsNodePlace, NodePower}
+use Rattle.node_sites.specs.Powers.{IsNodePlace}
 use Rattle.node_sites.specs.Places.{SiteIs}
 use Rattle.node_world.specs.HostSteps.{MayTick, HasBecome}
 use Rattle.node_world.proofs.GoingOn.{same_stand, same_exchanged, same_twice}
 use Rattle.node_world.proofs.TicksGo.{ticks_on}
-use Rattle.node_sites.specs.WorldNodes.{RunsAsHost}
+use Rattle.node_sites.specs.declared.power.Power.{Power}
 
 pub becomes_same : (m : Link) (e : LinkEnd) → frames_out e ≡ [] → SameWires m (becomes m e)
 becomes_same m e q =
@@ -45,8 +45,8 @@ tick_off k s entries is off may =
     let after : Link = exchanged (ticks_at_controller (exchanged s.link) [] GoesOut) in
     let none : host_ticks s ≡ (record s { link = after }, []) = rw off refl in
     let B : Site × List Entry → Type 0 = λ x. HasBecome k entries entries x in
-    let Here : Option Running → Type 0 = λ o. IsNodePlace RunsAsHost k.power s.memory o (λ h. s.link.host) in
-    let There : Option Running → Type 0 = λ o. IsNodePlace RunsAsHost k.power s.memory o (λ h. after.host) in
+    let Here : Option Running → Type 0 = λ o. IsNodePlace k.power s.memory o (λ h. s.link.host) in
+    let There : Option Running → Type 0 = λ o. IsNodePlace k.power s.memory o (λ h. after.host) in
     subst B (sym none)
     (record {
       site = record {
@@ -57,7 +57,7 @@ tick_off k s entries is off may =
       noted = sym (append-nil entries);
     })
   where
-    same_place : (k : NodePower) → IsNodePlace RunsAsHost k s.memory None (λ h. s.link.host)
-        → IsNodePlace RunsAsHost k s.memory None (λ h. (exchanged (ticks_at_controller (exchanged s.link) [] GoesOut)).host)
+    same_place : (k : Power) → IsNodePlace k s.memory None (λ h. s.link.host)
+        → IsNodePlace k s.memory None (λ h. (exchanged (ticks_at_controller (exchanged s.link) [] GoesOut)).host)
     same_place (On n) p = p
     same_place (Off m) p = p

@@ -12,6 +12,7 @@ pub mod HostsBoot
 pub mod HostsGoOn
 pub mod Plainly
 pub mod HostsBegin
+pub mod Comings
 pub mod HostsAre
 pub mod Versions
 pub mod SitesKept
@@ -45,6 +46,7 @@ pub mod PlayedByHosts
 pub mod WorldsStepped
 pub mod Peeked
 pub mod LinesEnd
+pub mod LinesReset
 pub mod LinesAgain
 pub mod RoundsGo
 pub mod RoundsBehind

@@ -27,7 +27,7 @@ use Rattle.node_world.specs.Controllers.{IsThere, MayGoOn, SitesAre, WorldBecome
 use Rattle.node_world.specs.Rounds.{WorldHasGone}
 use Rattle.node_world.specs.Whole.{IsWithinBounds, LinePlayed}
 use Rattle.node_world.proofs.FewInWorlds.{few_behind_step, longer}
-use Rattle.node_sites.specs.Powers.{NodePower}
+use Rattle.node_sites.specs.declared.power.Power.{Power}
 
 -- ## Hosts stay
 
@@ -117,7 +117,7 @@ LeadsTo w c i v events =
     ≡ ((all_happen v (replicate m c)).0, events ++ (all_happen v (replicate m c)).1)
 
 -- What is kept after so many of them stands for a world that is in order, and what they caused is noted behind what was noted before.
-pub record Again (k : NodePower) (ks : List HostSite) (most : ℕ) (before noted : List Entry) (w : NodeWorld)
+pub record Again (k : Power) (ks : List HostSite) (most : ℕ) (before noted : List Entry) (w : NodeWorld)
     (c : Happening) (i : ℕ) : Type 0 where
   pub behind : NodeWorld
   pub events : List Occurrence
@@ -147,10 +147,10 @@ happens_not v c zero can = refl
 happens_not v c (suc m) can = rw can refl
 
 module _ (w : NodeWorld) (c : Happening) (most : ℕ) where
-  abbrev IsSo : NodePower → List HostSite → List Entry → List Entry → ℕ → Type 0
+  abbrev IsSo : Power → List HostSite → List Entry → List Entry → ℕ → Type 0
   IsSo k ks before noted i = Again k ks most before noted w c i
 
-  pub again_begins : (k : NodePower) (ks : List HostSite) (before : List Entry) → WorldIs k ks w → MayGoOn w → FewBehind most w → IsSo k ks before before 0
+  pub again_begins : (k : Power) (ks : List HostSite) (before : List Entry) → WorldIs k ks w → MayGoOn w → FewBehind most w → IsSo k ks before before 0
   again_begins k ks before world may few =
       record {
         behind = w;
@@ -166,7 +166,7 @@ module _ (w : NodeWorld) (c : Happening) (most : ℕ) where
   pub bounds_again : (i : ℕ) (v : NodeWorld) → most ≤ 290000000 → i ≤ 1000 → MayGoOn v → FewBehind (most + 2 * i) v → IsWithinBounds v
   bounds_again i v low few_times may few = record { goes_on = may; few = longer (most + 2 * i) 300000000 v (omega (arith, low, few_times)) few }
 
-  pub again_next : (k new : NodePower) (ks news : List HostSite) (before noted later : List Entry) (i : ℕ)
+  pub again_next : (k new : Power) (ks news : List HostSite) (before noted later : List Entry) (i : ℕ)
       (a : IsSo k ks before noted i) → can_happen a.behind c ≡ true → hosts_in (world_step a.behind c).0.sites ≡ hosts_in a.behind.sites
       → WorldBecomes new news noted later (world_step a.behind c) → IsSo new news before later (i + 1)
   again_next k new ks news before noted later i a can same b =
@@ -195,14 +195,14 @@ module _ (w : NodeWorld) (c : Happening) (most : ℕ) where
       }
 
   -- what it is behind so many, where all of them happened, or where the next can't
-  pub again_ends : (k : NodePower) (ks : List HostSite) (before noted : List Entry) (i : ℕ) (a : IsSo k ks before noted i)
+  pub again_ends : (k : Power) (ks : List HostSite) (before noted : List Entry) (i : ℕ) (a : IsSo k ks before noted i)
       → all_happen w (replicate i c) ≡ (a.behind, a.events)
   again_ends k ks before noted i a =
       let zero_more : i + 0 ≡ i = omega arith in
       ap (λ n. all_happen w (replicate n c)) (sym zero_more)
       ∙ (a.leads 0 ∙ ap (λ es. let q : NodeWorld × List Occurrence = (a.behind, es) in q) (append-nil a.events))
 
-  pub again_stops : (k : NodePower) (ks : List HostSite) (before noted : List Entry) (i n : ℕ) (a : IsSo k ks before noted i) → i ≤ n
+  pub again_stops : (k : Power) (ks : List HostSite) (before noted : List Entry) (i n : ℕ) (a : IsSo k ks before noted i) → i ≤ n
       → can_happen a.behind c ≡ false → all_happen w (replicate n c) ≡ (a.behind, a.events)
   again_stops k ks before noted i n a q can = go (more i n q)
     where
@@ -219,14 +219,14 @@ module _ (w : NodeWorld) (c : Happening) (most : ℕ) where
           ∙ ap (λ es. let q : NodeWorld × List Occurrence = (a.behind, es) in q) (append-nil a.events)))
 
   -- what is kept stands for the world behind so many
-  pub again_goes : (k : NodePower) (ks : List HostSite) (before noted : List Entry) (i n : ℕ) (a : IsSo k ks before noted i)
+  pub again_goes : (k : Power) (ks : List HostSite) (before noted : List Entry) (i n : ℕ) (a : IsSo k ks before noted i)
       → all_happen w (replicate n c) ≡ (a.behind, a.events) → WorldHasGone k ks before noted (all_happen w (replicate n c))
   again_goes k ks before noted i n a same =
       let G : NodeWorld × List Occurrence → Type 0 = λ p. WorldHasGone k ks before noted p in
       subst G (sym same) (record { world = a.world; noted = a.told })
 
   -- the line at which they happen is played behind them
-  pub again_plays : (said : Line) (k : NodePower) (ks : List HostSite) (before noted : List Entry) (i n : ℕ)
+  pub again_plays : (said : Line) (k : Power) (ks : List HostSite) (before noted : List Entry) (i n : ℕ)
       (a : IsSo k ks before noted i) → before ≡ [] → refusal_in w said ≡ None → goes_on w said ≡ of_all (all_happen w (replicate n c))
       → all_happen w (replicate n c) ≡ (a.behind, a.events) → LinePlayed k ks noted (line_step w said)
   again_plays said k ks before noted i n a none e goes same =

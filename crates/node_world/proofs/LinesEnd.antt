@@ -18,7 +18,7 @@ use Rattle.node_sites.specs.declared.places.HostSite.{HostSite}
 use Rattle.node_world.specs.Controllers.{IsThere, WorldIs, WorldBecomes}
 use Rattle.node_world.specs.Whole.{LinePlayed}
 use Rattle.node_world.proofs.LinesGo.{one_step, world_goes, world_refused}
-use Rattle.node_sites.specs.Powers.{NodePower}
+use Rattle.node_sites.specs.declared.power.Power.{Power}
 
 -- ## Nodes that run
 
@@ -38,7 +38,7 @@ stands_not (Some r) e = absurd (cc e)
 
 -- ## What becomes of a line
 
-module _ (w : NodeWorld) (said : Line) (k : NodePower) (ks : List HostSite) (before now : List Entry)
+module _ (w : NodeWorld) (said : Line) (k : Power) (ks : List HostSite) (before now : List Entry)
     (none : before ≡ []) where
   pub line_refused : (cause : NoCause) → refusal_in w said ≡ Some cause → WorldIs k ks w
       → now ≡ before ++ note.No cause ∷ [] → LinePlayed k ks now (line_step w said)

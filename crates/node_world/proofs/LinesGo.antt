@@ -17,7 +17,7 @@ use Rattle.node_sites.specs.declared.places.HostSite.{HostSite}
 use Rattle.node_world.specs.Controllers.{SitesAre, WorldIs, WorldBecomes, IsThere}
 use Rattle.node_world.specs.Whole.{HostsPlayed, IsWithinBounds, LinePlayed, MayPlay, SitesBecome}
 use Rattle.node_world.proofs.FewInWorlds.{longer}
-use Rattle.node_sites.specs.Powers.{NodePower}
+use Rattle.node_sites.specs.declared.power.Power.{Power}
 
 -- ## What is asked
 
@@ -56,7 +56,7 @@ refused_is w said cause e = rw e refl
 goes_is : (w : NodeWorld) (said : Line) → refusal_in w said ≡ None → line_step w said ≡ goes_on w said
 goes_is w said e = rw e refl
 
-module _ (w : NodeWorld) (said : Line) (k : NodePower) (ks : List HostSite) where
+module _ (w : NodeWorld) (said : Line) (k : Power) (ks : List HostSite) where
   pub world_refused : (cause : NoCause) (now : List Entry) → refusal_in w said ≡ Some cause → WorldIs k ks w
       → now ≡ note.No cause ∷ [] → LinePlayed k ks now (line_step w said)
   world_refused cause now e world noted =

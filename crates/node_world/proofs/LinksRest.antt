@@ -20,7 +20,7 @@ use Rattle.node_ends.specs.Ends.{are_at_rest}
 use Rattle.node_sites.specs.declared.places.HostSite.{HostSite}
 use Rattle.node_world.specs.Controllers.{AreTimely, MayGoOn, SitesAre}
 use Rattle.node_sites.specs.declared.power.Power.TheVariants.{On, Off}
-use Rattle.node_sites.specs.Powers.{IsNodePlace, NodePower}
+use Rattle.node_sites.specs.Powers.{IsNodePlace}
 use Rattle.node_sites.specs.Places.{SiteIs}
 use Rattle.node_world.specs.Rounds.{IsToLookAt, far_rests, near_rests}
 use Rattle.node_world.proofs.Behind.{each_found}
@@ -28,7 +28,7 @@ use Rattle.node_world.proofs.PlacesFound.{There, there}
 use Rattle.node_world.proofs.SitesKept.{as_many}
 use Rattle.node_core.specs.declared.node.Node.{Node}
 use Rattle.node_core.specs.Running.{RunsAs}
-use Rattle.node_sites.specs.WorldNodes.{RunsAsHost}
+use Rattle.node_sites.specs.declared.power.Power.{Power}
 
 -- ## Wires
 
@@ -130,39 +130,39 @@ IsSaid n b = (core : Core) (ports : List Port) → RunsAs n core ports → b ≡
 pub host_says : (k : HostSite) (s : Site) (n : Node Memory) (b : Bool) → SiteIs k s → k.power ≡ On n → IsToLookAt s → IsSaid n b
     → b ≡ end_rests s.link.host.side
 host_says k s n b is on may says =
-    go s.node refl (subst (λ (p : NodePower). IsNodePlace RunsAsHost p s.memory s.node (λ h. s.link.host)) on is.place)
+    go s.node refl (subst (λ (p : Power). IsNodePlace p s.memory s.node (λ h. s.link.host)) on is.place)
   where
-    go : (o : Option Running) → s.node ≡ o → IsNodePlace RunsAsHost (On n) s.memory o (λ h. s.link.host) → b ≡ end_rests s.link.host.side
-    go (Some r) q place = says r.core (map (λ (d : Desk). port_for s.link.host d) r.desks) place.1.runs ∙ host_end_rests s r q may
+    go : (o : Option Running) → s.node ≡ o → IsNodePlace (On n) s.memory o (λ h. s.link.host) → b ≡ end_rests s.link.host.side
+    go (Some r) q place = says r.core (map (λ (d : Desk). port_for s.link.host d) r.desks) place.1 ∙ host_end_rests s r q may
     go None q place = absurd place
 
 pub host_is_new : (k : HostSite) (s : Site) (m : Memory) → SiteIs k s → k.power ≡ Off m → IsToLookAt s → true ≡ end_rests s.link.host.side
 host_is_new k s m is off may =
-    go s.node refl (subst (λ (p : NodePower). IsNodePlace RunsAsHost p s.memory s.node (λ h. s.link.host)) off is.place)
+    go s.node refl (subst (λ (p : Power). IsNodePlace p s.memory s.node (λ h. s.link.host)) off is.place)
   where
-    go : (o : Option Running) → s.node ≡ o → IsNodePlace RunsAsHost (Off m) s.memory o (λ h. s.link.host) → true ≡ end_rests s.link.host.side
+    go : (o : Option Running) → s.node ≡ o → IsNodePlace (Off m) s.memory o (λ h. s.link.host) → true ≡ end_rests s.link.host.side
     go None q place = sym (new_host_rests s q may)
     go (Some r) q place = absurd place
 
-module _ (w : NodeWorld) (may : MayGoOn w) (k : NodePower)
-    (is : IsNodePlace RunsAs k w.memory w.controller (λ h. (link_to w.sites h).controller)) where
+module _ (w : NodeWorld) (may : MayGoOn w) (k : Power)
+    (is : IsNodePlace k w.memory w.controller (λ h. (link_to w.sites h).controller)) where
   abbrev near : ℕ → NumberedEnd
   near h = (link_to w.sites h).controller
 
   pub controller_says : (n : Node Memory) (b : Bool) → k ≡ On n → IsSaid n b → b ≡ list_all near_rests w.sites
   controller_says n b on says =
-      go w.controller refl (subst (λ (p : NodePower). IsNodePlace RunsAs p w.memory w.controller near) on is)
+      go w.controller refl (subst (λ (p : Power). IsNodePlace p w.memory w.controller near) on is)
     where
-      go : (o : Option Running) → w.controller ≡ o → IsNodePlace RunsAs (On n) w.memory o near → b ≡ list_all near_rests w.sites
+      go : (o : Option Running) → w.controller ≡ o → IsNodePlace (On n) w.memory o near → b ≡ list_all near_rests w.sites
       go (Some r) q place =
           says r.core (map (λ (d : Desk). port_for (near d.host) d) r.desks) place.1 ∙ controller_ends_rest w may r q
       go None q place = absurd place
 
   pub controller_is_new : (m : Memory) → AreTimely w → k ≡ Off m → true ≡ list_all near_rests w.sites
   controller_is_new m timely off =
-      go w.controller refl (subst (λ (p : NodePower). IsNodePlace RunsAs p w.memory w.controller near) off is)
+      go w.controller refl (subst (λ (p : Power). IsNodePlace p w.memory w.controller near) off is)
     where
-      go : (o : Option Running) → w.controller ≡ o → IsNodePlace RunsAs (Off m) w.memory o near → true ≡ list_all near_rests w.sites
+      go : (o : Option Running) → w.controller ≡ o → IsNodePlace (Off m) w.memory o near → true ≡ list_all near_rests w.sites
       go None q place = new_ends_rest w may timely q
       go (Some r) q place = absurd place
 

@@ -4,7 +4,6 @@ use Rattle.std.specs.Prelude.{slice_set, Option, Some, None}
 use Rattle.std.specs.List.{AllByRecursion}
 use Rattle.swp_base.specs.InMemory.{Memory}
 use Rattle.trace_model.specs.declared.entry.Entry.{Entry}
-use Rattle.trace_model.specs.declared.entry.NoCause.{NoCause}
 use Rattle.trace_model.specs.declared.line.End.{End}
 use Rattle.hcp_packet.specs.Packets.{AreSendable}
 use Rattle.link_laws.specs.machine.Machine.{LinkInput}
@@ -22,15 +21,15 @@ use Rattle.node_sites.specs.declared.places.HostSite.{HostSite}
 use Rattle.node_world.specs.Bounds.{FewOnEach, FewBehind}
 use Rattle.node_world.specs.Controllers.{SitesAre, StandsAt, WorldIs, WorldBecomes, HaveRoom, FewAreCounted, FewAreCountedAt}
 use Rattle.node_world.specs.HostSteps.{host_stepped, host_hears, site_loses, HasBecome, BecomesUnless}
-use Rattle.node_sites.specs.Powers.{IsNodePlace, NodePower}
+use Rattle.node_sites.specs.Powers.{IsNodePlace}
 use Rattle.node_world.specs.Whole.{SitesBecome, if_accepted}
 use Rattle.node_world.proofs.AtHosts.{becomes, from_outside, room_there, site_changes, site_stands}
 use Rattle.node_world.proofs.CountsStay.{acks_of_ports, counts_few_at_end, counts_few_in_tick, few_to}
 use Rattle.node_world.proofs.FewOnLinks.{far_stays}
 use Rattle.node_world.proofs.HostsFound.{becomes_unless}
 use Rattle.node_world.proofs.HostsInWorlds.{ChangesSite}
-use Rattle.node_core.specs.Running.{RunsAs}
 use Rattle.node_sites.specs.GivenMessages.{given_messages}
+use Rattle.node_sites.specs.declared.power.Power.{Power}
 
 -- a host became another one, with the same number and the same end of the controller
 pub record LeavesNear (s t : Site) : Type 0 where
@@ -105,10 +104,10 @@ module _ (w : NodeWorld) (h : ℕ) (s : Site) (found : site_at w.sites h ≡ Som
   all_left : near_of now.0.sites ≡ near_of w.sites
   all_left = λ i k. near_left (split_at w.sites h s found) k i
 
-  pub host_becomes : (k : NodePower) (ks new : List HostSite) (before later : List Entry) → WorldIs k ks w → SitesBecome new before later now
+  pub host_becomes : (k : Power) (ks new : List HostSite) (before later : List Entry) → WorldIs k ks w → SitesBecome new before later now
       → WorldBecomes k new before later now
   host_becomes k ks new before later world b =
-      let Q : Memory → Option Running → (ℕ → NumberedEnd) → Type 0 = λ m node near. IsNodePlace RunsAs k m node near in
+      let Q : Memory → Option Running → (ℕ → NumberedEnd) → Type 0 = λ m node near. IsNodePlace k m node near in
       let memory : now.0.memory ≡ w.memory = ap (λ (v : NodeWorld). v.memory) c.world in
       let node : now.0.controller ≡ w.controller = ap (λ (v : NodeWorld). v.controller) c.world in
       let one = subst (λ near. Q w.memory w.controller near) (sym all_left) world.controller in
@@ -118,7 +117,7 @@ module _ (w : NodeWorld) (h : ℕ) (s : Site) (found : site_at w.sites h ≡ Som
         noted = b.noted;
       }
 
-  pub host_becomes_unless : (k : NodePower) (ks new : List HostSite) (before later : List Entry) (cause : Option NoCause)
+  pub host_becomes_unless : {Why : Type 0} (k : Power) (ks new : List HostSite) (before later : List Entry) (cause : Option Why)
       → WorldIs k ks w → SitesBecome new before later (if_accepted cause w now) → WorldBecomes k new before later (if_accepted cause w now)
   host_becomes_unless k ks new before later None world b = host_becomes k ks new before later world b
   host_becomes_unless k ks new before later (Some cause) world b =
@@ -138,7 +137,7 @@ have_room (k ∷ ks) [] a f = absurd a
 pub room_for_all : (ks : List HostSite) (w : NodeWorld) → SitesAre ks w.sites → FewBehind 300000000 w → HaveRoom ks
 room_for_all ks w a f = have_room ks w.sites a f
 
-on_sendable : (k : NodePower) (m : Memory) (node : Option Running) (near : ℕ → NumberedEnd) (r : Running) → IsNodePlace RunsAs k m node near → node ≡ Some r
+on_sendable : (k : Power) (m : Memory) (node : Option Running) (near : ℕ → NumberedEnd) (r : Running) → IsNodePlace k m node near → node ≡ Some r
     → AllByRecursion (λ (p : Port). AreSendable p.side.sent) (map (λ (d : Desk). port_for (near d.host) d) r.desks)
 on_sendable (On n) m (Some q) near r place e =
     let one : q ≡ r = cc in
@@ -147,8 +146,8 @@ on_sendable (On n) m (Some q) near r place e =
 on_sendable k m None near r place e = absurd (cc e)
 on_sendable (Off kept) m (Some q) near r place e = absurd place
 
-pub counted_at : (k : NodePower) (w : NodeWorld) (h : ℕ) (comes : Comes)
-    → IsNodePlace RunsAs k w.memory w.controller (near_of w.sites) → FewBehind 300000000 w → FewAreCountedAt h comes w
+pub counted_at : (k : Power) (w : NodeWorld) (h : ℕ) (comes : Comes)
+    → IsNodePlace k w.memory w.controller (near_of w.sites) → FewBehind 300000000 w → FewAreCountedAt h comes w
 counted_at k w h comes place few i q = go w.controller refl
   where
     go : (o : Option Running) → w.controller ≡ o → FewAreCounted (AtEnd h i) w
@@ -159,8 +158,8 @@ counted_at k w h comes place few i q = go w.controller refl
         (on_sendable k w.memory w.controller (near_of w.sites) r place e))
 
 -- and in a tick
-pub counted_in_tick : (k : NodePower) (w : NodeWorld)
-    → IsNodePlace RunsAs k w.memory w.controller (near_of w.sites) → FewBehind 300000000 w → FewAreCounted TimePasses w
+pub counted_in_tick : (k : Power) (w : NodeWorld)
+    → IsNodePlace k w.memory w.controller (near_of w.sites) → FewBehind 300000000 w → FewAreCounted TimePasses w
 counted_in_tick k w place few = go w.controller refl
   where
     go : (o : Option Running) → w.controller ≡ o → FewAreCounted TimePasses w
@@ -177,7 +176,7 @@ cut_leaves s = record { host = refl; near = far_stays (exchanged s.link) NoInput
 
 -- What happened at the host with this number, which stands at this place, happened in the world.
 module _ (w : NodeWorld) (i h : ℕ) (a : StandsAt i h w.sites) (o : IsOrderly w) (after : Site × List Entry) (now : NodeWorld × List Entry)
-    (c : ChangesSite w h a.site after now) (leaves : LeavesNear a.site after.0) (k : NodePower) (ks : List HostSite) (new : HostSite)
+    (c : ChangesSite w h a.site after now) (leaves : LeavesNear a.site after.0) (k : Power) (ks : List HostSite) (new : HostSite)
     (before later : List Entry) (world : WorldIs k ks w) where
   found : site_at w.sites h ≡ Some a.site
   found = site_stands w i h a o
@@ -187,7 +186,7 @@ module _ (w : NodeWorld) (i h : ℕ) (a : StandsAt i h w.sites) (o : IsOrderly w
       host_becomes w h a.site found o after now c leaves k ks (slice_set ks i new) before later world
       (becomes ks w i h a new before later after now o world.sites c b)
 
-  pub found_becomes_unless : (cause : Option NoCause) → BecomesUnless new before later a.site after cause
+  pub found_becomes_unless : {Why : Type 0} (cause : Option Why) → BecomesUnless new before later a.site after cause
       → WorldBecomes k (slice_set ks i new) before later (if_accepted cause w now)
   found_becomes_unless cause b =
       host_becomes_unless w h a.site found o after now c leaves k ks (slice_set ks i new) before later cause world

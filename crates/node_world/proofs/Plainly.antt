@@ -7,9 +7,9 @@ use Rattle.history.specs.Steps.{at}
 use Rattle.node_machine.specs.world.World.{Site}
 use Rattle.node_sites.specs.declared.places.HostSite.{HostSite}
 use Rattle.node_sites.specs.LinksKept.{WiresStandFor}
-use Rattle.node_sites.specs.Powers.{IsNodePlace, NodePower}
+use Rattle.node_sites.specs.Powers.{IsNodePlace}
 use Rattle.node_sites.specs.Places.{SiteIs}
-use Rattle.node_sites.specs.WorldNodes.{RunsAsHost}
+use Rattle.node_sites.specs.declared.power.Power.{Power}
 
 pub same_host : (to : End) (l : Link) (why : Loss) → (happens l (at to (Lose why))).host ≡ l.host
 same_host to l why = go to.at_host refl
@@ -22,8 +22,8 @@ pub was_lost : {old new : HostSite} (s : Site) (to : End) (why : Loss) → SiteI
     → WiresStandFor new.wires (happens s.link (at to (Lose why)))
     → SiteIs new (record s { link = happens s.link (at to (Lose why)) })
 was_lost {old} {new} s to why is host same wires =
-    let Q : NumberedEnd → Type 0 = λ e. IsNodePlace RunsAsHost new.power s.memory s.node (λ h. e) in
-    let A : NodePower → Type 0 = λ a. IsNodePlace RunsAsHost a s.memory s.node (λ h. s.link.host) in
+    let Q : NumberedEnd → Type 0 = λ e. IsNodePlace new.power s.memory s.node (λ h. e) in
+    let A : Power → Type 0 = λ a. IsNodePlace a s.memory s.node (λ h. s.link.host) in
     record {
       host = host ∙ is.host;
       wires = wires;

@@ -21,9 +21,9 @@ use Rattle.node_world.specs.Whole.{HostsPlayed, LinePlayed, MayPlay, SitesBecome
 use Rattle.node_world.proofs.HostsInWorlds.{does_in_world}
 use Rattle.node_world.proofs.LinesGo.{is_there}
 use Rattle.node_world.proofs.NearKept.{host_becomes, stepped_leaves}
-use Rattle.node_sites.specs.Powers.{NodePower}
+use Rattle.node_sites.specs.declared.power.Power.{Power}
 
-module _ (k : NodePower) (ks new : List HostSite) (noted : List Entry) (header : Header) (w : NodeWorld)
+module _ (k : Power) (ks new : List HostSite) (noted : List Entry) (header : Header) (w : NodeWorld)
     (world : WorldIs k ks w) where
   abbrev StillIs : NodeWorld → Type 0
   StillIs v = WorldIs k new v

@@ -27,7 +27,7 @@ use Rattle.node_world.proofs.CountsStay.{repeats}
 use Rattle.node_world.proofs.FewInWorlds.{few_behind_all, longer}
 use Rattle.node_world.proofs.LinesAgain.{few_on_way, happens_first, happens_not, hosts_come}
 use Rattle.node_world.proofs.SitesKept.{as_many}
-use Rattle.node_sites.specs.Powers.{NodePower}
+use Rattle.node_sites.specs.declared.power.Power.{Power}
 
 -- ## One end
 
@@ -70,7 +70,7 @@ abbrev pub followed_by : List Occurrence → NodeWorld × List Occurrence → No
 followed_by events p = (p.0, events ++ p.1)
 
 -- Of these ends the ones that are left have still to take what stands on their wires; what is kept stands for the world behind the others.
-pub record HaveTaken (k : NodePower) (ks : List HostSite) (before noted : List Entry) (w : NodeWorld) (ends left : List End)
+pub record HaveTaken (k : Power) (ks : List HostSite) (before noted : List Entry) (w : NodeWorld) (ends left : List End)
     (n : ℕ) : Type 0 where
   pub behind : NodeWorld
   pub events : List Occurrence
@@ -99,11 +99,11 @@ found_among h (x ∷ front) back (s ∷ sites) q =
     go false e later = (later.0, rw e later.1)
 
 module _ (w : NodeWorld) where
-  abbrev pub Taken : NodePower → List HostSite → List Entry → List Entry → List End → List End → ℕ → Type 0
+  abbrev pub Taken : Power → List HostSite → List Entry → List Entry → List End → List End → ℕ → Type 0
   Taken k ks before noted ends left n = HaveTaken k ks before noted w ends left n
 
   -- the next of them takes what stands there
-  pub taken_next : (k new : NodePower) (ks news : List HostSite) (before noted later : List Entry) (ends : List End) (e : End)
+  pub taken_next : (k new : Power) (ks news : List HostSite) (before noted later : List Entry) (ends : List End) (e : End)
       (left : List End) (n : ℕ) (a : Taken k ks before noted ends (e ∷ left) n)
       → WorldHasGone new news noted later (end_takes_all a.behind e) → Taken new news before later ends left (n + 128)
   taken_next k new ks news before noted later ends e left n a b =
@@ -127,7 +127,7 @@ module _ (w : NodeWorld) where
       }
 
   -- it may
-  pub may_take : (k : NodePower) (ks : List HostSite) (before noted : List Entry) (ends : List End) (e : End) (left : List End) (n : ℕ)
+  pub may_take : (k : Power) (ks : List HostSite) (before noted : List Entry) (ends : List End) (e : End) (left : List End) (n : ℕ)
       (front back : List ℕ) → (a : Taken k ks before noted ends (e ∷ left) n) → n ≤ 290000000 → hosts_in w.sites ≡ front ++ e.link ∷ back
       → MayTakeAll e a.behind
   may_take k ks before noted ends e left n front back a most among =
@@ -140,14 +140,14 @@ module _ (w : NodeWorld) where
   -- ## Links one after another
 
   -- the ends of the first links have taken what stood on their wires
-  pub record HaveTakenSo (k : NodePower) (ks : List HostSite) (before noted : List Entry) (i : ℕ) : Type 0 where
+  pub record HaveTakenSo (k : Power) (ks : List HostSite) (before noted : List Entry) (i : ℕ) : Type 0 where
     pub done : List ℕ
     pub left : List ℕ
     pub is : hosts_in w.sites ≡ done ++ left
     pub place : length done ≡ i
     pub taken : Taken k ks before noted (ends_in_order w) (ends_of left) (250000000 + 256 * i)
 
-  pub taking_begins : (k : NodePower) (ks : List HostSite) (before : List Entry) → WorldIs k ks w → MayTakeInOrder w → HaveTakenSo k ks before before 0
+  pub taking_begins : (k : Power) (ks : List HostSite) (before : List Entry) → WorldIs k ks w → MayTakeInOrder w → HaveTakenSo k ks before before 0
   taking_begins k ks before world may =
       record {
         done = [];
@@ -186,7 +186,7 @@ module _ (w : NodeWorld) where
       host_read ks front h back (length front) site rest refl (read ∙ ap (λ n. get_or (k ∷ ks) n site) (sym place))
 
   -- the next link, as its number is read
-  pub record NextLink (k : NodePower) (ks : List HostSite) (before noted : List Entry) (i h : ℕ) : Type 0 where
+  pub record NextLink (k : Power) (ks : List HostSite) (before noted : List Entry) (i h : ℕ) : Type 0 where
     pub done : List ℕ
     pub back : List ℕ
     pub is : hosts_in w.sites ≡ done ++ h ∷ back
@@ -194,7 +194,7 @@ module _ (w : NodeWorld) where
     pub few : i ≤ 7
     pub taken : Taken k ks before noted (ends_in_order w) (end_c h ∷ end_h h ∷ ends_of back) (250000000 + 256 * i)
 
-  pub next_link : (k : NodePower) (ks : List HostSite) (before noted : List Entry) (i : ℕ) (site : HostSite)
+  pub next_link : (k : Power) (ks : List HostSite) (before noted : List Entry) (i : ℕ) (site : HostSite)
       → HaveTakenSo k ks before noted i → MayTakeInOrder w → i < length ks → site ≡ get_or ks i site → NextLink k ks before noted i site.host
   next_link k ks before noted i site a may below read = go a.left refl
     where
@@ -225,7 +225,7 @@ module _ (w : NodeWorld) where
           }
 
   -- both of its ends have taken what stood on their wires
-  pub link_taken : (k new : NodePower) (ks news : List HostSite) (before noted later : List Entry) (i h : ℕ)
+  pub link_taken : (k new : Power) (ks news : List HostSite) (before noted later : List Entry) (i h : ℕ)
       (a : NextLink k ks before noted i h)
       → Taken new news before later (ends_in_order w) (ends_of a.back) (250000000 + 256 * i + 128 + 128) → HaveTakenSo new news before later (i + 1)
   link_taken k new ks news before noted later i h a b =
@@ -240,11 +240,11 @@ module _ (w : NodeWorld) where
       }
 
   -- all of them have
-  pub record AllTaken (k : NodePower) (ks : List HostSite) (before noted : List Entry) : Type 0 where
+  pub record AllTaken (k : Power) (ks : List HostSite) (before noted : List Entry) : Type 0 where
     pub gone : WorldHasGone k ks before noted (ends_take_all w (ends_in_order w))
     pub within : IsWithinBounds (ends_take_all w (ends_in_order w)).0
 
-  pub taking_ends : (k : NodePower) (ks : List HostSite) (before noted : List Entry) (i : ℕ) → HaveTakenSo k ks before noted i
+  pub taking_ends : (k : Power) (ks : List HostSite) (before noted : List Entry) (i : ℕ) → HaveTakenSo k ks before noted i
       → MayTakeInOrder w → length ks ≤ i → AllTaken k ks before noted
   taking_ends k ks before noted i a may over = go a.left refl
     where
@@ -276,7 +276,7 @@ module _ (w : NodeWorld) where
 
   -- ## Time passes behind them
 
-  pub round_gone : (k new : NodePower) (ks news : List HostSite) (before mid now : List Entry)
+  pub round_gone : (k new : Power) (ks news : List HostSite) (before mid now : List Entry)
       → WorldHasGone k ks before mid (ends_take_all w (ends_in_order w)) → WorldBecomes new news mid now (world_ticks (ends_take_all w (ends_in_order w)).0)
       → WorldHasGone new news before now (world_round w)
   round_gone k new ks news before mid now taken ticked =

@@ -44,8 +44,6 @@ use Rattle.node_world.proofs.Masked.{masked}
 use Rattle.node_world.proofs.PlaysFew.{few_behind_plays}
 use Rattle.node_world.proofs.RoundsBehind.{may_go_round}
 use Rattle.node_world.proofs.WorldsBehind.{may_play, are_playable, goes_on_behind, node_there, sound_behind, timely_behind}
-use Rattle.node_core.specs.Running.{RunsAs}
-use Rattle.node_sites.specs.WorldNodes.{RunsAsHost}
 
 -- what is told below a header of nodes
 pub told_of_nodes : (header : Header) (lines : List Line) (said : Line) → IsNodeHeader header
@@ -258,7 +256,7 @@ pub controller_kept : (k : NodeWorld) (header : Header) (plays : List Play) (n :
     → m ≡ memory_kept k.controller → m ≡ memory_at (nodes_behind header (lines_played header plays)) n
 controller_kept k header plays n s off m kept =
     let w : Machine = nodes_behind header (lines_played header plays) in
-    let is : m ≡ w.memory = kept ∙ kept_is RunsAs k.controller w.memory w.controller _ s.stands.controller in
+    let is : m ≡ w.memory = kept ∙ kept_is k.controller w.memory w.controller _ s.stands.controller in
     rw off is
 
 -- a host at its place
@@ -277,7 +275,7 @@ host_kept k header plays n i s node off a site read m kept =
     let orderly = (in_order_behind k header plays s).orderly in
     let stands : SiteIs site a.site = stands_there k header plays i n s a site read in
     let found = site_stands w i n a orderly in
-    let is : m ≡ a.site.memory = kept ∙ kept_is RunsAsHost site.power a.site.memory a.site.node _ stands.place in
+    let is : m ≡ a.site.memory = kept ∙ kept_is site.power a.site.memory a.site.node _ stands.place in
     rw (off, found) is
 
 pub host_is_there : {A : Type 0} (k : NodeWorld) (header : Header) (plays : List Play) (n : ℕ) → IsNodeWorldBehind k header plays

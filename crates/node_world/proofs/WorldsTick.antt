@@ -24,7 +24,7 @@ use Rattle.node_sites.specs.declared.places.HostSite.{HostSite}
 use Rattle.node_world.specs.Bounds.{FewOn, FewOnEach}
 use Rattle.node_world.specs.Controllers.{SitesAre, WorldBecomes, AreTimely, near_ticks}
 use Rattle.node_world.specs.HostSteps.{IsHostOf, CountsOn, MayTick}
-use Rattle.node_sites.specs.Powers.{IsNodePlace, NodePower}
+use Rattle.node_sites.specs.Powers.{IsNodePlace}
 use Rattle.node_sites.specs.Places.{SiteIs}
 use Rattle.node_world.specs.Whole.{IsWithinBounds, SitesTick, AreToTick}
 use Rattle.node_world.proofs.AtHosts.{sendable_on}
@@ -34,7 +34,7 @@ use Rattle.node_world.proofs.CountsStay.{counts_few_in_tick}
 use Rattle.node_world.proofs.FewInWorlds.{few_behind_ages, few_behind_tick}
 use Rattle.node_world.proofs.FewOnLinks.{far_stays, far_stays_ticked}
 use Rattle.node_world.proofs.NearKept.{LeavesNear}
-use Rattle.node_core.specs.Running.{RunsAs}
+use Rattle.node_sites.specs.declared.power.Power.{Power}
 
 -- ## Behind the tick of the controller
 
@@ -163,14 +163,14 @@ near_left [] h = refl
 near_left (s ∷ sites) h = near_first s (tick_of s) sites (hosts_tick sites).0 h (tick_leaves s) (near_left sites h)
 
 -- they come behind that of the controller
-pub all_tick : (k : NodePower) (ks new : List HostSite) (w : NodeWorld) (before mid now : List Entry) → WorldBecomes k ks before mid (near_ticks w)
+pub all_tick : (k : Power) (ks new : List HostSite) (w : NodeWorld) (before mid now : List Entry) → WorldBecomes k ks before mid (near_ticks w)
     → SitesTick new mid now (hosts_tick (near_ticks w).0.sites) → WorldBecomes k new before now (world_ticks w)
 all_tick k ks new w before mid now first second =
     let near : NodeWorld = (near_ticks w).0 in
     let old : List Entry = (all_aged w).1 in
     let ticked : List Entry = (controller_ticks (all_aged w).0).1 in
     let far : List Site × List Entry = hosts_tick near.sites in
-    let Q : (ℕ → NumberedEnd) → Type 0 = λ ends. IsNodePlace RunsAs k near.memory near.controller ends in
+    let Q : (ℕ → NumberedEnd) → Type 0 = λ ends. IsNodePlace k near.memory near.controller ends in
     let same : near_of far.0 ≡ near_of near.sites = λ i h. near_left near.sites h i in
     record {
       world = record { controller = subst Q (sym same) first.world.controller; sites = second.sites };

@@ -7,7 +7,6 @@ use Rattle.swp_base.specs.InMemory.{Memory}
 use Rattle.swp_base.specs.declared.control_frames.Control.{Control}
 use Rattle.trace_model.specs.Lines.{IsHost}
 use Rattle.trace_model.specs.declared.entry.Entry.{Entry}
-use Rattle.trace_model.specs.declared.entry.NoCause.{NoCause}
 use Rattle.link_laws.specs.machine.Machine.{LinkInput, frames_out}
 use Rattle.link_laws.specs.messages.Links.{Comes, put_all, number_of}
 use Rattle.link_laws.specs.entries.Entries.{puts_entries}
@@ -26,10 +25,11 @@ use Rattle.node_sites.specs.declared.power.Power.TheVariants.{On, Off}
 use Rattle.node_sites.specs.LinksKept.{with_bare_wires, as_it_comes}
 use Rattle.node_sites.specs.FramesOut.{IsOnly, sent_port}
 use Rattle.node_sites.specs.Numbers.{CountsFew}
-use Rattle.node_sites.specs.Powers.{IsNodePlace, node_memory, NodePower}
+use Rattle.node_sites.specs.Powers.{IsNodePlace, node_memory}
 use Rattle.node_sites.specs.Places.{SiteIs}
 use Rattle.node_core.specs.declared.node.Node.{Node}
 use Rattle.node_core.specs.Running.{RunsAs}
+use Rattle.node_sites.specs.declared.power.Power.{Power}
 
 -- ## What is kept
 
@@ -40,17 +40,17 @@ SitesAre (k ∷ ks) (s ∷ sites) = SiteIs k s × SitesAre ks sites
 SitesAre _ _ = ⊥
 
 -- what is kept of the controller and of all hosts stands for a world
-pub record WorldIs (k : NodePower) (ks : List HostSite) (w : NodeWorld) : Type 0 where
-  pub controller : IsNodePlace RunsAs k w.memory w.controller (λ h. (link_to w.sites h).controller)
+pub record WorldIs (k : Power) (ks : List HostSite) (w : NodeWorld) : Type 0 where
+  pub controller : IsNodePlace k w.memory w.controller (λ h. (link_to w.sites h).controller)
   pub sites : SitesAre ks w.sites
 
 -- it does so for the world that something has made of it, and this was noted behind what was noted before
-pub record WorldBecomes (k : NodePower) (ks : List HostSite) (before now : List Entry) (after : NodeWorld × List Entry) : Type 0 where
+pub record WorldBecomes (k : Power) (ks : List HostSite) (before now : List Entry) (after : NodeWorld × List Entry) : Type 0 where
   pub world : WorldIs k ks after.0
   pub noted : now ≡ before ++ after.1
 
 -- it was refused for this, and nothing happened, or else something was made of it
-abbrev pub WorldUnless : NodePower → List HostSite → List Entry → List Entry → NodeWorld → NodeWorld × List Entry → Option NoCause → Type 0
+abbrev pub WorldUnless : {Why : Type 0} → Power → List HostSite → List Entry → List Entry → NodeWorld → NodeWorld × List Entry → Option Why → Type 0
 WorldUnless k ks before now w after None = WorldBecomes k ks before now after
 WorldUnless k ks before now w after (Some cause) = WorldBecomes k ks before now (w, [])
 
@@ -150,12 +150,12 @@ pub record SendsTo (Runs : Type 0) (ports : List Port) (ks : List HostSite) (hos
   pub ends : AllByRecursion (HasOneEnd ports) (hosts_in hosts)
 
 -- The controller n behind a step that has brought it to the state v, with the hosts as they are before its frames go out.
-pub record EndsStep (k : NodePower) (ks : List HostSite) (n : Node Memory) (live : Bool) (v : Work) (hosts : List Site) : Type 0 where
+pub record EndsStep (k : Power) (ks : List HostSite) (n : Node Memory) (live : Bool) (v : Work) (hosts : List Site) : Type 0 where
   pub on : k ≡ On n
   pub sends : SendsTo (live ≡ true → RunsAs n v.core v.ports) v.ports ks hosts
 
 -- its frames went out, and it runs on
-pub record GoesOnWith (k : NodePower) (ks : List HostSite) (n : Node Memory) (v : Work) (hosts : List Site) (before now : List Entry) : Type 0 where
+pub record GoesOnWith (k : Power) (ks : List HostSite) (n : Node Memory) (v : Work) (hosts : List Site) (before now : List Entry) : Type 0 where
   pub node : Node Memory
   pub on : k ≡ On node
   pub runs : RunsAs node v.core (sent_to (hosts_in hosts) v.ports)
@@ -168,7 +168,7 @@ abbrev pub with_bare_link : Site → Site
 with_bare_link s = record s { link = with_bare_wires s.link }
 
 -- it has lost its power: all wires are empty
-pub record WentOffWith (k : NodePower) (ks : List HostSite) (n : Node Memory) (v : Work) (hosts : List Site) (before now : List Entry) : Type 0 where
+pub record WentOffWith (k : Power) (ks : List HostSite) (n : Node Memory) (v : Work) (hosts : List Site) (before now : List Entry) : Type 0 where
   pub off : k ≡ Off (node_memory n)
   pub sites : SitesAre ks (map with_bare_link hosts)
   pub noted : now ≡ before ++ v.entries

@@ -1,6 +1,6 @@
 -- What happens at one host of a world, with what is noted of it: the definitions of the world, for the one site that they change.
 use Rattle.std.specs.Prelude.{◌≡◌, ℕ, ◌==◌, ◌&&◌, ◌≤◌, Bool, true, false, not, if◌then◌else◌, List, [], ◌∷◌, ◌++◌, length, map}
-use Rattle.std.specs.Prelude.{is_some, Option, Some, None}
+use Rattle.std.specs.Prelude.{is_some, option_map, Option, Some, None}
 use Rattle.swp_base.specs.InMemory.{Memory}
 use Rattle.swp_act.specs.Activation.{new_uicc}
 use Rattle.trace_model.specs.declared.entry.Entry.{Entry}
@@ -14,15 +14,16 @@ use Rattle.link_laws.specs.machine.Machine.{LinkEnd, LinkInput, Message, Turn, a
 use Rattle.link_laws.specs.machine.Machine.LinkInput.{Reset, Tick}
 use Rattle.link_laws.specs.machine.Machine.Role.{Uicc}
 use Rattle.link_laws.specs.messages.Links.{Link, Comes, Ending, Loss, aged, becomes, cut, exchanged, happens, with_controller}
+use Rattle.link_end.specs.Reports.{reset_refused}
 use Rattle.link_end.specs.declared.report.ResetRefused.{ResetRefused}
 use Rattle.link_end.specs.declared.report.ResetRefused.TheVariants.{Inactive, Waiting}
+use Rattle.link_laws.specs.messages.Links.Comes.{AsksReset}
 use Rattle.link_laws.specs.messages.Links.Loss.{Broken}
 use Rattle.link_laws.specs.messages.Links.Ending.{GoesOut, CutOff}
 use Rattle.link_laws.specs.messages.Links.EndEvent.{Lose}
 use Rattle.link_laws.specs.entries.Entries.{aged_entries, puts_entries}
 use Rattle.link_laws.specs.entries.Entries.End.{Controller, Host}
 use Rattle.history.specs.Steps.{at, entries_for}
-use Rattle.history.specs.Follows.{as_noted}
 use Rattle.node_machine.specs.Parts.{Port, Running, Work}
 use Rattle.node_machine.specs.Carrying.{port_at}
 use Rattle.node_machine.specs.Controller.{is_command_message}
@@ -38,8 +39,8 @@ use Rattle.node_sites.specs.Numbers.{StaysCounted}
 use Rattle.node_sites.specs.declared.power.Power.TheVariants.{On}
 use Rattle.node_sites.specs.Places.{SiteIs}
 use Rattle.node_core.specs.declared.node.Node.{Node}
-use Rattle.node_sites.specs.WorldNodes.{RunsAsHost}
 use Rattle.node_sites.specs.Powers.{node_memory}
+use Rattle.node_core.specs.Running.{RunsAs}
 
 -- ## What happens
 
@@ -107,12 +108,17 @@ reset_noted Waiting = no.Waiting
 abbrev pub if_host_mute : Site → Message → Option NoCause
 if_host_mute s m = if_waiting (m.0 == 1 && is_command_message m.1 && has_order s.node) (give_refusal s.link.host.side m)
 
--- why a message of a host, an init, or a reset of its end is refused
+-- why a message of a host or an init is refused
 abbrev pub sending_refused : Site → Message → Option NoCause
 sending_refused s m = first_cause (if_host_off s) (if_host_mute s m)
 
-abbrev pub reset_refused_at : Site → Option NoCause
-reset_refused_at s = first_cause (if_host_off s) (as_noted (reset_refusal s.link.host.side))
+-- why what comes to an end is refused, where its node runs: only a reset is
+abbrev pub refusal_coming : Option Running → LinkEnd → Comes → Option ResetRefused
+refusal_coming running e (AsksReset window) = by_node running where
+  by_node : Option Running → Option ResetRefused
+  by_node None = None
+  by_node (Some r) = option_map reset_refused (reset_refusal e)
+refusal_coming running e _ = None
 
 -- ## What is asked
 
@@ -164,7 +170,7 @@ pub record IsToSend (k : HostSite) (live : Bool) (noted : List Entry) (short : B
   pub host : k.host ≡ s.host
   pub power : w.cut ≡ not live
   pub memory : node_memory node ≡ after_planned w.writes s.memory
-  pub runs : live ≡ true → RunsAsHost node w.core w.ports
+  pub runs : live ≡ true → RunsAs node w.core w.ports
   pub ends : map (λ (p : Port). p.desk.host) w.ports ≡ s.host ∷ []
   pub here : EndDoes s.host step w
   pub wires : WiresStandFor k.wires (exchanged here.link)
@@ -181,6 +187,6 @@ pub record HasBecome (new : HostSite) (before now : List Entry) (after : Site ×
   pub noted : now ≡ before ++ after.1
 
 -- It was refused for this, or else it happened and was noted.
-abbrev pub BecomesUnless : HostSite → List Entry → List Entry → Site → Site × List Entry → Option NoCause → Type 0
+abbrev pub BecomesUnless : {Why : Type 0} → HostSite → List Entry → List Entry → Site → Site × List Entry → Option Why → Type 0
 BecomesUnless new before now s after None = HasBecome new before now after
 BecomesUnless new before now s after (Some cause) = HasBecome new before now (s, [])

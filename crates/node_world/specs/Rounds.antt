@@ -15,7 +15,7 @@ use Rattle.node_laws.specs.telling.Telling.{IfItRuns, IfOff}
 use Rattle.node_sites.specs.declared.places.HostSite.{HostSite}
 use Rattle.node_world.specs.Bounds.{FewBehind}
 use Rattle.node_world.specs.Controllers.{AreTimely, IsThere, MayGoOn, WorldIs}
-use Rattle.node_sites.specs.Powers.{NodePower}
+use Rattle.node_sites.specs.declared.power.Power.{Power}
 
 -- an end may take all that stands on its wire
 pub record MayTakeAll (at : End) (w : NodeWorld) : Type 0 where
@@ -35,7 +35,7 @@ pub record MayGoRound (w : NodeWorld) : Type 0 where
   pub timely : AreTimely (ends_take_all w (ends_in_order w)).0
 
 -- What is kept stands for the world that these events have made, and what they caused is noted behind what was noted before.
-pub record WorldHasGone (k : NodePower) (ks : List HostSite) (before now : List Entry) (after : NodeWorld × List Occurrence) : Type 0 where
+pub record WorldHasGone (k : Power) (ks : List HostSite) (before now : List Entry) (after : NodeWorld × List Occurrence) : Type 0 where
   pub world : WorldIs k ks after.0
   pub noted : now ≡ before ++ entries_in after.1
 

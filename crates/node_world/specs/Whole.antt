@@ -3,7 +3,6 @@ use Rattle.std.specs.Prelude.{◌≡◌, ◌≢◌, ℕ, ◌+◌, ◌<◌, ◌�
 use Rattle.std.specs.List.{AllByRecursion}
 use Rattle.trace_model.specs.Lines.{IsNodeHeader, IsNodeOf}
 use Rattle.trace_model.specs.declared.entry.Entry.{Entry}
-use Rattle.trace_model.specs.declared.entry.NoCause.{NoCause}
 use Rattle.trace_model.specs.declared.line.Header.{Header}
 use Rattle.trace_model.specs.declared.line.Line.{Line}
 use Rattle.trace_model.specs.declared.line.Line.TheVariants as line
@@ -19,7 +18,7 @@ use Rattle.node_world.specs.Bounds.{FewBehind}
 use Rattle.node_world.specs.Controllers.{SitesAre, WorldIs, MayGoOn, AreTimely, IsThere}
 use Rattle.node_world.specs.HostSteps.{IsHostOf, MayTick}
 use Rattle.node_sites.specs.Memories.{IsSoundMemory}
-use Rattle.node_sites.specs.Powers.{NodePower}
+use Rattle.node_sites.specs.declared.power.Power.{Power}
 
 -- ## Something happens
 
@@ -48,7 +47,7 @@ pub record SitesTick (ks : List HostSite) (before now : List Entry) (after : Lis
   pub noted : now ≡ before ++ after.1
 
 -- a world, and what is noted, where this happens unless it is refused for a cause
-abbrev pub if_accepted : Option NoCause → NodeWorld → NodeWorld × List Entry → NodeWorld × List Entry
+abbrev pub if_accepted : {Why : Type 0} → Option Why → NodeWorld → NodeWorld × List Entry → NodeWorld × List Entry
 if_accepted None w after = after
 if_accepted (Some cause) w after = (w, [])
 
@@ -87,7 +86,7 @@ pub record MayPlay (header : Header) (said : Line) (w : NodeWorld) : Type 0 wher
   pub boots : AreBootable header.hosts.items w
 
 -- what is kept stands for the world behind a line, and what the line tells is noted
-pub record LinePlayed (k : NodePower) (ks : List HostSite) (noted : List Entry) (after : NodeWorld × LineOutcome) : Type 0 where
+pub record LinePlayed (k : Power) (ks : List HostSite) (noted : List Entry) (after : NodeWorld × LineOutcome) : Type 0 where
   pub world : WorldIs k ks after.0
   pub told : noted ≡ entries_below (noted_below after.1)
 

@@ -14,11 +14,11 @@ ghost use Rattle.node_world.specs.Controllers.{SitesAre, with_bare_link, HaveRoo
 use crate::controller_sites::{empty_all, send_to_all};
 use node_sites::noted::Noted;
 use node_sites::places::HostSite;
-use node_sites::power::{ControllerPower, Power};
+use node_sites::power::Power;
 use swp_base::NoMemory;
 
 /// The power of the controller goes: the wires of all links are empty, and its memory stays.
-pub(crate) fn lose_controller(controller: &mut ControllerPower, sites: &mut [HostSite])
+pub(crate) fn lose_controller(controller: &mut Power, sites: &mut [HostSite])
     ensures off { controller.new ≡ Off (memory_kept controller.old) }
     ensures wires { (hosts : List Site) → SitesAre sites.old hosts → SitesAre sites.new (map with_bare_link hosts) }
 {
@@ -32,7 +32,7 @@ pub(crate) fn lose_controller(controller: &mut ControllerPower, sites: &mut [Hos
 ///
 /// No memory is left; what the controller and the hosts stand for then isn't said.
 pub(crate) fn finish_controller(
-    controller: &mut ControllerPower,
+    controller: &mut Power,
     sites: &mut [HostSite],
     live: bool,
     noted: &mut Noted,

@@ -1,6 +1,5 @@
 //! The controller boots, or its power is cut; and frames on their way to its ends are lost.
 ghost use Rattle.std.specs.Prelude.{◌≡◌, None, Some, OnOk};
-ghost use Rattle.swp_base.specs.declared.link_terms.Role.TheVariants.{Clf};
 ghost use Rattle.gate_admin.specs.View.{has, hosts_where};
 ghost use Rattle.link_laws.specs.messages.Links.{Loss};
 ghost use Rattle.history.specs.Steps.{lost_as};
@@ -8,33 +7,19 @@ ghost use Rattle.node_machine.specs.Parts.{Running};
 ghost use Rattle.node_machine.specs.world.World.{NodeWorld, boots, frame_lost, end_c, world_step};
 ghost use Rattle.node_machine.specs.world.World.Happening.{IsCut};
 ghost use Rattle.node_laws.specs.telling.Telling.{hosts_in};
-ghost use Rattle.node_core.specs.Running.{RunsAs};
 ghost use Rattle.node_sites.specs.Memories.{IsSoundMemory};
-ghost use Rattle.node_sites.specs.Powers.{memory_kept};
-ghost use Rattle.node_sites.specs.WorldBoots.{EndsBoot};
 ghost use Rattle.node_world.specs.Controllers.{WorldIs, WorldBecomes, MayGoOn, IsThere, AreTimely};
 
 use crate::controller::lose_controller;
 use crate::controller_sites::{empty_all, place_of};
 use crate::host_boots::note_last;
 use crate::host_losses::{is_refusal, lose_for};
-use core::mem::replace_with;
 use node_sites::noted::Noted;
 use node_sites::places::HostSite;
-use node_sites::power::{ControllerPower, Power};
-use node_sites::world_controller;
+use node_sites::power::Power;
 use std::alloc::Global;
 use swp_base::NoMemory;
 use trace_model::{End, Entry, LostCause};
-
-// The controller behind a boot from the memory that it left. Where no memory is left for it, its power stays off.
-fn booted(power: ControllerPower, with: (Global, u8)) -> (ControllerPower, Result<(), NoMemory>)
-    requires { IsSoundMemory (memory_kept power) }
-    ensures { OnOk result.1 (EndsBoot RunsAs 0 (hosts_where (has with.1)) Clf (memory_kept power) result.0) }
-{
-    let (alloc, mask) = with;
-    world_controller::boot(alloc, mask, power.into_memory())
-}
 
 /// The controller, which doesn't run, boots from its memory, with ends of the links with the hosts of this mask, in which bit h stands for
 /// host h.
@@ -44,7 +29,7 @@ fn booted(power: ControllerPower, with: (Global, u8)) -> (ControllerPower, Resul
 /// No memory is left; what the controller and the hosts stand for then isn't said.
 pub(crate) fn boot_controller(
     alloc: Global,
-    controller: &mut ControllerPower,
+    controller: &mut Power,
     sites: &mut [HostSite],
     mask: u8,
     noted: &mut Noted,
@@ -55,7 +40,7 @@ pub(crate) fn boot_controller(
         → OnOk result (WorldBecomes controller.new sites.new noted.old.entries.items noted.new.entries.items (boots w 0)) }
     ensures short { noted.new.short ≡ noted.old.short }
 {
-    replace_with(controller, (alloc, mask), booted)?;
+    controller.boot(alloc, 0, mask)?;
     match controller {
         Power::On(node) => {
             let count = node.store().kept();
@@ -74,7 +59,7 @@ pub(crate) fn boot_controller(
 ///
 /// No memory is left; what the controller and the hosts stand for then isn't said.
 pub(crate) fn cut_controller(
-    controller: &mut ControllerPower,
+    controller: &mut Power,
     sites: &mut [HostSite],
     noted: &mut Noted,
 ) -> Result<(), NoMemory>
@@ -93,7 +78,7 @@ pub(crate) fn cut_controller(
 ///
 /// No memory is left; what the controller and the hosts stand for then isn't said.
 pub(crate) fn lose_at_controller(
-    controller: &mut ControllerPower,
+    controller: &mut Power,
     sites: &mut [HostSite],
     host: u8,
     cause: LostCause,

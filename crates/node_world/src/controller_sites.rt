@@ -12,7 +12,7 @@ ghost use Rattle.node_world.specs.Controllers.{SitesAre, HaveRoom, SendsTo, sent
 ghost use Rattle.node_world.specs.Controllers.{IsPlaceOf, AreSessions};
 
 use crate::host_losses::age_host;
-use node_core::Controller;
+use node_core::RunningNode;
 use node_sites::noted::{Noted, Sessions};
 use node_sites::places::HostSite;
 use node_sites::sending::send_frames;
@@ -36,7 +36,7 @@ pub(crate) fn empty_all(sites: &mut [HostSite])
 ///
 /// No memory is left; what the wires stand for then isn't said.
 pub(crate) fn send_to_all(
-    node: &mut Controller<MemNv>,
+    node: &mut RunningNode<MemNv>,
     sites: &mut [HostSite],
     entries: &mut Vec<Entry>,
 ) -> Result<(), AllocError>

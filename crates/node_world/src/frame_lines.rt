@@ -9,12 +9,13 @@ ghost use Rattle.node_world.specs.Whole.{IsMisreadIn, LinePlayed, MayPlay};
 
 use crate::happening::lose_frame;
 use crate::looking::{damaged_at, no_frame, node_of, on_the_way, runs};
-use crate::world_ticks::{take_frame, tick_world};
+use crate::steps::{comes_to, tick_world};
 use arrayvec::ArrayVec;
 use link_wires::{Damaged, Misread, taken};
+use node_sites::incoming::Incoming;
 use node_sites::noted::{Noted, refuse};
 use node_sites::places::HostSite;
-use node_sites::power::ControllerPower;
+use node_sites::power::Power;
 use swp_base::NoMemory;
 use trace_model::{End, LostCause, NoCause};
 
@@ -25,7 +26,7 @@ use trace_model::{End, LostCause, NoCause};
 ///
 /// No memory is left; what the world stands for then isn't said.
 pub(crate) fn deliver_line(
-    controller: &mut ControllerPower,
+    controller: &mut Power,
     sites: &mut [HostSite],
     at: End,
     count: Option<u8>,
@@ -46,7 +47,7 @@ pub(crate) fn deliver_line(
         if !runs(controller, sites, node_of(at)) {
             return Ok(());
         }
-        take_frame(controller, sites, at, noted)?;
+        comes_to(controller, sites, at, Incoming::NextFrame, noted)?;
     }
     Ok(())
 }
@@ -57,7 +58,7 @@ pub(crate) fn deliver_line(
 ///
 /// No memory is left; what the world stands for then isn't said.
 pub(crate) fn lose_line(
-    controller: &mut ControllerPower,
+    controller: &mut Power,
     sites: &mut [HostSite],
     at: End,
     noted: &mut Noted,
@@ -82,7 +83,7 @@ pub(crate) fn lose_line(
 ///
 /// No memory is left; what the world stands for then isn't said.
 pub(crate) fn damage_line(
-    controller: &mut ControllerPower,
+    controller: &mut Power,
     sites: &mut [HostSite],
     at: End,
     places: &ArrayVec<u16, 16>,
@@ -107,7 +108,7 @@ pub(crate) fn damage_line(
             Ok(None)
         }
         Damaged::Same => {
-            take_frame(controller, sites, at, noted)?;
+            comes_to(controller, sites, at, Incoming::NextFrame, noted)?;
             Ok(None)
         }
         Damaged::Lost(cause) => {
@@ -124,7 +125,7 @@ pub(crate) fn damage_line(
 ///
 /// No memory is left; what the world stands for then isn't said.
 pub(crate) fn tick_line(
-    controller: &mut ControllerPower,
+    controller: &mut Power,
     sites: &mut [HostSite],
     times: Option<u8>,
     noted: &mut Noted,

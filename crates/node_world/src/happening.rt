@@ -1,61 +1,28 @@
 //! One thing happens in the world: at the controller or at a host.
-ghost use Rattle.std.specs.Prelude.{◌≡◌, ◌<◌, ◌≤◌, length, false, IfOk, IfSome, OnOk};
-ghost use Rattle.trace_model.specs.declared.line.Line.TheVariants as line;
+ghost use Rattle.std.specs.Prelude.{◌≡◌, ◌<◌, ◌≤◌, length, false, OnOk};
 ghost use Rattle.gate_admin.specs.View.{has, hosts_where};
 ghost use Rattle.history.specs.Steps.{lost_as};
 ghost use Rattle.link_laws.specs.messages.Links.{Loss};
 ghost use Rattle.node_machine.specs.world.World.{NodeWorld, world_step};
-ghost use Rattle.node_machine.specs.world.World.Happening.{Boots, IsCut, Loses, Resets, Activates, Arms};
-ghost use Rattle.node_machine.specs.world.Lines.{refusal_in};
+ghost use Rattle.node_machine.specs.world.World.Happening.{Boots, IsCut, Loses, Activates, Arms};
 ghost use Rattle.node_laws.specs.telling.Telling.{hosts_in};
 ghost use Rattle.node_world.specs.Bounds.{FewBehind};
 ghost use Rattle.node_world.specs.Controllers.{WorldIs, WorldBecomes, MayGoOn, IsThere};
-ghost use Rattle.node_world.specs.Whole.{IsWithinBounds, MayBootAt, MayStop, if_accepted};
+ghost use Rattle.node_world.specs.Whole.{IsWithinBounds, MayBootAt, MayStop};
 
 use crate::controller_power::{boot_controller, cut_controller, lose_at_controller};
 use crate::controller_sites::place_of;
-use crate::controller_steps::{activate_controller, reset_controller};
 use crate::host_boots::{boot_host, cut_host};
 use crate::host_losses::lose_for;
-use crate::host_steps::{activate_host, reset_host};
+use crate::steps::comes_to;
 use arrayvec::ArrayVec;
+use node_sites::incoming::Incoming;
 use node_sites::noted::Noted;
 use node_sites::places::HostSite;
-use node_sites::power::ControllerPower;
+use node_sites::power::Power;
 use std::alloc::Global;
 use swp_base::NoMemory;
-use trace_model::{End, LostCause, NoCause};
-
-/// An end is reset, with this window, which is 1 to 4, or with its own one. The cause, where that is refused: nothing happens then.
-///
-/// # Errors
-///
-/// No memory is left; what the world stands for then isn't said.
-pub(crate) fn reset_end(
-    controller: &mut ControllerPower,
-    sites: &mut [HostSite],
-    at: End,
-    window: Option<u8>,
-    noted: &mut Noted,
-) -> Result<Option<NoCause>, NoMemory>
-    requires state { (w : NodeWorld) × WorldIs controller.old sites.old w × IsWithinBounds w × IsThere at.link w }
-    requires window { IfSome window (λ w. (1 ≤ w) × (w ≤ 4)) }
-    requires memory { noted.old.short ≡ false }
-    ensures refusal { (w : NodeWorld) → WorldIs controller.old sites.old w → IsWithinBounds w → IsThere at.link w
-        → IfOk result (λ cause. cause ≡ refusal_in w (line.Reset at window)) }
-    ensures stands { (w : NodeWorld) → WorldIs controller.old sites.old w → IsWithinBounds w → IsThere at.link w
-        → IfOk result (λ cause. WorldBecomes controller.new sites.new noted.old.entries.items noted.new.entries.items
-        (if_accepted cause w (world_step w (Resets at window)))) }
-    ensures memory { OnOk result (noted.new.short ≡ false) }
-{
-    if !at.at_host {
-        return reset_controller(controller, sites, at.link, window, noted);
-    }
-    match place_of(sites, at.link) {
-        Some(place) => reset_host(&mut sites[place], window, noted),
-        None => Ok(Some(NoCause::Off)),
-    }
-}
+use trace_model::{End, LostCause};
 
 /// The first frame on the way to an end is lost for this cause. A frame that was refused on its way counts for REC_ERROR of that end, while
 /// its node runs.
@@ -64,7 +31,7 @@ pub(crate) fn reset_end(
 ///
 /// No memory is left; what the world stands for then isn't said.
 pub(crate) fn lose_frame(
-    controller: &mut ControllerPower,
+    controller: &mut Power,
     sites: &mut [HostSite],
     at: End,
     cause: LostCause,
@@ -92,7 +59,7 @@ pub(crate) fn lose_frame(
 /// No memory is left; what the world stands for then isn't said.
 pub(crate) fn boot_node(
     alloc: Global,
-    controller: &mut ControllerPower,
+    controller: &mut Power,
     sites: &mut [HostSite],
     node: u8,
     mask: u8,
@@ -118,7 +85,7 @@ pub(crate) fn boot_node(
 ///
 /// No memory is left; what the world stands for then isn't said.
 pub(crate) fn cut_node(
-    controller: &mut ControllerPower,
+    controller: &mut Power,
     sites: &mut [HostSite],
     node: u8,
     noted: &mut Noted,
@@ -138,7 +105,7 @@ pub(crate) fn cut_node(
 
 /// One of the next writes to the memory of a node will fail, whether the node runs or not.
 pub(crate) fn arm_node(
-    controller: &mut ControllerPower,
+    controller: &mut Power,
     sites: &mut [HostSite],
     node: u8,
     nth: u32,
@@ -166,7 +133,7 @@ pub(crate) fn arm_node(
 ///
 /// No memory is left; what the world stands for then isn't said.
 pub(crate) fn activate_link(
-    controller: &mut ControllerPower,
+    controller: &mut Power,
     sites: &mut [HostSite],
     host: u8,
     sync: u16,
@@ -180,9 +147,21 @@ pub(crate) fn activate_link(
         → OnOk result (WorldBecomes controller.new sites.new noted.old.entries.items noted.new.entries.items (world_step w (Activates host sync power))) }
     ensures memory { OnOk result (noted.new.short ≡ false) }
 {
-    activate_controller(controller, sites, host, power, noted)?;
-    match place_of(sites, host) {
-        Some(place) => activate_host(&mut sites[place], sync, noted),
-        None => Ok(()),
-    }
+    let near = End {
+        link: host,
+        at_host: false,
+    };
+    comes_to(
+        controller,
+        sites,
+        near,
+        Incoming::Start(power as u16),
+        noted,
+    )?;
+    let far = End {
+        link: host,
+        at_host: true,
+    };
+    comes_to(controller, sites, far, Incoming::Start(sync), noted)?;
+    Ok(())
 }

@@ -1,24 +1,18 @@
 //! A host of the world boots, or its power is cut.
-ghost use Rattle.std.specs.Prelude.{◌≡◌, ◌≤◌, [], ◌∷◌, ◌++◌, None, Some, OnOk};
+ghost use Rattle.std.specs.Prelude.{◌≡◌, [], ◌∷◌, ◌++◌, None, Some, OnOk};
 ghost use Rattle.swp_act.specs.Activation.{new_uicc};
 ghost use Rattle.link_laws.specs.machine.Machine.{new_link_end};
-ghost use Rattle.swp_base.specs.declared.link_terms.Role.TheVariants.{Uicc as UiccName};
 ghost use Rattle.link_laws.specs.machine.Machine.Role.{Uicc};
 ghost use Rattle.trace_model.specs.declared.entry.Entry.TheVariants as note;
 ghost use Rattle.node_machine.specs.Parts.{Running};
 ghost use Rattle.node_machine.specs.world.World.{Site, host_cut};
 ghost use Rattle.node_sites.specs.Places.{SiteIs};
 ghost use Rattle.node_sites.specs.Memories.{IsSoundMemory};
-ghost use Rattle.node_sites.specs.Powers.{memory_kept};
-ghost use Rattle.node_sites.specs.WorldBoots.{EndsBoot};
-ghost use Rattle.node_sites.specs.WorldNodes.{RunsAsHost};
 ghost use Rattle.node_world.specs.HostSteps.{host_boots, IsHostOf, HasBecome};
 
-use core::mem::replace_with;
 use node_sites::noted::Noted;
 use node_sites::places::{HostSite, lose_power};
-use node_sites::power::{HostPower, Power};
-use node_sites::world_host;
+use node_sites::power::Power;
 use std::alloc::Global;
 use swp_base::NoMemory;
 use trace_model::Entry;
@@ -32,17 +26,6 @@ pub(crate) fn note_last(noted: &mut Noted, entry: Entry) -> Result<(), NoMemory>
         Ok(()) => Ok(()),
         Err(_) => Err(NoMemory),
     }
-}
-
-// A host behind a boot from the memory that it left. Where no memory is left for it, its power stays off.
-fn booted(power: HostPower, with: (Global, u8)) -> (HostPower, Result<(), NoMemory>)
-    requires some { 1 ≤ with.1 }
-    requires host { with.1 ≤ 7 }
-    requires memory { IsSoundMemory (memory_kept power) }
-    ensures { OnOk result.1 (EndsBoot RunsAsHost with.1 (with.1 ∷ []) UiccName (memory_kept power) result.0) }
-{
-    let (alloc, host) = with;
-    world_host::boot(alloc, host, power.into_memory())
 }
 
 /// A host that doesn't run boots from its memory.
@@ -61,7 +44,7 @@ pub(crate) fn boot_host(
     ensures short { noted.new.short ≡ noted.old.short }
 {
     let node = site.host;
-    replace_with(&mut site.power, (alloc, node), booted)?;
+    site.power.boot(alloc, node, 0)?;
     match &site.power {
         Power::On(running) => {
             let count = running.store().kept();

@@ -10,10 +10,10 @@ ghost use Rattle.node_world.specs.HostSteps.{host_stepped, sending_refused, IsHo
 
 use crate::host_ends::finish_host;
 use node_core::HostRefused;
+use node_sites::nodes;
 use node_sites::noted::Noted;
 use node_sites::places::HostSite;
 use node_sites::power::Power;
-use node_sites::world_host;
 use swp_base::NoMemory;
 use trace_model::NoCause;
 
@@ -54,7 +54,7 @@ pub(crate) fn send_at_host(
         return Ok(Some(NoCause::Off));
     };
     noted.sessions = [site.wires.host.session(); 8];
-    if let Err(why) = world_host::send(node, pipe, message, noted) {
+    if let Err(why) = nodes::send(node, pipe, message, noted) {
         return Ok(Some(cause_of(why)));
     }
     finish_host(site, true, noted)?;
@@ -87,7 +87,7 @@ pub(crate) fn init_host(
         return Ok(Some(NoCause::Off));
     };
     noted.sessions = [site.wires.host.session(); 8];
-    if let Err(why) = world_host::init(node, identity, pipes, noted) {
+    if let Err(why) = nodes::init(node, identity, pipes, noted) {
         return Ok(Some(cause_of(why)));
     }
     finish_host(site, true, noted)?;

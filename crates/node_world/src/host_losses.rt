@@ -36,7 +36,7 @@ pub(crate) fn lose_for(
     site.wires.lose(to, cause, &mut noted.entries)?;
     if to.at_host && is_refusal(cause) {
         if let Power::On(node) = &mut site.power {
-            node.refused();
+            node.refused(site.host);
         }
     }
     Ok(())

@@ -6,7 +6,6 @@
 mod controller;
 mod controller_power;
 mod controller_sites;
-mod controller_steps;
 mod frame_lines;
 mod happening;
 mod host_boots;
@@ -14,7 +13,6 @@ mod host_ends;
 mod host_gives;
 mod host_lines;
 mod host_losses;
-mod host_steps;
 mod hosts_do;
 mod looking;
 mod making;
@@ -22,7 +20,7 @@ mod node_lines;
 mod playing;
 mod resting;
 mod rounds;
-mod world_ticks;
+mod steps;
 mod worlds;
 
 pub use worlds::NodeWorld;

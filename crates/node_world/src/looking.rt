@@ -9,7 +9,7 @@ ghost use Rattle.node_world.specs.Controllers.{SitesAre, WorldIs, MayGoOn};
 use crate::controller_sites::place_of;
 use link_wires::Damaged;
 use node_sites::places::HostSite;
-use node_sites::power::ControllerPower;
+use node_sites::power::Power;
 use trace_model::{End, NoCause};
 
 /// The number of the node of an end.
@@ -20,7 +20,7 @@ pub(crate) fn node_of(at: End) -> u8
 }
 
 /// Whether the node with this number runs.
-pub(crate) fn runs(controller: &ControllerPower, sites: &[HostSite], node: u8) -> bool
+pub(crate) fn runs(controller: &Power, sites: &[HostSite], node: u8) -> bool
     ensures { (w : NodeWorld) → WorldIs controller.now sites.now w → MayGoOn w → result ≡ is_running w node }
 {
     if node == 0 {
@@ -43,7 +43,7 @@ pub(crate) fn on_the_way(sites: &[HostSite], to: End) -> usize
 }
 
 /// Why a line is refused that takes or loses the first frame on the way to an end: its node doesn't run, or there is no such frame.
-pub(crate) fn no_frame(controller: &ControllerPower, sites: &[HostSite], to: End) -> Option<NoCause>
+pub(crate) fn no_frame(controller: &Power, sites: &[HostSite], to: End) -> Option<NoCause>
     ensures { (w : NodeWorld) → WorldIs controller.now sites.now w → MayGoOn w → result ≡ refusal_in w (line.Lose to) }
 {
     if !runs(controller, sites, node_of(to)) {

@@ -2,9 +2,7 @@
 ghost use Rattle.std.specs.Prelude.{◌≡◌, ℕ, [], false, Option, option_map, IfOk, OnOk};
 ghost use Rattle.swp_base.specs.InMemory.{Memory};
 ghost use Rattle.link_laws.specs.messages.Links.{NumberedEnd};
-ghost use Rattle.node_core.specs.Running.{RunsAs};
 ghost use Rattle.node_sites.specs.Powers.{IsNodePlace};
-ghost use Rattle.node_sites.specs.WorldNodes.{RunsAsHost};
 ghost use Rattle.trace_model.specs.declared.line.Header.{Header};
 ghost use Rattle.trace_model.specs.declared.line.Line.TheVariants as line;
 ghost use Rattle.gate_admin.specs.View.{has, hosts_where};
@@ -12,16 +10,20 @@ ghost use Rattle.node_machine.specs.Parts.{Running};
 ghost use Rattle.node_machine.specs.world.World.{NodeWorld, node_at};
 ghost use Rattle.node_machine.specs.world.Lines.{line_step};
 ghost use Rattle.node_world.specs.Controllers.{WorldIs, MayGoOn};
+ghost use Rattle.node_world.specs.HostSteps.{reset_noted};
 ghost use Rattle.node_world.specs.Whole.{LinePlayed, MayPlay};
 
 use crate::controller_sites::place_of;
-use crate::happening::{activate_link, arm_node, boot_node, cut_node, reset_end};
-use crate::looking::runs;
+use crate::happening::{activate_link, arm_node, boot_node, cut_node};
+use crate::looking::{node_of, runs};
+use crate::steps::comes_to;
 use arrayvec::ArrayVec;
 use hci_tables::Tables;
+use link_end::ResetRefused;
+use node_sites::incoming::Incoming;
 use node_sites::noted::{Noted, refuse};
 use node_sites::places::HostSite;
-use node_sites::power::{ControllerPower, HostPower, Power};
+use node_sites::power::Power;
 use std::alloc::Global;
 use swp_base::NoMemory;
 use trace_model::{End, Entry, NoCause, NodeTables};
@@ -34,7 +36,7 @@ use trace_model::{End, Entry, NoCause, NodeTables};
 /// No memory is left; what the world stands for then isn't said.
 pub(crate) fn boot_line(
     alloc: Global,
-    controller: &mut ControllerPower,
+    controller: &mut Power,
     sites: &mut [HostSite],
     node: u8,
     mask: u8,
@@ -60,7 +62,7 @@ pub(crate) fn boot_line(
 ///
 /// No memory is left; what the world stands for then isn't said.
 pub(crate) fn cut_line(
-    controller: &mut ControllerPower,
+    controller: &mut Power,
     sites: &mut [HostSite],
     node: u8,
     noted: &mut Noted,
@@ -83,7 +85,7 @@ pub(crate) fn cut_line(
 ///
 /// No memory is left; what the world stands for then isn't said.
 pub(crate) fn activate_line(
-    controller: &mut ControllerPower,
+    controller: &mut Power,
     sites: &mut [HostSite],
     host: u8,
     sync: u16,
@@ -112,7 +114,7 @@ pub(crate) fn activate_line(
 ///
 /// No memory is left; what the world stands for then isn't said.
 pub(crate) fn arm_line(
-    controller: &mut ControllerPower,
+    controller: &mut Power,
     sites: &mut [HostSite],
     node: u8,
     nth: u32,
@@ -128,13 +130,23 @@ pub(crate) fn arm_line(
     Ok(())
 }
 
+// Why a reset is refused, as the line that asks for it tells.
+fn reset_cause(why: ResetRefused) -> NoCause
+    ensures { result ≡ reset_noted why }
+{
+    match why {
+        ResetRefused::Inactive => NoCause::Inactive,
+        ResetRefused::Waiting => NoCause::Waiting,
+    }
+}
+
 /// A line `reset`: the end is reset, or the line is refused.
 ///
 /// # Errors
 ///
 /// No memory is left; what the world stands for then isn't said.
 pub(crate) fn reset_line(
-    controller: &mut ControllerPower,
+    controller: &mut Power,
     sites: &mut [HostSite],
     at: End,
     window: Option<u8>,
@@ -147,27 +159,18 @@ pub(crate) fn reset_line(
         → OnOk result (LinePlayed controller.new sites.new noted.new.entries.items (line_step w (line.Reset at window))) }
     ensures memory { OnOk result (noted.new.short ≡ false) }
 {
-    let cause = reset_end(controller, sites, at, window, noted)?;
-    match cause {
-        Some(cause) => refuse(noted, cause),
+    if !runs(controller, sites, node_of(at)) {
+        return refuse(noted, NoCause::Off);
+    }
+    match comes_to(controller, sites, at, Incoming::Reset(window), noted)? {
+        Some(why) => refuse(noted, reset_cause(why)),
         None => Ok(()),
     }
 }
 
-// A copy of the tables of a host that runs. `None` where it doesn't.
-fn tables_of_host(power: &HostPower) -> Result<Option<Tables>, NoMemory>
-    ensures { (m : Memory) (node : Option Running) (near : ℕ → NumberedEnd) → IsNodePlace RunsAsHost power.now m node near
-        → IfOk result (λ tables. tables ≡ option_map (λ (r : Running). r.core.tables) node) }
-{
-    match power {
-        Power::On(node) => Ok(Some(node.store().tables().clone()?)),
-        Power::Off(_) => Ok(None),
-    }
-}
-
-// So of the controller.
-fn tables_of_controller(power: &ControllerPower) -> Result<Option<Tables>, NoMemory>
-    ensures { (m : Memory) (node : Option Running) (near : ℕ → NumberedEnd) → IsNodePlace RunsAs power.now m node near
+// A copy of the tables of a node that runs. `None` where it doesn't.
+fn tables_of(power: &Power) -> Result<Option<Tables>, NoMemory>
+    ensures { (m : Memory) (node : Option Running) (near : ℕ → NumberedEnd) → IsNodePlace power.now m node near
         → IfOk result (λ tables. tables ≡ option_map (λ (r : Running). r.core.tables) node) }
 {
     match power {
@@ -178,7 +181,7 @@ fn tables_of_controller(power: &ControllerPower) -> Result<Option<Tables>, NoMem
 
 // A copy of the tables of the node with this number, where that runs. `None` where it doesn't.
 fn copied_tables(
-    controller: &ControllerPower,
+    controller: &Power,
     sites: &[HostSite],
     node: u8,
 ) -> Result<Option<Tables>, NoMemory>
@@ -186,12 +189,12 @@ fn copied_tables(
         → IfOk result (λ tables. tables ≡ option_map (λ (r : Running). r.core.tables) (node_at w node)) }
 {
     if node == 0 {
-        return tables_of_controller(controller);
+        return tables_of(controller);
     }
     let Some(place) = place_of(sites, node) else {
         return Ok(None);
     };
-    tables_of_host(&sites[place].power)
+    tables_of(&sites[place].power)
 }
 
 /// A line `tables`: the tables of the node are told, or the line is refused where it doesn't run.
@@ -201,7 +204,7 @@ fn copied_tables(
 /// No memory is left; what the world stands for then isn't said.
 pub(crate) fn tables_line(
     alloc: Global,
-    controller: &ControllerPower,
+    controller: &Power,
     sites: &[HostSite],
     node: u8,
     noted: &mut Noted,

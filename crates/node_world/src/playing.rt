@@ -13,7 +13,7 @@ use crate::node_lines::{activate_line, arm_line, boot_line, cut_line, reset_line
 use link_wires::Misread;
 use node_sites::noted::Noted;
 use node_sites::places::HostSite;
-use node_sites::power::ControllerPower;
+use node_sites::power::Power;
 use std::alloc::Global;
 use swp_base::NoMemory;
 use trace_model::Line;
@@ -21,7 +21,7 @@ use trace_model::Line;
 // Plays a line that damages no frame, where the mask holds the hosts of the world.
 fn play_sound(
     alloc: Global,
-    controller: &mut ControllerPower,
+    controller: &mut Power,
     sites: &mut [HostSite],
     mask: u8,
     line: &Line,
@@ -69,7 +69,7 @@ fn play_sound(
 #[inline(never)]
 pub(crate) fn play_line(
     alloc: Global,
-    controller: &mut ControllerPower,
+    controller: &mut Power,
     sites: &mut [HostSite],
     mask: u8,
     line: &Line,

@@ -8,7 +8,7 @@ ghost use Rattle.node_sites.specs.Places.{SiteIs};
 ghost use Rattle.node_world.specs.Rounds.{IsToLookAt, far_rests, near_rests};
 
 use node_sites::places::HostSite;
-use node_sites::power::{ControllerPower, Power};
+use node_sites::power::Power;
 use trace_model::End;
 
 // Whether both wires of a host's link are empty, and its end of it is at rest.
@@ -37,7 +37,7 @@ fn host_rests(site: &HostSite) -> bool
 }
 
 // Whether all ends of the controller are at rest.
-fn controller_rests(controller: &ControllerPower, sites: &[HostSite]) -> bool
+fn controller_rests(controller: &Power, sites: &[HostSite]) -> bool
     requires state { (w : NodeWorld) × WorldIs controller.now sites.now w }
     ensures { (w : NodeWorld) → WorldIs controller.now sites.now w → MayGoOn w → AreTimely w → result ≡ list_all near_rests w.sites }
 {
@@ -48,7 +48,7 @@ fn controller_rests(controller: &ControllerPower, sites: &[HostSite]) -> bool
 }
 
 /// Whether all links are at rest: their wires are empty, no end waits, and all that was sent is acknowledged.
-pub(crate) fn all_rest(controller: &ControllerPower, sites: &[HostSite]) -> bool
+pub(crate) fn all_rest(controller: &Power, sites: &[HostSite]) -> bool
     requires state { (w : NodeWorld) × WorldIs controller.now sites.now w × MayGoOn w × AreTimely w }
     ensures { (w : NodeWorld) → WorldIs controller.now sites.now w → MayGoOn w → AreTimely w → result ≡ world_rests w }
 {

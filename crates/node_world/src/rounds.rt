@@ -7,16 +7,17 @@ ghost use Rattle.node_world.specs.Rounds.{MayGoRound, MayTakeAll, MayTakeInOrder
 ghost use Rattle.node_world.specs.Whole.{IsWithinBounds};
 
 use crate::looking::{node_of, on_the_way, runs};
-use crate::world_ticks::{take_frame, tick_world};
+use crate::steps::{comes_to, tick_world};
+use node_sites::incoming::Incoming;
 use node_sites::noted::Noted;
 use node_sites::places::HostSite;
-use node_sites::power::ControllerPower;
+use node_sites::power::Power;
 use swp_base::NoMemory;
 use trace_model::End;
 
 // An end takes all that stands on its wire now, until its node loses its power. Where that doesn't run, nothing happens.
 fn take_all(
-    controller: &mut ControllerPower,
+    controller: &mut Power,
     sites: &mut [HostSite],
     at: End,
     noted: &mut Noted,
@@ -32,14 +33,14 @@ fn take_all(
         if !runs(controller, sites, node_of(at)) {
             return Ok(());
         }
-        take_frame(controller, sites, at, noted)?;
+        comes_to(controller, sites, at, Incoming::NextFrame, noted)?;
     }
     Ok(())
 }
 
 // All ends do, the controller's end of a link before the host's, and the links ascending.
 fn take_in_order(
-    controller: &mut ControllerPower,
+    controller: &mut Power,
     sites: &mut [HostSite],
     noted: &mut Noted,
 ) -> Result<(), NoMemory>
@@ -73,7 +74,7 @@ fn take_in_order(
 ///
 /// No memory is left; what the world stands for then isn't said.
 pub(crate) fn go_round(
-    controller: &mut ControllerPower,
+    controller: &mut Power,
     sites: &mut [HostSite],
     noted: &mut Noted,
 ) -> Result<(), NoMemory>

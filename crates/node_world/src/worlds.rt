@@ -21,7 +21,7 @@ use link_wires::Misread;
 use node_sites::memory::NodeMemory;
 use node_sites::noted::Noted;
 use node_sites::places::HostSite;
-use node_sites::power::{ControllerPower, Power};
+use node_sites::power::Power;
 use std::alloc::Global;
 use swp_base::{MemNv, NoMemory};
 use trace_model::{End, Entry, Header, Line};
@@ -30,7 +30,7 @@ use trace_model::{End, Entry, Header, Line};
 /// the last line or round caused (this project's own).
 #[derive(Drop)]
 pub struct NodeWorld {
-    controller: ControllerPower,
+    controller: Power,
     // Ascending.
     sites: Vec<HostSite>,
     // The hosts: bit h stands for host h.

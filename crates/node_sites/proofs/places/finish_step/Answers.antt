@@ -6,7 +6,7 @@ use Rattle.link_laws.specs.entries.Entries.End.{Host}
 use Rattle.history.specs.Steps.{entries_for}
 use Rattle.node_sites.specs.declared.power.Power.TheVariants.{On, Off}
 use Rattle.node_sites.specs.Powers.{memory_kept, node_memory}
-use Rattle.node_sites.specs.WorldNodes.{RunsAsHost}
+use Rattle.node_core.specs.Running.{RunsAs}
 use Rattle.node_sites.proofs.places.finish_step.Goals as goal
 
 pub returns-then-not-live-clause-cut : goal.returns-then-not-live-clause-cut
@@ -21,7 +21,7 @@ returns-in_ok-send_frames-clause-goes_on c n w p l before f noted live =
     let on : On c.in-On.node ≡ On n = sym c.in-On.is ∙ f.on in
     let is : c.in-On.node ≡ n = cc in
     let r = c.in_ok-send_frames.ensures.stands w.core w.ports p l
-    (record { runs = subst (λ x. RunsAsHost x w.core w.ports) (sym is) (f.runs live); here = f.here; only = f.only }) f.wires in
+    (record { runs = subst (λ x. RunsAs x w.core w.ports) (sym is) (f.runs live); here = f.here; only = f.only }) f.wires in
     record {
       node = c.send_frames.new.node;
       on = refl;

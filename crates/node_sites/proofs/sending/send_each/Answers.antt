@@ -1,20 +1,24 @@
 use Rattle.std.proofs.Common.{◌≡◌, ℕ, ◌-◌, List, refl, sym, subst, ap, ◌∙◌, arith}
 use Rattle.std.specs.Prelude.{None, option_map}
+use Rattle.swp_base.specs.InMemory.{Memory}
 use Rattle.swp_lpdu.specs.Controls.{lpdu_of, control_of}
 use Rattle.link_laws.specs.machine.Machine.{next_frame}
 use Rattle.link_laws.specs.machine.Laws.{most_fetches}
+use Rattle.hci_store.specs.Stored.{Stored}
 use Rattle.node_machine.specs.Parts.{Core, Port}
 use Rattle.node_machine.specs.Carrying.{with_port}
-use Rattle.node_sites.specs.WorldNodes.{GoesOutWhole}
+use Rattle.node_ends.specs.Ends.{frame_at}
+use Rattle.node_core.specs.Running.{RunsAs, SendsOneByOne}
+use Rattle.node_core.proofs.Between.{all_one_by_one}
 use Rattle.node_sites.proofs.FramesGoOut.{Sending, sending_starts, sending_next, sending_stops, sending_over, at_found, found_with, with_side}
 use Rattle.node_sites.proofs.FramesGoOut.{fetched_is, none_fetched, read_of}
 use Rattle.node_sites.proofs.sending.send_each.Goals as goal
 
 pub loop-init : goal.loop-init
-loop-init g c = record {
+loop-init c = record {
   goes = λ core ports p m is w.
-      let whole = at_found (λ (q : Port). GoesOutWhole q.side) c.args.at.link p ports (g.met.P.SendsFrames.whole c.args.node.now core ports is.runs) is.here in
-      let Runs : List Port → Type 0 = g.P.SendsFrames.runs c.args.node.now core in
+      let whole = at_found (λ (q : Port). SendsOneByOne q.side) c.args.at.link p ports (all_one_by_one is.runs) is.here in
+      let Runs : List Port → Type 0 = RunsAs c.args.node.now core in
       let P : ℕ → Type 0 = λ n. Sending Runs c.args.wires.now c.args.at ports p m c.args.entries.now.items c.args.entries.now.items n in
       let all : most_fetches p.side ≡ most_fetches p.side - 0 = omega arith in
       subst P all (sending_starts is.runs is.only whole w);
@@ -23,7 +27,7 @@ loop-init g c = record {
 }
 
 pub next_out-requires : goal.next_out-requires
-next_out-requires g c =
+next_out-requires c =
     let r = c.requires.state in
     let core : Core = r.0 in
     let ports : List Port = r.1 in
@@ -32,19 +36,19 @@ next_out-requires g c =
     record { runs = (core, with_port c.args.at.link (with_side s.e) ports, s.runs) }
 
 pub returns-in_default-clause-stands : goal.returns-in_default-clause-stands
-returns-in_default-clause-stands g c core ports p l is w =
+returns-in_default-clause-stands c core ports p l is w =
     let n = c.next_out in
     let h : ℕ = c.args.at.link in
     let s = c.loop.invariant.goes core ports p l is w in
     let now : List Port = with_port h (with_side s.e) ports in
     let found = found_with h s.e p ports is.here in
-    let none : None ≡ option_map lpdu_of (next_frame s.e) = sym c.in_default.is ∙ n.ensures.answer core now (with_side s.e p) s.runs found in
-    let whole = at_found (λ (q : Port). GoesOutWhole q.side) h (with_side s.e p) now (g.met.P.SendsFrames.whole c.loop.node core now s.runs) found in
-    sending_stops (g.P.SendsFrames.runs n.new.self core) c.args.entries.now.items s is.only whole (none_fetched (next_frame s.e) none)
-    (n.ensures.runs core now (with_side s.e p) s.runs found)
+    let none : None ≡ option_map lpdu_of (next_frame s.e) = sym c.in_default.is ∙ (n.ensures.answer core now s.runs ∙ ap frame_at found) in
+    let whole = at_found (λ (q : Port). SendsOneByOne q.side) h (with_side s.e p) now (all_one_by_one s.runs) found in
+    sending_stops (RunsAs n.new.self core) c.args.entries.now.items s is.only whole (none_fetched (next_frame s.e) none)
+    (n.ensures.runs core now s.runs)
 
 pub loop-preserved : goal.loop-preserved
-loop-preserved g c =
+loop-preserved c =
     let n = c.next_out in
     let h : ℕ = c.args.at.link in
     record {
@@ -52,21 +56,21 @@ loop-preserved g c =
           let s = c.loop.invariant.goes core ports p l is w in
           let now : List Port = with_port h (with_side s.e) ports in
           let found = found_with h s.e p ports is.here in
-          let one = fetched_is s.e c.in-Some.lpdu (sym c.in-Some.is ∙ n.ensures.answer core now (with_side s.e p) s.runs found) in
+          let one = fetched_is s.e c.in-Some.lpdu (sym c.in-Some.is ∙ (n.ensures.answer core now s.runs ∙ ap frame_at found)) in
           let read = read_of (next_frame s.e) one.frame one.next (n.ensures.read core now (with_side s.e p) s.runs found) in
-          let whole = at_found (λ (q : Port). GoesOutWhole q.side) h p ports (g.met.P.SendsFrames.whole c.args.node.now core ports is.runs) is.here in
+          let whole = at_found (λ (q : Port). SendsOneByOne q.side) h p ports (all_one_by_one is.runs) is.here in
           sending_next c.args.entries.now.items (most_fetches p.side) c.loop.counter (most_fetches p.side - c.loop.counter) one.frame refl s whole one.next
-          (n.ensures.runs core now (with_side s.e p) s.runs found)
+          (n.ensures.runs core now s.runs)
           (c.in_ok-put.ensures.stands s.link one.frame s.wires one.bytes (ap control_of one.bytes ∙ read));
-      memory = n.ensures.memory ∙ c.loop.invariant.memory;
+      memory = ap (λ (s : Stored Memory). s.journal.nv) n.ensures.store ∙ c.loop.invariant.memory;
       grows = let i = c.loop.invariant.grows in let j = c.put.ensures.grows in omega (arith, i, j);
     }
 
 pub returns-clause-stands : goal.returns-clause-stands
-returns-clause-stands g c core ports p l is w =
+returns-clause-stands c core ports p l is w =
     let h : ℕ = c.args.at.link in
     let s = c.loop.invariant.goes core ports p l is w in
-    let whole = at_found (λ (q : Port). GoesOutWhole q.side) h p ports (g.met.P.SendsFrames.whole c.args.node.now core ports is.runs) is.here in
+    let whole = at_found (λ (q : Port). SendsOneByOne q.side) h p ports (all_one_by_one is.runs) is.here in
     let few = whole.few in
     let over : most_fetches p.side - c.loop.counter ≡ 0 = omega (arith, few, c.loop-test.false) in
     sending_over c.args.entries.now.items (most_fetches p.side - c.loop.counter) s is.only over

@@ -3,6 +3,8 @@ use Rattle.link_laws.specs.machine.Laws.{most_fetches}
 use Rattle.link_laws.specs.messages.Links.{Link}
 use Rattle.history.specs.Follows.{seen_from}
 use Rattle.node_machine.specs.Parts.{Core, Port}
+use Rattle.node_core.specs.Running.{RunsAs}
+use Rattle.node_sites.specs.Powers.{node_memory}
 use Rattle.node_sites.specs.LinksKept.{WiresStandFor}
 use Rattle.node_sites.specs.FramesOut.{SendsFrom}
 use Rattle.node_sites.proofs.FramesGoOut.{Sending}
@@ -10,12 +12,11 @@ use Rattle.node_sites.proofs.sending.send_each.Given as goal
 
 -- so many frames are left at most
 abbrev pub invariant-loop : goal.invariant-loop
-invariant-loop g l =
-    let Runs = g.P.SendsFrames.runs in
+invariant-loop l =
     record {
-      goes : (core : Core) (ports : List Port) (p : Port) (m : Link) → SendsFrom (Runs l.initial.node core ports) l.at p ports
+      goes : (core : Core) (ports : List Port) (p : Port) (m : Link) → SendsFrom (RunsAs l.initial.node core ports) l.at p ports
           → WiresStandFor l.initial.wires (seen_from l.at m)
-          → Sending (Runs l.node core) l.wires l.at ports p m l.initial.entries.items l.entries.items (most_fetches p.side - l.counter);
-      memory : g.P.SendsFrames.memory l.node ≡ g.P.SendsFrames.memory l.initial.node;
+          → Sending (RunsAs l.node core) l.wires l.at ports p m l.initial.entries.items l.entries.items (most_fetches p.side - l.counter);
+      memory : node_memory l.node ≡ node_memory l.initial.node;
       grows : l.wires.resets ≤ l.initial.wires.resets + l.counter;
     }

@@ -1,7 +1,6 @@
 use Rattle.std.proofs.Common.{ℕ, List, refl, sym, ap, subst, ◌∙◌}
 use Rattle.swp_base.specs.InMemory.{Memory}
 use Rattle.journal_laws.specs.Journal.{count_of}
-use Rattle.swp_base.specs.declared.link_terms.Role.TheVariants.{Clf}
 use Rattle.node_machine.specs.world.World.{link_to}
 use Rattle.link_wires.proofs.Results.{on_ok}
 use Rattle.node_laws.specs.telling.Telling.{hosts_in}
@@ -11,33 +10,32 @@ use Rattle.node_sites.specs.declared.power.Power.TheVariants.{On}
 use Rattle.node_sites.specs.WorldBoots.{EndsBoot}
 use Rattle.node_sites.proofs.Powers.{kept_is}
 use Rattle.node_world.proofs.ControllersPower.{boot_runs, boot_lost}
-use Rattle.node_core.specs.Running.{RunsAs}
 use Rattle.node_world.proofs.controller_power.boot_controller.Goals as goal
 
-pub replace_with-requires : goal.replace_with-requires
-replace_with-requires c =
+pub boot-requires-clause-memory : goal.boot-requires-clause-memory
+boot-requires-clause-memory c =
     let q = c.requires.state in
-    let taken = kept_is RunsAs c.args.controller.now q.0.memory q.0.controller (λ h. (link_to q.0.sites h).controller) q.1.controller in
+    let taken = kept_is c.args.controller.now q.0.memory q.0.controller (λ h. (link_to q.0.sites h).controller) q.1.controller in
     subst IsSoundMemory (sym taken) q.3
 
 pub returns-in-On-clause-stands : goal.returns-in-On-clause-stands
 returns-in-On-clause-stands c w world may timely off same =
     on_ok c.note_last.result c.note_last.ensures.items
     (λ noted. (let k = c.args.controller.now in
-    let taken = kept_is RunsAs k w.memory w.controller (λ h. (link_to w.sites h).controller) world.controller in
-    let E : List ℕ → Memory → Type 0 = λ hs m. EndsBoot RunsAs 0 hs Clf m c.replace_with.new.dest in
+    let taken = kept_is k w.memory w.controller (λ h. (link_to w.sites h).controller) world.controller in
+    let E : List ℕ → Memory → Type 0 = λ hs m. EndsBoot 0 hs m c.boot.new.self in
     let booted : E (hosts_in w.sites) w.memory =
-    subst (E (hosts_in w.sites)) taken (subst (λ hs. E hs (memory_kept k)) same c.in_ok-replace_with.ensures) in
+    subst (E (hosts_in w.sites)) taken (subst (λ hs. E hs (memory_kept k)) same c.in_ok-boot.ensures.booted) in
     boot_runs (On c.in-On.node) c.args.sites.now w c.args.noted.now.entries.items c.note_last.new.noted.entries.items
-    c.in-On.node c.kept-count.result refl off may timely (subst (EndsBoot RunsAs 0 (hosts_in w.sites) Clf w.memory) c.in-On.is booted) world.sites
+    c.in-On.node c.kept-count.result refl off may timely (subst (EndsBoot 0 (hosts_in w.sites) w.memory) c.in-On.is booted) world.sites
     (λ core ports r. c.kept-count.ensures ∙ (ap (λ s. count_of s.journal.state) c.store.ensures ∙ ap count_of (sym r.stands.journal))) noted))
 
 pub returns-in-Off-clause-stands : goal.returns-in-Off-clause-stands
 returns-in-Off-clause-stands c w world may timely off same =
     on_ok c.note_last-in-Off.result c.note_last-in-Off.ensures.items
     (λ noted. (let k = c.args.controller.now in
-    let taken = kept_is RunsAs k w.memory w.controller (λ h. (link_to w.sites h).controller) world.controller in
-    let E : List ℕ → Memory → Type 0 = λ hs m. EndsBoot RunsAs 0 hs Clf m c.replace_with.new.dest in
-    boot_lost c.replace_with.new.dest c.empty_all.new.sites w c.args.noted.now.entries.items c.note_last-in-Off.new.noted.entries.items _ c.in-Off.is
-    (subst (E (hosts_in w.sites)) taken (subst (λ hs. E hs (memory_kept k)) same c.in_ok-replace_with.ensures))
+    let taken = kept_is k w.memory w.controller (λ h. (link_to w.sites h).controller) world.controller in
+    let E : List ℕ → Memory → Type 0 = λ hs m. EndsBoot 0 hs m c.boot.new.self in
+    boot_lost c.boot.new.self c.empty_all.new.sites w c.args.noted.now.entries.items c.note_last-in-Off.new.noted.entries.items _ c.in-Off.is
+    (subst (E (hosts_in w.sites)) taken (subst (λ hs. E hs (memory_kept k)) same c.in_ok-boot.ensures.booted))
     (c.empty_all.ensures w.sites world.sites) noted))

@@ -8,13 +8,14 @@ use Rattle.link_wires.specs.declared.finding.Damaged.TheVariants.{Refused, Same,
 use Rattle.node_machine.specs.world.World.{node_of}
 use Rattle.node_machine.specs.world.World.Happening.{Takes, Loses}
 use Rattle.node_machine.specs.world.Lines.{frames_at, is_running, misread_in}
+use Rattle.node_world.proofs.Comings.{unrefused}
 use Rattle.node_world.proofs.LinesDamage.{finds_read, lost_is, misread_not, off_refused, on_refused, same_is}
 use Rattle.node_world.proofs.LinesEnd.{line_goes, line_refused}
 use Rattle.node_world.proofs.LinesGo.{is_there, within}
 use Rattle.node_world.proofs.frame_lines.damage_line.Goals as goal
 
-pub take_frame-requires-clause-state : goal.take_frame-requires-clause-state
-take_frame-requires-clause-state c =
+pub comes_to-requires-clause-state : goal.comes_to-requires-clause-state
+comes_to-requires-clause-state c =
     let s = c.requires.state in
     (s.1, s.2, within s.3, is_there c.args.at.link s.3 s.3.is_line.may_follow.0)
 
@@ -54,16 +55,17 @@ returns-in_ok-refuse-in-Refused-clause-stands c header w world may none =
     c.args.controller.now c.args.sites.now c.args.noted.now.entries.items c.refuse-in-Refused.new.noted.entries.items c.requires.nothing
     c.in-Refused.cause (on_refused w c.args.at c.args.places.now (Some c.in-Refused.cause) on found) world c.in_ok-refuse-in-Refused.ensures.noted
 
-pub returns-in_ok-take_frame-in-Same-clause-stands : goal.returns-in_ok-take_frame-in-Same-clause-stands
-returns-in_ok-take_frame-in-Same-clause-stands c header w world may none =
+pub returns-in_ok-comes_to-in-Same-clause-stands : goal.returns-in_ok-comes_to-in-Same-clause-stands
+returns-in_ok-comes_to-in-Same-clause-stands c header w world may none =
     let on : is_running w (node_of c.args.at) ≡ true =
     sym (c.runs.ensures w world may.goes_on ∙ ap (λ n. is_running w n) c.node_of.ensures) ∙ c.if-not-runs.false in
     let found : Finds (frames_at w c.args.at) c.args.places.now.items Same =
     subst (λ ps. Finds (frames_at w c.args.at) ps Same) c.as_slice.ensures.value (c.in-Same.ensures w world.sites may.goes_on) in
     line_goes w (line.Damage c.args.at c.args.places.now)
-    c.take_frame.new.controller c.take_frame.new.sites c.args.noted.now.entries.items c.take_frame.new.noted.entries.items c.requires.nothing
+    c.comes_to.new.controller c.comes_to.new.sites c.args.noted.now.entries.items c.comes_to.new.noted.entries.items c.requires.nothing
     (Takes c.args.at) (same_is w c.args.at c.args.places.now found.1 on) (on_refused w c.args.at c.args.places.now None on found.0)
-    (c.in_ok-take_frame-in-Same.ensures.stands w world (within may) (is_there c.args.at.link may may.is_line.may_follow.0))
+    (unrefused w (c.in_ok-comes_to-in-Same.ensures.refusal w world (within may) (is_there c.args.at.link may may.is_line.may_follow.0))
+    (c.in_ok-comes_to-in-Same.ensures.stands w world (within may) (is_there c.args.at.link may may.is_line.may_follow.0)))
 
 pub returns-in_ok-lose_frame-in-Lost-clause-stands : goal.returns-in_ok-lose_frame-in-Lost-clause-stands
 returns-in_ok-lose_frame-in-Lost-clause-stands c header w world may none =
@@ -97,21 +99,21 @@ returns-in_err-refuse-in-Refused-clause-told c w world goes =
     on_err c.from_residual-in_err-refuse-in-Refused.result (misread_in w (line.Damage c.args.at c.args.places.now) ≡ None)
     (finds_read w c.args.at c.args.places.now (Refused c.in-Refused.cause) on found)
 
-pub returns-in_ok-take_frame-in-Same-clause-misread : goal.returns-in_ok-take_frame-in-Same-clause-misread
-returns-in_ok-take_frame-in-Same-clause-misread c w world goes =
+pub returns-in_ok-comes_to-in-Same-clause-misread : goal.returns-in_ok-comes_to-in-Same-clause-misread
+returns-in_ok-comes_to-in-Same-clause-misread c w world goes =
     let on : is_running w (node_of c.args.at) ≡ true =
     sym (c.runs.ensures w world goes ∙ ap (λ n. is_running w n) c.node_of.ensures) ∙ c.if-not-runs.false in
     let found : Finds (frames_at w c.args.at) c.args.places.now.items Same =
     subst (λ ps. Finds (frames_at w c.args.at) ps Same) c.as_slice.ensures.value (c.in-Same.ensures w world.sites goes) in
     finds_read w c.args.at c.args.places.now Same on found
 
-pub returns-in_err-take_frame-in-Same-clause-told : goal.returns-in_err-take_frame-in-Same-clause-told
-returns-in_err-take_frame-in-Same-clause-told c w world goes =
+pub returns-in_err-comes_to-in-Same-clause-told : goal.returns-in_err-comes_to-in-Same-clause-told
+returns-in_err-comes_to-in-Same-clause-told c w world goes =
     let on : is_running w (node_of c.args.at) ≡ true =
     sym (c.runs.ensures w world goes ∙ ap (λ n. is_running w n) c.node_of.ensures) ∙ c.if-not-runs.false in
     let found : Finds (frames_at w c.args.at) c.args.places.now.items Same =
     subst (λ ps. Finds (frames_at w c.args.at) ps Same) c.as_slice.ensures.value (c.in-Same.ensures w world.sites goes) in
-    on_err c.from_residual-in_err-take_frame-in-Same.result (misread_in w (line.Damage c.args.at c.args.places.now) ≡ None)
+    on_err c.from_residual-in_err-comes_to-in-Same.result (misread_in w (line.Damage c.args.at c.args.places.now) ≡ None)
     (finds_read w c.args.at c.args.places.now Same on found)
 
 pub returns-in_ok-lose_frame-in-Lost-clause-misread : goal.returns-in_ok-lose_frame-in-Lost-clause-misread

@@ -1,6 +1,5 @@
-use Rattle.std.proofs.Common.{◌+◌, ℕ, List, ◌++◌, ap, sym, subst, ◌∙◌, append_assoc, arith}
+use Rattle.std.proofs.Common.{◌≡◌, ◌+◌, ℕ, List, ◌++◌, ap, sym, subst, ◌∙◌, append_assoc, arith}
 use Rattle.std.specs.List.{AllByRecursion}
-use Rattle.std.proofs.lemmas.Result.{on_ok_weaker}
 use Rattle.trace_model.specs.Lines.{IsHost}
 use Rattle.trace_model.specs.declared.entry.Entry.{Entry}
 use Rattle.link_laws.specs.messages.Links.Comes.{Starts}
@@ -8,16 +7,13 @@ use Rattle.node_machine.specs.world.World.{NodeWorld, activates, comes_at, end_c
 use Rattle.node_laws.proofs.telling.Events.{comes_goes}
 use Rattle.node_sites.specs.declared.places.HostSite.{HostSite}
 use Rattle.node_world.specs.Bounds.{FewBehind}
-use Rattle.node_world.specs.Controllers.{StandsAt, WorldBecomes, MayGoOn, IsThere}
-use Rattle.node_world.specs.HostSteps.{host_hears}
+use Rattle.node_world.specs.Controllers.{WorldBecomes, MayGoOn, IsThere}
 use Rattle.node_world.specs.Whole.{IsWithinBounds}
-use Rattle.node_world.proofs.AtHosts.{at_place, counts_coming, nowhere, room_there, site_stands}
+use Rattle.node_world.proofs.Comings.{unrefused}
 use Rattle.node_world.proofs.FewInWorlds.{few_behind_coming, longer}
-use Rattle.node_world.proofs.HostsInWorlds.{hears_in_world}
 use Rattle.node_world.proofs.LinesAgain.{hosts_come, there_still}
-use Rattle.node_world.proofs.NearKept.{counted_at, found_becomes, hears_leaves, room_for_all}
-use Rattle.node_sites.specs.Powers.{NodePower}
 use Rattle.node_world.proofs.happening.activate_link.Goals as goal
+use Rattle.node_sites.specs.declared.power.Power.{Power}
 
 -- the world behind the first step, which is as ready for the second one
 abbrev near : NodeWorld → ℕ → ℕ → NodeWorld × List Entry
@@ -39,80 +35,47 @@ few_so : (w : NodeWorld) → FewBehind 250000000 w → FewBehind 300000000 w
 few_so w few = longer 250000000 300000000 w (omega arith) few
 
 -- what was noted of both steps, one behind the other
-both_steps : (k : NodePower) (ks new : List HostSite) (w : NodeWorld) (h sync power : ℕ) (before mid now : List Entry)
-    → WorldBecomes k ks before mid (near w h power) → WorldBecomes k new mid now (comes_at (near w h power).0 (end_h h) (Starts sync))
+both_steps : (k : Power) (new : List HostSite) (w : NodeWorld) (h sync power : ℕ) (before mid now : List Entry)
+    → mid ≡ before ++ (near w h power).1 → WorldBecomes k new mid now (comes_at (near w h power).0 (end_h h) (Starts sync))
     → WorldBecomes k new before now (activates w h sync power)
-both_steps k ks new w h sync power before mid now first second =
+both_steps k new w h sync power before mid now first second =
     let far : NodeWorld × List Entry = comes_at (near w h power).0 (end_h h) (Starts sync) in
     record {
       world = second.world;
-      noted = second.noted ∙ (ap (λ es. es ++ far.1) first.noted ∙ append_assoc before (near w h power).1 far.1);
+      noted = second.noted ∙ (ap (λ es. es ++ far.1) first ∙ append_assoc before (near w h power).1 far.1);
     }
 
-pub activate_controller-requires-clause-state : goal.activate_controller-requires-clause-state
-activate_controller-requires-clause-state c = let q = c.requires.state in (q.0, q.1, q.2, q.4)
+-- the first step, as its state has it
+first_may : (w : NodeWorld) → MayGoOn w → FewBehind 250000000 w → IsWithinBounds w
+first_may w may few = record { goes_on = may; few = few_so w few }
 
-pub activate_controller-requires-clause-room : goal.activate_controller-requires-clause-room
-activate_controller-requires-clause-room c =
-    let q = c.requires.state in
-    room_for_all c.args.sites.now q.0 q.1.sites (few_so q.0 q.3)
+pub comes_to-requires-clause-state : goal.comes_to-requires-clause-state
+comes_to-requires-clause-state c = let q = c.requires.state in (q.0, q.1, first_may q.0 q.2 q.3, q.4)
 
-pub activate_host-requires-clause-state : goal.activate_host-requires-clause-state
-activate_host-requires-clause-state c =
+pub comes_to-requires-2-clause-state : goal.comes_to-requires-2-clause-state
+comes_to-requires-2-clause-state c =
     let q = c.requires.state in
     let h : ℕ = c.args.host in
-    let power : ℕ = c.args.power in
-    let v = (near q.0 h power).0 in
-    let first = c.in_ok-activate_controller.ensures.stands q.0 q.1 q.2 q.4 (counted_at c.args.controller.now q.0 h (Starts power)
-    q.1.controller (few_so q.0 q.3)) in
-    let a : StandsAt c.in-Some.place h v.sites = c.in-Some.ensures.place v.sites first.world.sites in
-    let t = at_place c.activate_controller.new.sites v c.in-Some.place h a
-    c.index-sites-place.result first.world.sites c.index-sites-place.is (near_within q.0 h power q.2 q.3) in (
-      a.site,
-      t.is,
-      t.host,
-      counts_coming _ a.site (Starts c.args.sync) t.is t.host t.few,
+    let e = c.in_ok-comes_to.ensures in
+    let ready = first_may q.0 q.2 q.3 in
+    let first = unrefused q.0 (e.refusal q.0 q.1 ready q.4) (e.stands q.0 q.1 ready q.4) in (
+      (near q.0 h c.args.power).0,
+      first.world,
+      near_within q.0 h c.args.power q.2 q.3,
+      near_there q.0 h c.args.power q.4,
     )
 
-pub activate_host-requires-clause-room : goal.activate_host-requires-clause-room
-activate_host-requires-clause-room c =
-    let q = c.requires.state in
-    let h : ℕ = c.args.host in
-    let power : ℕ = c.args.power in
-    let v = (near q.0 h power).0 in
-    let first = c.in_ok-activate_controller.ensures.stands q.0 q.1 q.2 q.4 (counted_at c.args.controller.now q.0 h (Starts power)
-    q.1.controller (few_so q.0 q.3)) in
-    let a : StandsAt c.in-Some.place h v.sites = c.in-Some.ensures.place v.sites first.world.sites in
-    let t = at_place c.activate_controller.new.sites v c.in-Some.place h a
-    c.index-sites-place.result first.world.sites c.index-sites-place.is (near_within q.0 h power q.2 q.3) in
-    room_there _ a.site t.is t.few
-
-pub returns-in-Some-clause-stands : goal.returns-in-Some-clause-stands
-returns-in-Some-clause-stands c w world may few there =
-    let h : ℕ = c.args.host in
-    let sync : ℕ = c.args.sync in
-    let power : ℕ = c.args.power in
-    let v = (near w h power).0 in
-    let ready = near_within w h power may few in
-    let o = ready.goes_on.orderly in
-    let first = c.in_ok-activate_controller.ensures.stands w world may there (counted_at c.args.controller.now w h (Starts power)
-    world.controller (few_so w few)) in
-    let a : StandsAt c.in-Some.place h v.sites = c.in-Some.ensures.place v.sites first.world.sites in
-    let t = at_place c.activate_controller.new.sites v c.in-Some.place h a c.index-sites-place.result first.world.sites c.index-sites-place.is ready in
-    on_ok_weaker c.activate_host.result (λ b. both_steps c.activate_controller.new.controller
-    c.activate_controller.new.sites _ w h sync power c.args.noted.now.entries.items c.activate_controller.new.noted.entries.items
-    c.activate_host.new.noted.entries.items first
-    (found_becomes v c.in-Some.place h a o (host_hears a.site (Starts sync)) (comes_at v (end_h h) (Starts sync))
-    (hears_in_world v h a.site (site_stands v c.in-Some.place h a o) (Starts sync)) (hears_leaves a.site (Starts sync)) c.activate_controller.new.controller
-    c.activate_controller.new.sites c.activate_host.new.site c.activate_controller.new.noted.entries.items
-    c.activate_host.new.noted.entries.items first.world b))
-    (c.activate_host.ensures.stands a.site t.is t.host (counts_coming _ a.site (Starts sync) t.is t.host t.few))
-
-pub returns-in-None-clause-stands : goal.returns-in-None-clause-stands
-returns-in-None-clause-stands c w world may few there =
+pub returns-clause-stands : goal.returns-clause-stands
+returns-clause-stands c w world may few there =
     let h : ℕ = c.args.host in
     let power : ℕ = c.args.power in
     let v = (near w h power).0 in
-    let first = c.in_ok-activate_controller.ensures.stands w world may there (counted_at c.args.controller.now w h (Starts power)
-    world.controller (few_so w few)) in
-    nowhere v.sites h (near_there w h power there) (c.in-None.ensures.place v.sites first.world.sites)
+    let e = c.in_ok-comes_to.ensures in
+    let f = c.in_ok-comes_to-2.ensures in
+    let ready = first_may w may few in
+    let first = unrefused w (e.refusal w world ready there) (e.stands w world ready there) in
+    let within = near_within w h power may few in
+    let still = near_there w h power there in
+    both_steps c.comes_to-2.new.controller c.comes_to-2.new.sites w h c.args.sync power c.args.noted.now.entries.items
+    c.comes_to.new.noted.entries.items c.comes_to-2.new.noted.entries.items first.noted
+    (unrefused v (f.refusal v first.world within still) (f.stands v first.world within still))

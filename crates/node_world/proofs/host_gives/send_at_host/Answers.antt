@@ -8,16 +8,19 @@ use Rattle.node_sites.proofs.Renumbered.{none_noted}
 use Rattle.node_world.proofs.HostsAre.{is_on, is_off, unchanged}
 use Rattle.node_world.proofs.HostsBegin.{begins_at_end, has_end}
 use Rattle.node_world.proofs.HostsGoOn.{began, is_done}
-use Rattle.node_world.proofs.HostsRefuse.{sending_off, sending_so, still_stands, sending_mute}
-use Rattle.node_sites.specs.WorldNodes.{RunsAsHost}
+use Rattle.node_world.proofs.HostsRefuse.{is_some_host, sending_off, sending_so, still_stands, sending_mute}
 use Rattle.node_sites.specs.Powers.{node_memory}
 use Rattle.node_world.proofs.host_gives.send_at_host.Goals as goal
+use Rattle.node_core.specs.Running.{RunsAs}
 
 pub send-requires-clause-runs : goal.send-requires-clause-runs
 send-requires-clause-runs c =
     let r = c.requires.state in
     let here = is_on r.1 c.in-On.is in
-    has_end (begins_at_end c.args.site.now r.0 c.in-On.node here.running NoInput r.1 r.2 c.in-On.is here.runs)
+    has_end (begins_at_end c.args.site.now r.0 c.in-On.node here.running NoInput r.1 c.in-On.is here.runs)
+
+pub send-requires-clause-host : goal.send-requires-clause-host
+send-requires-clause-host c = let r = c.requires.state in is_some_host c.args.site.now r.0 c.in-On.node r.1 r.2 c.in-On.is
 
 pub finish_host-requires-clause-state : goal.finish_host-requires-clause-state
 finish_host-requires-clause-state c =
@@ -27,24 +30,24 @@ finish_host-requires-clause-state c =
     let deeds : ℕ → List Deed = λ h. sending h (c.args.pipe, c.args.message.now) in
     let d = began c.args.site.now _ r.0 c.in-On.node c.send.new.node
     _ before _ c.send.new.noted _ (ap (replicate 8) c.session-noted.ensures) r.1 r.2 c.in-On.is refl refl
-    deeds (sending_mute r.0.host (c.args.pipe, c.args.message.now)) (e.given _) (e.noted _ before _) (none_noted _) r.1.wires in
+    deeds (sending_mute r.0.host (c.args.pipe, c.args.message.now)) e.given (e.noted _ before) (none_noted _) r.1.wires in
     (r.0, d.step, d.l, d.w, before, d.midway)
 
 pub returns-in-Err-clause-refusal : goal.returns-in-Err-clause-refusal
 returns-in-Err-clause-refusal c s is host =
     ap Some c.cause_of.ensures ∙ sending_so c.args.site.now s c.in-On.node is host c.in-On.is
-    (c.args.pipe, c.args.message.now) (Some (refusal_noted c.in-Err.why)) (c.in-Err.ensures.refusal _)
+    (c.args.pipe, c.args.message.now) (Some (refusal_noted c.in-Err.why)) c.in-Err.ensures.refusal
 
 pub returns-in-Err-clause-stands : goal.returns-in-Err-clause-stands
 returns-in-Err-clause-stands c s is host =
     let same = c.in-Err.ensures.unchanged in
-    still_stands c.args.site.now s c.in-On.node c.send.new.node is c.in-On.is
-    (λ core ports r. subst (λ x. RunsAsHost x core ports) (sym same.0) r) (ap node_memory same.0) c.args.noted.now.entries.items
+    still_stands c.args.site.now s c.in-On.node c.send.new.node c.args.site.now.wires is c.in-On.is is.wires
+    (λ core ports r. subst (λ x. RunsAs x core ports) (sym same.0) r) (ap node_memory same.0) c.args.noted.now.entries.items
     c.send.new.noted.entries.items (ap (λ n. n.entries.items) same.1)
 
 pub returns-clause-refusal : goal.returns-clause-refusal
 returns-clause-refusal c s is host =
-    sending_so c.args.site.now s c.in-On.node is host c.in-On.is (c.args.pipe, c.args.message.now) None (c.in_default-send.ensures.refusal _)
+    sending_so c.args.site.now s c.in-On.node is host c.in-On.is (c.args.pipe, c.args.message.now) None c.in_default-send.ensures.refusal
 
 pub returns-clause-stands : goal.returns-clause-stands
 returns-clause-stands c s is host =
@@ -53,7 +56,7 @@ returns-clause-stands c s is host =
     let deeds : ℕ → List Deed = λ h. sending h (c.args.pipe, c.args.message.now) in
     let d = began c.args.site.now _ s c.in-On.node c.send.new.node
     _ before _ c.send.new.noted _ (ap (replicate 8) c.session-noted.ensures) is host c.in-On.is refl refl
-    deeds (sending_mute s.host (c.args.pipe, c.args.message.now)) (e.given _) (e.noted _ before _) (none_noted _) is.wires in
+    deeds (sending_mute s.host (c.args.pipe, c.args.message.now)) e.given (e.noted _ before) (none_noted _) is.wires in
     is_done (Ok c.in_ok-finish_host.field-0) c.finish_host.new.site c.finish_host.new.noted.entries.items d
     (c.in_ok-finish_host.ensures.stands s d.step d.l d.w before d.midway)
 

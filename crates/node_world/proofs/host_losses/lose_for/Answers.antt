@@ -1,15 +1,12 @@
-use Rattle.std.proofs.Common.{ℕ, List, map, refl, ap, sym, subst, ◌∙◌}
+use Rattle.std.proofs.Common.{map, refl, ap, sym, ◌∙◌}
 use Rattle.link_laws.specs.messages.Links.Comes.{NoInput}
 use Rattle.node_world.proofs.Plainly.{was_lost}
 use Rattle.node_world.proofs.HostsAre.{is_on, is_off}
 use Rattle.node_world.proofs.HostsBegin.{begins_at_end, has_end}
-use Rattle.node_world.proofs.HostsLose.{at_controller, not_refused, not_running, as_lost, counted, its_end}
+use Rattle.node_world.proofs.HostsLose.{at_controller, not_refused, not_running, as_lost, counted}
 use Rattle.node_world.proofs.host_losses.lose_for.Goals.{else-to-via-then-to+else-is_refusal, else-to-via-else-to}
-use Rattle.node_machine.specs.Parts.{Desk, Port}
-use Rattle.node_machine.specs.Carrying.{with_port}
+use Rattle.node_machine.specs.Parts.{Desk}
 use Rattle.node_machine.specs.world.World.{port_for}
-use Rattle.node_core.specs.Running.{RunsAs, one_more_error}
-use Rattle.node_sites.proofs.NodesRun.{own_host, still_host}
 use Rattle.node_world.proofs.host_losses.lose_for.Goals as goal
 
 pub refused-requires : goal.refused-requires
@@ -17,7 +14,7 @@ refused-requires c =
     let r = c.requires.state in
     let here = is_on r.1 c.in-On.is in
     record {
-      runs = has_end (begins_at_end c.args.site.now r.0 c.in-On.node here.running NoInput r.1 r.2 c.in-On.is here.runs);
+      runs = has_end (begins_at_end c.args.site.now r.0 c.in-On.node here.running NoInput r.1 c.in-On.is here.runs);
     }
 
 pub returns-in-On-clause-stands : goal.returns-in-On-clause-stands
@@ -25,10 +22,7 @@ returns-in-On-clause-stands c s why is host cause =
     let r = c.in_ok-lose.ensures s.link why is.wires cause in (
       counted c.args.site.now s c.in-On.node c.refused.new.self c.args.to why is c.in-On.is c.if-to.true
           (sym (c.is_refusal.ensures why cause) ∙ c.if-is_refusal.true) refl refl (ap (λ m. m.journal.nv) c.refused.ensures.store)
-          (λ core desks runs on. (let ports : List Port = map (λ (d : Desk). port_for s.link.host d) desks in
-          let e = its_end c.args.site.now.host s core desks host is.host on in
-          let R : ℕ → Type 0 = λ h. RunsAs c.refused.new.self core (with_port h one_more_error ports) in
-          still_host c.refused.ensures.number runs.number core _ (subst R (own_host runs e.here) (c.refused.ensures.runs core ports runs.runs)))) r.0,
+          (λ core desks runs on. c.refused.ensures.runs core (map (λ (d : Desk). port_for s.link.host d) desks) runs) r.0,
       r.1,
     )
 

@@ -12,14 +12,14 @@ use Rattle.node_world.proofs.AtHosts.{reads, site_stands}
 use Rattle.node_world.proofs.HostsPower.{node_there}
 use Rattle.node_world.proofs.node_lines.copied_tables.Goals as goal
 
-abbrev tables_of : Option Running → Option HciTables
-tables_of o = option_map (λ (r : Running). r.core.tables) o
+abbrev tables_at : Option Running → Option HciTables
+tables_at o = option_map (λ (r : Running). r.core.tables) o
 
 pub returns-then-node-eq0 : goal.returns-then-node-eq0
 returns-then-node-eq0 c w world may =
     let zero : c.args.node ≡ 0 = c.if-node-eq0.true in
-    let T : ℕ → Type 0 = λ n. IfOk c.tables_of_controller.result (λ tables. tables ≡ tables_of (node_at w n)) in
-    subst T (sym zero) (c.tables_of_controller.ensures _ _ _ world.controller)
+    let T : ℕ → Type 0 = λ n. IfOk c.tables_of.result (λ tables. tables ≡ tables_at (node_at w n)) in
+    subst T (sym zero) (c.tables_of.ensures _ _ _ world.controller)
 
 pub returns : goal.returns
 returns c w world may =
@@ -30,5 +30,5 @@ returns c w world may =
     let is = subst S c.index-sites-place.is (reads c.args.sites.now w i c.args.node a c.index-sites-place.result world.sites c.index-sites-place.is) in
     let off : (c.args.node == 0) ≡ false = search (rules, ne_eqb) in
     let node = node_there w c.args.node off a.site (site_stands w i c.args.node a may.orderly) in
-    let T : Option Running → Type 0 = λ o. IfOk c.tables_of_host.result (λ tables. tables ≡ tables_of o) in
-    subst T (sym node) (c.tables_of_host.ensures _ _ _ is.place)
+    let T : Option Running → Type 0 = λ o. IfOk c.tables_of-2.result (λ tables. tables ≡ tables_at o) in
+    subst T (sym node) (c.tables_of-2.ensures _ _ _ is.place)

@@ -5,6 +5,7 @@ use Rattle.node_machine.specs.world.World.{node_of}
 use Rattle.node_machine.specs.world.World.Happening.{Takes}
 use Rattle.node_machine.specs.world.Lines.{all_happen, is_running, frames_at}
 use Rattle.node_world.specs.Rounds.{WorldHasGone}
+use Rattle.node_world.proofs.Comings.{unrefused}
 use Rattle.node_world.proofs.LinesAgain.{few_on_way, again_begins, again_ends, again_goes, again_next, again_stops, bounds_again}
 use Rattle.node_world.proofs.LinesAgain.{hosts_come, there_still}
 use Rattle.node_world.proofs.rounds.take_all.Goals as goal
@@ -16,8 +17,8 @@ loop-init c = record {
   short = c.requires.memory;
 }
 
-pub take_frame-requires-clause-state : goal.take_frame-requires-clause-state
-take_frame-requires-clause-state c =
+pub comes_to-requires-clause-state : goal.comes_to-requires-clause-state
+comes_to-requires-clause-state c =
     let s = c.requires.state in
     let many : c.on_the_way-times.result ≡ length (frames_at s.0 c.args.at) = c.on_the_way-times.ensures s.0 s.1.sites s.2.goes_on in
     let few : length (frames_at s.0 c.args.at) ≤ 64 =
@@ -39,10 +40,10 @@ loop-preserved c = record {
       let there = there_still c.args.at.link a.behind w a.hosts may.there in
       let can : is_running a.behind (node_of c.args.at) ≡ true =
       sym (c.runs.ensures a.behind a.world a.goes_on ∙ ap (λ n. is_running a.behind n) c.node_of.ensures) ∙ c.if-not-runs.false in
-      again_next w (Takes c.args.at) 290000000 c.loop.controller c.take_frame.new.controller c.loop.sites c.take_frame.new.sites c.args.noted.now.entries.items
-      c.loop.noted.entries.items c.take_frame.new.noted.entries.items c.loop.counter a can (hosts_come a.behind c.args.at NextFrame)
-      (c.in_ok-take_frame.ensures.stands a.behind a.world ready there);
-  short = c.in_ok-take_frame.ensures.memory;
+      again_next w (Takes c.args.at) 290000000 c.loop.controller c.comes_to.new.controller c.loop.sites c.comes_to.new.sites c.args.noted.now.entries.items
+      c.loop.noted.entries.items c.comes_to.new.noted.entries.items c.loop.counter a can (hosts_come a.behind c.args.at NextFrame)
+      (unrefused a.behind (c.in_ok-comes_to.ensures.refusal a.behind a.world ready there) (c.in_ok-comes_to.ensures.stands a.behind a.world ready there));
+  short = c.in_ok-comes_to.ensures.memory;
 }
 
 pub returns-then-not-runs-clause-stands : goal.returns-then-not-runs-clause-stands

@@ -1,0 +1,19 @@
+use Rattle.std.proofs.Common.{sym, ◌∙◌}
+use Rattle.std.specs.Prelude.{None, Some}
+use Rattle.link_wires.proofs.Wires.{IsTakenOff}
+use Rattle.node_sites.proofs.Arrivals.{none_taken, one_taken}
+use Rattle.node_sites.proofs.wires.WireEnd.take_first.Goals as goal
+
+pub returns-in_default : goal.returns-in_default
+returns-in_default c l w =
+    let p = c.pop_front in
+    let off : IsTakenOff c.args.self.now.wire p.new.self None =
+    record { first_is = sym c.in_default.is ∙ p.ensures.value; new_is = p.ensures.items } in
+    none_taken c.args.at l c.args.entries.now.items w off
+
+pub returns : goal.returns
+returns c l w =
+    let p = c.pop_front in
+    let off : IsTakenOff c.args.self.now.wire p.new.self (Some c.in-Some.flying) =
+    record { first_is = sym c.in-Some.is ∙ p.ensures.value; new_is = p.ensures.items } in
+    one_taken c.args.at l c.args.entries.now.items w off c.max-self.ensures c.read_lpdu-read.ensures.says c.in_ok-push.ensures.items

@@ -1,0 +1,124 @@
+use Rattle.std.proofs.Common.{◌≡◌, true, ℕ, List, ◌++◌, map, refl, sym, ap, subst, ◌∙◌, arith}
+use Rattle.std.specs.Prelude.{Some, None, Ok, replicate}
+use Rattle.trace_model.specs.declared.entry.Entry.{Entry}
+use Rattle.link_laws.specs.machine.Machine.{LinkInput}
+use Rattle.link_laws.specs.messages.Links.{Link, exchanged}
+use Rattle.link_laws.specs.entries.Entries.End.{Host}
+use Rattle.history.specs.Steps.{entries_for}
+use Rattle.node_machine.specs.world.World.{Site, arrival}
+use Rattle.node_ends.specs.Inputs.{input_of_end}
+use Rattle.node_sites.specs.declared.places.HostSite.{HostSite}
+use Rattle.node_sites.specs.declared.power.Power.TheVariants.{On}
+use Rattle.node_sites.specs.Arrivals.{as_comes}
+use Rattle.node_sites.specs.Numbers.{session_at, with_session_number}
+use Rattle.node_world.specs.HostSteps.{HasBecome}
+use Rattle.node_world.proofs.Comings.{as_none, as_some, may_arrive, off_refuses_none, none_refused, wires_as_were, arrived_noted}
+use Rattle.node_world.proofs.ControllersHear.{come_resets}
+use Rattle.node_world.proofs.HostsAre.{is_on, is_off, unchanged_as, hears_off, hears_none}
+use Rattle.node_world.proofs.HostsBegin.{begins_at_end}
+use Rattle.node_world.proofs.HostsGoOn.{heard, is_done}
+use Rattle.node_world.proofs.HostsRefuse.{refused_here, still_stands, may_start}
+use Rattle.node_world.proofs.steps.comes_to_host.Goals as goal
+
+pub returns-in_default-clause-refusal : goal.returns-in_default-clause-refusal
+returns-in_default-clause-refusal c s is host = off_refuses_none c.args.what s.node s.link.host.side (is_off is c.in_default.not-On)
+
+pub returns-in_default-clause-stands : goal.returns-in_default-clause-stands
+returns-in_default-clause-stands c s is host counts =
+    unchanged_as c.args.noted.now.entries.items is (hears_off s (as_comes c.args.what) (is_off is c.in_default.not-On))
+
+pub step-requires : goal.step-requires
+step-requires c =
+    let q = c.requires.state in
+    let s = q.0 in
+    let k = c.args.site.now in
+    let arrived = as_some c.in-Some.is (c.in_ok-arrived.ensures (exchanged s.link) q.1.wires) in
+    let here = is_on q.1 c.in-On.is in
+    let b = begins_at_end k s c.in-On.node here.running (as_comes c.args.what) q.1 c.in-On.is here.runs in (
+      _,
+      _,
+      b.runs,
+      b.sent,
+      c.as_input.ensures.may _ (may_arrive true c.args.what c.in-Some.arrived _ arrived.is c.requires.may
+          (λ value at_host. may_start k s c.in-On.node q.1 q.2 c.in-On.is value _ _ b.runs)),
+    )
+
+pub finish_host-requires-clause-state : goal.finish_host-requires-clause-state
+finish_host-requires-clause-state c =
+    let q = c.requires.state in
+    let s = q.0 in
+    let l : Link = exchanged s.link in
+    let before = c.args.noted.now.entries.items in
+    let arrived = as_some c.in-Some.is (c.in_ok-arrived.ensures l q.1.wires) in
+    let i : LinkInput = input_of_end c.as_input.result in
+    let sessions = replicate 8 c.session-noted.result in
+    let N : ℕ → Type 0 = λ h. c.comes.new.entries.items
+    ≡ before ++ map (with_session_number (session_at sessions)) (entries_for h (arrival Host l (as_comes c.args.what))) in
+    let d = heard c.args.site.now _ s c.in-On.node c.step.new.node c.in-Ok.live before _ c.step.new.noted sessions
+    (ap (replicate 8) c.session-noted.ensures) q.1 q.2 c.in-On.is refl refl (as_comes c.args.what) i q.3
+    (arrived.input ∙ ap Some (sym c.as_input.ensures.input))
+    c.in-Ok.ensures.stepped (c.in-Ok.ensures.noted sessions before)
+    (record { are = λ long. (refl, subst N q.1.host (arrived_noted (session_at sessions) arrived)) }) arrived.wires in
+    (s, d.step, d.l, d.w, before, d.midway)
+
+pub finish_host-requires-clause-room : goal.finish_host-requires-clause-room
+finish_host-requires-clause-room c =
+    let q = c.requires.state in
+    let l : Link = exchanged q.0.link in
+    let arrived = as_some c.in-Some.is (c.in_ok-arrived.ensures l q.1.wires) in
+    let was = q.1.wires.count in
+    let now = arrived.wires.count ∙ come_resets l (as_comes c.args.what) in
+    omega (arith, c.requires.room, was, now)
+
+pub returns-in_ok-finish_host-in-Ok-clause-refusal : goal.returns-in_ok-finish_host-in-Ok-clause-refusal
+returns-in_ok-finish_host-in-Ok-clause-refusal c s is host =
+    let arrived = as_some c.in-Some.is (c.in_ok-arrived.ensures (exchanged s.link) is.wires) in
+    refused_here c.args.site.now s c.in-On.node is host c.in-On.is c.args.what c.in-Some.arrived None arrived.is
+    (λ core ports r. sym (c.as_input.ensures.refusal _) ∙ c.in-Ok.ensures.refusal core ports r)
+
+pub returns-in_ok-finish_host-in-Ok-clause-stands : goal.returns-in_ok-finish_host-in-Ok-clause-stands
+returns-in_ok-finish_host-in-Ok-clause-stands c s is host counts =
+    let l : Link = exchanged s.link in
+    let before = c.args.noted.now.entries.items in
+    let arrived = as_some c.in-Some.is (c.in_ok-arrived.ensures l is.wires) in
+    let i : LinkInput = input_of_end c.as_input.result in
+    let sessions = replicate 8 c.session-noted.result in
+    let N : ℕ → Type 0 = λ h. c.comes.new.entries.items
+    ≡ before ++ map (with_session_number (session_at sessions)) (entries_for h (arrival Host l (as_comes c.args.what))) in
+    let d = heard c.args.site.now _ s c.in-On.node c.step.new.node c.in-Ok.live before _ c.step.new.noted sessions
+    (ap (replicate 8) c.session-noted.ensures) is host c.in-On.is refl refl (as_comes c.args.what) i counts
+    (arrived.input ∙ ap Some (sym c.as_input.ensures.input))
+    c.in-Ok.ensures.stepped (c.in-Ok.ensures.noted sessions before)
+    (record { are = λ long. (refl, subst N is.host (arrived_noted (session_at sessions) arrived)) }) arrived.wires in
+    is_done (Ok c.in_ok-finish_host-in-Ok.field-0) c.finish_host.new.site c.finish_host.new.noted.entries.items d
+    (c.in_ok-finish_host-in-Ok.ensures.stands s d.step d.l d.w before d.midway)
+
+pub returns-in-Err-clause-refusal : goal.returns-in-Err-clause-refusal
+returns-in-Err-clause-refusal c s is host =
+    let arrived = as_some c.in-Some.is (c.in_ok-arrived.ensures (exchanged s.link) is.wires) in
+    refused_here c.args.site.now s c.in-On.node is host c.in-On.is c.args.what c.in-Some.arrived (Some c.in-Err.why) arrived.is
+    (λ core ports r. sym (c.as_input.ensures.refusal _) ∙ c.in-Err.ensures.refusal core ports r)
+
+pub returns-in-Err-clause-stands : goal.returns-in-Err-clause-stands
+returns-in-Err-clause-stands c s is host counts =
+    let arrived = as_some c.in-Some.is (c.in_ok-arrived.ensures (exchanged s.link) is.wires) in
+    let here = is_on is c.in-On.is in
+    let b = begins_at_end c.args.site.now s c.in-On.node here.running (as_comes c.args.what) is c.in-On.is here.runs in
+    let left = wires_as_were c.args.what c.in-Some.arrived _ arrived (sym (c.as_input.ensures.refusal _) ∙ c.in-Err.ensures.refusal _ _ b.runs) in
+    still_stands c.args.site.now s c.in-On.node c.step.new.node c.comes.new.self is c.in-On.is left.0
+    c.in-Err.ensures.unchanged c.in-Err.ensures.quiet.1 c.args.noted.now.entries.items c.step.new.noted.entries.items
+    (ap (λ n. n.entries.items) c.in-Err.ensures.quiet.0 ∙ left.1)
+
+pub returns-in_default-2-clause-refusal : goal.returns-in_default-2-clause-refusal
+returns-in_default-2-clause-refusal c s is host =
+    none_refused c.args.what (exchanged s.link) s.node s.link.host.side (as_none c.in_default-2.is (c.in_ok-arrived.ensures (exchanged s.link) is.wires)).input
+
+pub returns-in_default-2-clause-stands : goal.returns-in_default-2-clause-stands
+returns-in_default-2-clause-stands c s is host counts =
+    let none = as_none c.in_default-2.is (c.in_ok-arrived.ensures (exchanged s.link) is.wires) in
+    let before = c.args.noted.now.entries.items in
+    let new : HostSite = record { host = c.args.site.now.host; wires = c.comes.new.self; power = On c.in-On.node } in
+    let B : Site × List Entry → Type 0 = λ x. HasBecome new before c.comes.new.entries.items x in
+    subst B (sym (hears_none s (as_comes c.args.what) none.input))
+    (still_stands c.args.site.now s c.in-On.node c.in-On.node c.comes.new.self is c.in-On.is none.wires (λ core ports r. r) refl before
+    c.comes.new.entries.items none.noted)
