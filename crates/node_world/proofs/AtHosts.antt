@@ -5,34 +5,20 @@ use Rattle.std.specs.Prelude.{is_some, slice_set, Option, Some, None}
 use Rattle.std.specs.List.{AllByRecursion}
 use Rattle.std.proofs.lemmas.Bool.{eq-eqb}
 use Rattle.std.proofs.lemmas.List.{map-append}
-use Rattle.trace_model.specs.Lines.{IsHost}
-use Rattle.trace_model.specs.declared.line.End.{End}
-use Rattle.trace_model.specs.declared.entry.Entry.{Entry}
-use Rattle.hcp_packet.specs.Packets.{AreSendable}
-use Rattle.link_laws.specs.sessions.Sessions.{OnWire}
-use Rattle.link_laws.specs.machine.Machine.{LinkInput}
-use Rattle.link_laws.specs.machine.Machine.LinkInput.{Take, Reset, Start, Stop}
-use Rattle.link_laws.specs.messages.Links.{Link, Comes, NumberedEnd, exchanged}
-use Rattle.link_laws.specs.messages.Links.Comes.{NextFrame, AsksReset, Starts, Stops, NoInput}
-use Rattle.node_machine.specs.Parts.{Desk, Port, Running}
-use Rattle.node_machine.specs.Node.{new_desk}
-use Rattle.node_machine.specs.world.World.{NodeWorld, Site, site_at, with_site, input_of, port_for, end_c, end_h}
-use Rattle.node_laws.specs.kept.Hosts.{AreDifferent}
-use Rattle.node_laws.specs.telling.Telling.{hosts_in, IfItRuns, IsOrderly}
-use Rattle.node_sites.specs.declared.places.HostSite.{HostSite}
-use Rattle.node_world.specs.Bounds.{AcksWithin, FewOn, FewBehind, IsFromOutside}
-use Rattle.node_world.specs.Controllers.{SitesAre, MayGoOn, StandsAt}
-use Rattle.node_world.specs.HostSteps.{IsHostOf, CountsOn, CountsComing, HasBecome}
-use Rattle.node_sites.specs.declared.power.Power.TheVariants.{On, Off}
-use Rattle.node_sites.specs.Powers.{IsNodePlace, is_on}
-use Rattle.node_sites.specs.Places.{SiteIs}
-use Rattle.node_world.specs.Whole.{IsWithinBounds, SitesBecome}
+use Rattle.node_world.proofs.Words.{AreDifferent, AreSendable, AsksReset, Comes, CountsOn, Desk, End, Entry, FewBehind, FewOn, HasBecome, HostSite, IfItRuns}
+use Rattle.node_world.proofs.Words.{IsFromOutside, IsHost, IsHostOf, IsNodePlace, IsOrderly, IsWithinBounds, Link, LinkInput, MayGoOn, NextFrame, NoInput}
+use Rattle.node_world.proofs.Words.{NumberedEnd, Off, On, OnWire, Port, Power, Reset, Running, Site, SiteIs, SitesAre, SitesBecome, StandsAt, Start, Starts}
+use Rattle.node_world.proofs.Words.{Stop, Stops, Take, end_c, end_h, exchanged, input_of, new_desk, port_for, site_at, with_site}
+use Rattle.node_machine.specs.world.World.{NodeWorld}
+use Rattle.node_laws.specs.telling.Telling.{hosts_in}
+use Rattle.node_world.specs.Bounds.{AcksWithin}
+use Rattle.node_world.specs.HostSteps.{CountsComing}
+use Rattle.node_sites.specs.Powers.{is_on}
 use Rattle.node_world.proofs.CountsStay.{counts_few_at_end, resets_fit}
 use Rattle.node_world.proofs.FramesToAll.{others_before, of_these}
 use Rattle.node_world.proofs.HostsInWorlds.{ChangesSite}
 use Rattle.node_world.proofs.SitesKept.{read_there, written_there}
 use Rattle.node_sites.specs.GivenMessages.{given_messages}
-use Rattle.node_sites.specs.declared.power.Power.{Power}
 
 -- ## Where it stands
 

@@ -2,32 +2,16 @@
 use Rattle.std.proofs.Common.{◌≡◌, ℕ, ◌==◌, Bool, true, false, List, [], ◌∷◌, map, refl, ap, ap₂, sym, subst, ◌∙◌}
 use Rattle.std.specs.Prelude.{Some, cond}
 use Rattle.std.specs.List.{AllByRecursion, find}
-use Rattle.swp_base.specs.declared.control_frames.Control.{Control}
-use Rattle.link_laws.specs.machine.Machine.{LinkEnd, LinkInput, frames_out, sent_all}
-use Rattle.link_laws.proofs.entries.Lasting.{same_number}
-use Rattle.link_laws.specs.messages.Links.{Link, NumberedEnd, Comes, Ending, happens_at_controller, put, put_all}
-use Rattle.link_laws.specs.messages.Links.Ending.{GoesOut, CutOff}
-use Rattle.link_laws.specs.messages.Links.EndEvent.{Step}
-use Rattle.link_laws.specs.entries.Entries.End.{Controller}
-use Rattle.history.specs.Steps.{entries_for}
+use Rattle.node_world.proofs.Words.{AreDifferent, AtEnd, Comes, Control, Controller, CutOff, Desk, Ending, GoesOut, HasEnds, IsOrderly, Link, LinkEnd}
+use Rattle.node_world.proofs.Words.{LinkInput, NumberedEnd, Port, Running, Site, Step, Wires, WiresStandFor, Work, arrival, between, comes_to, controller_work}
+use Rattle.node_world.proofs.Words.{ending_of, entries_for, frames_out, happens_at_controller, hosts_of_ends, input_of, link_after_controller, link_is, link_to}
+use Rattle.node_world.proofs.Words.{near_end_in, port_at, port_for, put, put_all, same_number, sent_all, sent_port, site_at, steps, swapped, turns_at, work_of}
 use Rattle.link_wires.proofs.GoingOut.{put_stays}
-use Rattle.node_machine.specs.Parts.{Desk, Running, Port, Work}
-use Rattle.node_machine.specs.Carrying.{port_at}
-use Rattle.node_machine.specs.Node.{steps}
-use Rattle.node_machine.specs.Node.NodeInput.{AtEnd}
-use Rattle.node_machine.specs.world.World.{NodeWorld, Site, site_at, link_to, turns_at, ending_of, comes_to, controller_work, link_after_controller, port_for}
-use Rattle.node_machine.specs.world.World.{input_of, near_end_in, arrival, work_of}
-use Rattle.node_laws.specs.kept.Hosts.{AreDifferent}
-use Rattle.node_laws.specs.telling.Telling.{HasEnds, hosts_in, IsOrderly}
-use Rattle.node_laws.specs.kept.Books.{hosts_of_ends}
-use Rattle.node_laws.proofs.telling.Nodes.{swapped, link_is}
+use Rattle.node_machine.specs.world.World.{NodeWorld}
+use Rattle.node_laws.specs.telling.Telling.{hosts_in}
 use Rattle.node_laws.proofs.telling.Keeping.{steps_keep}
 use Rattle.node_laws.proofs.telling.Events.{site_map}
-use Rattle.node_sites.specs.declared.wires.Wires.{Wires}
-use Rattle.node_sites.specs.LinksKept.{WiresStandFor}
-use Rattle.node_sites.specs.FramesOut.{sent_port}
 use Rattle.node_world.proofs.EndsGo.{EndGoes, controller_ends}
-use Rattle.node_core.specs.Running.{between}
 
 -- ## One link
 

@@ -5,30 +5,22 @@ use Rattle.std.specs.Prelude.{Option, Some, None, IsSome}
 use Rattle.std.specs.Option.{option_map_or}
 use Rattle.std.specs.List.{AllByRecursion}
 use Rattle.std.proofs.lemmas.Bool.{cond_both, eq-eqb}
-use Rattle.swp_base.specs.InMemory.{Memory}
-use Rattle.trace_model.specs.declared.entry.Entry.{Entry}
+use Rattle.node_world.proofs.Words.{Book, Desk, Entry, Memory, NumberedEnd, Port, Side, WouldFind, after_planned, book_in, boot_writes, count_of, current}
+use Rattle.node_world.proofs.Words.{fails_within, found, last_in, new_desk, port_at, port_for, started_state, state_of}
 use Rattle.trace_model.specs.declared.entry.Entry.TheVariants as entry
-use Rattle.journal_laws.specs.declared.banks.Side.{Side}
 use Rattle.journal_laws.specs.declared.state.State.{State}
 use Rattle.journal_laws.specs.Writes.{after_writes}
-use Rattle.journal_laws.specs.Banks.{current}
-use Rattle.journal_laws.specs.Journal.{state_of, count_of}
-use Rattle.journal_laws.specs.Operations.{format_writes, formatted, started_state}
-use Rattle.journal_laws.specs.Planned.{fails_within, after_planned}
+use Rattle.journal_laws.specs.Operations.{format_writes, formatted}
 use Rattle.hci_tables.specs.Tables.{HciTables, no_tables, after_commands, close}
 use Rattle.hci_store.specs.Image.{tables_of}
 use Rattle.hci_store.proofs.Starting.{counted}
-use Rattle.link_laws.specs.messages.Links.{NumberedEnd}
-use Rattle.node_machine.specs.Parts.{Creation, Desk, Port}
-use Rattle.node_machine.specs.Carrying.{port_at}
+use Rattle.node_machine.specs.Parts.{Creation}
 use Rattle.node_machine.specs.Controller.{asked_at}
-use Rattle.node_machine.specs.world.World.{port_for}
-use Rattle.node_machine.specs.Node.{new_desk, found, boot_writes}
-use Rattle.node_machine.specs.world.NodeFilters.{Book, with_found, book_in, commands_in}
-use Rattle.node_machine.specs.world.NodeLegal.{last_in, FindsCommands}
+use Rattle.node_machine.specs.world.NodeFilters.{with_found, commands_in}
+use Rattle.node_machine.specs.world.NodeLegal.{FindsCommands}
 use Rattle.node_machine.specs.world.NodeLegal.Last.{CutBehindCommand}
 use Rattle.node_laws.specs.kept.Finds.{Knows}
-use Rattle.node_laws.specs.kept.Books.{WaitsFor, WouldFind}
+use Rattle.node_laws.specs.kept.Books.{WaitsFor}
 use Rattle.node_laws.specs.kept.Worlds.{NodeKeeps}
 use Rattle.node_laws.proofs.kept.Planned.{planned_whole}
 use Rattle.node_laws.proofs.kept.Books.{book_more, closed_book, finds_all}

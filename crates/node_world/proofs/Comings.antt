@@ -1,36 +1,20 @@
 -- What comes to an end of the world, once it is off its wire: when it may come to a node, and why it is refused.
 use Rattle.std.proofs.Common.{◌≡◌, ℕ, Bool, true, false, List, [], ◌∷◌, ◌++◌, map, refl, ap, sym, subst, ◌∙◌, append-nil}
 use Rattle.std.specs.Prelude.{Option, Some, None, option_map, Result, Ok, Err, OnOk, MatchResult, is_ok}
-use Rattle.trace_model.specs.declared.entry.Entry.{Entry}
-use Rattle.trace_model.specs.declared.line.End.{End}
-use Rattle.link_laws.specs.sessions.Sessions.{OnWire}
-use Rattle.link_laws.specs.machine.Machine.{LinkEnd, reset_refusal}
-use Rattle.link_laws.specs.machine.Machine.LinkInput.{Reset}
-use Rattle.link_laws.specs.messages.Links.{Link, Comes}
-use Rattle.link_laws.specs.messages.Links.Comes.{NextFrame, AsksReset, Starts, Stops, NoInput}
+use Rattle.node_world.proofs.Words.{Arrived, AsksReset, Comes, End, Entry, HostSite, Incoming, IsOf, Link, LinkEnd, NextFrame, NoInput, OnWire, Port, Power}
+use Rattle.node_world.proofs.Words.{Reset, ResetRefused, Running, Starts, Stops, Wires, WiresStandFor, WorldBecomes, arrival, as_comes, as_it_comes}
+use Rattle.node_world.proofs.Words.{entries_for, if_accepted, input_of, refusal_arrived, refusal_coming, reset_refusal, side_of}
 use Rattle.link_laws.specs.entries.Entries.{End as Side}
-use Rattle.link_end.specs.declared.report.ResetRefused.{ResetRefused}
 use Rattle.link_end.specs.Reports.{reset_refused}
-use Rattle.history.specs.Steps.{entries_for}
 use Rattle.history.specs.Follows.{seen_from}
-use Rattle.link_wires.specs.Notes.{side_of, AreNoted}
-use Rattle.node_machine.specs.Parts.{Running, Port}
-use Rattle.node_machine.specs.world.World.{NodeWorld, input_of, arrival}
+use Rattle.link_wires.specs.Notes.{AreNoted}
+use Rattle.node_machine.specs.world.World.{NodeWorld}
 use Rattle.node_ends.specs.Ends.{MayStartAt}
 use Rattle.node_core.proofs.Behind.{power_may_start}
-use Rattle.node_sites.specs.declared.incoming.Incoming.{Incoming}
 use Rattle.node_sites.specs.declared.incoming.Incoming.TheVariants as coming
-use Rattle.node_sites.specs.declared.incoming.Arrived.{Arrived}
 use Rattle.node_sites.specs.declared.incoming.Arrived.TheVariants as arrived
-use Rattle.node_sites.specs.declared.places.HostSite.{HostSite}
-use Rattle.node_sites.specs.declared.power.Power.{Power}
-use Rattle.node_sites.specs.declared.wires.Wires.{Wires}
-use Rattle.node_sites.specs.Arrivals.{as_comes, refusal_arrived, ComesTo, HasArrived, NoneArrived, IsOf, MayArriveAt, MayCome}
-use Rattle.node_sites.specs.LinksKept.{WiresStandFor, as_it_comes}
+use Rattle.node_sites.specs.Arrivals.{ComesTo, HasArrived, NoneArrived, MayArriveAt, MayCome}
 use Rattle.node_sites.specs.Numbers.{with_session_number}
-use Rattle.node_world.specs.Controllers.{WorldBecomes}
-use Rattle.node_world.specs.HostSteps.{refusal_coming}
-use Rattle.node_world.specs.Whole.{if_accepted}
 
 -- what was done holds
 pub done_so : {T E P : Type 0} {r : Result T E} {x : T} → r ≡ Ok x → OnOk r P → P

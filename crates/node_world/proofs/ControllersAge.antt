@@ -2,19 +2,11 @@
 use Rattle.std.proofs.Common.{◌≡◌, ℕ, ◌==◌, Bool, true, false, List, [], ◌∷◌, ◌++◌, map, refl, ap, sym, subst, ◌∙◌, append_assoc}
 use Rattle.std.specs.Prelude.{Option, Some, None}
 use Rattle.std.specs.List.{AllByRecursion}
-use Rattle.trace_model.specs.Lines.{IsHost}
-use Rattle.trace_model.specs.declared.entry.Entry.{Entry}
-use Rattle.link_laws.specs.messages.Links.{NumberedEnd, aged}
-use Rattle.node_machine.specs.Parts.{Desk, Running}
-use Rattle.node_machine.specs.Node.NodeInput.{TimePasses}
-use Rattle.node_machine.specs.world.World.{NodeWorld, Site, site_at, link_to, port_for, all_aged, controller_ticks}
+use Rattle.node_world.proofs.Words.{AreTimely, CountsFew, Desk, Entry, FewAreCounted, HostSite, IsHost, IsNodePlace, MayGoOn, NumberedEnd, Power, Running, Site}
+use Rattle.node_world.proofs.Words.{SitesAre, TimePasses, WorldBecomes, WorldIs, aged, all_aged, controller_ticks, link_to, near_ticks, port_for, site_at}
+use Rattle.node_machine.specs.world.World.{NodeWorld}
 use Rattle.node_laws.specs.telling.Telling.{IsTimely, hosts_in}
 use Rattle.node_laws.proofs.telling.Events.{orderly_map}
-use Rattle.node_sites.specs.declared.places.HostSite.{HostSite}
-use Rattle.node_sites.specs.Numbers.{CountsFew}
-use Rattle.node_sites.specs.Powers.{IsNodePlace}
-use Rattle.node_world.specs.Controllers.{SitesAre, WorldIs, WorldBecomes, MayGoOn, AreTimely, FewAreCounted, near_ticks}
-use Rattle.node_sites.specs.declared.power.Power.{Power}
 
 -- a host whose frames have grown older
 abbrev pub older : Site → Site

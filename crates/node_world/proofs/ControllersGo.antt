@@ -4,30 +4,17 @@ use Rattle.std.specs.Prelude.{if◌then◌else◌, Option, Some, None}
 use Rattle.std.specs.List.{AllByRecursion, flat_map}
 use Rattle.std.specs.Option.{option_map_or}
 use Rattle.std.proofs.lemmas.Bool.{eqb-true}
-use Rattle.swp_base.specs.declared.control_frames.Control.{Control}
-use Rattle.link_laws.specs.sessions.Sessions.{OnWire, is_rset, is_up, fits}
-use Rattle.link_laws.proofs.entries.Lasting.{same_number}
-use Rattle.link_laws.specs.machine.Machine.{frames_out, sent_all, new_link_end, renewed}
-use Rattle.link_laws.specs.messages.Links.{Link, NumberedEnd, Ending, becomes, cut, with_controller, put, put_all}
-use Rattle.link_laws.specs.messages.Links.Ending.{GoesOut, CutOff}
-use Rattle.link_laws.specs.entries.Entries.{End as Side, far, pushed_out, wire_with, put_entries, puts_entries, ending_entries}
-use Rattle.link_laws.specs.entries.Entries.End.{Controller}
+use Rattle.node_world.proofs.Words.{AreDifferent, Control, Controller, CutOff, Ending, GoesOut, HasOneEnd, HostSite, IsNodePlace, IsOnly, Link, NumberedEnd}
+use Rattle.node_world.proofs.Words.{OnWire, Port, SameWires, Site, SiteIs, SitesAre, WiresStandFor, Work, changed_if, cut, ending_of, entries_for}
+use Rattle.node_world.proofs.Words.{frames_emitted, frames_noted, frames_out, hosts_of_ends, is_rset, is_up, new_link_end, port_at, put, put_all, puts_entries}
+use Rattle.node_world.proofs.Words.{renewed, same_number, sent_all, sent_port, sent_to, swapped, with_bare_link, with_bare_wires, with_controller, with_port}
+use Rattle.link_laws.specs.sessions.Sessions.{fits}
+use Rattle.link_laws.specs.messages.Links.{becomes}
+use Rattle.link_laws.specs.entries.Entries.{End as Side, far, pushed_out, wire_with, put_entries, ending_entries}
 use Rattle.link_laws.specs.entries.Entries.Entry.{Emit}
-use Rattle.history.specs.Steps.{entries_for}
-use Rattle.node_machine.specs.Parts.{Port, Work}
-use Rattle.node_machine.specs.Carrying.{port_at, with_port, changed_if}
-use Rattle.node_machine.specs.world.World.{Site, ending_of, frames_noted}
-use Rattle.node_laws.specs.kept.Hosts.{AreDifferent}
-use Rattle.node_laws.specs.kept.Books.{hosts_of_ends}
 use Rattle.node_laws.specs.telling.Telling.{hosts_in}
-use Rattle.node_laws.proofs.telling.Nodes.{swapped}
 use Rattle.node_laws.proofs.telling.Parts.{AreAlike}
-use Rattle.node_sites.specs.declared.places.HostSite.{HostSite}
-use Rattle.node_sites.specs.LinksKept.{WiresStandFor, with_bare_wires, SameWires}
-use Rattle.node_sites.specs.FramesOut.{IsOnly, sent_port}
-use Rattle.node_sites.specs.Powers.{IsNodePlace}
-use Rattle.node_sites.specs.Places.{SiteIs}
-use Rattle.node_world.specs.Controllers.{SitesAre, due_at, sent_to, has_frames, frames_emitted, HasOneEnd, with_bare_link}
+use Rattle.node_world.specs.Controllers.{due_at, has_frames}
 use Rattle.node_world.proofs.GoingOn.{same_stand, silent_same, same_twice, ended_far}
 
 -- ## Its ends

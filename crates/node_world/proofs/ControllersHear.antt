@@ -2,30 +2,15 @@
 use Rattle.std.proofs.Common.{◌≡◌, ℕ, ◌+◌, ◌<◌, ◌^◌, ◌==◌, true, false, List, [], ◌∷◌, ◌++◌, get_or, map, refl, ap, ap₂, sym, subst, ◌∙◌}
 use Rattle.std.specs.Prelude.{Option, Some, None, slice_set}
 use Rattle.std.specs.List.{AllByRecursion}
-use Rattle.swp_base.specs.InMemory.{Memory}
-use Rattle.link_laws.specs.sessions.Sessions.{OnWire}
-use Rattle.link_laws.proofs.entries.Lasting.{same_number}
-use Rattle.link_laws.specs.machine.Machine.{LinkInput}
-use Rattle.link_laws.specs.messages.Links.{Link, NumberedEnd, Comes}
-use Rattle.link_laws.specs.messages.Links.Comes.{NextFrame, AsksReset, Starts, Stops, NoInput}
-use Rattle.node_machine.specs.Parts.{Running}
-use Rattle.node_machine.specs.world.World.{NodeWorld, Site, site_at, with_site, link_to, input_of, comes_to, comes_at, end_c}
-use Rattle.node_machine.specs.Carrying.{changed_if}
-use Rattle.node_laws.specs.kept.Hosts.{AreDifferent}
+use Rattle.node_world.proofs.Words.{AreDifferent, AsksReset, Comes, HaveRoom, HostSite, IsNodePlace, IsThere, Link, LinkInput, MayGoOn, Memory, NextFrame}
+use Rattle.node_world.proofs.Words.{NoInput, Node, NumberedEnd, Off, On, OnWire, Power, Running, Site, SiteIs, SitesAre, StandsAt, Starts, Stops, Wires}
+use Rattle.node_world.proofs.Words.{WiresStandFor, as_it_comes, as_it_comes_to, changed_if, comes_at, comes_to, end_c, input_of, link_is, link_to, same_number}
+use Rattle.node_world.proofs.Words.{site_at, with_site}
+use Rattle.node_machine.specs.world.World.{NodeWorld}
 use Rattle.node_laws.specs.telling.Telling.{hosts_in}
-use Rattle.node_laws.proofs.telling.Nodes.{link_is}
-use Rattle.node_sites.specs.declared.places.HostSite.{HostSite}
-use Rattle.node_sites.specs.declared.wires.Wires.{Wires}
-use Rattle.node_sites.specs.LinksKept.{WiresStandFor, as_it_comes}
-use Rattle.node_sites.specs.declared.power.Power.TheVariants.{On, Off}
-use Rattle.node_sites.specs.Powers.{IsNodePlace}
-use Rattle.node_sites.specs.Places.{SiteIs}
-use Rattle.node_world.specs.Controllers.{SitesAre, HaveRoom, MayGoOn, IsThere, StandsAt, as_it_comes_to}
 use Rattle.node_world.proofs.Behind.{each_found}
 use Rattle.node_world.proofs.FramesToAll.{of_these, others_before}
 use Rattle.node_world.proofs.SitesKept.{read_there, written_there}
-use Rattle.node_core.specs.declared.node.Node.{Node}
-use Rattle.node_sites.specs.declared.power.Power.{Power}
 
 -- ## Its place
 

@@ -2,33 +2,19 @@
 use Rattle.std.proofs.Common.{◌≡◌, ℕ, ◌==◌, Bool, true, false, List, [], ◌∷◌, ◌++◌, map, refl, ap, ap₂, sym, subst, ◌∙◌}
 use Rattle.std.specs.Prelude.{min, ◌+◌, Option, Some, None}
 use Rattle.std.specs.List.{AllByRecursion}
-use Rattle.swp_base.specs.InMemory.{Memory}
-use Rattle.trace_model.specs.Lines.{IsHost}
-use Rattle.trace_model.specs.declared.entry.Entry.{Entry}
-use Rattle.link_laws.specs.machine.Machine.{next_frame}
-use Rattle.link_laws.specs.messages.Links.{Link, NumberedEnd, Loss, happens}
-use Rattle.link_laws.specs.messages.Links.EndEvent.{Lose}
-use Rattle.link_laws.specs.messages.Links.LinkEvent.{AtController}
-use Rattle.link_laws.specs.entries.Entries.{first_lost}
-use Rattle.link_laws.specs.entries.Entries.End.{Controller}
-use Rattle.history.specs.Steps.{entries_for}
-use Rattle.node_machine.specs.Parts.{Desk, Running, Port}
-use Rattle.node_machine.specs.Carrying.{with_port, changed_if}
+use Rattle.node_world.proofs.Words.{AtController, Controller, Desk, Entry, HasEnds, HostSite, IfItRuns, IsHost, IsHostOf, IsNodePlace, Link, Lose, Loss}
+use Rattle.node_world.proofs.Words.{MayGoOn, Memory, Node, NumberedEnd, On, Port, Power, Running, RunsAs, Site, SitesAre, StandsAt, WorldBecomes, changed_if}
+use Rattle.node_world.proofs.Words.{counts, end_c, entries_for, first_lost, frame_lost, happens, link_is, link_to, next_frame, node_memory, port_for, site_at}
+use Rattle.node_world.proofs.Words.{with_port, with_site}
 use Rattle.node_machine.specs.Node.{with_error}
-use Rattle.node_machine.specs.world.World.{NodeWorld, Site, site_at, with_site, link_to, port_for, counts, frame_lost, end_c}
-use Rattle.node_core.specs.Running.{one_more_error, RunsAs}
-use Rattle.node_laws.specs.telling.Telling.{HasEnds, IfItRuns, hosts_in}
-use Rattle.node_laws.proofs.telling.Nodes.{link_is, stands, Stands}
-use Rattle.node_sites.specs.declared.places.HostSite.{HostSite}
-use Rattle.node_sites.specs.declared.power.Power.TheVariants.{On}
-use Rattle.node_sites.specs.Powers.{IsNodePlace, node_memory}
-use Rattle.node_world.specs.HostSteps.{IsHostOf, is_broken}
-use Rattle.node_world.specs.Controllers.{SitesAre, WorldBecomes, MayGoOn, StandsAt}
+use Rattle.node_machine.specs.world.World.{NodeWorld}
+use Rattle.node_core.specs.Running.{one_more_error}
+use Rattle.node_laws.specs.telling.Telling.{hosts_in}
+use Rattle.node_laws.proofs.telling.Nodes.{stands, Stands}
+use Rattle.node_world.specs.HostSteps.{is_broken}
 use Rattle.node_world.proofs.HostsLose.{counts_plain, counts_none, counts_one}
 use Rattle.node_world.proofs.FramesToAll.{of_these}
 use Rattle.node_world.proofs.ControllersHear.{hosts-parts}
-use Rattle.node_core.specs.declared.node.Node.{Node}
-use Rattle.node_sites.specs.declared.power.Power.{Power}
 
 -- a link on which it was lost
 abbrev pub lost_on : Loss → Site → Site

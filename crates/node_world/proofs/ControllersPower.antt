@@ -2,38 +2,17 @@
 use Rattle.std.proofs.Common.{◌≡◌, ℕ, true, false, List, [], ◌∷◌, ◌++◌, length, map, refl, ap, ap₂, sym, subst, ◌∙◌}
 use Rattle.std.specs.Prelude.{Option, Some, None}
 use Rattle.std.specs.List.{AllByRecursion}
-use Rattle.swp_base.specs.InMemory.{Memory}
+use Rattle.node_world.proofs.Words.{AreTimely, AtController, Clf, Core, CutOff, Desk, EndsBoot, Entry, HostSite, IfOff, IsNodePlace, Link, LinkEnd, MayGoOn}
+use Rattle.node_world.proofs.Words.{Memory, NoInput, Node, NumberedEnd, Off, On, Port, Power, Running, RunsAs, Site, SitesAre, Step, WorldBecomes}
+use Rattle.node_world.proofs.Words.{after_planned, between, boot_writes, boots, count_of, fails_within, found, happens, happens_at_controller, kept_alike}
+use Rattle.node_world.proofs.Words.{kept_is, link_is, link_to, memory_kept, new_clf, new_desk, new_link_end, next_frame, port_for, site_at, with_bare_link}
 use Rattle.swp_base.specs.declared.link_terms.Role.TheVariants as named
-use Rattle.swp_act.specs.Activation.{new_clf}
-use Rattle.trace_model.specs.declared.entry.Entry.{Entry}
 use Rattle.trace_model.specs.declared.entry.Entry.TheVariants as note
-use Rattle.journal_laws.specs.Journal.{count_of}
-use Rattle.journal_laws.specs.Planned.{fails_within, after_planned}
-use Rattle.link_laws.specs.machine.Machine.{LinkEnd, next_frame, new_link_end}
-use Rattle.link_laws.specs.machine.Machine.Role.{Clf}
-use Rattle.link_laws.specs.messages.Links.{Link, NumberedEnd, happens, happens_at_controller}
-use Rattle.link_laws.specs.messages.Links.Ending.{CutOff}
-use Rattle.link_laws.specs.messages.Links.Comes.{NoInput}
-use Rattle.link_laws.specs.messages.Links.EndEvent.{Step}
-use Rattle.link_laws.specs.messages.Links.LinkEvent.{AtController}
-use Rattle.node_machine.specs.Parts.{Core, Desk, Running, Port}
-use Rattle.node_machine.specs.Node.{found, boot_writes, new_desk}
-use Rattle.node_machine.specs.world.World.{NodeWorld, Site, site_at, link_to, port_for, controller_cut, boots}
+use Rattle.node_machine.specs.world.World.{NodeWorld, controller_cut}
 use Rattle.node_ends.specs.Making.{new_port}
-use Rattle.node_laws.specs.telling.Telling.{IfOff, hosts_in}
-use Rattle.node_laws.proofs.telling.Nodes.{link_is}
-use Rattle.node_sites.specs.declared.places.HostSite.{HostSite}
-use Rattle.node_sites.specs.declared.power.Power.TheVariants.{On, Off}
-use Rattle.node_sites.specs.Powers.{IsNodePlace, memory_kept}
-use Rattle.node_sites.specs.WorldBoots.{EndsBoot}
-use Rattle.node_sites.proofs.Powers.{kept_is}
-use Rattle.node_world.specs.Controllers.{SitesAre, WorldBecomes, MayGoOn, AreTimely, with_bare_link}
+use Rattle.node_laws.specs.telling.Telling.{hosts_in}
 use Rattle.node_world.proofs.Behind.{each_found}
 use Rattle.node_world.proofs.GoingOn.{goes_on, cut_same, same_stand, ended_far}
-use Rattle.node_core.specs.declared.node.Node.{Node}
-use Rattle.node_core.specs.Running.{RunsAs, between}
-use Rattle.node_core.proofs.Between.{kept_alike}
-use Rattle.node_sites.specs.declared.power.Power.{Power}
 
 -- a host whose link the controller has left
 abbrev pub left_alone : Site → Site

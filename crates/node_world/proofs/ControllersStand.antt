@@ -2,30 +2,17 @@
 use Rattle.std.proofs.Common.{◌≡◌, ℕ, Bool, true, false, cond, List, [], ◌∷◌, ◌++◌, map, refl, ap, sym, subst, ◌∙◌, append_assoc, append-nil}
 use Rattle.std.specs.Prelude.{Some, None}
 use Rattle.std.specs.List.{AllByRecursion, flat_map}
-use Rattle.swp_base.specs.InMemory.{Memory}
-use Rattle.trace_model.specs.declared.entry.Entry.{Entry}
-use Rattle.journal_laws.specs.Planned.{after_planned}
-use Rattle.link_laws.specs.machine.Machine.{next_frame, sent_all}
-use Rattle.link_laws.specs.messages.Links.{Link, NumberedEnd, Ending}
-use Rattle.link_laws.specs.messages.Links.Ending.{GoesOut, CutOff}
-use Rattle.link_laws.specs.entries.Entries.End.{Controller}
-use Rattle.node_machine.specs.Parts.{Desk, Running, Port, Work}
-use Rattle.node_machine.specs.world.World.{NodeWorld, Site, site_at, link_to, port_for, ending_of, runs_on, frames_noted}
-use Rattle.node_laws.specs.kept.Books.{hosts_of_ends}
-use Rattle.node_laws.specs.kept.Hosts.{AreDifferent}
+use Rattle.node_world.proofs.Words.{AreDifferent, Controller, CutOff, Desk, Ending, Entry, GoesOnWith, GoesOut, HasOneEnd, HostSite, IsNodePlace, Link, Memory}
+use Rattle.node_world.proofs.Words.{Node, NumberedEnd, On, Port, Power, Running, RunsAs, SendsTo, Site, SitesAre, WentOffWith, Work, WorldBecomes}
+use Rattle.node_world.proofs.Words.{after_planned, between, ending_of, frames_noted, hosts_of_ends, kept_alike, link_to, next_frame, node_memory, port_for}
+use Rattle.node_world.proofs.Words.{sent_all, sent_port, sent_to, site_at}
+use Rattle.node_machine.specs.world.World.{NodeWorld, runs_on}
 use Rattle.node_laws.specs.telling.Telling.{hosts_in}
-use Rattle.node_sites.specs.declared.power.Power.TheVariants.{On}
-use Rattle.node_sites.specs.declared.places.HostSite.{HostSite}
-use Rattle.node_sites.specs.FramesOut.{sent_port}
-use Rattle.node_sites.specs.Powers.{IsNodePlace, node_memory}
-use Rattle.node_world.specs.Controllers.{SitesAre, WorldBecomes, SendsTo, HasOneEnd, sent_to, GoesOnWith, WentOffWith}
 use Rattle.node_world.proofs.Behind.{each_found, next_ports, all_sides}
 use Rattle.node_world.proofs.ControllersGo.{EndSteps, EachSteps, midway, midway_hosts, each_one, sent_everywhere, told_alike, none_told, midway_stands}
 use Rattle.node_world.proofs.ControllersGo.{out_stands, off_stands}
-use Rattle.node_core.specs.declared.node.Node.{Node}
-use Rattle.node_core.specs.Running.{RunsAs, between, SendsOneByOne}
-use Rattle.node_core.proofs.Between.{kept_alike, all_one_by_one}
-use Rattle.node_sites.specs.declared.power.Power.{Power}
+use Rattle.node_core.specs.Running.{SendsOneByOne}
+use Rattle.node_core.proofs.Between.{all_one_by_one}
 
 -- a step of the controller that has become v, in a world w: each link is one as it begins, and so behind it
 module _ (w : NodeWorld) (v : Work) (starts out : Site → Link) (so : Site → Ending → Link) (different : AreDifferent (hosts_in w.sites))

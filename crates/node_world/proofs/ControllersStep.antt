@@ -2,55 +2,30 @@
 use Rattle.std.proofs.Common.{◌≡◌, ℕ, ◌==◌, Bool, true, false, not, List, [], ◌∷◌, get_or, map, refl, ap, ap₂, sym, subst, ◌∙◌}
 use Rattle.std.specs.Prelude.{if◌then◌else◌, Option, Some, None, Result, OnOk}
 use Rattle.std.specs.List.{AllByRecursion}
-use Rattle.swp_base.specs.InMemory.{Memory}
-use Rattle.trace_model.specs.declared.entry.Entry.{Entry}
-use Rattle.link_laws.specs.sessions.Sessions.{OnWire}
-use Rattle.journal_laws.specs.Planned.{after_planned}
-use Rattle.link_laws.specs.machine.Machine.{LinkEnd, LinkInput, next_frame, after_input}
-use Rattle.link_laws.specs.machine.Machine.LinkInput.{Tick, Reset}
-use Rattle.link_laws.specs.messages.Links.{Link, NumberedEnd, Comes, Ending, number_of, happens_at_controller}
-use Rattle.link_laws.specs.messages.Links.Comes.{NextFrame, AsksReset, Starts, Stops, NoInput}
-use Rattle.link_laws.specs.messages.Links.EndEvent.{Step}
-use Rattle.link_laws.specs.entries.Entries.End.{Controller}
-use Rattle.history.specs.Steps.{entries_for}
-use Rattle.link_wires.proofs.Results.{on_ok}
-use Rattle.link_end.specs.declared.report.ResetRefused.{ResetRefused}
-use Rattle.node_machine.specs.Carrying.{port_at}
-use Rattle.node_core.specs.Running.{RunsAs, between}
-use Rattle.node_sites.specs.declared.incoming.Incoming.{Incoming}
-use Rattle.node_sites.specs.declared.incoming.Arrived.{Arrived}
-use Rattle.node_sites.specs.Arrivals.{as_comes, refusal_arrived, IsOf}
-use Rattle.node_world.specs.HostSteps.{refusal_coming}
+use Rattle.node_world.proofs.Words.{AreNumbered, AreSessions, Arrived, AsksReset, AtEnd, BeginsOver, Comes, Controller, CountsFew, Desk, Ending, Entry}
+use Rattle.node_world.proofs.Words.{FewAreCounted, GoesOnWith, HasEnds, HasGone, HostSite, IfItRuns, Incoming, IsNodePlace, IsOf, Link, LinkEnd, LinkInput}
+use Rattle.node_world.proofs.Words.{MayGoOn, Memory, NextFrame, NoInput, Node, NumberedEnd, On, OnWire, Port, Power, Reset, ResetRefused, Running, RunsAs}
+use Rattle.node_world.proofs.Words.{SameWires, SendsTo, Site, SitesAre, Starts, StaysCounted, Step, Stops, Tick, TimePasses, WentOffWith, Work, WorldBecomes}
+use Rattle.node_world.proofs.Words.{after_input, after_planned, arrival, as_comes, as_it_comes, as_it_comes_to, between, comes_at, comes_to, controller_work}
+use Rattle.node_world.proofs.Words.{end_c, entries_for, happens_at_controller, has_come, hosts_of_ends, input_at, input_of, kept_alike, link_is, link_to}
+use Rattle.node_world.proofs.Words.{near_end_in, next_frame, node_memory, number_of, on_ok, port_at, port_for, refusal_arrived, refusal_coming, site_at, steps}
+use Rattle.node_world.proofs.Words.{turns_at, wires_for, work_numbers, work_of}
 use Rattle.node_world.proofs.Comings.{refused_so}
 use Rattle.node_world.proofs.ControllersHear.{come_far}
-use Rattle.node_machine.specs.Parts.{Desk, Running, Port, Work}
-use Rattle.node_machine.specs.Node.{NodeInput, steps, input_at, has_come}
-use Rattle.node_machine.specs.Node.NodeInput.{AtEnd, TimePasses}
-use Rattle.node_machine.specs.world.World.{NodeWorld, Site, site_at, link_to, turns_at, comes_to, controller_work, after_controller, port_for, work_of}
-use Rattle.node_machine.specs.world.World.{input_of, near_end_in, arrival, wires_for, comes_at, end_c}
-use Rattle.node_laws.specs.kept.Books.{hosts_of_ends}
-use Rattle.node_laws.specs.telling.Telling.{HasEnds, IfItRuns, hosts_in}
-use Rattle.node_laws.proofs.telling.Nodes.{link_is, stands, Stands}
+use Rattle.node_machine.specs.Node.{NodeInput}
+use Rattle.node_machine.specs.world.World.{NodeWorld, after_controller}
+use Rattle.node_laws.specs.telling.Telling.{hosts_in}
+use Rattle.node_laws.proofs.telling.Nodes.{stands, Stands}
 use Rattle.node_laws.proofs.telling.Parts.{AreAlike}
-use Rattle.node_sites.specs.declared.power.Power.TheVariants.{On}
-use Rattle.node_sites.specs.declared.places.HostSite.{HostSite}
-use Rattle.node_sites.specs.LinksKept.{SameWires, as_it_comes}
-use Rattle.node_sites.specs.WorldNodes.{BeginsOver, HasGone}
-use Rattle.node_sites.specs.Numbers.{AreNumbered, CountsFew, StaysCounted}
-use Rattle.node_sites.specs.Powers.{IsNodePlace, node_memory}
-use Rattle.node_world.specs.Controllers.{SitesAre, WorldBecomes, MayGoOn, FewAreCounted, AreSessions, as_it_comes_to, SendsTo, EndsStep}
-use Rattle.node_world.specs.Controllers.{GoesOnWith, WentOffWith}
+use Rattle.node_world.specs.Controllers.{EndsStep}
 use Rattle.node_world.proofs.HostsBegin.{near_side}
 use Rattle.node_world.proofs.HostsHear.{number_coming}
 use Rattle.node_world.proofs.EndsGo.{EndGoes, controller_ends}
 use Rattle.node_world.proofs.Behind.{each_found, hosts_kept}
 use Rattle.node_sites.proofs.Numbered.{stepped}
-use Rattle.node_sites.proofs.Renumbered.{work_numbers, arrival_numbered}
+use Rattle.node_sites.proofs.Renumbered.{arrival_numbered}
 use Rattle.node_world.proofs.ControllersGo.{EndSteps}
 use Rattle.node_world.proofs.ControllersStand.{mid_hosts, sends_them, went_on, went_off}
-use Rattle.node_core.specs.declared.node.Node.{Node}
-use Rattle.node_core.proofs.Between.{kept_alike}
-use Rattle.node_sites.specs.declared.power.Power.{Power}
 
 -- ## As a step begins
 

@@ -2,43 +2,26 @@
 use Rattle.std.proofs.Common.{◌≡◌, ℕ, Bool, true, false, not, List, [], ◌∷◌, get_or, map, refl, ap, sym, subst, ◌∙◌, append-nil}
 use Rattle.std.specs.Prelude.{Option, Some, None, Result, OnOk}
 use Rattle.std.specs.List.{AllByRecursion}
-use Rattle.swp_base.specs.InMemory.{Memory}
-use Rattle.swp_act.specs.Activation.{new_clf}
-use Rattle.trace_model.specs.declared.entry.Entry.{Entry}
-use Rattle.journal_laws.specs.Planned.{after_planned}
-use Rattle.link_laws.specs.machine.Machine.{after_input, frames_out, new_link_end}
-use Rattle.link_laws.specs.machine.Machine.LinkInput.{Tick}
-use Rattle.link_laws.specs.machine.Machine.Role.{Clf}
-use Rattle.link_laws.specs.messages.Links.{Link, NumberedEnd, Ending, ticks_at_controller, number_of}
-use Rattle.link_laws.specs.messages.Links.Ending.{GoesOut, CutOff}
-use Rattle.link_wires.proofs.Results.{on_ok}
-use Rattle.node_machine.specs.Parts.{Desk, Running, Work}
-use Rattle.node_machine.specs.Node.NodeInput.{TimePasses}
-use Rattle.node_machine.specs.world.World.{NodeWorld, Site, site_at, link_to, turns_at, is_late_at, ticked_so, port_for, work_of, controller_ticks}
-use Rattle.node_machine.proofs.world.Cases.{near_tick, after_near_tick, site_unticked}
-use Rattle.node_laws.specs.kept.Books.{hosts_of_ends}
-use Rattle.node_laws.specs.telling.Telling.{HasEnds, IfItRuns, IfOff, IfDue, hosts_in}
+use Rattle.node_world.proofs.Words.{AreNumbered, AreSessions, AreTimely, BeginsOver, Clf, CountsFew, CutOff, Desk, Ending, Entry, FewAreCounted, GoesOnWith}
+use Rattle.node_world.proofs.Words.{GoesOut, HasEnds, HasGone, HostSite, IfItRuns, IfOff, IsNodePlace, Link, MayGoOn, Memory, Node, NumberedEnd, Off, On, Power}
+use Rattle.node_world.proofs.Words.{Running, SameWires, Site, SiteIs, SitesAre, Tick, TimePasses, WentOffWith, Work, WorldBecomes, WorldIs, after_input}
+use Rattle.node_world.proofs.Words.{after_planned, controller_ticks, frames_out, hosts_of_ends, is_late_at, link_is, link_to, near_tick, new_clf, new_link_end}
+use Rattle.node_world.proofs.Words.{node_memory, number_of, on_ok, port_for, site_at, site_unticked, ticked_so, ticks_at_controller, turns_at, work_numbers}
+use Rattle.node_world.proofs.Words.{work_of}
+use Rattle.node_machine.specs.world.World.{NodeWorld}
+use Rattle.node_machine.proofs.world.Cases.{after_near_tick}
+use Rattle.node_laws.specs.telling.Telling.{IfDue, hosts_in}
 use Rattle.node_laws.proofs.telling.Keeping.{tick_keeps}
-use Rattle.node_laws.proofs.telling.Nodes.{link_is, hosts_same}
-use Rattle.node_sites.specs.declared.power.Power.TheVariants.{On, Off}
-use Rattle.node_sites.specs.declared.places.HostSite.{HostSite}
-use Rattle.node_sites.specs.LinksKept.{SameWires}
-use Rattle.node_sites.specs.WorldNodes.{BeginsOver, HasGone}
-use Rattle.node_sites.specs.Numbers.{AreNumbered, CountsFew}
-use Rattle.node_sites.specs.Powers.{IsNodePlace, node_memory}
-use Rattle.node_sites.specs.Places.{SiteIs}
-use Rattle.node_world.specs.Controllers.{SitesAre, WorldIs, WorldBecomes, MayGoOn, AreTimely, FewAreCounted, AreSessions, EndsStep, GoesOnWith, WentOffWith}
+use Rattle.node_laws.proofs.telling.Nodes.{hosts_same}
+use Rattle.node_world.specs.Controllers.{EndsStep}
 use Rattle.node_world.proofs.GoingOn.{same_stand, same_twice}
 use Rattle.node_world.proofs.Behind.{each_found, all_far}
 use Rattle.node_world.proofs.HostsStay.{becomes_same}
 use Rattle.node_world.proofs.TicksGo.{ticks_on, NearTicks, controller_end_ticks}
 use Rattle.node_sites.proofs.Numbered.{stepped}
-use Rattle.node_sites.proofs.Renumbered.{work_numbers}
 use Rattle.node_world.proofs.ControllersGo.{EndSteps}
 use Rattle.node_world.proofs.ControllersStand.{mid_hosts, sends_them, went_on, went_off}
 use Rattle.node_world.proofs.ControllersStep.{ends_sent, ends_fresh}
-use Rattle.node_core.specs.declared.node.Node.{Node}
-use Rattle.node_sites.specs.declared.power.Power.{Power}
 
 -- ## While it doesn't run
 

@@ -2,20 +2,12 @@
 use Rattle.std.proofs.Common.{◌≡◌, ◌⊎◌, inl, inr, ℕ, zero, suc, ◌+◌, ◌<◌, ◌≤◌, ◌^◌, ◌==◌, Bool, true, false, List, [], ◌∷◌, map, refl, subst, sym, arith}
 use Rattle.std.specs.Prelude.{Option, Some, None, length, replicate, unwrap_or, IfSome}
 use Rattle.std.specs.List.{AllByRecursion}
-use Rattle.hcp_packet.specs.Packets.{AreSendable}
-use Rattle.history.specs.Follows.{taken_of}
-use Rattle.link_laws.specs.sessions.Sessions.{OnWire, took_with}
-use Rattle.link_laws.specs.machine.Machine.{LinkEnd, LinkInput, Message, after_input}
-use Rattle.link_laws.specs.machine.Machine.LinkInput.{Tick, Reset}
+use Rattle.node_world.proofs.Words.{AreSendable, AsksReset, AtEnd, Comes, CountsFew, Desk, FewOn, FewOnEach, Happening, IsFromOutside, Link, LinkEnd, LinkInput}
+use Rattle.node_world.proofs.Words.{Message, NextFrame, NoInput, NumberedEnd, OnWire, Port, Reset, Site, Starts, StaysCounted, Stops, Tick, TimePasses}
+use Rattle.node_world.proofs.Words.{after_input, has_come, input_at, link_to, near_end_in, port_for, site_at, taken_of, took_with}
 use Rattle.link_laws.specs.machine.Machine.Role.{Bare}
-use Rattle.link_laws.specs.messages.Links.{Link, NumberedEnd, Comes, new_link}
-use Rattle.link_laws.specs.messages.Links.Comes.{NextFrame, AsksReset, Starts, Stops, NoInput}
-use Rattle.node_machine.specs.Parts.{Desk, Port}
-use Rattle.node_machine.specs.Node.{input_at, has_come}
-use Rattle.node_machine.specs.Node.NodeInput.{AtEnd, TimePasses}
-use Rattle.node_machine.specs.world.World.{Site, Happening, site_at, link_to, near_end_in, port_for}
-use Rattle.node_sites.specs.Numbers.{StaysCounted, CountsFew}
-use Rattle.node_world.specs.Bounds.{AcksWithin, FewOn, FewOnEach, AckWithin, IsFromOutside}
+use Rattle.link_laws.specs.messages.Links.{new_link}
+use Rattle.node_world.specs.Bounds.{AcksWithin, AckWithin}
 use Rattle.node_world.proofs.FewAtEnds.{Nearly, whole_within, input_nearly, reset_nearly}
 
 -- ## Lines

@@ -3,23 +3,16 @@ use Rattle.std.proofs.Common.{◌≡◌, ℕ, ◌==◌, false, cond, List, [], �
 use Rattle.std.specs.Prelude.{Option, Some, None}
 use Rattle.std.specs.Option.{option_map_or}
 use Rattle.std.proofs.lemmas.Bool.{eqb-true}
-use Rattle.link_laws.proofs.entries.Lasting.{same_number}
-use Rattle.link_laws.specs.machine.Machine.{LinkEnd, LinkInput, turned}
-use Rattle.link_laws.specs.messages.Links.{Link, Comes, exchanged, number_of}
-use Rattle.link_laws.specs.messages.Links.Comes.{NoInput}
+use Rattle.node_world.proofs.Words.{AreMute, AtEnd, Comes, Controller, Deed, HasEnds, Host, IsOrderly, Link, LinkEnd, LinkInput, NoInput, Port, Running, Site}
+use Rattle.node_world.proofs.Words.{Work, begins_with, comes_to, controller_work, exchanged, host_opened, host_work, input_of, link_to, near_end_in, number_of}
+use Rattle.node_world.proofs.Words.{port_at, same_number, site_at, steps, turned, turns_at}
 use Rattle.link_laws.specs.entries.Entries.{End as Side}
-use Rattle.link_laws.specs.entries.Entries.End.{Controller, Host}
-use Rattle.node_machine.specs.Parts.{Running, Port, Work, Deed}
-use Rattle.node_machine.specs.Carrying.{port_at}
-use Rattle.node_machine.specs.Node.{steps, begins_with}
-use Rattle.node_machine.specs.Node.NodeInput.{AtEnd}
-use Rattle.node_machine.specs.world.World.{NodeWorld, Site, site_at, link_to, turns_at, input_of, near_end_in, comes_to, controller_work, host_work}
-use Rattle.node_laws.specs.telling.Telling.{HasEnds, hosts_in, IsOrderly}
+use Rattle.node_machine.specs.world.World.{NodeWorld}
+use Rattle.node_laws.specs.telling.Telling.{hosts_in}
 use Rattle.node_laws.proofs.telling.Parts.{after_coming, IsStep}
-use Rattle.node_laws.proofs.telling.Mute.{AreMute}
 use Rattle.node_laws.proofs.telling.Accounts.{at_host}
 use Rattle.node_laws.proofs.telling.Steps.{Goes, stepped, begun}
-use Rattle.node_laws.proofs.telling.Nodes.{opened, given, is_so, is_step, host_opened}
+use Rattle.node_laws.proofs.telling.Nodes.{opened, given, is_so, is_step}
 use Rattle.node_world.proofs.GoingOn.{GoesOn, goes_on}
 
 -- a node's end of the link l with the host h behind a step of it in which this came there

@@ -5,7 +5,8 @@ use Rattle.std.specs.Prelude.{Option, Some, None, nat_le, nat_lt, is_some, not, 
 use Rattle.std.proofs.lemmas.Bool.{leb-true}
 use Rattle.swp_base.specs.declared.control_frames.Kind.{Kind}
 use Rattle.swp_base.specs.declared.control_frames.Kind.TheVariants.{Rr, Rej, Rnr, Srej}
-use Rattle.swp_base.specs.declared.control_frames.Control.{Control}
+use Rattle.node_world.proofs.Words.{AreSendable, Control, IsFromOutside, LinkEnd, LinkInput, Message, Reset, Start, Stop, Take, Tick, Turn, after_input}
+use Rattle.node_world.proofs.Words.{is_waiting, reset_refusal, sent_all, turned}
 use Rattle.swp_base.specs.declared.control_frames.Control.TheVariants.{I, S, Rset, Ua, Act as ActFrame, Clt}
 use Rattle.swp_base.specs.declared.control_frames.Act.{Act}
 use Rattle.swp_base.specs.declared.link_terms.Cause.TheVariants.{Asked}
@@ -14,18 +15,17 @@ use Rattle.swp_act.specs.declared.ActEvent.TheVariants.{Start as ActStart, Take 
 use Rattle.swp_act.specs.declared.ActOut.{ActOut}
 use Rattle.shdlc_core.specs.declared.answers.LinkState.{LinkState}
 use Rattle.shdlc_core.specs.declared.answers.LinkState.TheVariants.{Down, Waiting, Up}
-use Rattle.shdlc_core.specs.Machine.{EndState, Session, Fragment, taken, take_answer, ticked, tick_answer, place_of, acknowledged, received, is_waiting}
+use Rattle.shdlc_core.specs.Machine.{EndState, Session, Fragment, taken, take_answer, ticked, tick_answer, place_of, acknowledged, received}
 use Rattle.shdlc_core.specs.Machine.{reset_with, waiting_from, stopped, with_ready, fetched, runs_timer, most_frames}
 use Rattle.shdlc_core.proofs.Histories.{received-acked}
-use Rattle.hcp_packet.specs.Packets.{packet_count, AreSendable}
-use Rattle.link_laws.specs.machine.Machine.{LinkEnd, Message, LinkInput, Turn, Refused, whole_among, after_input, turn, turned, put_down, moved}
-use Rattle.link_laws.specs.machine.Machine.{activated, heard, took, had_tick, is_open, is_faulty, reset_by, reset_refusal, if_up, sent_all}
+use Rattle.hcp_packet.specs.Packets.{packet_count}
+use Rattle.link_laws.specs.machine.Machine.{Refused, whole_among, turn, put_down, moved}
+use Rattle.link_laws.specs.machine.Machine.{activated, heard, took, had_tick, is_open, is_faulty, reset_by, if_up}
 use Rattle.link_laws.specs.machine.Machine.{give_refusal, aside_refusal, window_of, act_answer, with_act}
-use Rattle.link_laws.specs.machine.Machine.LinkInput.{Take, TakeUnknown, TakeBroken, Tick, Reset, Start, Stop, FromNode, Fetch}
+use Rattle.link_laws.specs.machine.Machine.LinkInput.{TakeUnknown, TakeBroken, FromNode, Fetch}
 use Rattle.link_laws.specs.machine.Machine.Turn.{Give, Hold, FetchMessage, SetAside, Release}
 use Rattle.link_laws.specs.machine.Machine.{ActDue, role_after, unless, given, news, frame_fetched, nearer}
 use Rattle.link_laws.proofs.entries.Stepping.{fetched_acked}
-use Rattle.node_world.specs.Bounds.{IsFromOutside}
 
 -- ## Whole messages
 

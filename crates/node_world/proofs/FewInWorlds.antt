@@ -1,27 +1,18 @@
 -- Few RSETs were put on the links of a world, and few fragments are acknowledged, behind so many steps of nodes.
 use Rattle.std.proofs.Common.{◌≡◌, ℕ, ◌+◌, ◌*◌, ◌≤◌, ◌==◌, Bool, true, false, List, [], ◌∷◌, map, refl, arith}
 use Rattle.std.specs.Prelude.{Some, length}
-use Rattle.swp_base.specs.InMemory.{Memory}
-use Rattle.trace_model.specs.declared.line.End.{End}
-use Rattle.link_laws.specs.messages.Links.{Comes, Loss}
-use Rattle.link_laws.specs.messages.Links.Ending.{GoesOut, CutOff}
-use Rattle.link_laws.specs.messages.Links.Comes.{Starts, NoInput, NextFrame, AsksReset}
-use Rattle.node_machine.specs.Parts.{Running, Work}
-use Rattle.node_machine.specs.Node.{steps}
-use Rattle.node_machine.specs.Node.NodeInput.{AtEnd}
-use Rattle.node_machine.specs.Carrying.{changed_if}
-use Rattle.node_machine.specs.Node.{begins_with}
-use Rattle.node_machine.specs.world.World.{Site, NodeWorld, Happening, with_site, ending_of, turns_at, is_late_at, comes_to}
-use Rattle.node_machine.specs.world.World.{link_after_controller, controller_does, after_host, host_does}
-use Rattle.node_machine.specs.world.World.{host_cut, loses_power_at, with_memory, with_node, boots}
-use Rattle.node_machine.specs.world.World.{counts, frame_lost, all_aged, controller_ticks, host_ticks}
-use Rattle.node_machine.specs.world.World.{hosts_tick, world_ticks, comes_at, end_c, end_h, activates}
-use Rattle.node_machine.specs.world.World.{world_step, sending, beginning, memory_at, controller_work, host_work}
-use Rattle.node_machine.specs.world.World.Happening.{Boots, IsCut, Gives, Inits, Takes, Loses, Ticks, Resets, Activates, Arms}
-use Rattle.node_machine.specs.world.Lines.{Occurrence, can_happen, all_happen}
-use Rattle.node_machine.proofs.world.Cases.{by_controller, by_host, by_coming, by_power, by_memory, by_running, boot_written, boot_found, by_boot, by_loss}
-use Rattle.node_machine.proofs.world.Cases.{site_lost, site_ticked, near_tick, host_tick, by_controller_tick, by_host_tick}
-use Rattle.node_world.specs.Bounds.{FewOn, FewOnEach, FewBehind}
+use Rattle.node_world.proofs.Words.{Activates, Arms, AsksReset, AtEnd, Boots, Comes, CutOff, End, FewBehind, FewOn, FewOnEach, Gives, GoesOut, Happening, Inits}
+use Rattle.node_world.proofs.Words.{IsCut, Loses, Loss, Memory, NextFrame, NoInput, Occurrence, Resets, Running, Site, Starts, Takes, Ticks, Work, after_host}
+use Rattle.node_world.proofs.Words.{all_aged, all_happen, beginning, begins_with, boot_found, boot_written, boots, by_coming, by_controller, by_controller_tick}
+use Rattle.node_world.proofs.Words.{by_host, by_host_tick, can_happen, changed_if, comes_at, comes_to, controller_ticks, controller_work, counts, end_c, end_h}
+use Rattle.node_world.proofs.Words.{ending_of, frame_lost, host_cut, host_does, host_tick, host_ticks, host_work, hosts_tick, is_late_at, link_after_controller}
+use Rattle.node_world.proofs.Words.{loses_power_at, memory_at, near_tick, sending, site_ticked, steps, turns_at, with_memory, with_node, with_site, world_step}
+use Rattle.node_world.proofs.Words.{world_ticks}
+use Rattle.node_machine.specs.world.World.{NodeWorld}
+use Rattle.node_machine.specs.world.World.{controller_does}
+use Rattle.node_machine.specs.world.World.{activates}
+use Rattle.node_machine.proofs.world.Cases.{by_power, by_memory, by_running, by_boot, by_loss}
+use Rattle.node_machine.proofs.world.Cases.{site_lost}
 use Rattle.node_world.proofs.FewOnLinks.{few_longer, few_aged, few_steps, few_there, few_ticked, few_ticked_there, few_ticked_so}
 
 -- ## Sites

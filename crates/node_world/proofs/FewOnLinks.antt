@@ -2,20 +2,16 @@
 use Rattle.std.proofs.Common.{◌≡◌, ℕ, zero, suc, ◌+◌, ◌-◌, ◌≤◌, Bool, true, false, cond, List, [], ◌∷◌, ◌++◌, take, drop, refl}
 use Rattle.std.proofs.Common.{ap, ◌∙◌, arith}
 use Rattle.std.specs.Prelude.{Option, Some, None, is_some, not, ◌&&◌, length}
-use Rattle.swp_base.specs.declared.control_frames.Control.{Control}
+use Rattle.node_world.proofs.Words.{AsksReset, Clf, Comes, Control, CutOff, Ending, FewOn, GoesOut, IsFromOutside, Link, LinkEnd, LinkInput, NextFrame, NoInput}
+use Rattle.node_world.proofs.Words.{NumberedEnd, OnWire, Reset, Start, Starts, Stop, Stops, Take, Tick, Turn, Uicc, after_input, aged, ended_by, exchanged}
+use Rattle.node_world.proofs.Words.{frames_out, has_input, is_rset, is_up, is_waiting, new_link_end, put, put_all, renewed, sent_all, ticked_so}
+use Rattle.node_world.proofs.Words.{ticks_at_controller, took_with, turned, with_controller, with_ended}
 use Rattle.swp_base.specs.declared.control_frames.Control.TheVariants.{Act as ActFrame}
-use Rattle.shdlc_core.specs.Machine.{EndState, frame_due, fetched, frames_of, most_frames, is_waiting}
-use Rattle.link_laws.specs.sessions.Sessions.{OnWire, is_rset, is_up, took_with}
-use Rattle.link_laws.specs.machine.Machine.{LinkEnd, ActDue, Role, LinkInput, Turn, among, frames_out, sent_all, turned, after_input, ended_by}
-use Rattle.link_laws.specs.machine.Machine.{new_link_end, renewed}
-use Rattle.link_laws.specs.machine.Machine.Role.{Bare, Clf, Uicc}
-use Rattle.link_laws.specs.machine.Machine.LinkInput.{Take, Tick, Reset, Start, Stop}
-use Rattle.link_laws.specs.messages.Links.{NumberedEnd, Link, Ending, Comes, exchanged, put, put_all, with_controller, with_ended, silent}
-use Rattle.link_laws.specs.messages.Links.{finished, has_input, has_taken, has_restarted, steps_at_controller, ticks_at_controller, aged}
-use Rattle.link_laws.specs.messages.Links.Ending.{GoesOut, CutOff}
-use Rattle.link_laws.specs.messages.Links.Comes.{NextFrame, AsksReset, Starts, Stops, NoInput}
-use Rattle.node_machine.specs.world.World.{ticked_so}
-use Rattle.node_world.specs.Bounds.{FewOn, IsFromOutside}
+use Rattle.shdlc_core.specs.Machine.{EndState, frame_due, fetched, frames_of, most_frames}
+use Rattle.link_laws.specs.machine.Machine.{ActDue, Role, among}
+use Rattle.link_laws.specs.machine.Machine.Role.{Bare}
+use Rattle.link_laws.specs.messages.Links.{silent}
+use Rattle.link_laws.specs.messages.Links.{finished, has_taken, has_restarted, steps_at_controller}
 use Rattle.node_world.proofs.FewAtEnds.{input_nearly, turned_acked, all_sent_acked}
 
 -- ## RSETs among frames

@@ -1,10 +1,8 @@
 -- Plays with one line or one round more, or with the parts of a line that lets the links settle, are few.
 use Rattle.std.proofs.Common.{◌<◌, List, [], ◌∷◌, ◌++◌, arith}
-use Rattle.trace_model.specs.declared.line.Line.{Line}
-use Rattle.lines_told.specs.lines.Plays.{Play, AreFewPlays, lines_said, rounds_played}
-use Rattle.lines_told.specs.lines.Plays.Play.{Said, Round}
+use Rattle.node_world.proofs.Words.{AreFewWithParts, Line, Play, Round, Said, lines_said, rounds_played}
+use Rattle.lines_told.specs.lines.Plays.{AreFewPlays}
 use Rattle.lines_told.proofs.lines.Plays.{no_more_rounds, no_more_said, one_round, one_said}
-use Rattle.node_world.specs.Worlds.{AreFewWithParts}
 
 -- a line or a round more leaves few of them
 pub few_with_line : (plays : List Play) (line : Line) → AreFewWithParts plays → lines_said plays < 320000 → AreFewWithParts (plays ++ Said line ∷ [])

@@ -4,20 +4,16 @@ use Rattle.std.proofs.Common.{append-nil, append_assoc, length-append, length-ta
 use Rattle.std.specs.Prelude.{Some, IsSome}
 use Rattle.std.specs.List.{AllByRecursion}
 use Rattle.std.proofs.lemmas.Bool.{cases_Bool, eqb-true, eq-eqb}
-use Rattle.trace_model.specs.declared.entry.Entry.{Entry}
+use Rattle.node_world.proofs.Words.{Book, Entry, FollowsNodes, Header, IsHost, IsNodeHeader, IsNodeOf, IsPlayFor, Line, Memory, NodeHistory, NoneIsMisread}
+use Rattle.node_world.proofs.Words.{Play, Site, WouldFind, book_in, current, hosts_stay_behind, last_in, lines_may_be_played, lines_played, memory_at}
+use Rattle.node_world.proofs.Words.{new_world, nodes_behind, site_at}
 use Rattle.trace_model.specs.declared.entry.Entry.TheVariants as entry
-use Rattle.trace_model.specs.declared.line.Header.{Header}
-use Rattle.trace_model.specs.declared.line.Line.{Line}
-use Rattle.trace_model.specs.Lines.{IsHost, IsNodeHeader, IsNodeOf}
-use Rattle.journal_laws.specs.Banks.{current}
 use Rattle.hci_store.proofs.Applying.{sound_has_no_fault}
-use Rattle.swp_base.specs.InMemory.{Memory}
-use Rattle.node_machine.specs.world.World.{NodeWorld, Site, memory_at, new_world, site_at}
-use Rattle.node_machine.specs.world.NodeHistories.{FollowsNodes, NodeHistory, NoneIsMisread, node_entries}
-use Rattle.node_machine.specs.world.NodeFilters.{Book, book_after, book_in, commands_in, with_found}
-use Rattle.node_machine.specs.world.NodeLegal.{AreFound, FindsCommands, Kept, Last, last_after, last_in}
+use Rattle.node_machine.specs.world.World.{NodeWorld}
+use Rattle.node_machine.specs.world.NodeHistories.{node_entries}
+use Rattle.node_machine.specs.world.NodeFilters.{book_after, commands_in, with_found}
+use Rattle.node_machine.specs.world.NodeLegal.{AreFound, FindsCommands, Kept, Last, last_after}
 use Rattle.node_machine.specs.world.NodeLegal.Last.{NothingYet, CommandLast, CutBehindCommand, OtherLast}
-use Rattle.node_laws.specs.kept.Books.{WouldFind}
 use Rattle.node_laws.specs.kept.Hosts.{IsFew}
 use Rattle.node_laws.specs.kept.Worlds.{AllKeep, SiteKeeps}
 use Rattle.node_laws.specs.schedules.Ranges.{AreNodeLinesOf, lines_asking}
@@ -26,10 +22,7 @@ use Rattle.node_laws.proofs.kept.Kept.{all_keep, are_kept}
 use Rattle.node_laws.proofs.kept.Sites.{site_found}
 use Rattle.node_laws.proofs.schedules.Few.{are_few}
 use Rattle.node_laws.proofs.schedules.Ranges.{hosts_are, sent_by_hosts}
-use Rattle.node_laws.proofs.order.HostsStay.{hosts_stay_behind}
-use Rattle.lines_told.specs.lines.Below.{memory_behind, nodes_behind}
-use Rattle.lines_told.specs.lines.Plays.{IsPlayFor, Play, lines_played}
-use Rattle.lines_told.proofs.lines.Lines.{lines_may_be_played}
+use Rattle.lines_told.specs.lines.Below.{memory_behind}
 use Rattle.node_world.specs.Legal.{IsFoundAsKept, IsKeptBehind}
 use Rattle.node_world.proofs.LegalPlays.{AskFew, in_ranges, nodes_follow, nodes_played}
 use Rattle.node_world.proofs.WorldsBehind.{node_there}

@@ -5,26 +5,12 @@ use Rattle.std.specs.List.{AllByRecursion, flat_map}
 use Rattle.std.specs.Option.{option_map_or}
 use Rattle.std.proofs.lemmas.Bool.{eqb-true}
 use Rattle.std.proofs.lemmas.List.{map-append, drop-set-lt, drop_more}
-use Rattle.swp_base.specs.declared.control_frames.Control.{Control}
-use Rattle.trace_model.specs.declared.entry.Entry.{Entry}
-use Rattle.link_laws.specs.machine.Machine.{frames_out}
-use Rattle.link_laws.specs.messages.Links.{Link, NumberedEnd, put_all}
-use Rattle.link_laws.specs.entries.Entries.{puts_entries}
-use Rattle.link_laws.specs.entries.Entries.End.{Controller}
-use Rattle.history.specs.Steps.{entries_for}
-use Rattle.node_machine.specs.Parts.{Port}
-use Rattle.node_machine.specs.Carrying.{port_at, with_port, changed_if}
-use Rattle.node_machine.specs.world.World.{Site}
-use Rattle.node_laws.specs.kept.Hosts.{AreDifferent}
+use Rattle.node_world.proofs.Words.{AreDifferent, Control, Controller, Entry, HasOneEnd, HaveRoom, HostSite, IsNodePlace, IsOnly, Link, NumberedEnd, Port, Site}
+use Rattle.node_world.proofs.Words.{SiteIs, SitesAre, Wires, WiresStandFor, changed_if, entries_for, frames_emitted, frames_out, port_at, put_all, puts_entries}
+use Rattle.node_world.proofs.Words.{sent_port, sent_to, swapped, with_port}
 use Rattle.node_laws.specs.telling.Telling.{hosts_in}
-use Rattle.node_laws.proofs.telling.Nodes.{swapped}
-use Rattle.node_sites.specs.declared.places.HostSite.{HostSite}
-use Rattle.node_sites.specs.declared.wires.Wires.{Wires}
-use Rattle.node_sites.specs.LinksKept.{WiresStandFor}
-use Rattle.node_sites.specs.FramesOut.{IsOnly, sent_port, SendsFrom}
-use Rattle.node_sites.specs.Powers.{IsNodePlace}
-use Rattle.node_sites.specs.Places.{SiteIs}
-use Rattle.node_world.specs.Controllers.{SitesAre, HaveRoom, due_at, sent_to, has_frames, frames_emitted, HasOneEnd}
+use Rattle.node_sites.specs.FramesOut.{SendsFrom}
+use Rattle.node_world.specs.Controllers.{due_at, has_frames}
 use Rattle.node_world.proofs.Behind.{all_far}
 use Rattle.node_world.proofs.SitesKept.{Walked, Next, walk_begins, walk_next, walk_ends}
 

@@ -1,19 +1,15 @@
 -- What a step of an end does to the wires of its link, and to the end.
 use Rattle.std.proofs.Common.{◌≡◌, Bool, true, false, List, [], ◌∷◌, refl, sym, subst, ◌∙◌}
 use Rattle.std.specs.Prelude.{Option, Some, None, is_some}
-use Rattle.link_laws.specs.sessions.Sessions.{OnWire, is_up, took_with}
-use Rattle.link_laws.specs.machine.Machine.{LinkEnd, LinkInput, Turn, turned, after_input, ended_by, started, deactivated, new_link_end, renewed, sent_all}
-use Rattle.link_laws.specs.machine.Machine.LinkInput.{Take, Reset, Start, Stop}
-use Rattle.link_laws.specs.messages.Links.{Link, Comes, exchanged, with_ended, with_controller, becomes, silent, cut}
-use Rattle.link_laws.specs.messages.Links.{happens_at_controller}
-use Rattle.link_laws.specs.messages.Links.Ending.{GoesOut, CutOff}
-use Rattle.link_laws.specs.messages.Links.EndEvent.{Step}
-use Rattle.link_laws.specs.messages.Links.Comes.{NextFrame, AsksReset, Starts, Stops, NoInput}
+use Rattle.node_world.proofs.Words.{AsksReset, Comes, CutOff, GoesOut, Link, LinkEnd, LinkInput, NextFrame, NoInput, OnWire, Reset, SameWires, Start, Starts}
+use Rattle.node_world.proofs.Words.{Step, Stop, Stops, Take, Turn, Wires, WiresStandFor, after_input, as_it_comes, cut, ended_by, exchanged}
+use Rattle.node_world.proofs.Words.{happens_at_controller, input_of, is_up, near_end_in, new_link_end, renewed, sent_all, took_with, turned, with_bare_wires}
+use Rattle.node_world.proofs.Words.{with_controller, with_ended}
+use Rattle.link_laws.specs.machine.Machine.{started, deactivated}
+use Rattle.link_laws.specs.messages.Links.{becomes, silent}
 use Rattle.link_wires.specs.Wires.{WireStandsFor}
-use Rattle.node_machine.specs.world.World.{input_of, near_end_in}
 use Rattle.node_laws.proofs.telling.Parts.{after_coming, IsStep}
-use Rattle.node_sites.specs.declared.wires.Wires.{Wires}
-use Rattle.node_sites.specs.LinksKept.{WiresStandFor, with_bare_wires, without_first, SameWires, as_it_comes}
+use Rattle.node_sites.specs.LinksKept.{without_first}
 
 -- ## The same wires
 

@@ -1,24 +1,10 @@
 -- What is known of a host of the world by what is kept of it, and what happens at it, case by case.
 use Rattle.std.proofs.Common.{◌≡◌, List, [], ◌++◌, refl, sym, subst, append-nil}
 use Rattle.std.specs.Prelude.{Option, Some, None}
-use Rattle.swp_base.specs.InMemory.{Memory}
-use Rattle.trace_model.specs.declared.entry.Entry.{Entry}
-use Rattle.link_laws.specs.machine.Machine.{LinkInput, Turn}
-use Rattle.link_laws.specs.messages.Links.{Link, Comes, Ending, exchanged, happens_at_controller}
-use Rattle.link_laws.specs.messages.Links.EndEvent.{Step}
-use Rattle.link_laws.specs.entries.Entries.End.{Host}
-use Rattle.node_machine.specs.Parts.{Running, Work}
-use Rattle.node_machine.specs.Node.{steps}
-use Rattle.node_machine.specs.Node.NodeInput.{AtEnd}
-use Rattle.node_machine.specs.world.World.{Site, input_of, wires_for, frames_noted, host_work, host_ticks}
-use Rattle.node_machine.proofs.world.Cases.{host_tick, after_tick}
-use Rattle.node_sites.specs.declared.places.HostSite.{HostSite}
-use Rattle.node_sites.specs.declared.power.Power.TheVariants.{On, Off}
-use Rattle.node_sites.specs.Powers.{IsNodePlace, node_memory}
-use Rattle.node_sites.specs.Places.{SiteIs}
-use Rattle.node_world.specs.HostSteps.{host_stepped, host_hears, host_behind, HasBecome}
-use Rattle.node_core.specs.declared.node.Node.{Node}
-use Rattle.node_sites.specs.declared.power.Power.{Power}
+use Rattle.node_world.proofs.Words.{AtEnd, Comes, Ending, Entry, HasBecome, Host, HostSite, IsNodePlace, Link, LinkInput, Memory, Node, Off, On, Power, Running}
+use Rattle.node_world.proofs.Words.{Site, SiteIs, Step, Turn, Work, exchanged, frames_noted, happens_at_controller, host_behind, host_hears, host_stepped}
+use Rattle.node_world.proofs.Words.{host_tick, host_ticks, host_work, input_of, node_memory, steps, wires_for}
+use Rattle.node_machine.proofs.world.Cases.{after_tick}
 
 -- ## What is kept
 

@@ -2,25 +2,9 @@
 use Rattle.std.proofs.Common.{◌≡◌, false, List, [], ◌∷◌, map, refl, ap, ap₂, sym, subst}
 use Rattle.std.specs.Prelude.{Option, Some, None}
 use Rattle.std.specs.List.{AllByRecursion}
-use Rattle.swp_base.specs.InMemory.{Memory}
-use Rattle.trace_model.specs.declared.entry.Entry.{Entry}
-use Rattle.link_laws.specs.sessions.Sessions.{OnWire}
-use Rattle.link_laws.specs.machine.Machine.{LinkEnd, next_frame}
-use Rattle.link_laws.specs.messages.Links.{Link, NumberedEnd, Comes, exchanged}
-use Rattle.link_laws.specs.messages.Links.Comes.{NextFrame, AsksReset, Starts, Stops, NoInput}
-use Rattle.link_laws.specs.entries.Entries.End.{Host}
-use Rattle.history.specs.Steps.{entries_for}
-use Rattle.node_machine.specs.Parts.{Core, Desk, Running, Port, Work}
-use Rattle.node_machine.specs.world.World.{Site, near_end_in, arrival, port_for, work_of}
-use Rattle.node_sites.specs.declared.places.HostSite.{HostSite}
-use Rattle.node_sites.specs.WorldNodes.{BeginsOver}
-use Rattle.node_sites.specs.declared.power.Power.TheVariants.{On}
-use Rattle.node_sites.specs.Powers.{IsNodePlace}
-use Rattle.node_sites.specs.Places.{SiteIs}
-use Rattle.node_core.specs.declared.node.Node.{Node}
-use Rattle.node_core.specs.Running.{RunsAs, between}
-use Rattle.node_core.proofs.Between.{kept_alike}
-use Rattle.node_sites.specs.declared.power.Power.{Power}
+use Rattle.node_world.proofs.Words.{AsksReset, BeginsOver, Comes, Core, Desk, Entry, Host, HostSite, IsNodePlace, Link, LinkEnd, Memory, NextFrame, NoInput}
+use Rattle.node_world.proofs.Words.{Node, NumberedEnd, On, OnWire, Port, Power, Running, RunsAs, Site, SiteIs, Starts, Stops, Work, arrival, between}
+use Rattle.node_world.proofs.Words.{entries_for, exchanged, kept_alike, near_end_in, next_frame, port_for, work_of}
 
 -- what comes changes no end by itself
 pub near_side : (l : Link) (comes : Comes) → (near_end_in l comes).side ≡ l.controller.side

@@ -1,37 +1,16 @@
 -- A host of the world boots.
 use Rattle.std.proofs.Common.{◌≡◌, ℕ, ◌==◌, true, false, List, [], ◌∷◌, ◌++◌, length, map, refl, ap, ap₂, sym, subst, ◌∙◌}
 use Rattle.std.specs.Prelude.{Some, None}
-use Rattle.swp_base.specs.InMemory.{Memory}
+use Rattle.node_world.proofs.Words.{Core, EndsBoot, Entry, HasBecome, HostSite, IsNodePlace, LinkEnd, Memory, NoInput, Node, Off, On, Port, Power, Running}
+use Rattle.node_world.proofs.Words.{RunsAs, Site, SiteIs, Uicc, Wires, WiresStandFor, after_planned, boot_writes, count_of, exchanged, fails_within, found}
+use Rattle.node_world.proofs.Words.{host_boots, host_cut, kept_alike, kept_is, memory_kept, new_desk, new_link_end, new_uicc, next_frame, port_for}
+use Rattle.node_world.proofs.Words.{with_bare_wires}
 use Rattle.swp_base.specs.declared.link_terms.Role.{Role as Named}
 use Rattle.swp_base.specs.declared.link_terms.Role.TheVariants as named
-use Rattle.swp_act.specs.Activation.{new_uicc}
-use Rattle.trace_model.specs.declared.entry.Entry.{Entry}
 use Rattle.trace_model.specs.declared.entry.Entry.TheVariants as note
-use Rattle.journal_laws.specs.Journal.{count_of}
-use Rattle.journal_laws.specs.Planned.{fails_within, after_planned}
-use Rattle.link_laws.specs.machine.Machine.{LinkEnd, next_frame, new_link_end}
-use Rattle.link_laws.specs.machine.Machine.Role.{Uicc}
-use Rattle.link_laws.specs.messages.Links.{exchanged}
-use Rattle.link_laws.specs.messages.Links.Comes.{NoInput}
-use Rattle.node_machine.specs.Parts.{Core, Running, Port}
-use Rattle.node_machine.specs.Node.{found, boot_writes, new_desk}
-use Rattle.node_machine.specs.world.World.{Site, host_cut, port_for}
 use Rattle.node_ends.specs.Making.{new_port}
 use Rattle.node_core.specs.Booting.{hosts_linked, role_at}
-use Rattle.node_sites.specs.declared.places.HostSite.{HostSite}
-use Rattle.node_sites.specs.declared.wires.Wires.{Wires}
-use Rattle.node_sites.specs.LinksKept.{WiresStandFor, with_bare_wires}
-use Rattle.node_sites.specs.declared.power.Power.TheVariants.{On, Off}
-use Rattle.node_sites.specs.Powers.{IsNodePlace, memory_kept}
-use Rattle.node_sites.proofs.Powers.{kept_is}
-use Rattle.node_sites.specs.WorldBoots.{EndsBoot}
-use Rattle.node_sites.specs.Places.{SiteIs}
-use Rattle.node_world.specs.HostSteps.{host_boots, HasBecome}
 use Rattle.node_world.proofs.GoingOn.{goes_on, cut_same, same_stand, same_exchanged}
-use Rattle.node_core.specs.declared.node.Node.{Node}
-use Rattle.node_core.proofs.Between.{kept_alike}
-use Rattle.node_sites.specs.declared.power.Power.{Power}
-use Rattle.node_core.specs.Running.{RunsAs}
 
 pub boot_goes : (s : Site) → fails_within (length (boot_writes s.memory.content)) s.memory.plan ≡ false
     → host_boots s ≡ (

@@ -2,23 +2,12 @@
 use Rattle.std.proofs.Common.{◌≡◌, ℕ, Bool, true, false, cond, not, List, [], ◌∷◌, ◌++◌, refl, ap, sym, subst, ◌∙◌, append-nil, append_assoc}
 use Rattle.std.specs.Prelude.{Some, None, Result, Ok, Err, OnOk}
 use Rattle.std.specs.Option.{option_map_or}
-use Rattle.trace_model.specs.declared.entry.Entry.{Entry}
+use Rattle.node_world.proofs.Words.{CutOff, Ending, Entry, GoesOut, HasBecome, Host, HostSite, IsOnly, IsToSend, Link, Port, Site, Turn, WiresStandFor, Work}
+use Rattle.node_world.proofs.Words.{ending_of, entries_for, exchanged, frames_noted, frames_out, host_behind, hosts_of_ends, next_frame, port_at, puts_entries}
+use Rattle.node_world.proofs.Words.{sent_all}
 use Rattle.swp_base.specs.declared.outside.NoMemory.{NoMemory}
-use Rattle.link_laws.specs.machine.Machine.{Turn, next_frame, frames_out, sent_all}
-use Rattle.link_laws.specs.messages.Links.{Link, Ending, exchanged}
-use Rattle.link_laws.specs.messages.Links.Ending.{GoesOut, CutOff}
-use Rattle.link_laws.specs.entries.Entries.{puts_entries, ending_entries}
-use Rattle.link_laws.specs.entries.Entries.End.{Host}
-use Rattle.history.specs.Steps.{entries_for}
-use Rattle.node_machine.specs.Parts.{Port, Work}
-use Rattle.node_machine.specs.Carrying.{port_at}
-use Rattle.node_machine.specs.world.World.{Site, ending_of, frames_noted}
-use Rattle.node_laws.specs.kept.Books.{hosts_of_ends}
-use Rattle.node_sites.specs.declared.places.HostSite.{HostSite}
-use Rattle.node_sites.specs.LinksKept.{WiresStandFor}
-use Rattle.node_sites.specs.FramesOut.{IsOnly}
+use Rattle.link_laws.specs.entries.Entries.{ending_entries}
 use Rattle.node_sites.specs.Places.{IsFinishing, RunsOn, WentOff}
-use Rattle.node_world.specs.HostSteps.{host_behind, IsToSend, HasBecome}
 use Rattle.node_sites.proofs.FramesGoOut.{at_found}
 use Rattle.node_world.proofs.HostsGo.{one_port, host_runs_on, host_went_off}
 use Rattle.node_core.proofs.Between.{all_one_by_one}

@@ -1,17 +1,10 @@
 -- What a host of the world that was found by its number refuses, and how the world stays as it is then.
 use Rattle.std.proofs.Common.{◌≡◌, ℕ, ◌==◌, false, List, [], refl, ap, sym, subst, ◌∙◌}
 use Rattle.std.specs.Prelude.{slice_set, Option, Some, None}
-use Rattle.trace_model.specs.declared.entry.Entry.{Entry}
+use Rattle.node_world.proofs.Words.{BecomesUnless, Comes, Entry, HostSite, IsOrderly, Site, SitesAre, SitesBecome, StandsAt, Work, end_h, host_does}
+use Rattle.node_world.proofs.Words.{host_stepped, if_accepted, machine_in, node_at, node_of, refusal_coming, refusal_in, sending_refused, site_at}
 use Rattle.trace_model.specs.declared.line.Line.TheVariants as line
-use Rattle.node_machine.specs.Parts.{Work}
-use Rattle.link_laws.specs.messages.Links.{Comes}
-use Rattle.node_machine.specs.world.World.{NodeWorld, Site, site_at, node_at, node_of, end_h, host_does}
-use Rattle.node_machine.specs.world.Lines.{machine_in, refusal_in}
-use Rattle.node_laws.specs.telling.Telling.{IsOrderly}
-use Rattle.node_sites.specs.declared.places.HostSite.{HostSite}
-use Rattle.node_world.specs.Controllers.{SitesAre, StandsAt}
-use Rattle.node_world.specs.HostSteps.{host_stepped, refusal_coming, sending_refused, BecomesUnless}
-use Rattle.node_world.specs.Whole.{SitesBecome, if_accepted}
+use Rattle.node_machine.specs.world.World.{NodeWorld}
 use Rattle.node_world.proofs.AtHosts.{becomes, site_changes}
 use Rattle.node_world.proofs.HostsInWorlds.{ChangesSite, does_in_world}
 

@@ -2,30 +2,15 @@
 use Rattle.std.proofs.Common.{◌≡◌, ℕ, ◌==◌, Bool, true, false, cond, List, [], ◌∷◌, map, refl, ap, sym, subst, ◌∙◌}
 use Rattle.std.specs.Prelude.{Option, Some, None}
 use Rattle.std.specs.List.{AllByRecursion}
-use Rattle.swp_base.specs.InMemory.{Memory}
-use Rattle.trace_model.specs.declared.entry.Entry.{Entry}
-use Rattle.journal_laws.specs.Planned.{after_planned}
-use Rattle.link_laws.proofs.entries.Lasting.{same_number}
-use Rattle.link_laws.specs.machine.Machine.{LinkEnd, Turn, next_frame, sent_all, new_link_end, renewed}
-use Rattle.link_laws.specs.messages.Links.{Link, NumberedEnd, Ending, exchanged, becomes, with_controller}
-use Rattle.link_laws.specs.messages.Links.Ending.{GoesOut, CutOff}
-use Rattle.node_machine.specs.Parts.{Desk, Running, Port, Work}
-use Rattle.node_machine.specs.Carrying.{port_at, with_port, changed_if}
-use Rattle.node_machine.specs.world.World.{Site, turns_at, port_for}
-use Rattle.node_laws.specs.kept.Books.{hosts_of_ends}
+use Rattle.node_world.proofs.Words.{CutOff, Desk, Ending, Entry, GoesOut, HostSite, IsNodePlace, Link, LinkEnd, Memory, Node, NumberedEnd, Off, On, Port, Power}
+use Rattle.node_world.proofs.Words.{Running, RunsAs, SameWires, Site, SiteIs, Turn, Work, after_planned, between, changed_if, exchanged, host_behind}
+use Rattle.node_world.proofs.Words.{hosts_of_ends, kept_alike, new_link_end, next_frame, node_memory, port_at, port_for, renewed, same_number, sent_all}
+use Rattle.node_world.proofs.Words.{sent_port, turns_at, with_bare_wires, with_controller, with_port}
+use Rattle.link_laws.specs.messages.Links.{becomes}
 use Rattle.node_laws.proofs.telling.Accounts.{at_host}
-use Rattle.node_sites.specs.declared.places.HostSite.{HostSite}
-use Rattle.node_sites.specs.LinksKept.{SameWires, with_bare_wires}
-use Rattle.node_sites.specs.FramesOut.{sent_port}
-use Rattle.node_sites.specs.declared.power.Power.TheVariants.{On, Off}
-use Rattle.node_sites.specs.Powers.{IsNodePlace, node_memory}
-use Rattle.node_sites.specs.Places.{SiteIs, RunsOn, WentOff}
-use Rattle.node_world.specs.HostSteps.{EndDoes, host_behind}
+use Rattle.node_sites.specs.Places.{RunsOn, WentOff}
+use Rattle.node_world.specs.HostSteps.{EndDoes}
 use Rattle.node_world.proofs.GoingOn.{same_stand, same_exchanged, silent_same}
-use Rattle.node_core.specs.declared.node.Node.{Node}
-use Rattle.node_core.proofs.Between.{kept_alike}
-use Rattle.node_core.specs.Running.{RunsAs, between}
-use Rattle.node_sites.specs.declared.power.Power.{Power}
 
 -- ## Its one end
 

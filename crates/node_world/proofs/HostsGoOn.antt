@@ -1,33 +1,19 @@
 -- A host of the world in its steps: what its node did, as it is to be finished.
 use Rattle.std.proofs.Common.{◌≡◌, ℕ, Bool, List, [], ◌++◌, sym, subst, ◌∙◌}
 use Rattle.std.specs.Prelude.{Some, Result, OnOk, replicate, max}
-use Rattle.swp_base.specs.InMemory.{Memory}
+use Rattle.node_world.proofs.Words.{AreMute, AtEnd, BeginsOver, Comes, Deed, Ending, Entry, HasBecome, HasGone, Host, HostSite, IsHostOf, IsToSend, Link}
+use Rattle.node_world.proofs.Words.{LinkInput, MayTick, Memory, NoInput, Node, On, Site, SiteIs, TimePasses, Turn, WiresStandFor, Work, arrival, as_it_comes}
+use Rattle.node_world.proofs.Words.{begins_with, entries_for, exchanged, frames_noted, host_behind, host_hears, host_stepped, host_tick, host_ticks, host_work}
+use Rattle.node_world.proofs.Words.{input_of, near_end_in, steps, wires_for, work_of}
 use Rattle.swp_base.specs.declared.outside.NoMemory.{NoMemory}
-use Rattle.trace_model.specs.declared.entry.Entry.{Entry}
-use Rattle.link_laws.specs.machine.Machine.{LinkInput, Turn}
-use Rattle.link_laws.specs.messages.Links.{Link, Comes, Ending, exchanged}
-use Rattle.link_laws.specs.messages.Links.Comes.{NoInput}
-use Rattle.link_laws.specs.entries.Entries.End.{Host}
-use Rattle.history.specs.Steps.{entries_for}
-use Rattle.node_machine.specs.Parts.{Work, Deed}
-use Rattle.node_machine.specs.Node.{steps, begins_with}
-use Rattle.node_machine.specs.Node.NodeInput.{AtEnd, TimePasses}
-use Rattle.node_machine.specs.world.World.{Site, input_of, near_end_in, arrival, wires_for, frames_noted, work_of, host_work, host_ticks}
-use Rattle.node_machine.proofs.world.Cases.{host_tick}
 use Rattle.node_laws.specs.telling.Telling.{NoneDue}
-use Rattle.node_laws.proofs.telling.Mute.{AreMute}
 use Rattle.node_sites.specs.declared.noted.Noted.{Noted}
-use Rattle.node_sites.specs.declared.places.HostSite.{HostSite}
-use Rattle.node_sites.specs.LinksKept.{WiresStandFor, as_it_comes}
-use Rattle.node_sites.specs.WorldNodes.{BeginsOver, HasGone, IsNotedSo}
-use Rattle.node_sites.specs.declared.power.Power.TheVariants.{On}
-use Rattle.node_sites.specs.Places.{SiteIs}
-use Rattle.node_world.specs.HostSteps.{host_stepped, host_hears, host_behind, IsHostOf, CountsComing, MayTick, IsToSend, HasBecome}
+use Rattle.node_sites.specs.WorldNodes.{IsNotedSo}
+use Rattle.node_world.specs.HostSteps.{CountsComing}
 use Rattle.node_world.proofs.HostsBegin.{begins_at_end}
 use Rattle.node_world.proofs.HostsRefuse.{runs_here}
 use Rattle.node_world.proofs.HostsAre.{IsOn, is_on, goes_by, stepped_on, hears_on, ticks_on}
 use Rattle.node_world.proofs.HostsHear.{HostDoes, hears, begins, ticks, tick_at_end, midway}
-use Rattle.node_core.specs.declared.node.Node.{Node}
 
 -- ## What its node did
 

@@ -4,44 +4,25 @@ use Rattle.std.proofs.Common.{sym, subst, ◌∙◌, arith}
 use Rattle.std.specs.Prelude.{Option, Some, None}
 use Rattle.std.specs.List.{AllByRecursion}
 use Rattle.std.proofs.lemmas.List.{get_or-replicate}
-use Rattle.swp_base.specs.InMemory.{Memory}
-use Rattle.swp_base.specs.declared.control_frames.Control.{Control}
-use Rattle.trace_model.specs.declared.entry.Entry.{Entry}
-use Rattle.journal_laws.specs.Planned.{after_planned}
-use Rattle.link_laws.specs.sessions.Sessions.{OnWire, is_rset, took_with}
-use Rattle.link_laws.specs.machine.Machine.{LinkEnd, LinkInput, Turn, frames_out}
-use Rattle.link_laws.specs.machine.Machine.LinkInput.{Tick, Reset}
-use Rattle.link_laws.specs.messages.Links.{Link, NumberedEnd, Comes, Ending, exchanged, number_of, happens_at_controller, put}
-use Rattle.link_laws.specs.messages.Links.Comes.{NextFrame, AsksReset, Starts, Stops, NoInput}
-use Rattle.link_laws.specs.messages.Links.EndEvent.{Step}
-use Rattle.link_laws.specs.entries.Entries.{puts_entries, put_entries}
-use Rattle.link_laws.specs.entries.Entries.End.{Host}
-use Rattle.link_laws.proofs.entries.Lasting.{same_number}
-use Rattle.history.specs.Steps.{entries_for}
-use Rattle.node_machine.specs.Parts.{Desk, Running, Port, Work, Deed}
-use Rattle.node_machine.specs.Node.{input_at, has_come, steps, begins_with}
-use Rattle.node_machine.specs.Node.NodeInput.{AtEnd, TimePasses}
-use Rattle.node_machine.specs.world.World.{Site, input_of, near_end_in, arrival, wires_for, port_for, work_of, host_work, ticked_so}
-use Rattle.node_machine.proofs.world.Cases.{host_tick}
-use Rattle.node_laws.specs.kept.Books.{hosts_of_ends}
-use Rattle.node_laws.specs.telling.Telling.{HasEnds, IfItRuns, is_due}
-use Rattle.node_laws.proofs.telling.Mute.{AreMute}
+use Rattle.node_world.proofs.Words.{AreMute, AreNumbered, AsksReset, AtEnd, Comes, Control, CountsFew, CountsOn, Deed, Desk, Ending, Entry, HasEnds, HasGone}
+use Rattle.node_world.proofs.Words.{Host, HostSite, IfItRuns, IsHostOf, IsToSend, Link, LinkEnd, LinkInput, Memory, NextFrame, NoInput, Node, NumberedEnd, On}
+use Rattle.node_world.proofs.Words.{OnWire, Port, Reset, Running, SameWires, Site, Starts, StaysCounted, Step, Stops, Tick, TimePasses, Turn, WiresStandFor}
+use Rattle.node_world.proofs.Words.{Work, after_planned, arrival, as_it_comes, begins_with, entries_for, exchanged, frames_out, happens_at_controller, has_come}
+use Rattle.node_world.proofs.Words.{host_tick, host_work, hosts_of_ends, input_at, input_of, is_rset, near_end_in, node_memory, noted_behind, number_of}
+use Rattle.node_world.proofs.Words.{port_for, put, puts_entries, same_number, session_at, steps, ticked_so, took_with, wires_for, work_numbers, work_of}
+use Rattle.link_laws.specs.entries.Entries.{put_entries}
+use Rattle.node_laws.specs.telling.Telling.{is_due}
 use Rattle.node_laws.proofs.telling.Keeping.{Keeps, steps_keep, tick_keeps, begins_keep}
-use Rattle.node_sites.specs.declared.places.HostSite.{HostSite}
-use Rattle.node_sites.specs.declared.power.Power.TheVariants.{On}
-use Rattle.node_sites.specs.LinksKept.{WiresStandFor, SameWires, as_it_comes, without_first}
+use Rattle.node_sites.specs.LinksKept.{without_first}
 use Rattle.node_sites.specs.declared.noted.Noted.{Noted}
-use Rattle.node_sites.specs.Numbers.{AreNumbered, StaysCounted, CountsFew, session_at}
-use Rattle.node_sites.specs.WorldNodes.{HasGone, IsNotedSo}
-use Rattle.node_world.specs.HostSteps.{IsHostOf, CountsOn, EndDoes, IsToSend}
+use Rattle.node_sites.specs.WorldNodes.{IsNotedSo}
+use Rattle.node_world.specs.HostSteps.{EndDoes}
 use Rattle.node_sites.proofs.Numbered.{Numbers, stepped, begun}
-use Rattle.node_sites.proofs.Renumbered.{work_numbers, arrival_numbered, noted_behind}
+use Rattle.node_sites.proofs.Renumbered.{arrival_numbered}
 use Rattle.node_world.proofs.GoingOn.{same_stand, same_exchanged}
 use Rattle.node_world.proofs.EndsGo.{EndGoes, host_ends, host_begins}
 use Rattle.node_world.proofs.TicksGo.{EndTicks, host_end_ticks}
 use Rattle.node_world.proofs.HostsBegin.{near_side}
-use Rattle.node_core.specs.declared.node.Node.{Node}
-use Rattle.node_sites.specs.Powers.{node_memory}
 
 -- ## Counts
 

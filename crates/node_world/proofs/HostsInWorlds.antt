@@ -1,30 +1,17 @@
 -- What happens at a host of a world, as the definitions of the whole world have it.
 use Rattle.std.proofs.Common.{◌≡◌, ℕ, ◌==◌, Bool, true, false, cond, List, [], ◌∷◌, ◌++◌, length, refl, ap, ap₂, sym, subst, ◌∙◌}
 use Rattle.std.specs.Prelude.{Option, Some, None}
-use Rattle.swp_base.specs.InMemory.{Memory, Plan}
-use Rattle.trace_model.specs.declared.entry.Entry.{Entry}
+use Rattle.node_world.proofs.Words.{AtEnd, Comes, End, Entry, Host, Link, LinkInput, Lose, Loss, Memory, Plan, Running, Site, Work, after_host, after_planned}
+use Rattle.node_world.proofs.Words.{at, boot_found, boot_writes, boot_written, boots, changed_if, comes_at, count_of, counts, end_h, entries_for, exchanged}
+use Rattle.node_world.proofs.Words.{fails_within, first_lost, frame_lost, frames_noted, frames_to, happens, host_boots, host_cut, host_does, host_hears}
+use Rattle.node_world.proofs.Words.{host_stepped, host_work, input_of, link_is, link_to, loses_power_at, memory_at, side_of, site_at, site_loses, steps}
+use Rattle.node_world.proofs.Words.{wires_for, with_memory, with_node, with_site}
 use Rattle.trace_model.specs.declared.entry.Entry.TheVariants as entry
-use Rattle.trace_model.specs.declared.line.End.{End}
-use Rattle.journal_laws.specs.Journal.{count_of}
-use Rattle.journal_laws.specs.Planned.{fails_within, after_planned}
-use Rattle.link_laws.specs.machine.Machine.{LinkInput}
-use Rattle.link_laws.specs.messages.Links.{Link, Comes, Loss, exchanged, happens}
-use Rattle.link_laws.specs.messages.Links.EndEvent.{Lose}
-use Rattle.link_laws.specs.entries.Entries.{first_lost}
-use Rattle.link_laws.specs.entries.Entries.End.{Host}
-use Rattle.history.specs.Steps.{at, entries_for}
-use Rattle.history.specs.Follows.{frames_to}
-use Rattle.link_wires.specs.Notes.{side_of}
-use Rattle.node_machine.specs.Parts.{Running, Work}
-use Rattle.node_machine.specs.Carrying.{changed_if}
-use Rattle.node_machine.specs.Node.{steps, boot_writes, found as found_at}
-use Rattle.node_machine.specs.Node.NodeInput.{AtEnd}
-use Rattle.node_machine.specs.world.World.{NodeWorld, Site, site_at, with_site, link_to, input_of, after_host, host_work, host_does, comes_at, end_h}
-use Rattle.node_machine.specs.world.World.{wires_for, frames_noted, host_cut, loses_power_at, memory_at, with_memory, with_node}
-use Rattle.node_machine.specs.world.World.{links_of, boots, counts, frame_lost}
-use Rattle.node_machine.proofs.world.Cases.{after_host_step, boot_written, boot_found}
-use Rattle.node_laws.proofs.telling.Nodes.{site_host, link_is}
-use Rattle.node_world.specs.HostSteps.{host_stepped, host_hears, host_boots, site_loses}
+use Rattle.node_machine.specs.Node.{found as found_at}
+use Rattle.node_machine.specs.world.World.{NodeWorld}
+use Rattle.node_machine.specs.world.World.{links_of}
+use Rattle.node_machine.proofs.world.Cases.{after_host_step}
+use Rattle.node_laws.proofs.telling.Nodes.{site_host}
 use Rattle.node_world.proofs.HostsBoot.{boot_goes, boot_stops}
 use Rattle.node_world.proofs.HostsAre.{worked, stepped_off, stepped_on, hears_none}
 

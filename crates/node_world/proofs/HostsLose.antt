@@ -2,27 +2,13 @@
 use Rattle.std.proofs.Common.{◌≡◌, ℕ, ◌==◌, ◌+◌, Bool, true, false, cond, min, List, [], ◌∷◌, map, refl, ap, ap₂, sym, subst, ◌∙◌}
 use Rattle.std.specs.Prelude.{Option, Some, None}
 use Rattle.std.specs.List.{AllByRecursion}
-use Rattle.swp_base.specs.InMemory.{Memory}
-use Rattle.trace_model.specs.declared.line.End.{End}
-use Rattle.link_laws.specs.machine.Machine.{next_frame}
-use Rattle.link_laws.specs.messages.Links.{NumberedEnd, Loss, happens}
-use Rattle.link_laws.specs.messages.Links.Loss.{OnDemand, Broken, Unread, TooOld, TooMany}
-use Rattle.link_laws.specs.messages.Links.EndEvent.{Lose}
-use Rattle.history.specs.Steps.{at}
-use Rattle.node_machine.specs.Parts.{Core, Desk, Running, Port}
-use Rattle.node_machine.specs.Carrying.{with_port, changed_if}
+use Rattle.node_world.proofs.Words.{Core, Desk, End, HostSite, IsNodePlace, Lose, Loss, Memory, Node, NumberedEnd, On, OnDemand, Port, Power, Running, RunsAs}
+use Rattle.node_world.proofs.Words.{Site, SiteIs, WiresStandFor, at, changed_if, counts, happens, next_frame, node_memory, port_for, site_loses, with_port}
+use Rattle.link_laws.specs.messages.Links.Loss.{Broken, Unread, TooOld, TooMany}
 use Rattle.node_machine.specs.Node.{with_error}
-use Rattle.node_machine.specs.world.World.{Site, port_for, counts}
-use Rattle.node_core.specs.Running.{one_more_error, RunsAs}
-use Rattle.node_sites.specs.declared.places.HostSite.{HostSite}
-use Rattle.node_sites.specs.LinksKept.{WiresStandFor}
-use Rattle.node_sites.specs.declared.power.Power.TheVariants.{On}
-use Rattle.node_sites.specs.Powers.{IsNodePlace, node_memory}
-use Rattle.node_sites.specs.Places.{SiteIs}
-use Rattle.node_world.specs.HostSteps.{is_broken, site_loses}
+use Rattle.node_core.specs.Running.{one_more_error}
+use Rattle.node_world.specs.HostSteps.{is_broken}
 use Rattle.node_world.proofs.Plainly.{same_host}
-use Rattle.node_core.specs.declared.node.Node.{Node}
-use Rattle.node_sites.specs.declared.power.Power.{Power}
 
 -- ## What counts
 

@@ -1,9 +1,8 @@
 -- The node and the memory of a host of the world that was found by its number.
 use Rattle.std.proofs.Common.{◌≡◌, ◌≢◌, ℕ, ◌==◌, Bool, true, false, List, [], ◌∷◌, refl, ap}
 use Rattle.std.specs.Prelude.{Option, Some, None}
-use Rattle.swp_base.specs.InMemory.{Memory, Plan}
-use Rattle.node_machine.specs.Parts.{Running}
-use Rattle.node_machine.specs.world.World.{NodeWorld, Site, site_at, with_site, node_at, memory_at}
+use Rattle.node_world.proofs.Words.{Memory, Plan, Running, Site, memory_at, node_at, site_at, with_site}
+use Rattle.node_machine.specs.world.World.{NodeWorld}
 
 -- no host has this number
 pub none_changed : (h : ℕ) (f : Site → Site) (sites : List Site) → site_at sites h ≡ None → with_site h f sites ≡ sites

@@ -1,41 +1,20 @@
 -- What is refused of a host of the world, by what its node refuses.
 use Rattle.std.proofs.Common.{◌≡◌, ℕ, ◌≤◌, ◌==◌, ◌&&◌, Bool, true, false, cond, List, [], ◌∷◌, map, refl, ap, sym, subst, ◌∙◌, append-nil, arith}
 use Rattle.std.specs.Prelude.{Option, Some, None, is_some}
-use Rattle.swp_base.specs.InMemory.{Memory}
-use Rattle.trace_model.specs.declared.entry.Entry.{Entry}
-use Rattle.trace_model.specs.declared.entry.NoCause.{NoCause}
+use Rattle.node_world.proofs.Words.{AreMute, Arrived, Core, Desk, Entry, HasBecome, HasEnds, HostSite, IfItRuns, Incoming, IsHostOf, IsNodePlace, IsOf, LinkEnd}
+use Rattle.node_world.proofs.Words.{Memory, Message, NoCause, NoInput, Node, On, Port, Power, ResetRefused, Running, RunsAs, Site, SiteIs, Wires, WiresStandFor}
+use Rattle.node_world.proofs.Words.{as_comes, beginning, host_opened, node_memory, port_at, port_for, refusal_arrived, refusal_coming, sending, sending_refused}
 use Rattle.trace_model.specs.declared.entry.NoCause.TheVariants as no
-use Rattle.link_laws.specs.machine.Machine.{LinkEnd, Message, give_refusal}
-use Rattle.link_end.specs.declared.report.ResetRefused.{ResetRefused}
-use Rattle.link_laws.specs.messages.Links.Comes.{NoInput}
-use Rattle.node_machine.specs.Parts.{Core, Desk, Running, Port}
+use Rattle.link_laws.specs.machine.Machine.{give_refusal}
 use Rattle.node_machine.specs.Parts.Deed.{Sends, Orders}
-use Rattle.node_machine.specs.Carrying.{port_at}
 use Rattle.node_machine.specs.Controller.{is_command_message}
-use Rattle.node_machine.specs.world.World.{Site, port_for, sending, beginning}
 use Rattle.node_machine.specs.world.Lines.{if_waiting}
-use Rattle.node_core.specs.Running.{RunsAs}
 use Rattle.node_core.proofs.Asking.{asked_may}
 use Rattle.node_ends.specs.Ends.{MayStartAt}
 use Rattle.node_ends.specs.declared.inputs.LinkInput.TheVariants as asks
 use Rattle.std.proofs.lemmas.Bool.{eqb-false}
-use Rattle.node_laws.specs.telling.Telling.{HasEnds, IfItRuns}
-use Rattle.node_laws.proofs.telling.Mute.{AreMute}
-use Rattle.node_laws.proofs.telling.Nodes.{host_opened}
-use Rattle.node_sites.specs.declared.places.HostSite.{HostSite}
-use Rattle.node_sites.specs.declared.power.Power.TheVariants.{On}
-use Rattle.node_sites.specs.Powers.{IsNodePlace, node_memory}
-use Rattle.node_sites.specs.Places.{SiteIs}
-use Rattle.node_world.specs.HostSteps.{IsHostOf, HasBecome, refusal_coming, sending_refused}
-use Rattle.node_sites.specs.declared.incoming.Incoming.{Incoming}
-use Rattle.node_sites.specs.declared.incoming.Arrived.{Arrived}
-use Rattle.node_sites.specs.declared.wires.Wires.{Wires}
-use Rattle.node_sites.specs.Arrivals.{as_comes, refusal_arrived, IsOf}
-use Rattle.node_sites.specs.LinksKept.{WiresStandFor}
 use Rattle.node_world.proofs.Comings.{refused_so}
 use Rattle.node_world.proofs.HostsAre.{is_on}
-use Rattle.node_core.specs.declared.node.Node.{Node}
-use Rattle.node_sites.specs.declared.power.Power.{Power}
 
 -- ## A host that doesn't run
 

@@ -1,26 +1,12 @@
 -- A tick at a host that doesn't run: nothing is sent, and nothing is noted.
 use Rattle.std.proofs.Common.{◌≡◌, false, List, [], refl, ap, sym, subst, append-nil}
 use Rattle.std.specs.Prelude.{Option, None}
-use Rattle.swp_base.specs.declared.control_frames.Control.{Control}
-use Rattle.swp_act.specs.Activation.{new_uicc}
-use Rattle.trace_model.specs.declared.entry.Entry.{Entry}
-use Rattle.link_laws.specs.machine.Machine.{LinkEnd, after_input, frames_out, new_link_end, sent_all}
-use Rattle.link_laws.specs.machine.Machine.LinkInput.{Tick}
-use Rattle.link_laws.specs.machine.Machine.Role.{Uicc}
-use Rattle.link_laws.specs.messages.Links.{Link, exchanged, becomes, put_all, ticks_at_controller}
-use Rattle.link_laws.specs.messages.Links.Ending.{GoesOut}
-use Rattle.node_machine.specs.Parts.{Running}
-use Rattle.node_machine.specs.world.World.{Site, host_ticks}
-use Rattle.node_laws.specs.telling.Telling.{IfOff}
-use Rattle.node_sites.specs.declared.places.HostSite.{HostSite}
-use Rattle.node_sites.specs.LinksKept.{SameWires}
-use Rattle.node_sites.specs.declared.power.Power.TheVariants.{On, Off}
-use Rattle.node_sites.specs.Powers.{IsNodePlace}
-use Rattle.node_sites.specs.Places.{SiteIs}
-use Rattle.node_world.specs.HostSteps.{MayTick, HasBecome}
+use Rattle.node_world.proofs.Words.{Control, Entry, GoesOut, HasBecome, HostSite, IfOff, IsNodePlace, Link, LinkEnd, MayTick, Off, On, Power, Running}
+use Rattle.node_world.proofs.Words.{SameWires, Site, SiteIs, Tick, Uicc, after_input, exchanged, frames_out, host_ticks, new_link_end, new_uicc, put_all}
+use Rattle.node_world.proofs.Words.{sent_all, ticks_at_controller}
+use Rattle.link_laws.specs.messages.Links.{becomes}
 use Rattle.node_world.proofs.GoingOn.{same_stand, same_exchanged, same_twice}
 use Rattle.node_world.proofs.TicksGo.{ticks_on}
-use Rattle.node_sites.specs.declared.power.Power.{Power}
 
 pub becomes_same : (m : Link) (e : LinkEnd) → frames_out e ≡ [] → SameWires m (becomes m e)
 becomes_same m e q =

@@ -3,26 +3,23 @@ use Rattle.std.proofs.Common.{◌≡◌, inl, inr, ℕ, ◌+◌, ◌≤◌, true
 use Rattle.std.specs.Prelude.{None}
 use Rattle.std.specs.List.{AllByRecursion, fold}
 use Rattle.std.proofs.lemmas.Bool.{true≢false}
-use Rattle.trace_model.specs.declared.line.Header.{Header}
-use Rattle.trace_model.specs.declared.line.Line.{Line}
+use Rattle.node_world.proofs.Words.{FollowsNodes, Header, IsNodeHeader, IsPlayFor, IsPlayedLine, Line, NodeHistory, NoneIsMisread, Play, Round, Said}
+use Rattle.node_world.proofs.Words.{hosts_stay_behind, lines_may_be_played, lines_played, lines_said, new_world, round_behind}
 use Rattle.trace_model.specs.declared.line.Line.TheVariants as saying
-use Rattle.trace_model.specs.Lines.{IsHeader, IsNodeHeader, IsLineOf, MayBegin}
+use Rattle.trace_model.specs.Lines.{IsHeader, IsLineOf, MayBegin}
 use Rattle.history.specs.Histories.{History}
 use Rattle.history.specs.Follows.{Follows}
-use Rattle.node_machine.specs.world.World.{new_world}
-use Rattle.node_machine.specs.world.NodeHistories.{NodeHistory, NoneIsMisread, FollowsNodes, steps_from}
+use Rattle.node_machine.specs.world.NodeHistories.{steps_from}
 use Rattle.node_laws.specs.schedules.Ranges.{AreNodeLinesOf, asking, lines_asking}
 use Rattle.node_laws.specs.answers.Headline.{IsPlayed}
 use Rattle.node_laws.specs.answers.Headline.PlayedHistory.{OfLink, OfNodes}
 use Rattle.node_laws.proofs.schedules.Ranges.{in_range}
 use Rattle.node_laws.proofs.bounds.Lines.{asking-append, asking_few}
-use Rattle.node_laws.proofs.order.HostsStay.{hosts_stay_behind}
 use Rattle.node_laws.proofs.worlds.Schedules.{played_legal}
-use Rattle.lines_told.specs.lines.Below.{IsPlayedLine, is_settling}
-use Rattle.lines_told.specs.lines.Plays.{IsPlayFor, Play, lines_of_play, lines_played, lines_said, round_behind}
-use Rattle.lines_told.specs.lines.Plays.Play.{Said, Round}
+use Rattle.lines_told.specs.lines.Below.{is_settling}
+use Rattle.lines_told.specs.lines.Plays.{lines_of_play}
 use Rattle.lines_told.specs.lines.RoundLines.{IsRoundLine}
-use Rattle.lines_told.proofs.lines.Lines.{lines_may_be_played, round_known}
+use Rattle.lines_told.proofs.lines.Lines.{round_known}
 use Rattle.node_world.specs.Legal.{HaveLegalHistory}
 
 -- ## Lines in their ranges

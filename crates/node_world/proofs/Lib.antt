@@ -1,3 +1,4 @@
+mod Words
 pub mod GoingOn
 pub mod EndsGo
 pub mod Behind

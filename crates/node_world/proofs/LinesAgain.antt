@@ -4,30 +4,17 @@ use Rattle.std.proofs.Common.{append-nil, arith, length}
 use Rattle.std.specs.Prelude.{Some, None, replicate}
 use Rattle.std.specs.List.{AllByRecursion}
 use Rattle.std.proofs.lemmas.Grind.{flat_map-append}
-use Rattle.trace_model.specs.Lines.{IsHost}
-use Rattle.trace_model.specs.declared.entry.Entry.{Entry}
-use Rattle.trace_model.specs.declared.line.End.{End}
-use Rattle.trace_model.specs.declared.line.Line.{Line}
-use Rattle.link_laws.specs.messages.Links.{Comes, aged}
-use Rattle.history.specs.Follows.{frames_to}
-use Rattle.node_machine.specs.Carrying.{changed_if}
-use Rattle.node_machine.specs.Node.{steps}
-use Rattle.node_machine.specs.Node.NodeInput.{AtEnd}
-use Rattle.node_machine.specs.world.World.{NodeWorld, Site, Happening, after_host, all_aged, comes_at, controller_ticks, link_after_controller}
-use Rattle.node_machine.specs.world.World.{controller_work, host_work, link_to, site_at, with_site, world_step, world_ticks}
-use Rattle.node_machine.specs.world.Lines.{LineOutcome, Occurrence, all_happen, can_happen, goes_on, line_step, refusal_in}
+use Rattle.node_world.proofs.Words.{AtEnd, Comes, End, Entry, FewBehind, Happening, HostSite, IsHost, IsThere, IsWithinBounds, Line, LineOutcome, LinePlayed}
+use Rattle.node_world.proofs.Words.{MayGoOn, Occurrence, Power, Site, SitesAre, WorldBecomes, WorldHasGone, WorldIs, after_host, aged, all_aged, all_happen}
+use Rattle.node_world.proofs.Words.{by_coming, by_controller, by_controller_tick, by_host, can_happen, changed_if, comes_at, controller_ticks, controller_work}
+use Rattle.node_world.proofs.Words.{entries_in, frames_to, host_work, line_step, link_after_controller, link_to, near_tick, refusal_in, site_at, site_ticked}
+use Rattle.node_world.proofs.Words.{site_unticked, steps, with_site, world_step, world_ticks}
+use Rattle.node_machine.specs.world.World.{NodeWorld}
+use Rattle.node_machine.specs.world.Lines.{goes_on}
 use Rattle.node_machine.specs.world.Lines.LineOutcome.{Occurred}
-use Rattle.node_machine.specs.world.NodeHistories.{entries_in}
-use Rattle.node_machine.proofs.world.Cases.{by_coming, by_controller, by_controller_tick, by_host, near_tick, site_ticked, site_unticked}
 use Rattle.node_laws.specs.telling.Telling.{hosts_in}
 use Rattle.node_laws.proofs.telling.Orderly.{hosts_ticked, step_orderly}
-use Rattle.node_sites.specs.declared.places.HostSite.{HostSite}
-use Rattle.node_world.specs.Bounds.{FewBehind}
-use Rattle.node_world.specs.Controllers.{IsThere, MayGoOn, SitesAre, WorldBecomes, WorldIs}
-use Rattle.node_world.specs.Rounds.{WorldHasGone}
-use Rattle.node_world.specs.Whole.{IsWithinBounds, LinePlayed}
 use Rattle.node_world.proofs.FewInWorlds.{few_behind_step, longer}
-use Rattle.node_sites.specs.declared.power.Power.{Power}
 
 -- ## Hosts stay
 

@@ -3,20 +3,15 @@ use Rattle.std.proofs.Common.{◌≡◌, true, false, List, ℕ, refl, ap}
 use Rattle.std.proofs.lemmas.Bool.{true≢false}
 use Rattle.std.specs.Prelude.{Option, Some, None}
 use Rattle.arrayvec.specs.ArrayVec.{ArrayVec}
-use Rattle.trace_model.specs.declared.entry.NoCause.{NoCause}
+use Rattle.node_world.proofs.Words.{End, Finds, Line, Loses, Loss, NoCause, Takes, frames_at, if_off, is_running, misread_in, node_of, refusal_in}
 use Rattle.trace_model.specs.declared.entry.NoCause.TheVariants as no
-use Rattle.trace_model.specs.declared.line.End.{End}
-use Rattle.trace_model.specs.declared.line.Line.{Line}
 use Rattle.trace_model.specs.declared.line.Line.TheVariants as line
-use Rattle.link_laws.specs.messages.Links.{Loss}
 use Rattle.history.specs.Damage.Verdict.{Same, LostFor}
 use Rattle.history.specs.Follows.{first_verdict, if_out_of_reach, other_frame}
-use Rattle.link_wires.specs.Damages.{Finds}
 use Rattle.link_wires.specs.declared.finding.Damaged.{Damaged}
 use Rattle.link_wires.specs.declared.finding.Damaged.TheVariants as found
-use Rattle.node_machine.specs.world.World.{NodeWorld, node_of}
-use Rattle.node_machine.specs.world.World.Happening.{Takes, Loses}
-use Rattle.node_machine.specs.world.Lines.{frames_at, goes_on, if_off, is_running, misread_in, refusal_in}
+use Rattle.node_machine.specs.world.World.{NodeWorld}
+use Rattle.node_machine.specs.world.Lines.{goes_on}
 use Rattle.node_world.specs.Whole.{is_damaging}
 use Rattle.node_world.proofs.LinesEnd.{first_is, off_is, on_is, second_is}
 use Rattle.node_world.proofs.LinesGo.{one_step}

@@ -3,22 +3,15 @@ use Rattle.std.proofs.Common.{◌≡◌, ◌≢◌, ℕ, ◌==◌, Bool, true, f
 use Rattle.std.specs.Prelude.{Option, Some, None, IsTrue, is_some}
 use Rattle.std.specs.List.{list_any}
 use Rattle.std.proofs.lemmas.Bool.{true≢false}
-use Rattle.trace_model.specs.declared.entry.Entry.{Entry}
+use Rattle.node_world.proofs.Words.{Entry, Happening, HostSite, IsNodeOf, IsThere, Line, LinePlayed, NoCause, Power, Running, Site, WorldBecomes, WorldIs}
+use Rattle.node_world.proofs.Words.{if_off, is_running, line_step, refusal_in, site_at, world_step}
 use Rattle.trace_model.specs.declared.entry.Entry.TheVariants as note
-use Rattle.trace_model.specs.declared.entry.NoCause.{NoCause}
 use Rattle.trace_model.specs.declared.entry.NoCause.TheVariants as no
-use Rattle.trace_model.specs.Lines.{IsNodeOf}
-use Rattle.trace_model.specs.declared.line.Line.{Line}
 use Rattle.trace_model.specs.declared.line.Line.TheVariants as line
-use Rattle.node_machine.specs.Parts.{Running}
-use Rattle.node_machine.specs.world.World.{NodeWorld, Happening, Site, site_at, world_step}
-use Rattle.node_machine.specs.world.Lines.{first_cause, goes_on, if_off, is_running, line_step, refusal_in}
+use Rattle.node_machine.specs.world.World.{NodeWorld}
+use Rattle.node_machine.specs.world.Lines.{first_cause, goes_on}
 use Rattle.node_laws.specs.telling.Telling.{hosts_in}
-use Rattle.node_sites.specs.declared.places.HostSite.{HostSite}
-use Rattle.node_world.specs.Controllers.{IsThere, WorldIs, WorldBecomes}
-use Rattle.node_world.specs.Whole.{LinePlayed}
 use Rattle.node_world.proofs.LinesGo.{one_step, world_goes, world_refused}
-use Rattle.node_sites.specs.declared.power.Power.{Power}
 
 -- ## Nodes that run
 

@@ -9,12 +9,10 @@ use Rattle.std.proofs.lemmas.Bool.{ne_eqb}
 use Rattle.std.proofs.lemmas.Cmp.{ranked}
 use Rattle.std.proofs.lemmas.List.Elements.{recursion_from_All}
 use Rattle.std.proofs.lemmas.Map.Keys.{sorted_head, sorted_tail, sorted_from_strictly_increasing}
-use Rattle.trace_model.specs.Lines.{IsHost, IsNodeHeader, MayFollow}
-use Rattle.trace_model.specs.declared.line.Header.{Header}
-use Rattle.trace_model.specs.declared.line.Line.{Line}
+use Rattle.trace_model.specs.Lines.{MayFollow}
+use Rattle.node_world.proofs.Words.{AreDifferent, Header, IsHost, IsNodeHeader, IsPlayable, IsSentByHost, Line}
 use Rattle.trace_model.specs.declared.line.Line.TheVariants as line
-use Rattle.node_laws.specs.kept.Hosts.{AreDifferent, AreHosts, IsSentByHost}
-use Rattle.node_laws.specs.links.Runs.{IsPlayable}
+use Rattle.node_laws.specs.kept.Hosts.{AreHosts}
 
 -- ## Hosts
 

@@ -4,20 +4,15 @@ use Rattle.std.specs.Prelude.{Option, Some, None, Contains}
 use Rattle.std.specs.List.{AllByRecursion}
 use Rattle.std.proofs.lemmas.Bool.{eq-eqb, true≢false}
 use Rattle.std.proofs.lemmas.List.Elements.{All-contains, All-from_recursion}
-use Rattle.trace_model.specs.declared.entry.Entry.{Entry}
+use Rattle.node_world.proofs.Words.{Entry, Happening, Header, HostSite, IsThere, IsWithinBounds, Line, LineOutcome, LinePlayed, MayPlay, NoCause, Power, Site}
+use Rattle.node_world.proofs.Words.{SitesAre, SitesBecome, WasRefused, WorldBecomes, WorldIs, line_step, refusal_in, site_at, world_step}
 use Rattle.trace_model.specs.declared.entry.Entry.TheVariants as note
-use Rattle.trace_model.specs.declared.entry.NoCause.{NoCause}
-use Rattle.trace_model.specs.declared.line.Header.{Header}
-use Rattle.trace_model.specs.declared.line.Line.{Line}
-use Rattle.node_machine.specs.world.World.{NodeWorld, Site, Happening, site_at, world_step}
-use Rattle.node_machine.specs.world.Lines.{LineOutcome, refusal_in, goes_on, line_step}
-use Rattle.node_machine.specs.world.Lines.LineOutcome.{WasRefused, Occurred}
+use Rattle.node_machine.specs.world.World.{NodeWorld}
+use Rattle.node_machine.specs.world.Lines.{goes_on}
+use Rattle.node_machine.specs.world.Lines.LineOutcome.{Occurred}
 use Rattle.node_laws.specs.telling.Telling.{hosts_in}
-use Rattle.node_sites.specs.declared.places.HostSite.{HostSite}
-use Rattle.node_world.specs.Controllers.{SitesAre, WorldIs, WorldBecomes, IsThere}
-use Rattle.node_world.specs.Whole.{HostsPlayed, IsWithinBounds, LinePlayed, MayPlay, SitesBecome}
+use Rattle.node_world.specs.Whole.{HostsPlayed}
 use Rattle.node_world.proofs.FewInWorlds.{longer}
-use Rattle.node_sites.specs.declared.power.Power.{Power}
 
 -- ## What is asked
 

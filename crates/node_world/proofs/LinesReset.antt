@@ -1,17 +1,14 @@
 -- What a line that asks for a reset is refused for, where the node of the end runs.
 use Rattle.std.proofs.Common.{◌≡◌, ℕ, Bool, true, false, refl, ap, ◌∙◌}
 use Rattle.std.specs.Prelude.{Option, Some, None, is_some, option_map}
-use Rattle.trace_model.specs.declared.line.End.{End}
+use Rattle.node_world.proofs.Words.{AsksReset, End, LinkEnd, Running, if_off, is_running, is_waiting, machine_in, node_at, node_of, refusal_coming, refusal_in}
+use Rattle.node_world.proofs.Words.{reset_refusal}
 use Rattle.trace_model.specs.declared.line.Line.TheVariants as line
-use Rattle.shdlc_core.specs.Machine.{is_waiting}
-use Rattle.link_laws.specs.machine.Machine.{LinkEnd, is_open, reset_refusal}
-use Rattle.link_laws.specs.messages.Links.Comes.{AsksReset}
+use Rattle.link_laws.specs.machine.Machine.{is_open}
 use Rattle.link_end.specs.Reports.{reset_refused}
 use Rattle.history.specs.Follows.{as_noted}
-use Rattle.node_machine.specs.Parts.{Running}
-use Rattle.node_machine.specs.world.World.{NodeWorld, node_at, node_of}
-use Rattle.node_machine.specs.world.Lines.{if_off, is_running, machine_in, refusal_in}
-use Rattle.node_world.specs.HostSteps.{refusal_coming, reset_noted}
+use Rattle.node_machine.specs.world.World.{NodeWorld}
+use Rattle.node_world.specs.HostSteps.{reset_noted}
 use Rattle.node_world.proofs.LinesEnd.{on_is, second_is}
 
 -- an end that isn't reset tells so in one of two ways

@@ -3,32 +3,19 @@ use Rattle.std.proofs.Common.{◌≡◌, ℕ, ◌+◌, ◌<◌, ◌≤◌, Bool,
 use Rattle.std.proofs.Common.{append-nil, append_assoc, arith, length-append}
 use Rattle.std.specs.Prelude.{◌&&◌, Option, Some, None}
 use Rattle.std.specs.List.{AllByRecursion, list_all}
-use Rattle.swp_base.specs.InMemory.{Memory}
-use Rattle.swp_act.specs.Activation.{new_clf, new_uicc}
-use Rattle.link_laws.specs.sessions.Sessions.{OnWire}
-use Rattle.link_laws.specs.machine.Machine.{new_link_end}
-use Rattle.link_laws.specs.machine.Machine.Role.{Clf, Uicc}
+use Rattle.node_world.proofs.Words.{AreTimely, Clf, Core, Desk, HasEnds, HostSite, IfItRuns, IfOff, IsNodePlace, MayGoOn, Memory, Node, NumberedEnd, Off, On}
+use Rattle.node_world.proofs.Words.{OnWire, Port, Power, Running, RunsAs, Site, SiteIs, SitesAre, Uicc, is_clear, link_is, link_to, new_clf, new_link_end}
+use Rattle.node_world.proofs.Words.{new_uicc, port_for, site_at}
 use Rattle.link_laws.specs.machine.AtRest.{end_rests}
-use Rattle.link_laws.specs.messages.Links.{NumberedEnd}
-use Rattle.link_laws.specs.messages.Rest.{is_clear, link_rests}
-use Rattle.node_machine.specs.Parts.{Core, Desk, Port, Running}
-use Rattle.node_machine.specs.world.World.{NodeWorld, Site, link_to, port_for, site_at}
+use Rattle.link_laws.specs.messages.Rest.{link_rests}
+use Rattle.node_machine.specs.world.World.{NodeWorld}
 use Rattle.node_machine.specs.world.Rounds.{sites_rest}
-use Rattle.node_laws.specs.telling.Telling.{HasEnds, IfItRuns, IfOff, hosts_in}
-use Rattle.node_laws.proofs.telling.Nodes.{link_is}
+use Rattle.node_laws.specs.telling.Telling.{hosts_in}
 use Rattle.node_ends.specs.Ends.{are_at_rest}
-use Rattle.node_sites.specs.declared.places.HostSite.{HostSite}
-use Rattle.node_world.specs.Controllers.{AreTimely, MayGoOn, SitesAre}
-use Rattle.node_sites.specs.declared.power.Power.TheVariants.{On, Off}
-use Rattle.node_sites.specs.Powers.{IsNodePlace}
-use Rattle.node_sites.specs.Places.{SiteIs}
 use Rattle.node_world.specs.Rounds.{IsToLookAt, far_rests, near_rests}
 use Rattle.node_world.proofs.Behind.{each_found}
 use Rattle.node_world.proofs.PlacesFound.{There, there}
 use Rattle.node_world.proofs.SitesKept.{as_many}
-use Rattle.node_core.specs.declared.node.Node.{Node}
-use Rattle.node_core.specs.Running.{RunsAs}
-use Rattle.node_sites.specs.declared.power.Power.{Power}
 
 -- ## Wires
 

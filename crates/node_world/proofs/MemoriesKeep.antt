@@ -4,31 +4,18 @@ use Rattle.std.proofs.Common.{subst, arith}
 use Rattle.std.specs.Prelude.{Option, Some, None, is_some}
 use Rattle.std.specs.List.{AllByRecursion}
 use Rattle.std.proofs.lemmas.Bool.{cases_Bool, eqb-true, ne_eqb}
-use Rattle.swp_base.specs.InMemory.{Memory}
-use Rattle.trace_model.specs.Lines.{IsHost}
-use Rattle.trace_model.specs.declared.entry.Entry.{Entry}
+use Rattle.node_world.proofs.Words.{Activates, Arms, AsksReset, AtController, Book, Boots, CutOff, Entry, Gives, Happening, Inits, IsCut, IsHost, IsSentByHost}
+use Rattle.node_world.proofs.Words.{IsSoundMemory, Line, LineOutcome, Loses, Memory, NextFrame, NoCause, NoInput, Occurrence, Resets, Running, Site, Step}
+use Rattle.node_world.proofs.Words.{Takes, Ticks, WasRefused, after_planned, all_happen, book_in, boot_writes, boots, can_happen, fails_within, found, happens}
+use Rattle.node_world.proofs.Words.{host_cut, last_in, line_step, loses_power_at, memory_at, new_world, node_at, refusal_in, site_at, with_memory, with_node}
+use Rattle.node_world.proofs.Words.{with_site, world_step}
 use Rattle.trace_model.specs.declared.entry.Entry.TheVariants as entry
-use Rattle.trace_model.specs.declared.entry.NoCause.{NoCause}
-use Rattle.trace_model.specs.declared.line.Line.{Line}
 use Rattle.trace_model.specs.declared.line.Line.TheVariants as line
-use Rattle.journal_laws.specs.Planned.{fails_within, after_planned}
-use Rattle.link_laws.specs.messages.Links.{happens}
-use Rattle.link_laws.specs.messages.Links.Ending.{CutOff}
-use Rattle.link_laws.specs.messages.Links.EndEvent.{Step}
-use Rattle.link_laws.specs.messages.Links.LinkEvent.{AtController}
-use Rattle.link_laws.specs.messages.Links.Comes.{NextFrame, AsksReset, NoInput}
-use Rattle.node_machine.specs.Parts.{Running}
-use Rattle.node_machine.specs.Node.{found, boot_writes}
-use Rattle.node_machine.specs.world.World.{NodeWorld, Site, Happening, new_world, site_at}
-use Rattle.node_machine.specs.world.World.{with_site, host_cut, loses_power_at, memory_at, with_memory, with_node}
-use Rattle.node_machine.specs.world.World.{links_of, node_at, boots, world_step}
-use Rattle.node_machine.specs.world.World.Happening.{Boots, IsCut, Gives, Inits, Takes, Loses, Ticks, Resets, Activates, Arms}
-use Rattle.node_machine.specs.world.Lines.{Occurrence, LineOutcome, can_happen, all_happen, happenings, goes_on, line_step, refusal_in}
-use Rattle.node_machine.specs.world.Lines.LineOutcome.{WasRefused}
+use Rattle.node_machine.specs.world.World.{NodeWorld}
+use Rattle.node_machine.specs.world.World.{links_of}
+use Rattle.node_machine.specs.world.Lines.{happenings, goes_on}
 use Rattle.node_machine.specs.world.NodeHistories.{world_after}
-use Rattle.node_machine.specs.world.NodeFilters.{Book, book_in}
-use Rattle.node_machine.specs.world.NodeLegal.{last_in}
-use Rattle.node_laws.specs.kept.Hosts.{AreHosts, IsSentByHost}
+use Rattle.node_laws.specs.kept.Hosts.{AreHosts}
 use Rattle.node_laws.specs.kept.Worlds.{NodeKeeps, SiteKeeps, AllKeep, MayHappen}
 use Rattle.node_laws.proofs.kept.Booting.{boot_lost}
 use Rattle.node_laws.proofs.kept.Sites.{hosts_in, site_found, with_site_twice}
@@ -38,7 +25,7 @@ use Rattle.node_laws.proofs.kept.Ticking.{ticks_goes}
 use Rattle.node_laws.proofs.kept.Lines.{MayAllHappen, line_may}
 use Rattle.node_laws.proofs.kept.Kept.{all_begin}
 use Rattle.hci_store.proofs.Applying.{sound_has_no_fault}
-use Rattle.node_sites.specs.Memories.{KeepsSome, IsSoundMemory}
+use Rattle.node_sites.specs.Memories.{KeepsSome}
 use Rattle.node_world.proofs.Versions.{boots_find_version_02}
 use Rattle.node_world.proofs.MemoryReads.{reads_at_first, reads_behind_step}
 use Rattle.node_world.proofs.Booting.{as_found, told_as_found, runs_as_found}

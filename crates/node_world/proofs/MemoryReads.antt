@@ -3,23 +3,17 @@ use Rattle.std.proofs.Common.{◌≡◌, ℕ, ◌==◌, Bool, true, false, cond,
 use Rattle.std.specs.Prelude.{Some, None, replicate}
 use Rattle.std.specs.List.{AllByRecursion}
 use Rattle.std.specs.Option.{option_map_or}
-use Rattle.swp_base.specs.InMemory.{Memory, is_next, memory_after}
-use Rattle.trace_model.specs.declared.line.End.{End}
+use Rattle.swp_base.specs.InMemory.{is_next, memory_after}
+use Rattle.node_world.proofs.Words.{Activates, Arms, AsksReset, AtEnd, Boots, Comes, End, Gives, Happening, Inits, IsCut, Loses, Loss, Memory, NextFrame}
+use Rattle.node_world.proofs.Words.{NoInput, Resets, Running, Site, Starts, Takes, Ticks, Work, after_host, after_planned, all_aged, beginning, begins_with}
+use Rattle.node_world.proofs.Words.{boot_found, boot_writes, boot_written, boots, by_coming, by_controller, by_controller_tick, by_host, by_host_tick}
+use Rattle.node_world.proofs.Words.{changed_if, comes_at, controller_ticks, controller_work, counts, end_c, end_h, frame_lost, host_cut, host_does, host_tick}
+use Rattle.node_world.proofs.Words.{host_work, hosts_tick, link_after_controller, loses_power_at, memory_at, near_tick, new_site, new_world, sending, site_at}
+use Rattle.node_world.proofs.Words.{site_ticked, steps, with_memory, with_node, with_site, world_step, world_ticks}
 use Rattle.journal_laws.specs.Writes.{Write}
-use Rattle.journal_laws.specs.Planned.{after_planned}
-use Rattle.link_laws.specs.messages.Links.{Comes, Loss}
-use Rattle.link_laws.specs.messages.Links.Comes.{Starts, NoInput, NextFrame, AsksReset}
-use Rattle.node_machine.specs.Parts.{Running, Work}
-use Rattle.node_machine.specs.Node.{steps, begins_with, boot_writes}
-use Rattle.node_machine.specs.Node.NodeInput.{AtEnd}
-use Rattle.node_machine.specs.Carrying.{changed_if}
-use Rattle.node_machine.specs.world.World.{Site, NodeWorld, Happening, new_world, new_site, new_memory, site_at, with_site, controller_does, controller_work}
-use Rattle.node_machine.specs.world.World.{link_after_controller, after_host, host_does, host_work, host_cut, loses_power_at, memory_at, with_memory, with_node}
-use Rattle.node_machine.specs.world.World.{boots, counts, frame_lost, all_aged, controller_ticks, hosts_tick, world_ticks, comes_at, end_c, end_h}
-use Rattle.node_machine.specs.world.World.{world_step, sending, beginning}
-use Rattle.node_machine.specs.world.World.Happening.{Boots, IsCut, Gives, Inits, Takes, Loses, Ticks, Resets, Activates, Arms}
-use Rattle.node_machine.proofs.world.Cases.{by_controller, by_host, by_coming, by_power, by_memory, by_running, boot_written, boot_found, by_boot, by_loss}
-use Rattle.node_machine.proofs.world.Cases.{site_lost, site_ticked, near_tick, host_tick, by_controller_tick, by_host_tick}
+use Rattle.node_machine.specs.world.World.{NodeWorld, new_memory, controller_does}
+use Rattle.node_machine.proofs.world.Cases.{by_power, by_memory, by_running, by_boot, by_loss}
+use Rattle.node_machine.proofs.world.Cases.{site_lost}
 use Rattle.node_sites.specs.Memories.{ReadsGoThrough}
 
 -- ## One memory

@@ -2,34 +2,19 @@
 use Rattle.std.proofs.Common.{◌≡◌, ℕ, ◌==◌, Bool, true, false, List, [], ◌∷◌, ◌++◌, length, map, refl, ap, sym, subst, ◌∙◌, arith}
 use Rattle.std.specs.Prelude.{slice_set, Option, Some, None}
 use Rattle.std.specs.List.{AllByRecursion}
-use Rattle.swp_base.specs.InMemory.{Memory}
-use Rattle.trace_model.specs.declared.entry.Entry.{Entry}
-use Rattle.trace_model.specs.declared.line.End.{End}
-use Rattle.hcp_packet.specs.Packets.{AreSendable}
-use Rattle.link_laws.specs.machine.Machine.{LinkInput}
-use Rattle.link_laws.specs.messages.Links.{NumberedEnd, Comes, Loss, exchanged}
-use Rattle.link_laws.specs.messages.Links.Comes.{NoInput}
-use Rattle.link_laws.specs.messages.Links.Ending.{CutOff}
-use Rattle.node_machine.specs.Parts.{Desk, Running, Port, Work}
-use Rattle.node_machine.specs.Node.{steps}
-use Rattle.node_machine.specs.Node.NodeInput.{AtEnd, TimePasses}
-use Rattle.node_machine.specs.world.World.{NodeWorld, Site, site_at, link_to, port_for, turns_at, ending_of, host_work, input_of, host_cut}
-use Rattle.node_laws.specs.telling.Telling.{IsOrderly}
+use Rattle.node_world.proofs.Words.{AreSendable, AtEnd, BecomesUnless, Comes, CutOff, Desk, End, Entry, FewAreCounted, FewBehind, FewOnEach, HasBecome}
+use Rattle.node_world.proofs.Words.{HaveRoom, HostSite, IsNodePlace, IsOrderly, LinkInput, Loss, Memory, NoInput, NumberedEnd, Off, On, Port, Power, Running}
+use Rattle.node_world.proofs.Words.{Site, SitesAre, SitesBecome, StandsAt, TimePasses, Work, WorldBecomes, WorldIs, ending_of, exchanged, host_cut, host_hears}
+use Rattle.node_world.proofs.Words.{host_stepped, host_work, if_accepted, input_of, link_to, port_for, site_at, site_loses, steps, turns_at}
+use Rattle.node_machine.specs.world.World.{NodeWorld}
 use Rattle.node_laws.proofs.telling.Nodes.{site_host}
-use Rattle.node_sites.specs.declared.power.Power.TheVariants.{On, Off}
-use Rattle.node_sites.specs.declared.places.HostSite.{HostSite}
-use Rattle.node_world.specs.Bounds.{FewOnEach, FewBehind}
-use Rattle.node_world.specs.Controllers.{SitesAre, StandsAt, WorldIs, WorldBecomes, HaveRoom, FewAreCounted, FewAreCountedAt}
-use Rattle.node_world.specs.HostSteps.{host_stepped, host_hears, site_loses, HasBecome, BecomesUnless}
-use Rattle.node_sites.specs.Powers.{IsNodePlace}
-use Rattle.node_world.specs.Whole.{SitesBecome, if_accepted}
+use Rattle.node_world.specs.Controllers.{FewAreCountedAt}
 use Rattle.node_world.proofs.AtHosts.{becomes, from_outside, room_there, site_changes, site_stands}
 use Rattle.node_world.proofs.CountsStay.{acks_of_ports, counts_few_at_end, counts_few_in_tick, few_to}
 use Rattle.node_world.proofs.FewOnLinks.{far_stays}
 use Rattle.node_world.proofs.HostsFound.{becomes_unless}
 use Rattle.node_world.proofs.HostsInWorlds.{ChangesSite}
 use Rattle.node_sites.specs.GivenMessages.{given_messages}
-use Rattle.node_sites.specs.declared.power.Power.{Power}
 
 -- a host became another one, with the same number and the same end of the controller
 pub record LeavesNear (s t : Site) : Type 0 where

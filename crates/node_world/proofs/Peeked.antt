@@ -2,22 +2,16 @@
 use Rattle.std.proofs.Common.{◌≡◌, ℕ, ◌==◌, Bool, true, false, List, [], ◌∷◌, length, refl, ap, ◌∙◌}
 use Rattle.std.specs.Prelude.{Option, Some, None}
 use Rattle.std.specs.Option.{option_map, option_map_or}
-use Rattle.swp_base.specs.InMemory.{Memory}
-use Rattle.trace_model.specs.declared.entry.Entry.{Entry}
+use Rattle.node_world.proofs.Words.{Entry, IsSoundMemory, Memory, Running, Side, Site, after_planned, boot_found, boot_writes, boot_written, boots, count_of}
+use Rattle.node_world.proofs.Words.{current, fails_within, host_cut, loses_power_at, memory_at, node_at, site_at, started_state, state_of, with_memory}
+use Rattle.node_world.proofs.Words.{with_node, with_site}
 use Rattle.trace_model.specs.declared.entry.Entry.TheVariants as entry
-use Rattle.journal_laws.specs.declared.banks.Side.{Side}
 use Rattle.journal_laws.specs.declared.state.State.{State}
-use Rattle.journal_laws.specs.Banks.{other, is_opened_gate, head, current}
-use Rattle.journal_laws.specs.Journal.{unformatted, journal_at, state_of, state_by, count_of, count}
-use Rattle.journal_laws.specs.Operations.{started_state}
-use Rattle.journal_laws.specs.Planned.{fails_within, after_planned}
+use Rattle.journal_laws.specs.Banks.{other, is_opened_gate, head}
+use Rattle.journal_laws.specs.Journal.{unformatted, journal_at, state_by, count}
 use Rattle.hci_tables.specs.Tables.{close}
 use Rattle.hci_store.specs.Image.{tables_of}
-use Rattle.node_machine.specs.Parts.{Running}
-use Rattle.node_machine.specs.Node.{boot_writes}
-use Rattle.node_machine.specs.world.World.{NodeWorld, Site, site_at, with_site, host_cut, loses_power_at, memory_at, with_memory, with_node, node_at, boots}
-use Rattle.node_machine.proofs.world.Cases.{boot_found, boot_written}
-use Rattle.node_sites.specs.Memories.{IsSoundMemory}
+use Rattle.node_machine.specs.world.World.{NodeWorld}
 use Rattle.node_world.specs.Worlds.{IsPeekedSo, at_rest}
 
 -- ## A host that is changed

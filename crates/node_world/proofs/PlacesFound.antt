@@ -5,14 +5,8 @@ use Rattle.std.specs.Prelude.{slice_set, None}
 use Rattle.std.specs.List.{AllByRecursion}
 use Rattle.std.proofs.lemmas.Bool.{eqb-false}
 use Rattle.std.proofs.lemmas.List.{length-append, length-take-le, get_or-set_same, get_or-set_other, map-append, take-append-drop}
-use Rattle.trace_model.specs.Lines.{IsHost}
-use Rattle.link_laws.specs.messages.Links.{number_of}
-use Rattle.node_machine.specs.world.World.{Site, site_at}
-use Rattle.node_laws.specs.kept.Hosts.{AreDifferent}
+use Rattle.node_world.proofs.Words.{AreDifferent, AreSessions, HostSite, IsHost, Site, SiteIs, SitesAre, StandsAt, number_of, site_at}
 use Rattle.node_laws.specs.telling.Telling.{hosts_in}
-use Rattle.node_sites.specs.declared.places.HostSite.{HostSite}
-use Rattle.node_sites.specs.Places.{SiteIs}
-use Rattle.node_world.specs.Controllers.{SitesAre, AreSessions, StandsAt}
 use Rattle.node_world.proofs.SitesKept.{as_many, read_there}
 use Rattle.node_world.proofs.FramesToAll.{others_before, of_these}
 

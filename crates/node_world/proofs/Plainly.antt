@@ -1,15 +1,6 @@
 -- A frame is lost on the way to an end of the link of a host.
 use Rattle.std.proofs.Common.{◌≡◌, Bool, true, false, refl, sym, subst, ◌∙◌}
-use Rattle.trace_model.specs.declared.line.End.{End}
-use Rattle.link_laws.specs.messages.Links.{Link, NumberedEnd, Loss, happens}
-use Rattle.link_laws.specs.messages.Links.EndEvent.{Lose}
-use Rattle.history.specs.Steps.{at}
-use Rattle.node_machine.specs.world.World.{Site}
-use Rattle.node_sites.specs.declared.places.HostSite.{HostSite}
-use Rattle.node_sites.specs.LinksKept.{WiresStandFor}
-use Rattle.node_sites.specs.Powers.{IsNodePlace}
-use Rattle.node_sites.specs.Places.{SiteIs}
-use Rattle.node_sites.specs.declared.power.Power.{Power}
+use Rattle.node_world.proofs.Words.{End, HostSite, IsNodePlace, Link, Lose, Loss, NumberedEnd, Power, Site, SiteIs, WiresStandFor, at, happens}
 
 pub same_host : (to : End) (l : Link) (why : Loss) → (happens l (at to (Lose why))).host ≡ l.host
 same_host to l why = go to.at_host refl

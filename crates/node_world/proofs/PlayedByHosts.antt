@@ -2,26 +2,15 @@
 use Rattle.std.proofs.Common.{◌≡◌, ℕ, List, [], refl, sym, subst, ◌∙◌}
 use Rattle.std.proofs.lemmas.Bool.{true≢false}
 use Rattle.std.specs.Prelude.{Option, Some, None}
-use Rattle.trace_model.specs.declared.entry.Entry.{Entry}
-use Rattle.trace_model.specs.declared.entry.NoCause.{NoCause}
-use Rattle.trace_model.specs.declared.line.End.{End}
-use Rattle.trace_model.specs.declared.line.Header.{Header}
-use Rattle.trace_model.specs.declared.line.Line.{Line}
+use Rattle.node_world.proofs.Words.{End, Entry, Header, HostSite, IsThere, Line, LineOutcome, LinePlayed, MayPlay, NoCause, NoInput, Power, Site, SitesAre}
+use Rattle.node_world.proofs.Words.{SitesBecome, WasRefused, Work, WorldIs, beginning, begins_with, host_does, host_stepped, line_step, refusal_in, sending}
 use Rattle.trace_model.specs.declared.line.Line.TheVariants as line
-use Rattle.link_laws.specs.messages.Links.Comes.{NoInput}
-use Rattle.node_machine.specs.Parts.{Work}
-use Rattle.node_machine.specs.Node.{begins_with}
-use Rattle.node_machine.specs.world.World.{NodeWorld, Site, host_does, sending, beginning}
-use Rattle.node_machine.specs.world.Lines.{LineOutcome, goes_on, line_step, refusal_in}
-use Rattle.node_machine.specs.world.Lines.LineOutcome.{WasRefused}
-use Rattle.node_sites.specs.declared.places.HostSite.{HostSite}
-use Rattle.node_world.specs.Controllers.{SitesAre, WorldIs, IsThere}
-use Rattle.node_world.specs.HostSteps.{host_stepped}
-use Rattle.node_world.specs.Whole.{HostsPlayed, LinePlayed, MayPlay, SitesBecome}
+use Rattle.node_machine.specs.world.World.{NodeWorld}
+use Rattle.node_machine.specs.world.Lines.{goes_on}
+use Rattle.node_world.specs.Whole.{HostsPlayed}
 use Rattle.node_world.proofs.HostsInWorlds.{does_in_world}
 use Rattle.node_world.proofs.LinesGo.{is_there}
 use Rattle.node_world.proofs.NearKept.{host_becomes, stepped_leaves}
-use Rattle.node_sites.specs.declared.power.Power.{Power}
 
 module _ (k : Power) (ks new : List HostSite) (noted : List Entry) (header : Header) (w : NodeWorld)
     (world : WorldIs k ks w) where

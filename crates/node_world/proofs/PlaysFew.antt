@@ -3,26 +3,22 @@
 use Rattle.std.proofs.Common.{◌≡◌, ℕ, zero, suc, ◌+◌, ◌*◌, ◌≤◌, Bool, true, false, cond, List, [], ◌∷◌, ◌++◌, length, refl, sym, subst, arith}
 use Rattle.std.specs.Prelude.{Option, Some, None, is_some, replicate, unwrap_or}
 use Rattle.std.specs.List.{AllByRecursion, fold}
-use Rattle.trace_model.specs.Lines.{IsNodeHeader}
-use Rattle.trace_model.specs.declared.entry.NoCause.{NoCause}
-use Rattle.trace_model.specs.declared.line.End.{End}
-use Rattle.trace_model.specs.declared.line.Header.{Header}
-use Rattle.trace_model.specs.declared.line.Line.{Line}
+use Rattle.node_world.proofs.Words.{Activates, AreFewWithParts, Arms, AtController, Boots, End, FewBehind, FewOnEach, Gives, Happening, Header, Inits, IsCut}
+use Rattle.node_world.proofs.Words.{IsNodeHeader, IsPlayFor, IsPlayable, IsPlayedLine, Line, LineOutcome, Loses, NoCause, Occurrence, OnDemand, Play, Resets}
+use Rattle.node_world.proofs.Words.{Round, Said, Site, Takes, Ticks, WasRefused, after-append, all_happen, can_happen, ends_in_order, ends_take_all, frames_at}
+use Rattle.node_world.proofs.Words.{if_off, line_step, lines_played, lines_said, new_world, nodes_behind, refusal_in, round_behind, rounds_played, site_at}
+use Rattle.node_world.proofs.Words.{taken_of, world_step}
 use Rattle.trace_model.specs.declared.line.Line.TheVariants as line
 use Rattle.link_laws.specs.messages.Links.{AllAllowed, LinkEvent, after_link_events}
-use Rattle.link_laws.specs.messages.Links.LinkEvent.{AtController, AtHost}
-use Rattle.link_laws.specs.messages.Links.Loss.{OnDemand}
+use Rattle.link_laws.specs.messages.Links.LinkEvent.{AtHost}
 use Rattle.history.specs.Damage.{Verdict}
 use Rattle.history.specs.Damage.Verdict.{Same, LostFor, Undetected}
-use Rattle.history.specs.Follows.{first_verdict, taken_of}
-use Rattle.node_machine.specs.world.World.{NodeWorld, Site, Happening, new_world, site_at, world_step}
-use Rattle.node_machine.specs.world.World.Happening.{Boots, IsCut, Gives, Inits, Takes, Loses, Ticks, Resets, Activates, Arms}
-use Rattle.node_machine.specs.world.Lines.{Occurrence, LineOutcome, all_happen, can_happen, frames_at, goes_on, happens_by, if_off, line_step, refusal_in}
-use Rattle.node_machine.specs.world.Lines.LineOutcome.{WasRefused}
-use Rattle.node_machine.specs.world.Rounds.{end_takes_all, ends_in_order, ends_take_all, world_after_round}
+use Rattle.history.specs.Follows.{first_verdict}
+use Rattle.node_machine.specs.world.World.{NodeWorld}
+use Rattle.node_machine.specs.world.Lines.{goes_on, happens_by}
+use Rattle.node_machine.specs.world.Rounds.{end_takes_all, world_after_round}
 use Rattle.node_laws.specs.acked.AckedRounds.{AreAckedWithin, HostAcksAtMost, taken_in}
 use Rattle.node_laws.specs.acked.InTurn.{AcksAtMost, AllAtController, AllAtHost, IsAckedWithin}
-use Rattle.node_laws.specs.links.Runs.{IsPlayable}
 use Rattle.node_laws.specs.rounds.LinkEvents.{link_events_in}
 use Rattle.node_laws.specs.rounds.RoundEvents.{events_on}
 use Rattle.node_laws.specs.rsets.Causes.{FewRsetsOnEach, rsets_by}
@@ -34,12 +30,8 @@ use Rattle.node_laws.proofs.links.Playing.{MayHappen, runs_then}
 use Rattle.node_laws.proofs.rounds.Allowing.{on_allowed}
 use Rattle.node_laws.proofs.rounds.RoundEvents.{all_go, takes_pass}
 use Rattle.node_laws.proofs.rsets.InWorlds.{each_longer, few_behind_step, few_in_new_world}
-use Rattle.lines_told.specs.lines.Below.{IsPlayedLine, nodes_behind}
-use Rattle.lines_told.specs.lines.Plays.{IsPlayFor, Play, lines_of_play, lines_played, lines_said, rounds_played, round_behind}
-use Rattle.lines_told.specs.lines.Plays.Play.{Said, Round}
-use Rattle.lines_told.proofs.lines.NodeRounds.{after-append, round_behind_goes}
-use Rattle.node_world.specs.Bounds.{FewBehind, FewOnEach}
-use Rattle.node_world.specs.Worlds.{AreFewWithParts}
+use Rattle.lines_told.specs.lines.Plays.{lines_of_play}
+use Rattle.lines_told.proofs.lines.NodeRounds.{round_behind_goes}
 use Rattle.node_world.proofs.CountsStay.{ticks_within}
 use Rattle.node_world.proofs.LinesAgain.{happens_first, happens_not}
 use Rattle.node_world.proofs.LinesFit.{are_hosts, playable}

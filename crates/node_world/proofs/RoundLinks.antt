@@ -1,14 +1,9 @@
 -- The lines of a round in a world of nodes, by the hosts of its header.
 use Rattle.std.proofs.Common.{◌≡◌, ℕ, true, false, List, [], ◌∷◌, refl, ap, ◌∙◌}
 use Rattle.std.specs.List.{flat_map}
-use Rattle.trace_model.specs.declared.line.End.{End}
-use Rattle.trace_model.specs.declared.line.Header.{Header}
-use Rattle.trace_model.specs.declared.line.Line.{Line}
-use Rattle.node_machine.specs.world.World.{Site, end_c, end_h}
+use Rattle.node_world.proofs.Words.{End, Header, Line, Site, end_c, end_h, hosts_stay_behind, nodes_behind, round_behind}
 use Rattle.node_laws.specs.telling.Telling.{hosts_in}
-use Rattle.node_laws.proofs.order.HostsStay.{hosts_stay_behind}
-use Rattle.lines_told.specs.lines.Below.{nodes_behind}
-use Rattle.lines_told.specs.lines.Plays.{round_behind, round_in}
+use Rattle.lines_told.specs.lines.Plays.{round_in}
 use Rattle.lines_told.proofs.lines.NodeRounds.{round_lines}
 
 -- the controller's end of a link, and the host's

@@ -7,24 +7,16 @@ use Rattle.std.specs.Ordering.{nat_cmp}
 use Rattle.std.proofs.lemmas.List.{length-map}
 use Rattle.std.proofs.lemmas.List.Elements.{recursion_from_All}
 use Rattle.std.proofs.lemmas.Map.Keys.{sorted_head, sorted_tail, sorted_from_strictly_increasing}
-use Rattle.trace_model.specs.Lines.{IsHost, IsNodeHeader}
-use Rattle.trace_model.specs.declared.line.End.{End}
-use Rattle.trace_model.specs.declared.line.Header.{Header}
-use Rattle.trace_model.specs.declared.line.Line.{Line}
+use Rattle.node_world.proofs.Words.{AreTimely, End, FewBehind, Header, IsHost, IsNodeHeader, IsPlayable, IsPlayedLine, Line, NoneIsMisread, Site, after-append}
+use Rattle.node_world.proofs.Words.{ends_in_order, ends_take_all, frames_at, is_clear, is_running, new_world, node_of, nodes_behind}
 use Rattle.trace_model.specs.declared.line.Line.TheVariants as line
-use Rattle.link_laws.specs.messages.Rest.{is_clear}
-use Rattle.node_machine.specs.world.World.{NodeWorld, Site, new_world, node_of}
-use Rattle.node_machine.specs.world.Lines.{frames_at, is_running}
-use Rattle.node_machine.specs.world.NodeHistories.{NoneIsMisread, world_after}
-use Rattle.node_machine.specs.world.Rounds.{ends_in_order, ends_take_all}
+use Rattle.node_machine.specs.world.World.{NodeWorld}
+use Rattle.node_machine.specs.world.NodeHistories.{world_after}
 use Rattle.node_laws.specs.telling.Telling.{hosts_in}
-use Rattle.node_laws.specs.links.Runs.{IsPlayable, ArePlayable}
-use Rattle.lines_told.specs.lines.Below.{IsPlayedLine, nodes_behind}
+use Rattle.node_laws.specs.links.Runs.{ArePlayable}
 use Rattle.lines_told.specs.lines.Plays.{round_in, taking_in}
-use Rattle.lines_told.proofs.lines.NodeRounds.{after-append, sure-append, sure_round, takes_so}
+use Rattle.lines_told.proofs.lines.NodeRounds.{sure-append, sure_round, takes_so}
 use Rattle.lines_told.proofs.lines.Plays.{all-append}
-use Rattle.node_world.specs.Bounds.{FewBehind}
-use Rattle.node_world.specs.Controllers.{AreTimely}
 use Rattle.node_world.specs.Rounds.{MayGoRound}
 use Rattle.node_world.proofs.LinesFit.{IsAbove, above}
 use Rattle.node_world.proofs.WorldsBehind.{are_playable, goes_on_behind, hosts_behind, timely_behind}

@@ -6,28 +6,19 @@ use Rattle.std.specs.List.{AllByRecursion}
 use Rattle.std.proofs.lemmas.Bool.{eq-eqb}
 use Rattle.std.proofs.lemmas.Grind.{flat_map-append}
 use Rattle.std.proofs.lemmas.List.{length-map}
-use Rattle.trace_model.specs.Lines.{IsHost}
-use Rattle.trace_model.specs.declared.entry.Entry.{Entry}
-use Rattle.trace_model.specs.declared.line.End.{End}
-use Rattle.link_laws.specs.messages.Links.Comes.{NextFrame}
-use Rattle.node_machine.specs.world.World.{NodeWorld, Site, end_c, end_h, site_at, world_step, world_ticks}
-use Rattle.node_machine.specs.world.World.Happening.{Takes}
-use Rattle.node_machine.specs.world.Lines.{Occurrence, all_happen, can_happen, frames_at}
-use Rattle.node_machine.specs.world.NodeHistories.{entries_in}
-use Rattle.node_machine.specs.world.Rounds.{end_takes_all, ends_in_order, ends_take_all, world_round}
+use Rattle.node_world.proofs.Words.{End, Entry, FewBehind, HostSite, IsHost, IsWithinBounds, MayGoOn, NextFrame, Occurrence, Power, Site, SitesAre, Takes}
+use Rattle.node_world.proofs.Words.{WorldBecomes, WorldHasGone, WorldIs, all_happen, can_happen, end_c, end_h, ends_in_order, ends_take_all, entries_in}
+use Rattle.node_world.proofs.Words.{frames_at, site_at, world_round, world_step, world_ticks}
+use Rattle.node_machine.specs.world.World.{NodeWorld}
+use Rattle.node_machine.specs.world.Rounds.{end_takes_all}
 use Rattle.node_laws.specs.telling.Telling.{hosts_in}
 use Rattle.node_laws.proofs.telling.Orderly.{step_orderly}
 use Rattle.node_laws.proofs.rounds.Ends.{ends_of, order_is}
-use Rattle.node_sites.specs.declared.places.HostSite.{HostSite}
-use Rattle.node_world.specs.Bounds.{FewBehind}
-use Rattle.node_world.specs.Controllers.{MayGoOn, SitesAre, WorldBecomes, WorldIs}
-use Rattle.node_world.specs.Rounds.{MayTakeAll, MayTakeInOrder, WorldHasGone}
-use Rattle.node_world.specs.Whole.{IsWithinBounds}
+use Rattle.node_world.specs.Rounds.{MayTakeAll, MayTakeInOrder}
 use Rattle.node_world.proofs.CountsStay.{repeats}
 use Rattle.node_world.proofs.FewInWorlds.{few_behind_all, longer}
 use Rattle.node_world.proofs.LinesAgain.{few_on_way, happens_first, happens_not, hosts_come}
 use Rattle.node_world.proofs.SitesKept.{as_many}
-use Rattle.node_sites.specs.declared.power.Power.{Power}
 
 -- ## One end
 

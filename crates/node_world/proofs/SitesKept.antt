@@ -5,11 +5,7 @@ use Rattle.std.specs.Prelude.{slice_set}
 use Rattle.std.specs.List.{flat_map}
 use Rattle.std.proofs.lemmas.List.{get_or_at, set_at, length-append, length-map}
 use Rattle.std.proofs.lemmas.Grind.{flat_map-append}
-use Rattle.trace_model.specs.declared.entry.Entry.{Entry}
-use Rattle.node_machine.specs.world.World.{Site}
-use Rattle.node_sites.specs.declared.places.HostSite.{HostSite}
-use Rattle.node_sites.specs.Places.{SiteIs}
-use Rattle.node_world.specs.Controllers.{SitesAre}
+use Rattle.node_world.proofs.Words.{Entry, HostSite, Site, SiteIs, SitesAre}
 
 pub as_many : (ks : List HostSite) (sites : List Site) → SitesAre ks sites → length ks ≡ length sites
 as_many [] [] a = refl

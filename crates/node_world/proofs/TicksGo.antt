@@ -3,25 +3,18 @@ use Rattle.std.proofs.Common.{◌≡◌, ℕ, ◌==◌, Bool, true, false, List,
 use Rattle.std.specs.Prelude.{Some, None, is_some}
 use Rattle.std.specs.List.{AllByRecursion}
 use Rattle.std.specs.Option.{option_map_or}
-use Rattle.shdlc_core.specs.Machine.{is_waiting}
+use Rattle.node_world.proofs.Words.{Controller, CutOff, Desk, Ending, GoesOut, HasEnds, Host, IsOrderly, Link, LinkEnd, NoInput, Port, Reset, Running}
+use Rattle.node_world.proofs.Words.{SameWires, Site, Tick, Turn, Work, after_input, cut, ended_by, exchanged, has_input, host_opened, host_tick, is_late_at}
+use Rattle.node_world.proofs.Words.{is_waiting, near_tick, new_link_end, number_of, port_at, renewed, sent_all, site_at, ticked_so, turned, turns_at}
+use Rattle.node_world.proofs.Words.{with_bare_wires, with_controller, with_ended}
 use Rattle.shdlc_core.specs.declared.answers.LinkState.TheVariants.{Up}
-use Rattle.link_laws.specs.machine.Machine.{LinkEnd, Turn, turned, after_input, ended_by, sent_all, new_link_end, renewed}
-use Rattle.link_laws.specs.machine.Machine.LinkInput.{Tick, Reset}
-use Rattle.link_laws.specs.messages.Links.{Link, Ending, exchanged, with_ended, with_controller, becomes, cut, has_input, number_of}
-use Rattle.link_laws.specs.messages.Links.Ending.{GoesOut, CutOff}
-use Rattle.link_laws.specs.messages.Links.Comes.{NoInput}
+use Rattle.link_laws.specs.messages.Links.{becomes}
 use Rattle.link_laws.specs.entries.Entries.{End as Side}
-use Rattle.link_laws.specs.entries.Entries.End.{Controller, Host}
-use Rattle.node_machine.specs.Parts.{Desk, Running, Port, Work}
-use Rattle.node_machine.specs.Carrying.{port_at}
 use Rattle.node_machine.specs.Node.{is_late}
-use Rattle.node_machine.specs.world.World.{NodeWorld, Site, site_at, turns_at, is_late_at, ticked_so}
-use Rattle.node_machine.proofs.world.Cases.{near_tick, host_tick}
-use Rattle.node_laws.specs.telling.Telling.{HasEnds, hosts_in, IsOrderly, IfDue, is_due}
-use Rattle.node_laws.proofs.telling.Nodes.{host_opened}
+use Rattle.node_machine.specs.world.World.{NodeWorld}
+use Rattle.node_laws.specs.telling.Telling.{hosts_in, IfDue, is_due}
 use Rattle.node_laws.proofs.telling.Ticks.{older, not_late, IfLate, Ticked, ticked}
 use Rattle.node_laws.proofs.telling.WorldTicks.{opened, up_late, young_ports}
-use Rattle.node_sites.specs.LinksKept.{SameWires, with_bare_wires}
 use Rattle.node_world.proofs.GoingOn.{ended_same, ended_far, silent_same, emptied_same, same_twice}
 
 -- an end after its tick, or after its reset in place of it

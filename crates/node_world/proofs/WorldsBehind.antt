@@ -3,24 +3,20 @@ use Rattle.std.proofs.Common.{◌≡◌, ℕ, ◌==◌, Bool, true, false, List,
 use Rattle.std.specs.Prelude.{Some, ◌||◌}
 use Rattle.std.specs.List.{AllByRecursion, list_any}
 use Rattle.std.proofs.lemmas.Bool.{true≢false}
-use Rattle.trace_model.specs.declared.line.Header.{Header}
-use Rattle.trace_model.specs.declared.line.Line.{Line}
+use Rattle.node_world.proofs.Words.{AreTimely, FewBehind, FollowsNodes, Header, IsHost, IsNodeHeader, IsNodeOf, IsPlayable, IsPlayedLine, IsSentByHost}
+use Rattle.node_world.proofs.Words.{IsSoundMemory, Line, MayGoOn, MayPlay, NodeHistory, NoneIsMisread, Site, after-append, memory_at, new_world, nodes_behind}
+use Rattle.node_world.proofs.Words.{site_at}
 use Rattle.trace_model.specs.declared.line.Line.TheVariants as line
-use Rattle.trace_model.specs.Lines.{IsHost, IsNodeHeader, IsNodeOf}
-use Rattle.node_machine.specs.world.World.{Site, NodeWorld, new_world, site_at, memory_at}
-use Rattle.node_machine.specs.world.NodeHistories.{NodeHistory, FollowsNodes, NoneIsMisread, occurrences_in, steps_from}
-use Rattle.node_laws.specs.kept.Hosts.{IsSentByHost}
+use Rattle.node_machine.specs.world.World.{NodeWorld}
+use Rattle.node_machine.specs.world.NodeHistories.{occurrences_in, steps_from}
 use Rattle.node_laws.specs.telling.Telling.{hosts_in}
-use Rattle.node_laws.specs.links.Runs.{IsPlayable, ArePlayable}
+use Rattle.node_laws.specs.links.Runs.{ArePlayable}
 use Rattle.node_laws.proofs.order.Lines.{watches, of_none, IsSo, all_so_behind, behind_history}
 use Rattle.node_laws.proofs.order.Ticking.{timely}
-use Rattle.lines_told.specs.lines.Below.{IsPlayedLine, nodes_behind}
-use Rattle.lines_told.proofs.lines.NodeRounds.{after-append, sure-append}
+use Rattle.lines_told.proofs.lines.NodeRounds.{sure-append}
 use Rattle.lines_told.proofs.lines.Plays.{all-append}
-use Rattle.node_world.specs.Bounds.{FewBehind}
-use Rattle.node_world.specs.Controllers.{MayGoOn, AreTimely}
-use Rattle.node_sites.specs.Memories.{KeepsSome, IsSoundMemory}
-use Rattle.node_world.specs.Whole.{MayPlay, after_ticks}
+use Rattle.node_sites.specs.Memories.{KeepsSome}
+use Rattle.node_world.specs.Whole.{after_ticks}
 use Rattle.node_world.proofs.MemoriesKeep.{keeps_at_first, keeps_behind_lines, controller_in_order, hosts_in_order}
 use Rattle.node_world.proofs.LinesFit.{are_hosts, each_line, playable, sent_by_host}
 

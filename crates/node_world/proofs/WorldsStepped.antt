@@ -4,41 +4,29 @@ use Rattle.std.proofs.Common.{sym, subst, ◌∙◌, arith}
 use Rattle.std.specs.Prelude.{Option, Some, None, Result, Ok, Err, IfOk, OnOk, replicate, if◌then◌else◌}
 use Rattle.std.specs.List.{AllByRecursion, list_any}
 use Rattle.std.proofs.lemmas.Result.{on_ok_weaker}
-use Rattle.trace_model.specs.declared.entry.Entry.{Entry}
-use Rattle.trace_model.specs.declared.line.Header.{Header}
-use Rattle.trace_model.specs.declared.line.Line.{Line}
-use Rattle.trace_model.specs.Lines.{IsNodeHeader, IsNodeOf}
-use Rattle.swp_base.specs.InMemory.{Memory}
-use Rattle.node_sites.specs.declared.places.HostSite.{HostSite}
-use Rattle.node_sites.specs.Places.{SiteIs}
+use Rattle.node_world.proofs.Words.{AreFewWithParts, AreTimely, Entry, Header, HostSite, IsNodeHeader, IsNodeOf, IsPlayFor, IsPlayedLine, Line, LinePlayed}
+use Rattle.node_world.proofs.Words.{MayGoOn, MayPlay, Memory, NoneIsMisread, Off, Play, Round, Said, Site, SiteIs, SitesAre, StandsAt, WorldHasGone, WorldIs}
+use Rattle.node_world.proofs.Words.{entries_in, has, hosts_stay_behind, kept_is, line_step, lines_may_be_played, lines_played, lines_said, mask_of, memory_at}
+use Rattle.node_world.proofs.Words.{memory_kept, misread_in, new_site, new_world, nodes_behind, rounds_played, site_at, world_round}
 use Rattle.node_world.proofs.AtHosts.{site_stands, nowhere}
 use Rattle.node_world.proofs.SitesKept.{read_there}
 use Rattle.node_world.proofs.Peeked.{peeked}
-use Rattle.node_sites.proofs.Powers.{kept_is}
-use Rattle.gate_admin.specs.View.{has, hosts_where, mask_of}
+use Rattle.gate_admin.specs.View.{hosts_where}
 use Rattle.history.specs.Histories.{noted}
 use Rattle.history.specs.Follows.{host_of, outcome_of}
-use Rattle.node_machine.specs.world.World.{NodeWorld as Machine, Site, new_memory, new_site, new_world, memory_at, site_at}
-use Rattle.node_machine.specs.world.Lines.{line_step, misread_in, noted_below}
-use Rattle.node_machine.specs.world.NodeHistories.{NoneIsMisread, entries_in}
-use Rattle.node_machine.specs.world.Rounds.{world_round}
-use Rattle.node_laws.proofs.order.HostsStay.{hosts_stay_behind}
-use Rattle.lines_told.specs.lines.Below.{IsPlayedLine, bare_link_behind, entries_below, nodes_behind, told_below}
-use Rattle.lines_told.specs.lines.Plays.{Play, IsPlayFor, lines_played, lines_said, rounds_played, told_of_play}
-use Rattle.lines_told.specs.lines.Plays.Play.{Said, Round}
-use Rattle.lines_told.proofs.lines.Lines.{lines_may_be_played}
+use Rattle.node_machine.specs.world.World.{NodeWorld as Machine, new_memory}
+use Rattle.node_machine.specs.world.Lines.{noted_below}
+use Rattle.lines_told.specs.lines.Below.{bare_link_behind, entries_below, told_below}
+use Rattle.lines_told.specs.lines.Plays.{told_of_play}
 use Rattle.lines_told.proofs.lines.NodeRounds.{played_round, played_said, sure_with_round, sure_with_said}
 use Rattle.lines_told.proofs.lines.Plays.{for_with, no_more_rounds, no_more_said, one_round, one_said}
 use Rattle.lines_told.proofs.lines.Told.{told_round}
 use Rattle.link_wires.specs.declared.finding.Misread.{Misread}
 use Rattle.node_world.specs.declared.worlds.NodeWorld.{NodeWorld}
-use Rattle.node_world.specs.Controllers.{AreTimely, MayGoOn, WorldIs, SitesAre, StandsAt}
-use Rattle.node_world.specs.Rounds.{MayGoRound, WorldHasGone}
-use Rattle.node_world.specs.Worlds.{AreFewWithParts, IsNodeWorldBehind, HasRoomForNodeLine, HasRoomForRound, nodes_entries}
+use Rattle.node_world.specs.Rounds.{MayGoRound}
+use Rattle.node_world.specs.Worlds.{IsNodeWorldBehind, HasRoomForNodeLine, HasRoomForRound, nodes_entries}
 use Rattle.node_world.specs.Worlds.{IsPeekedSo}
-use Rattle.node_sites.specs.declared.power.Power.TheVariants.{Off}
-use Rattle.node_sites.specs.Powers.{memory_kept}
-use Rattle.node_world.specs.Whole.{IsMisreadIn, LinePlayed, MayPlay}
+use Rattle.node_world.specs.Whole.{IsMisreadIn}
 use Rattle.node_world.proofs.FewPlays.{few_with_line, few_with_one_round}
 use Rattle.node_world.proofs.Masked.{masked}
 use Rattle.node_world.proofs.PlaysFew.{few_behind_plays}

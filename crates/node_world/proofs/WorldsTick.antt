@@ -3,30 +3,15 @@ use Rattle.std.proofs.Common.{◌≡◌, ℕ, ◌≤◌, ◌==◌, Bool, true, f
 use Rattle.std.proofs.Common.{append_assoc, arith}
 use Rattle.std.specs.Prelude.{Option, Some, None, not, ◌&&◌}
 use Rattle.std.specs.List.{AllByRecursion, flat_map}
-use Rattle.swp_act.specs.Activation.{new_uicc}
-use Rattle.trace_model.specs.Lines.{IsHost}
-use Rattle.trace_model.specs.declared.entry.Entry.{Entry}
-use Rattle.shdlc_core.specs.Machine.{is_waiting}
-use Rattle.link_laws.specs.machine.Machine.{Turn, new_link_end}
-use Rattle.link_laws.specs.machine.Machine.LinkInput.{Tick, Reset}
-use Rattle.link_laws.specs.machine.Machine.Role.{Uicc}
-use Rattle.link_laws.specs.messages.Links.{Link, NumberedEnd, Ending, exchanged, has_input, ticks_at_controller}
-use Rattle.link_laws.specs.messages.Links.Ending.{GoesOut}
-use Rattle.link_laws.specs.messages.Links.Comes.{AsksReset}
-use Rattle.node_machine.specs.Parts.{Running}
-use Rattle.node_machine.specs.Node.{new_desk}
-use Rattle.node_machine.specs.world.World.{NodeWorld, Site, site_at, link_to, port_for, turns_at, ending_of, is_late_at, ticked_so, all_aged, controller_ticks}
-use Rattle.node_machine.specs.world.World.{host_ticks, hosts_tick, world_ticks}
-use Rattle.node_machine.proofs.world.Cases.{by_controller_tick, by_host_tick, host_tick, near_tick, site_ticked, site_unticked}
-use Rattle.node_laws.specs.telling.Telling.{hosts_in, IfItRuns, IfOff, NoneDue}
+use Rattle.node_world.proofs.Words.{AreTimely, AreToTick, AsksReset, CountsOn, Ending, Entry, FewOn, FewOnEach, GoesOut, HostSite, IfItRuns, IfOff, IsHost}
+use Rattle.node_world.proofs.Words.{IsHostOf, IsNodePlace, IsWithinBounds, Link, MayTick, NumberedEnd, Power, Reset, Running, Site, SiteIs, SitesAre, Tick}
+use Rattle.node_world.proofs.Words.{Turn, Uicc, WorldBecomes, all_aged, by_controller_tick, by_host_tick, controller_ticks, ending_of, exchanged, has_input}
+use Rattle.node_world.proofs.Words.{host_tick, host_ticks, hosts_tick, is_late_at, is_waiting, link_to, near_tick, near_ticks, new_desk, new_link_end, new_uicc}
+use Rattle.node_world.proofs.Words.{port_for, site_at, site_ticked, site_unticked, ticked_so, ticks_at_controller, turns_at, world_ticks}
+use Rattle.node_machine.specs.world.World.{NodeWorld}
+use Rattle.node_laws.specs.telling.Telling.{hosts_in, NoneDue}
 use Rattle.node_laws.proofs.telling.WorldTicks.{tick_host}
-use Rattle.node_sites.specs.declared.places.HostSite.{HostSite}
-use Rattle.node_world.specs.Bounds.{FewOn, FewOnEach}
-use Rattle.node_world.specs.Controllers.{SitesAre, WorldBecomes, AreTimely, near_ticks}
-use Rattle.node_world.specs.HostSteps.{IsHostOf, CountsOn, MayTick}
-use Rattle.node_sites.specs.Powers.{IsNodePlace}
-use Rattle.node_sites.specs.Places.{SiteIs}
-use Rattle.node_world.specs.Whole.{IsWithinBounds, SitesTick, AreToTick}
+use Rattle.node_world.specs.Whole.{SitesTick}
 use Rattle.node_world.proofs.AtHosts.{sendable_on}
 use Rattle.node_world.proofs.Behind.{each_found}
 use Rattle.node_world.proofs.ControllersAge.{older}
@@ -34,7 +19,6 @@ use Rattle.node_world.proofs.CountsStay.{counts_few_in_tick}
 use Rattle.node_world.proofs.FewInWorlds.{few_behind_ages, few_behind_tick}
 use Rattle.node_world.proofs.FewOnLinks.{far_stays, far_stays_ticked}
 use Rattle.node_world.proofs.NearKept.{LeavesNear}
-use Rattle.node_sites.specs.declared.power.Power.{Power}
 
 -- ## Behind the tick of the controller
 

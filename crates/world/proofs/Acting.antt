@@ -1,28 +1,18 @@
 -- A step of an end: what comes to it or what its node does, and then its frames go out.
 use Rattle.std.proofs.Common.{◌≡◌, ℕ, ◌≤◌, Bool, true, false, List, [], ◌++◌, length, max, refl, ap, subst, ◌∙◌, arith}
 use Rattle.std.specs.Prelude.{Option, None, is_some}
-use Rattle.trace_model.specs.declared.entry.Entry.{Entry}
-use Rattle.trace_model.specs.declared.line.End.{End}
-use Rattle.shdlc_core.specs.declared.answers.Due.{Due}
-use Rattle.link_laws.specs.machine.Machine.{LinkEnd, LinkInput, ActDue, Report, report, whole_acked, after_input, ended_by, frames_out, sent_all}
+use Rattle.world.proofs.Words.{AreNoted, Control, Due, End, Entry, GoesOut, IsMidway, Link, LinkEnd, LinkInput, LinkStandsFor, Node, NodeStandsFor, Place, Side}
+use Rattle.world.proofs.Words.{after_input, becomes, ended_by, frames_out, idle, more_noted, put_all, puts_entries, report, side_of, tick_entries}
+use Rattle.world.proofs.Words.{ticks_at_controller, told, whole_acked, with_ended}
+use Rattle.link_laws.specs.machine.Machine.{ActDue, Report, sent_all}
 use Rattle.link_laws.specs.machine.Machine.LinkInput.{Tick}
-use Rattle.link_laws.specs.messages.Links.{Link, number_of, with_ended, with_controller, becomes, put_all, ticks_at_controller}
-use Rattle.link_laws.specs.messages.Links.Ending.{GoesOut}
-use Rattle.link_laws.specs.entries.Entries.{End as Who, Entry as Noted, told, told_of, puts_entries, input_entries, tick_entries}
-use Rattle.history.specs.Steps.{idle}
-use Rattle.swp_base.specs.declared.control_frames.Control.{Control}
+use Rattle.link_laws.specs.messages.Links.{number_of, with_controller}
+use Rattle.link_laws.specs.entries.Entries.{End as Who, Entry as Noted, told_of, input_entries}
 use Rattle.swp_base.specs.declared.link_terms.Cause.{Cause}
 use Rattle.link_end.specs.declared.report.LinkReport.{LinkReport}
 use Rattle.link_end.specs.Reports.{report_told, nothing_told}
 use Rattle.link_end.specs.Idle.{IsIdle}
-use Rattle.world.specs.declared.node.Node.{Node}
-use Rattle.world.specs.declared.node.Place.{Place}
-use Rattle.world.specs.declared.side.Side.{Side}
-use Rattle.link_wires.specs.Notes.{side_of}
-use Rattle.world.specs.Nodes.{NodeStandsFor, HasFewDue}
-use Rattle.world.specs.Sides.{LinkStandsFor, IsMidway}
-use Rattle.link_wires.specs.Notes.{AreNoted}
-use Rattle.link_wires.proofs.Notes.{more_noted}
+use Rattle.world.specs.Nodes.{HasFewDue}
 use Rattle.world.proofs.Bare.{IsBare, is_bare}
 
 -- an end that has sent all its frames has room

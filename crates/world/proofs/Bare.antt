@@ -3,25 +3,23 @@ use Rattle.std.proofs.Common.{◌≡◌, ℕ, suc, ◌+◌, ◌≤◌, Bool, tru
 use Rattle.std.specs.Prelude.{Option, Some, None, is_some, not, nat_lt, ◌==◌}
 use Rattle.swp_base.specs.declared.control_frames.Kind.{Kind}
 use Rattle.swp_base.specs.declared.control_frames.Kind.TheVariants.{Rr, Rej, Rnr, Srej}
-use Rattle.swp_base.specs.declared.control_frames.Control.{Control}
+use Rattle.world.proofs.Words.{Asked, Control, Due, EndState, Fetch, FetchMessage, Give, Hold, LinkEnd, LinkInput, LinkState, Message, Take, Waiting}
+use Rattle.world.proofs.Words.{after_input, fetched, give_refusal, if_up, is_open, new_link_end, reset_by, reset_refusal, tick_answer, ticked, turn, window_of}
 use Rattle.swp_base.specs.declared.control_frames.Control.TheVariants.{I, S, Rset, Ua, Act, Clt}
-use Rattle.swp_base.specs.declared.link_terms.Cause.TheVariants.{Asked}
 use Rattle.swp_act.specs.declared.ActEvent.{ActEvent}
 use Rattle.swp_act.specs.declared.ActEvent.TheVariants.{Start as ActStart, Take as ActTake, Tick as ActTick, Stop as ActStop}
-use Rattle.shdlc_core.specs.declared.answers.LinkState.{LinkState}
-use Rattle.shdlc_core.specs.declared.answers.LinkState.TheVariants.{Down, Waiting, Up}
-use Rattle.shdlc_core.specs.declared.answers.Due.{Due}
+use Rattle.shdlc_core.specs.declared.answers.LinkState.TheVariants.{Down, Up}
 use Rattle.shdlc_core.specs.declared.answers.Due.TheVariants.{Rr as Rr_due, Rej as Rej_due, Rnr as Rnr_due, Rset as Rset_due, Ua as Ua_due}
-use Rattle.shdlc_core.specs.Machine.{EndState, Fragment, taken, take_answer, ticked, tick_answer, place_of, acknowledged, ahead, received, runs_timer}
-use Rattle.shdlc_core.specs.Machine.{reset_with, stopped, with_ready, fetched}
-use Rattle.link_laws.specs.machine.Machine.{LinkEnd, LinkInput, Refused, Turn, Message, new_link_end, after_input, after_inputs, turn, moved, put_down}
+use Rattle.shdlc_core.specs.Machine.{Fragment, taken, take_answer, place_of, acknowledged, ahead, received, runs_timer}
+use Rattle.shdlc_core.specs.Machine.{reset_with, stopped, with_ready}
+use Rattle.link_laws.specs.machine.Machine.{Refused, Turn, after_inputs, moved, put_down}
 use Rattle.link_laws.specs.machine.Machine.{activated}
-use Rattle.link_laws.specs.machine.Machine.{heard, took, is_open, is_faulty, news, if_up, reset_by, reset_refusal, window_of, give_refusal, given}
+use Rattle.link_laws.specs.machine.Machine.{heard, took, is_faulty, news, given}
 use Rattle.link_laws.specs.machine.Machine.{aside_refusal}
 use Rattle.link_laws.specs.machine.Machine.{unless, in_front, frame_fetched}
 use Rattle.link_laws.specs.machine.Machine.Role.{Bare}
-use Rattle.link_laws.specs.machine.Machine.LinkInput.{Take, TakeUnknown, TakeBroken, Tick, Reset, Start, Stop, FromNode, Fetch}
-use Rattle.link_laws.specs.machine.Machine.Turn.{Give, Hold, FetchMessage, SetAside, Release}
+use Rattle.link_laws.specs.machine.Machine.LinkInput.{TakeUnknown, TakeBroken, Tick, Reset, Start, Stop, FromNode}
+use Rattle.link_laws.specs.machine.Machine.Turn.{SetAside, Release}
 use Rattle.world.specs.Nodes.{Reached}
 
 -- ## No activation

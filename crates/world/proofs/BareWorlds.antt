@@ -4,41 +4,32 @@ use Rattle.std.proofs.Common.{true≢false, append-nil, append_assoc}
 use Rattle.std.specs.Prelude.{IsTrue, Option, Some, None}
 use Rattle.std.specs.List.{AllByRecursion, list_any}
 use Rattle.std.proofs.lemmas.List.Concat.{flat_map-append}
-use Rattle.trace_model.specs.declared.entry.Entry.{Entry}
-use Rattle.trace_model.specs.declared.line.End.{End}
-use Rattle.trace_model.specs.declared.line.Header.{Header}
-use Rattle.trace_model.specs.declared.line.Line.{Line}
+use Rattle.world.proofs.Words.{BareWorld, Controller, Does, DoesAll, End, Entry, FewRsets, HaveSent, Header, History, Host, IsLineOf, IsPlayFor, Line, Link}
+use Rattle.world.proofs.Words.{LinkStandsFor, Outcome, Play, Round, Said, Side, SidesStandFor, WorldStandsFor, bare_link, bare_link_behind, bare_round_lines}
+use Rattle.world.proofs.Words.{end_for, end_of, host_of, lines-append, lines_lead, lines_played, lines_said, link_after_all, link_after_line, link_after_lines}
+use Rattle.world.proofs.Words.{link_at, misread, most_rsets, new_link_end, noted, other_end, outcome_of, round_behind, round_on, rounds_played, told_below}
 use Rattle.trace_model.specs.declared.line.Line.TheVariants.{Send, Deliver, Lose, Damage, Tick, Reset, Busy, Ready, Boot, Cut, Activate, Arm, Init, Tables}
 use Rattle.trace_model.specs.declared.line.Line.TheVariants.{Settle}
-use Rattle.trace_model.specs.Ends.{other_end}
-use Rattle.trace_model.specs.Lines.{IsHeader, IsLineOf}
-use Rattle.link_laws.specs.machine.Machine.{new_link_end}
+use Rattle.trace_model.specs.Lines.{IsHeader}
 use Rattle.link_laws.specs.machine.Machine.Role.{Bare}
-use Rattle.link_laws.specs.messages.Links.{Link, new_numbered_end}
-use Rattle.link_laws.specs.messages.Rsets.{FewRsets}
-use Rattle.link_laws.specs.entries.Entries.End.{Controller, Host}
+use Rattle.link_laws.specs.messages.Links.{new_numbered_end}
 use Rattle.link_laws.proofs.messages.RsetNumbers.{start_numbered}
 use Rattle.link_laws.specs.messages.Links.IsStart.{IsBare}
-use Rattle.history.specs.Histories.{Outcome, Step, History, events_of, causes_of, all_events, all_entries, noted}
-use Rattle.history.specs.Steps.{end_of, bare_link, link_after_all}
-use Rattle.history.specs.Follows.{Follows, StepsFollow, host_of, link_at, link_after_line, link_after_lines, outcome_of, misread, opened, with_step}
-use Rattle.history.proofs.Leading.{events_in, after_events, lines_lead}
+use Rattle.history.specs.Histories.{Step, events_of, causes_of, all_events, all_entries}
+use Rattle.history.specs.Follows.{Follows, StepsFollow, opened, with_step}
+use Rattle.history.proofs.Leading.{events_in, after_events}
 use Rattle.history.specs.Legal.{Legal, Complete, Prefix, Settled, is_chain_fault}
 use Rattle.history.proofs.legal.Asked.{only_one}
-use Rattle.lines_told.specs.lines.Below.{IsPlayedLine, bare_link_behind, told_below}
-use Rattle.lines_told.specs.lines.Plays.{Play, IsPlayFor, lines_played, lines_said, rounds_played, round_behind, round_on, told_behind, told_of_play}
-use Rattle.lines_told.specs.lines.Plays.Play.{Said, Round}
+use Rattle.lines_told.specs.lines.Below.{IsPlayedLine}
+use Rattle.lines_told.specs.lines.Plays.{told_behind, told_of_play}
 use Rattle.lines_told.specs.lines.RoundLines.{IsRoundLine}
 use Rattle.lines_told.proofs.lines.Plays.{played_more, one_said, no_more_rounds, no_more_said, one_round, for_with}
-use Rattle.lines_told.proofs.lines.BareRounds.{bare_round_lines, lines-append}
 use Rattle.lines_told.proofs.lines.Lines.{bare_lines_may_be_played, sure_on, bare_known}
-use Rattle.world.specs.declared.side.Side.{Side}
 use Rattle.link_wires.specs.declared.finding.Misread.{Misread}
 use Rattle.node_world.proofs.FewPlays.{few_with_line, few_with_one_round}
-use Rattle.world.specs.declared.bare_world.BareWorld.{BareWorld}
-use Rattle.world.specs.Sides.{SideStandsFor, LinkStandsFor}
-use Rattle.world.specs.Lines.{SidesStandFor, Does, DoesAll, HaveSent, IsMisread, damaged_by, end_for, told_on}
-use Rattle.world.specs.BareWorlds.{WorldStandsFor, HasBareRoom, HasBareRoomToSettle, bare_entries, most_rsets, with_steps}
+use Rattle.world.specs.Sides.{SideStandsFor}
+use Rattle.world.specs.Lines.{IsMisread, damaged_by, told_on}
+use Rattle.world.specs.BareWorlds.{HasBareRoom, HasBareRoomToSettle, bare_entries, with_steps}
 use Rattle.world.proofs.Given.{sent_line}
 use Rattle.world.proofs.LineLemmas.{seen_back, seen_here}
 use Rattle.world.proofs.RoundLemmas.{sent_round}

@@ -1,25 +1,18 @@
 -- The world below a bare header: what it stands for, what is told of a line there, and what can be asked of it.
 use Rattle.std.proofs.Common.{◌≡◌, false, List, sym, ap, ◌∙◌, subst}
-use Rattle.trace_model.specs.declared.line.End.{End}
-use Rattle.trace_model.specs.declared.line.Header.{Header}
-use Rattle.trace_model.specs.declared.line.Line.{Line}
-use Rattle.link_laws.specs.messages.Links.{Link}
+use Rattle.world.proofs.Words.{BareWorld, Below, End, Header, History, IsFaultThere, Line, Link, Play, StandsBelow, WorldStandsFor, bare_link_behind, frames_to}
+use Rattle.world.proofs.Words.{host_of, lines_lead, lines_played, link_at, misread, noted, outcome_of, told_below}
 use Rattle.link_laws.specs.messages.Rest.{link_rests}
-use Rattle.history.specs.Histories.{History, noted}
-use Rattle.history.specs.Follows.{frames_to, host_of, link_at, misread, outcome_of}
-use Rattle.history.proofs.Leading.{lines_lead}
-use Rattle.lines_told.specs.lines.Below.{bare_link_behind, told_below, misread_below}
-use Rattle.lines_told.specs.lines.Plays.{Play, lines_played, rests_behind}
+use Rattle.lines_told.specs.lines.Below.{misread_below}
+use Rattle.lines_told.specs.lines.Plays.{rests_behind}
 use Rattle.lines_told.proofs.lines.Resting.{bare_rests}
-use Rattle.world.specs.declared.bare_world.BareWorld.{BareWorld}
 use Rattle.world.specs.declared.fault.WorldFault.{WorldFault}
 use Rattle.world.specs.declared.fault.WorldFault.TheVariants as fault
-use Rattle.world.specs.declared.world_steps.Below.{Below}
 use Rattle.world.specs.declared.world_steps.Below.TheVariants.{Bare}
 use Rattle.world.specs.Lines.{damaged_by}
-use Rattle.world.specs.BareWorlds.{WorldStandsFor, IsFaultOf, bare_header}
+use Rattle.world.specs.BareWorlds.{IsFaultOf, bare_header}
 use Rattle.lines_told.specs.lines.Below.{frames_below}
-use Rattle.world.specs.Worlds.{StandsBelow, IsFaultThere, damaged_below}
+use Rattle.world.specs.Worlds.{damaged_below}
 
 -- ## On the link that lines leave
 

@@ -2,41 +2,31 @@
 use Rattle.std.proofs.Common.{◌≡◌, ℕ, zero, suc, ◌+◌, ◌≤◌, Bool, true, false, cond, List, [], ◌∷◌, ◌++◌, length, replicate, refl, ap, sym, subst, ◌∙◌}
 use Rattle.std.proofs.Common.{length-append, arith}
 use Rattle.std.specs.Prelude.{Option, Some, None, is_some, not, unwrap_or}
-use Rattle.swp_base.specs.declared.control_frames.Control.{Control}
+use Rattle.world.proofs.Words.{Asked, Caused, Control, End, EndEvent, EndState, FetchMessage, Give, Given, GoesOut, HaveSent, Hold, Line, Link, LinkEnd}
+use Rattle.world.proofs.Words.{LinkInput, LinkState, Message, NoCause, OnDemand, OnWire, Outcome, Readied, Take, Taken, Ticked, Waiting, WasLost, WasReset}
+use Rattle.world.proofs.Words.{after_input, aged, becomes, causes_in, damage_causes, ended_by, events_at, exchanged, first_verdict, frames_out, frames_to}
+use Rattle.world.proofs.Words.{give_refusal, happens, happens_at_controller, if_up, is_open, link_after, link_after_all, link_after_line, outcome_of, put}
+use Rattle.world.proofs.Words.{put_all, refusal, reset_by, reset_refusal, taken_of, tick_answer, ticked, ticks_at_controller, turn, window_of, with_ended}
 use Rattle.swp_base.specs.declared.control_frames.Control.TheVariants.{I, S, Rset, Ua, Act, Clt}
 use Rattle.swp_base.specs.declared.control_frames.Act.{Act as ActCode}
-use Rattle.swp_base.specs.declared.link_terms.Cause.TheVariants.{Asked}
 use Rattle.swp_act.specs.declared.ActEvent.{ActEvent}
 use Rattle.swp_act.specs.declared.ActEvent.TheVariants.{Take as ActTake, Tick as ActTick}
-use Rattle.shdlc_core.specs.declared.answers.LinkState.{LinkState}
-use Rattle.shdlc_core.specs.declared.answers.LinkState.TheVariants.{Down, Waiting, Up}
-use Rattle.shdlc_core.specs.Machine.{EndState, taken, take_answer, ticked, tick_answer, reset_with}
-use Rattle.trace_model.specs.declared.line.End.{End}
-use Rattle.trace_model.specs.declared.line.Line.{Line}
+use Rattle.shdlc_core.specs.declared.answers.LinkState.TheVariants.{Down, Up}
+use Rattle.shdlc_core.specs.Machine.{taken, take_answer, reset_with}
 use Rattle.trace_model.specs.declared.line.Line.TheVariants as line
-use Rattle.trace_model.specs.declared.entry.NoCause.{NoCause}
-use Rattle.link_laws.specs.sessions.Sessions.{OnWire, is_rset, took_with}
-use Rattle.link_laws.specs.machine.Machine.{LinkEnd, LinkInput, Refused, Message, after_input, turn, turned, moved, put_down, activated, with_act, act_answer}
-use Rattle.link_laws.specs.machine.Machine.{role_after, heard, took, is_open, is_faulty, news, if_up, reset_by, reset_refusal, ended_by, window_of}
-use Rattle.link_laws.specs.machine.Machine.{give_refusal}
-use Rattle.link_laws.specs.machine.Machine.{given, unless, frames_out}
-use Rattle.link_laws.specs.machine.Machine.LinkInput.{Take, Tick, Reset}
-use Rattle.link_laws.specs.machine.Machine.Turn.{Give, Hold, FetchMessage}
-use Rattle.link_laws.specs.messages.Links.{Link, EndEvent, put, put_all, becomes, with_ended, has_input, has_taken, happens_at_controller}
-use Rattle.link_laws.specs.messages.Links.{ticks_at_controller, aged}
-use Rattle.link_laws.specs.messages.Links.{exchanged, happens}
-use Rattle.link_laws.specs.messages.Links.Ending.{GoesOut}
+use Rattle.link_laws.specs.sessions.Sessions.{is_rset, took_with}
+use Rattle.link_laws.specs.machine.Machine.{Refused, turned, moved, put_down, activated, with_act, act_answer}
+use Rattle.link_laws.specs.machine.Machine.{role_after, heard, took, is_faulty, news}
+use Rattle.link_laws.specs.machine.Machine.{given, unless}
+use Rattle.link_laws.specs.machine.Machine.LinkInput.{Tick, Reset}
+use Rattle.link_laws.specs.messages.Links.{has_input, has_taken}
 use Rattle.link_laws.specs.messages.Links.Comes.{NextFrame, AsksReset, NoInput}
 use Rattle.link_laws.specs.messages.Links.EndEvent.{Step, Lose}
-use Rattle.link_laws.specs.messages.Links.Loss.{OnDemand}
-use Rattle.history.specs.Histories.{Cause, Outcome, causes_of}
-use Rattle.history.specs.Histories.Cause.{Given, Taken, WasLost, Ticked, WasReset, Readied}
-use Rattle.history.specs.Histories.Outcome.{Refused as LineRefused, Caused}
+use Rattle.history.specs.Histories.{Cause, causes_of}
+use Rattle.history.specs.Histories.Outcome.{Refused as LineRefused}
 use Rattle.history.specs.Damage.{Verdict}
 use Rattle.history.specs.Damage.Verdict.{Same, LostFor, Undetected}
-use Rattle.history.specs.Steps.{at, events_at, link_after, link_after_all}
-use Rattle.history.specs.Follows.{refusal, causes_in, damage_causes, first_verdict, frames_to, taken_of, outcome_of, link_after_line}
-use Rattle.world.specs.Lines.{HaveSent}
+use Rattle.history.specs.Steps.{at}
 use Rattle.link_laws.proofs.messages.Project.{host_ended as ended_host}
 
 -- ## An end

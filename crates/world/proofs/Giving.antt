@@ -1,26 +1,16 @@
 -- A message is given to an end, and a step that is refused.
 use Rattle.std.proofs.Common.{◌≡◌, ℕ, true, false, List, [], ◌∷◌, ◌++◌, refl, ap, sym, subst, ◌∙◌}
 use Rattle.std.specs.Prelude.{Option, Some, None, is_some, IfSome}
-use Rattle.trace_model.specs.declared.entry.Entry.{Entry}
+use Rattle.world.proofs.Words.{AreNoted, End, Entry, Give, GoesOut, HasHappened, Link, LinkEnd, LinkStandsFor, Message, NoCause, Node, NodeStandsFor, Side}
+use Rattle.world.proofs.Words.{becomes, end_is, frames_out, give_refusal, here_entries, more_noted, puts_entries, side_of, turn}
 use Rattle.trace_model.specs.declared.entry.Entry.TheVariants as entry
-use Rattle.trace_model.specs.declared.entry.NoCause.{NoCause}
-use Rattle.trace_model.specs.declared.line.End.{End}
-use Rattle.link_laws.specs.machine.Machine.{LinkEnd, Message, Refused, give_refusal, turn, frames_out}
-use Rattle.link_laws.specs.machine.Machine.Turn.{Give}
-use Rattle.link_laws.specs.messages.Links.{Link, becomes, number_of}
-use Rattle.link_laws.specs.messages.Links.Ending.{GoesOut}
+use Rattle.link_laws.specs.machine.Machine.{Refused}
+use Rattle.link_laws.specs.messages.Links.{number_of}
 use Rattle.link_laws.specs.messages.Links.Comes.{NoInput}
 use Rattle.link_laws.specs.messages.Links.EndEvent.{Step}
-use Rattle.link_laws.specs.entries.Entries.{Entry as Noted, sent_unless, puts_entries, here_entries}
+use Rattle.link_laws.specs.entries.Entries.{Entry as Noted, sent_unless}
 use Rattle.link_laws.specs.entries.Entries.Entry.{Sent}
 use Rattle.history.specs.Follows.{as_noted}
-use Rattle.world.specs.declared.node.Node.{Node}
-use Rattle.world.specs.declared.side.Side.{Side}
-use Rattle.link_wires.specs.Notes.{side_of}
-use Rattle.world.specs.Nodes.{NodeStandsFor}
-use Rattle.world.specs.Sides.{LinkStandsFor, HasHappened}
-use Rattle.link_wires.specs.Notes.{AreNoted}
-use Rattle.link_wires.proofs.Notes.{end_is, more_noted}
 
 -- ## A step that is refused
 

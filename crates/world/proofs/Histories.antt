@@ -3,21 +3,16 @@ use Rattle.std.proofs.Common.{◌≡◌, true, ℕ, List, [], ◌∷◌, ◌++�
 use Rattle.std.specs.List.{AllByRecursion}
 use Rattle.std.proofs.lemmas.Bool.{true≢false}
 use Rattle.swp_base.specs.InMemory.{Memory}
-use Rattle.trace_model.specs.declared.line.Header.{Header}
-use Rattle.trace_model.specs.declared.line.Line.{Line}
+use Rattle.world.proofs.Words.{Below, Header, IsPlayFor, Line, Play, Said, StandsBelow, World, lines_played}
 use Rattle.trace_model.specs.declared.line.Line.TheVariants as saying
 use Rattle.trace_model.specs.Lines.{IsNodeOf}
 use Rattle.lines_told.specs.lines.Below.{memory_behind}
-use Rattle.lines_told.specs.lines.Plays.{IsPlayFor, Play, lines_played}
-use Rattle.lines_told.specs.lines.Plays.Play.{Said}
 use Rattle.lines_told.proofs.lines.Plays.{all-append}
 use Rattle.node_world.specs.Legal.{HaveLegalHistory, IsKeptBehind}
 use Rattle.node_world.proofs.FoundAsKept.{kept_behind}
 use Rattle.node_world.proofs.LegalPlays.{AskFew, AsksNone, bare_legal, nodes_legal, said_ask_few, still_ask_few}
-use Rattle.world.specs.declared.world_steps.Below.{Below}
 use Rattle.world.specs.declared.world_steps.Below.TheVariants.{Bare, Nodes}
-use Rattle.world.specs.declared.world_steps.World.{World}
-use Rattle.world.specs.Worlds.{IsPartLine, IsWorldAt, IsWorldWithin, StandsBelow, is_part}
+use Rattle.world.specs.Worlds.{IsPartLine, IsWorldAt, IsWorldWithin, is_part}
 use Rattle.world.proofs.Playing.{begins_so, played_parts}
 
 part_asks_none : (l : Line) → is_part l ≡ true → AsksNone l

@@ -1,3 +1,4 @@
+mod Words
 pub mod Noting
 pub mod Nodes
 pub mod Bare

@@ -3,26 +3,14 @@ use Rattle.std.proofs.Common.{◌≡◌, ℕ, zero, suc, ◌<◌, Bool, true, fa
 use Rattle.std.proofs.Common.{arith}
 use lib.Dec.{T, eqb→eq}
 use Rattle.std.specs.Prelude.{Option, Some, None, IfSome}
-use Rattle.circular_buffer.specs.Buffer.{Buffer}
-use Rattle.trace_model.specs.declared.entry.Entry.{Entry}
-use Rattle.trace_model.specs.declared.entry.Entry.TheVariants.{No}
-use Rattle.trace_model.specs.declared.entry.NoCause.{NoCause}
-use Rattle.trace_model.specs.declared.entry.NoCause.TheVariants.{Empty}
-use Rattle.trace_model.specs.declared.line.End.{End}
-use Rattle.trace_model.specs.declared.line.Line.{Line}
-use Rattle.link_laws.specs.sessions.Sessions.{OnWire}
-use Rattle.link_laws.specs.messages.Links.{Link, EndEvent, happens, happens_at_controller, exchanged}
-use Rattle.link_laws.specs.entries.Entries.{event_entries, here_entries}
-use Rattle.history.specs.Histories.{Cause, Outcome, noted}
-use Rattle.history.specs.Histories.Outcome.{Refused, Caused}
-use Rattle.history.specs.Steps.{at as happens_at, event_of, events_at, entries_for}
-use Rattle.history.specs.Follows.{seen_from, refusal, causes_in, outcome_of, link_after_line, if_empty}
-use Rattle.link_wires.specs.declared.wire.Flying.{Flying}
-use Rattle.world.specs.declared.side.Side.{Side}
-use Rattle.link_wires.specs.Notes.{side_of}
-use Rattle.link_wires.specs.Wires.{WireStandsFor}
-use Rattle.world.specs.Sides.{LinkStandsFor, HasHappened}
-use Rattle.world.specs.Lines.{SidesStandFor, Does}
+use Rattle.world.proofs.Words.{Buffer, Caused, Does, Empty, End, EndEvent, Entry, Flying, HasHappened, Line, Link, LinkStandsFor, No, NoCause, OnWire, Outcome}
+use Rattle.world.proofs.Words.{Side, SidesStandFor, WireStandsFor, causes_in, entries_for, events_at, exchanged, happens, happens_at_controller, here_entries}
+use Rattle.world.proofs.Words.{link_after_line, noted, outcome_of, refusal, seen_from, side_of}
+use Rattle.link_laws.specs.entries.Entries.{event_entries}
+use Rattle.history.specs.Histories.{Cause}
+use Rattle.history.specs.Histories.Outcome.{Refused}
+use Rattle.history.specs.Steps.{at as happens_at, event_of}
+use Rattle.history.specs.Follows.{if_empty}
 
 -- ## Seen from an end
 

@@ -2,29 +2,24 @@
 use Rattle.std.proofs.Common.{◌≡◌, ℕ, ◌-◌, ◌<◌, ◌^◌, List, [], ◌∷◌, ◌++◌, length, drop, map, refl, ap, sym, subst, ◌∙◌, append_assoc, arith}
 use Rattle.std.proofs.lemmas.List.{append-nil}
 use Rattle.std.specs.Prelude.{Bool, true, false, is_some, ◌==◌, Option, Some, None, option_map, Result, Ok, Err}
-use Rattle.link_laws.specs.machine.Machine.{LinkEnd, LinkInput, after_input, after_inputs, turn, whole_acked, new_link_end}
+use Rattle.link_laws.specs.machine.Machine.{after_inputs}
+use Rattle.world.proofs.Words.{AreNoted, Asked, Control, End, Entry, Fetch, FetchMessage, Give, Hold, LinkEnd, LinkInput, LinkState, Message, Node}
+use Rattle.world.proofs.Words.{NodeStandsFor, Place, Take, Waiting, after_input, control_of, end_is, entries_for, fetched, give_refusal, if_up, is_open}
+use Rattle.world.proofs.Words.{new_link_end, report, reset_by, reset_refusal, side_of, tick_answer, ticked, told, turn, whole_acked, window_of}
 use Rattle.link_laws.specs.machine.Machine.Role.{Bare}
-use Rattle.link_laws.specs.machine.Machine.LinkInput.{Take, TakeUnknown, TakeBroken, Tick, Reset, Start, Stop, FromNode, Fetch}
-use Rattle.link_laws.specs.machine.Machine.Turn.{Give, Hold, FetchMessage, SetAside, Release}
+use Rattle.link_laws.specs.machine.Machine.LinkInput.{TakeUnknown, TakeBroken, Tick, Reset, Start, Stop, FromNode}
+use Rattle.link_laws.specs.machine.Machine.Turn.{SetAside, Release}
 use Rattle.link_laws.specs.machine.Laws.{AreSendableInputs}
 use Rattle.link_laws.proofs.machine.Runs.{Sound, sound, parted}
-use Rattle.trace_model.specs.declared.entry.Entry.{Entry}
-use Rattle.trace_model.specs.declared.line.End.{End}
 use Rattle.trace_model.specs.declared.entry.Entry.TheVariants as entry
 use Rattle.block_pool.specs.declared.chain.Chain.{Chain}
 use Rattle.block_pool.specs.Pool.{PoolState, IsLive, chain_bytes, Gives, KeepsOthers}
 use Rattle.hcp_chain.specs.Holding.{messages_in as messages_of}
 use Rattle.link_messages.specs.Incoming.{got_chains}
 use Rattle.link_end.specs.declared.«end».End.{End as Kept}
-use Rattle.swp_base.specs.declared.control_frames.Control.{Control}
-use Rattle.swp_lpdu.specs.Controls.{control_of}
-use Rattle.swp_base.specs.declared.link_terms.Cause.TheVariants.{Asked}
 use Rattle.swp_act.specs.declared.ActEvent.TheVariants.{Tick as ActTick}
-use Rattle.shdlc_core.specs.declared.answers.LinkState.{LinkState}
-use Rattle.shdlc_core.specs.declared.answers.LinkState.TheVariants.{Down, Waiting, Up}
-use Rattle.shdlc_core.specs.Machine.{fetched, ticked, tick_answer}
-use Rattle.link_laws.specs.machine.Machine.{Message, ActDue, Refused, oldest, brought, lpdu_input, give_refusal, frame_fetched, whole_among, report, is_open}
-use Rattle.link_laws.specs.machine.Machine.{reset_refusal, reset_by, if_up, window_of}
+use Rattle.shdlc_core.specs.declared.answers.LinkState.TheVariants.{Down, Up}
+use Rattle.link_laws.specs.machine.Machine.{ActDue, Refused, oldest, brought, lpdu_input, frame_fetched, whole_among}
 use Rattle.hcp_packet.specs.Packets.{IsSendable, packet_count}
 use Rattle.link_laws.proofs.machine.Sound.{whole_given}
 use Rattle.link_laws.proofs.machine.Reports.{Reports}
@@ -33,16 +28,9 @@ use Rattle.link_end.specs.declared.report.LinkReport.{LinkReport}
 use Rattle.link_end.specs.Ends.{EndStandsFor, Accounts, EndLeavesOthers}
 use Rattle.link_end.specs.Reports.{report_told as told_of, nothing_told, reset_told, reset_refused}
 use Rattle.link_end.proofs.AccountLemmas.{account_kept, account_moved, given_own}
-use Rattle.link_laws.specs.entries.Entries.{told}
 use Rattle.link_laws.specs.entries.Entries.Entry.{Got}
-use Rattle.history.specs.Steps.{entries_for}
-use Rattle.world.specs.declared.node.Node.{Node}
-use Rattle.world.specs.declared.node.Place.{Place}
-use Rattle.link_wires.specs.Notes.{side_of}
 use Rattle.world.specs.Noting.{acked_on, reported}
-use Rattle.world.specs.Nodes.{Reached, CanFetch, HasInput, NodeStandsFor}
-use Rattle.link_wires.specs.Notes.{AreNoted}
-use Rattle.link_wires.proofs.Notes.{end_is}
+use Rattle.world.specs.Nodes.{Reached, CanFetch, HasInput}
 use Rattle.world.proofs.Noting.{told_at, acked_told}
 use Rattle.link_laws.proofs.machine.Kept.{took_got, moved_got, activated_got}
 use Rattle.link_laws.proofs.entries.Stepping.{one_fetched_acked}

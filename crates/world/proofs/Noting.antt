@@ -4,21 +4,19 @@ use Rattle.std.proofs.Common.{append_assoc}
 use Rattle.std.proofs.lemmas.Bool.{true≢false}
 use Rattle.std.specs.Prelude.{Option, Some, None, is_some, min, nat_lt, option_to_list}
 use Rattle.swp_base.specs.declared.link_terms.Cause.{Cause}
-use Rattle.trace_model.specs.declared.entry.Entry.{Entry}
+use Rattle.world.proofs.Words.{End, Entry, LinkEnd, LinkInput, after_input, end_is, end_of, ended_by, entries_for, report, side_of, told, whole_acked}
 use Rattle.trace_model.specs.declared.entry.Entry.TheVariants as entry
-use Rattle.trace_model.specs.declared.line.End.{End}
-use Rattle.link_laws.specs.machine.Machine.{LinkEnd, LinkInput, Report, report, after_input, ended_by, began_by, whole_among, whole_acked}
+use Rattle.link_laws.specs.machine.Machine.{Report, began_by, whole_among}
 use Rattle.link_laws.proofs.machine.Shifts.{Shift}
 use Rattle.link_laws.proofs.machine.Shifts.Shift.{Stays, Ends, Renews, Begins, Rests}
 use Rattle.link_laws.proofs.machine.Sound.{SentAfter, whole_more, whole_few}
 use Rattle.link_laws.proofs.machine.Runs.{Sound}
 use Rattle.link_laws.proofs.machine.Reports.{Reports}
 use Rattle.link_end.specs.Reports.{report_told as told_of}
-use Rattle.link_laws.specs.entries.Entries.{End as Which, Entry as Noted, told, if_so}
+use Rattle.link_laws.specs.entries.Entries.{End as Which, Entry as Noted, if_so}
 use Rattle.link_laws.specs.entries.Entries.Entry.{Up, Down, Active, GaveUp, Acked, Got}
-use Rattle.history.specs.Steps.{end_of, entry_of, entries_for}
-use Rattle.link_wires.specs.Notes.{side_of}
-use Rattle.link_wires.proofs.Notes.{end_is, entries-append}
+use Rattle.history.specs.Steps.{entry_of}
+use Rattle.link_wires.proofs.Notes.{entries-append}
 use Rattle.world.specs.Noting.{acked_on, reported}
 
 down_entries : (h : ℕ) (who : Which) (o : Option Cause) → entries_for h (map (Down who) (option_to_list o)) ≡ map (entry.Down (end_of h who)) (option_to_list o)

@@ -4,23 +4,19 @@ use Rattle.std.proofs.Common.{append-nil, append_assoc, inl, inr, length-append,
 use Rattle.std.specs.Prelude.{Option, Some, None, Result, OnOk, if◌then◌else◌, replicate}
 use Rattle.std.proofs.lemmas.Result.{on_ok_weaker}
 use Rattle.std.specs.List.{AllByRecursion}
-use Rattle.trace_model.specs.declared.line.Header.{Header}
-use Rattle.trace_model.specs.declared.line.Line.{Line}
+use Rattle.world.proofs.Words.{Below, Header, IsFaultThere, IsPlayFor, Line, Play, Round, Said, StandsBelow, World, lines_played, lines_said, rounds_played}
 use Rattle.trace_model.specs.declared.line.Line.TheVariants as saying
 use Rattle.trace_model.specs.Lines.{MayBegin}
 use Rattle.lines_told.specs.lines.Below.{misread_below}
-use Rattle.lines_told.specs.lines.Plays.{Play, AreFewPlays, IsPlayFor, lines_played, lines_said, rests_behind, rounds_played, rounds_to_rest}
-use Rattle.lines_told.specs.lines.Plays.Play.{Said, Round}
+use Rattle.lines_told.specs.lines.Plays.{AreFewPlays, rests_behind, rounds_to_rest}
 use Rattle.lines_told.proofs.lines.Plays.{all-append, few_with_round, few_with_said, none_said, played-append, played_more, rounds_for, said-append}
 use Rattle.lines_told.proofs.lines.Plays.{so_many_rounds}
 use Rattle.lines_told.proofs.lines.Resting.{at_most}
 use Rattle.world.specs.declared.fault.WorldFault.{WorldFault}
 use Rattle.world.specs.declared.fault.WorldFault.TheVariants as fault
-use Rattle.world.specs.declared.world_steps.Below.{Below}
 use Rattle.world.specs.declared.world_steps.Below.TheVariants.{Bare, Nodes}
 use Rattle.world.specs.declared.world_steps.OpenLine.{OpenLine}
-use Rattle.world.specs.declared.world_steps.World.{World}
-use Rattle.world.specs.Worlds.{StandsBelow, IsWorldAt, IsWorldWithin, HasRoomForLine, HasRoomForPart, HasRoomToSettle, IsFaultThere}
+use Rattle.world.specs.Worlds.{IsWorldAt, IsWorldWithin, HasRoomForLine, HasRoomForPart, HasRoomToSettle}
 use Rattle.world.specs.Worlds.{MayCountBelow, MayOpen, is_part, world_header}
 
 -- ## Counts

@@ -1,23 +1,13 @@
 -- The link behind plays made few RSETs, and its ends were given few messages.
 use Rattle.std.proofs.Common.{ℕ, suc, ◌+◌, ◌*◌, ◌≤◌, List, [], ◌∷◌, ◌++◌, ap, sym, subst, ◌∙◌, arith}
 use Rattle.std.specs.List.{AllByRecursion, fold}
-use Rattle.trace_model.specs.declared.line.End.{End}
-use Rattle.trace_model.specs.declared.line.Header.{Header}
-use Rattle.trace_model.specs.declared.line.Line.{Line}
+use Rattle.world.proofs.Words.{Controller, End, FewRsets, HaveSent, Header, Host, IsPlayFor, Line, Link, Play, Round, Said, bare_link, bare_link_behind}
+use Rattle.world.proofs.Words.{bare_round_lines, end_of, host_of, lines-append, lines_played, lines_said, link_after_lines, most_rsets, round_behind}
+use Rattle.world.proofs.Words.{rounds_played}
 use Rattle.trace_model.specs.Lines.{IsHeader}
-use Rattle.link_laws.specs.messages.Links.{Link}
 use Rattle.link_laws.specs.messages.Links.IsStart.{IsBare}
-use Rattle.link_laws.specs.messages.Rsets.{FewRsets}
-use Rattle.link_laws.specs.entries.Entries.End.{Controller, Host}
 use Rattle.link_laws.proofs.messages.RsetNumbers.{start_numbered}
-use Rattle.history.specs.Steps.{bare_link, end_of}
-use Rattle.history.specs.Follows.{host_of, link_after_lines}
-use Rattle.lines_told.specs.lines.Below.{bare_link_behind}
-use Rattle.lines_told.specs.lines.Plays.{Play, IsPlayFor, lines_of_play, lines_played, lines_said, rounds_played, round_behind}
-use Rattle.lines_told.specs.lines.Plays.Play.{Said, Round}
-use Rattle.lines_told.proofs.lines.BareRounds.{bare_round_lines, lines-append}
-use Rattle.world.specs.BareWorlds.{most_rsets}
-use Rattle.world.specs.Lines.{HaveSent}
+use Rattle.lines_told.specs.lines.Plays.{lines_of_play}
 use Rattle.world.proofs.BareWorlds.{bare_line}
 use Rattle.world.proofs.Given.{sent_line}
 use Rattle.world.proofs.RoundLemmas.{sent_round}

@@ -2,32 +2,18 @@
 use Rattle.std.proofs.Common.{◌≡◌, ℕ, zero, suc, ◌+◌, ◌*◌, ◌<◌, ◌≤◌, ◌^◌, length, arith, Bool, true, false, List, [], ◌++◌, replicate, refl, ap, sym, subst}
 use Rattle.std.proofs.Common.{◌∙◌, append-nil, append_assoc}
 use Rattle.std.specs.Prelude.{Option, Some, None, not, if◌then◌else◌}
-use Rattle.trace_model.specs.declared.entry.Entry.{Entry}
-use Rattle.trace_model.specs.declared.line.End.{End}
-use Rattle.trace_model.specs.Ends.{other_end}
-use Rattle.trace_model.specs.declared.line.Line.{Line}
-use Rattle.link_laws.specs.messages.Links.{Link, EndEvent, happens, aged, ticks_at_controller, exchanged}
-use Rattle.link_laws.specs.messages.Links.Ending.{GoesOut}
-use Rattle.link_laws.specs.entries.Entries.{End as Which, Entry as Noted, event_entries, aged_entries, tick_entries}
-use Rattle.link_laws.specs.entries.Entries.End.{Controller, Host}
+use Rattle.world.proofs.Words.{AreNoted, Buffer, Caused, Controller, Does, End, EndEvent, Entry, Flying, GoesOut, HasHappened, HasRepeated, HaveSent, Host}
+use Rattle.world.proofs.Words.{Line, Link, LinkStandsFor, OnWire, Side, SidesStandFor, Ticked, WireStandsFor, aged, causes_in, entries_for, events_at}
+use Rattle.world.proofs.Words.{exchanged, happens, idle, link_after, link_after_all, more_noted, other_end, refusal, seen_from, side_of, taken_of, tick_entries}
+use Rattle.world.proofs.Words.{ticks_at_controller}
+use Rattle.link_laws.specs.entries.Entries.{End as Which, Entry as Noted, event_entries, aged_entries}
 use Rattle.history.specs.Histories.{Cause, entries_of}
-use Rattle.history.specs.Histories.Cause.{Ticked}
-use Rattle.history.specs.Histories.Outcome.{Caused}
-use Rattle.history.specs.Steps.{at as happens_at, idle, event_of, event_at, events_at, entries_for, link_after, link_after_all}
-use Rattle.history.specs.Follows.{seen_from, taken_of, refusal, causes_in}
-use Rattle.world.specs.declared.side.Side.{Side}
-use Rattle.link_wires.specs.Notes.{side_of}
-use Rattle.world.specs.Sides.{LinkStandsFor, HasHappened}
-use Rattle.link_wires.specs.Notes.{AreNoted}
-use Rattle.link_wires.specs.Wires.{WireStandsFor, kept_of}
-use Rattle.world.specs.Lines.{SidesStandFor, HasCaused, HasRepeated, HaveSent, Does}
-use Rattle.link_wires.specs.declared.wire.Flying.{Flying}
-use Rattle.circular_buffer.specs.Buffer.{Buffer}
-use Rattle.link_laws.specs.sessions.Sessions.{OnWire}
+use Rattle.history.specs.Steps.{at as happens_at, event_of, event_at}
+use Rattle.link_wires.specs.Wires.{kept_of}
+use Rattle.world.specs.Lines.{HasCaused}
 use Rattle.std.proofs.lemmas.List.{length-map}
 use Rattle.world.proofs.LineLemmas.{seen_happens, seen_noted, caused, does}
 use Rattle.world.proofs.Given.{causes_of-events}
-use Rattle.link_wires.proofs.Notes.{more_noted}
 
 -- what happened at an end is what its cause does
 pub happened_caused : {near far : Side} {resets : ℕ} {at : End} {l : Link} {cause : Cause} {event : EndEvent} {before now : List Entry}

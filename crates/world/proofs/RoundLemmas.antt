@@ -1,23 +1,14 @@
 -- A round of a link: what its lines do, one after another.
 use Rattle.std.proofs.Common.{◌≡◌, ℕ, Bool, false, List, [], ◌∷◌, ◌++◌, length, replicate, refl, ap, sym, subst, ◌∙◌, append-nil, append_assoc}
 use Rattle.std.specs.Prelude.{None, not, if◌then◌else◌}
-use Rattle.trace_model.specs.declared.entry.Entry.{Entry}
-use Rattle.trace_model.specs.declared.line.End.{End}
-use Rattle.trace_model.specs.declared.line.Line.{Line}
+use Rattle.world.proofs.Words.{DoesAll, End, Entry, HasRepeated, HaveSent, Line, Link, LinkStandsFor, OnWire, Side, SidesStandFor, Taken, Ticked, events_at}
+use Rattle.world.proofs.Words.{frames_to, lines-append, link_after_line, link_after_lines, noted, other_end, outcome_of, refusal, round_on, taking_on}
 use Rattle.trace_model.specs.declared.line.Line.TheVariants as saying
-use Rattle.trace_model.specs.Ends.{other_end}
-use Rattle.link_laws.specs.sessions.Sessions.{OnWire}
-use Rattle.link_laws.specs.messages.Links.{Link}
 use Rattle.link_laws.specs.messages.Rest.{is_clear}
-use Rattle.history.specs.Histories.{entries_of, noted}
-use Rattle.history.specs.Histories.Cause.{Taken, Ticked}
-use Rattle.history.specs.Steps.{event_at, events_at}
-use Rattle.history.specs.Follows.{frames_to, link_after_line, link_after_lines, outcome_of, refusal}
-use Rattle.lines_told.specs.lines.Plays.{round_on, taking_on}
-use Rattle.lines_told.proofs.lines.BareRounds.{lines-append, takes_on}
-use Rattle.world.specs.declared.side.Side.{Side}
-use Rattle.world.specs.Sides.{LinkStandsFor}
-use Rattle.world.specs.Lines.{SidesStandFor, HasCaused, HasRepeated, DoesAll, HaveSent, told_on}
+use Rattle.history.specs.Histories.{entries_of}
+use Rattle.history.specs.Steps.{event_at}
+use Rattle.lines_told.proofs.lines.BareRounds.{takes_on}
+use Rattle.world.specs.Lines.{HasCaused, told_on}
 use Rattle.world.proofs.Given.{sent_repeated, sent_after}
 use Rattle.world.proofs.LineLemmas.{caused}
 use Rattle.world.proofs.Repeating.{turned_round}

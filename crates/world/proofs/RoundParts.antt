@@ -1,19 +1,12 @@
 -- The lines of a round are those of its ends, one after another.
 use Rattle.std.proofs.Common.{◌≡◌, ℕ, true, false, List, [], ◌∷◌, ◌++◌, length, refl, ap, sym, ◌∙◌, arith, inl, inr}
 use Rattle.std.specs.Prelude.{◌&&◌, not, if◌then◌else◌, slice_index}
-use Rattle.trace_model.specs.declared.line.End.{End}
-use Rattle.trace_model.specs.declared.line.Header.{Header}
-use Rattle.trace_model.specs.declared.line.Line.{Line}
+use Rattle.world.proofs.Words.{Controller, End, Header, Host, Line, Link, OnWire, bare_link, bare_link_behind, bare_round_lines, end_of, frames_to, host_of}
+use Rattle.world.proofs.Words.{lines-append, round_behind, round_on, taking_on}
 use Rattle.trace_model.specs.Lines.{MayBegin}
-use Rattle.link_laws.specs.sessions.Sessions.{OnWire}
-use Rattle.link_laws.specs.messages.Links.{Link}
 use Rattle.link_laws.specs.messages.Rest.{is_clear}
-use Rattle.link_laws.specs.entries.Entries.End.{Controller, Host}
-use Rattle.history.specs.Steps.{bare_link, end_of}
-use Rattle.history.specs.Follows.{frames_to, host_of}
-use Rattle.lines_told.specs.lines.Below.{bare_link_behind, nodes_behind}
-use Rattle.lines_told.specs.lines.Plays.{round_behind, round_in, round_on, taking_in, taking_on}
-use Rattle.lines_told.proofs.lines.BareRounds.{bare_round_lines, lines-append}
+use Rattle.lines_told.specs.lines.Below.{nodes_behind}
+use Rattle.lines_told.specs.lines.Plays.{round_in, taking_in}
 use Rattle.lines_told.proofs.lines.NodeRounds.{after-append}
 use Rattle.node_world.proofs.RoundLinks.{round_by_links}
 use Rattle.world.specs.RoundParts.{ends_of_links, round_left, taking_below, taking_where}

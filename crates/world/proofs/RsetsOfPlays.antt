@@ -1,29 +1,18 @@
 -- Lines and rounds have a link make few RSETs.
 use Rattle.std.proofs.Common.{◌≡◌, ℕ, zero, suc, ◌+◌, ◌*◌, ◌≤◌, true, false, List, [], ◌∷◌, ◌++◌, length, replicate, sym, subst, arith}
 use Rattle.std.specs.Prelude.{Option, Some, None, IfSome, unwrap_or}
-use Rattle.trace_model.specs.declared.entry.NoCause.{NoCause}
-use Rattle.trace_model.specs.declared.line.End.{End}
-use Rattle.trace_model.specs.declared.line.Header.{Header}
-use Rattle.trace_model.specs.declared.line.Line.{Line}
+use Rattle.world.proofs.Words.{Caused, End, FewRsets, Given, Header, IsLineOf, Line, Link, NoCause, OnDemand, Outcome, Play, Readied, Round, Said, Taken}
+use Rattle.world.proofs.Words.{Ticked, WasLost, WasReset, causes_in, damage_causes, events_at, first_verdict, frames_to, lines-append, link_after}
+use Rattle.world.proofs.Words.{link_after_all, link_after_line, link_after_lines, most_rsets, outcome_of, refusal, round_on, taken_of, taking_on}
 use Rattle.trace_model.specs.declared.line.Line.TheVariants as line
-use Rattle.trace_model.specs.Lines.{IsLineOf}
-use Rattle.link_laws.specs.messages.Links.{Link}
-use Rattle.link_laws.specs.messages.Rsets.{FewRsets}
 use Rattle.history.specs.BareRsets.{rsets_by_bare}
 use Rattle.history.specs.Damage.{Verdict}
 use Rattle.history.specs.Damage.Verdict.{Same, LostFor, Undetected}
-use Rattle.history.specs.Histories.{Cause, Outcome}
-use Rattle.link_laws.specs.messages.Links.Loss.{OnDemand}
-use Rattle.history.specs.Histories.Cause.{Given, Taken, WasLost, Ticked, WasReset, Readied}
-use Rattle.history.specs.Histories.Outcome.{Refused, Caused}
-use Rattle.history.specs.Steps.{events_at, link_after, link_after_all}
-use Rattle.history.specs.Follows.{causes_in, damage_causes, first_verdict, frames_to, link_after_line, link_after_lines, outcome_of, refusal, taken_of}
+use Rattle.history.specs.Histories.{Cause}
+use Rattle.history.specs.Histories.Outcome.{Refused}
 use Rattle.history.proofs.RsetsInBareWorlds.{few_after}
-use Rattle.lines_told.specs.lines.Plays.{Play, round_on, taking_on}
-use Rattle.lines_told.specs.lines.Plays.Play.{Said, Round}
 use Rattle.lines_told.proofs.lines.Plays.{one_said, no_more_rounds, no_more_said, one_round}
-use Rattle.lines_told.proofs.lines.BareRounds.{lines-append, takes_on}
-use Rattle.world.specs.BareWorlds.{most_rsets}
+use Rattle.lines_told.proofs.lines.BareRounds.{takes_on}
 use Rattle.world.proofs.Given.{causes_of-events}
 
 -- few RSETs are as few as this

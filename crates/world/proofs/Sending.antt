@@ -2,24 +2,13 @@
 use Rattle.std.proofs.Common.{◌≡◌, ℕ, suc, ◌≤◌, List, [], ◌∷◌, ◌++◌, length, refl, ap, sym, subst, ◌∙◌, append_assoc, arith}
 use Rattle.std.proofs.lemmas.List.{append-nil}
 use Rattle.std.specs.Prelude.{Ok, Option, Some, None, IfSome, option_map}
-use Rattle.swp_base.specs.declared.control_frames.Control.{Control}
-use Rattle.swp_lpdu.specs.Controls.{lpdu_of, control_of}
-use Rattle.trace_model.specs.declared.entry.Entry.{Entry}
-use Rattle.trace_model.specs.declared.line.End.{End}
-use Rattle.shdlc_core.specs.declared.answers.Due.{Due}
-use Rattle.shdlc_core.specs.Machine.{EndState, fetched, frame_due, frames_of, after_frames}
-use Rattle.link_laws.specs.machine.Machine.{LinkEnd, among, next_frame, frames_out, sent_all, after_input}
-use Rattle.link_laws.specs.machine.Machine.LinkInput.{Fetch}
-use Rattle.link_laws.specs.messages.Links.{Link, put, put_all, becomes, with_controller}
-use Rattle.link_laws.specs.entries.Entries.{Entry as Noted, put_entries, puts_entries}
-use Rattle.history.specs.Steps.{entries_for}
-use Rattle.world.specs.declared.node.Node.{Node}
-use Rattle.world.specs.declared.side.Side.{Side}
-use Rattle.link_wires.specs.Notes.{side_of}
-use Rattle.world.specs.Nodes.{NodeStandsFor}
-use Rattle.world.specs.Sides.{LinkStandsFor, IsMidway}
-use Rattle.link_wires.specs.Notes.{AreNoted}
-use Rattle.link_wires.proofs.Notes.{more_noted}
+use Rattle.world.proofs.Words.{AreNoted, Control, Due, End, EndState, Entry, Fetch, IsMidway, Link, LinkEnd, LinkStandsFor, Node, NodeStandsFor, Side}
+use Rattle.world.proofs.Words.{after_input, becomes, control_of, entries_for, fetched, frames_out, more_noted, put, put_all, puts_entries, side_of}
+use Rattle.swp_lpdu.specs.Controls.{lpdu_of}
+use Rattle.shdlc_core.specs.Machine.{frame_due, frames_of, after_frames}
+use Rattle.link_laws.specs.machine.Machine.{among, next_frame, sent_all}
+use Rattle.link_laws.specs.messages.Links.{with_controller}
+use Rattle.link_laws.specs.entries.Entries.{Entry as Noted, put_entries}
 use Rattle.world.proofs.Bare.{is_bare, plain_fetched}
 use Rattle.link_laws.proofs.machine.Places.{fetched_due}
 use Rattle.link_laws.proofs.sessions.Ties.{nothing_sent}

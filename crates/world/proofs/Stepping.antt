@@ -1,21 +1,14 @@
 -- What happens at one end of a link.
 use Rattle.std.proofs.Common.{◌≡◌, ℕ, List, drop, sym, subst}
-use Rattle.circular_buffer.specs.Buffer.{Buffer}
-use Rattle.swp_base.specs.declared.control_frames.Control.{Control}
-use Rattle.trace_model.specs.declared.entry.Entry.{Entry}
-use Rattle.trace_model.specs.declared.line.End.{End}
-use Rattle.link_laws.specs.sessions.Sessions.{OnWire, aged_wire}
-use Rattle.link_laws.specs.machine.Machine.{LinkEnd}
-use Rattle.link_laws.specs.messages.Links.{NumberedEnd, Link, Loss, put}
+use Rattle.world.proofs.Words.{AreNoted, Buffer, Control, End, Entry, Flying, HasHappened, IsMidway, Link, LinkEnd, LinkStandsFor, OnWire, Side, WireStandsFor}
+use Rattle.world.proofs.Words.{put, side_of}
+use Rattle.link_laws.specs.sessions.Sessions.{aged_wire}
+use Rattle.link_laws.specs.messages.Links.{NumberedEnd, Loss}
 use Rattle.link_laws.specs.messages.Links.EndEvent.{Lose}
 use Rattle.link_laws.specs.entries.Entries.{first_lost}
-use Rattle.link_wires.specs.declared.wire.Flying.{Flying}
-use Rattle.link_wires.specs.Notes.{side_of, AreNoted}
-use Rattle.link_wires.specs.Wires.{WireStandsFor}
 use Rattle.link_wires.specs.Putting.{GoesOutOf}
 use Rattle.link_wires.proofs.GoingOut.{put_stays}
-use Rattle.world.specs.declared.side.Side.{Side}
-use Rattle.world.specs.Sides.{SideStandsFor, LinkStandsFor, IsMidway, HasHappened}
+use Rattle.world.specs.Sides.{SideStandsFor}
 
 pub put_is : {near far : Side} {resets : ℕ} {l : Link} {m : LinkEnd} {e n : ℕ} {wire : Buffer Flying} (c : Control) → IsMidway near far resets l m
     → GoesOutOf e wire n (put l c) → IsMidway (record near { emitted = e }) (record far { wire = wire }) n (put l c) m

@@ -2,32 +2,18 @@
 use Rattle.std.proofs.Common.{◌≡◌, ℕ, ◌≤◌, Bool, true, false, List, [], ◌∷◌, ◌++◌, length, drop, max, refl, ap, sym, subst, ◌∙◌, arith}
 use Rattle.std.proofs.lemmas.List.{append-nil}
 use Rattle.std.specs.Prelude.{Ok, Some, None, is_some}
-use Rattle.circular_buffer.specs.Buffer.{Buffer}
-use Rattle.swp_lpdu.specs.Controls.{lpdu_of, control_of}
-use Rattle.trace_model.specs.declared.entry.Entry.{Entry}
+use Rattle.world.proofs.Words.{AreNoted, Buffer, End, Entry, FetchMessage, Flying, GoesOut, HasHappened, IsMidway, Link, LinkEnd, LinkStandsFor, Node}
+use Rattle.world.proofs.Words.{NodeStandsFor, OnWire, Place, Side, Take, WireStandsFor, after_input, becomes, control_of, end_is, ended_by, entries_for}
+use Rattle.world.proofs.Words.{frames_out, happens_at_controller, here_entries, more_noted, puts_entries, report, side_of, told, turn, whole_acked, with_ended}
+use Rattle.swp_lpdu.specs.Controls.{lpdu_of}
 use Rattle.trace_model.specs.declared.entry.Entry.TheVariants as entry
-use Rattle.trace_model.specs.declared.line.End.{End}
-use Rattle.link_laws.specs.sessions.Sessions.{OnWire, is_rset, took_with}
-use Rattle.link_laws.specs.machine.Machine.{LinkEnd, Turn, report, whole_acked, after_input, ended_by, frames_out, turn}
-use Rattle.link_laws.specs.machine.Machine.LinkInput.{Take}
-use Rattle.link_laws.specs.machine.Machine.Turn.{FetchMessage}
-use Rattle.link_laws.specs.messages.Links.{Link, happens_at_controller, becomes, with_ended}
-use Rattle.link_laws.specs.messages.Links.Ending.{GoesOut}
+use Rattle.link_laws.specs.sessions.Sessions.{is_rset, took_with}
+use Rattle.link_laws.specs.machine.Machine.{Turn}
 use Rattle.link_laws.specs.messages.Links.Comes.{NextFrame}
 use Rattle.link_laws.specs.messages.Links.EndEvent.{Step}
-use Rattle.link_laws.specs.entries.Entries.{Entry as Noted, told, told_of, puts_entries, left_after, taken_entries, here_entries}
+use Rattle.link_laws.specs.entries.Entries.{Entry as Noted, told_of, left_after, taken_entries}
 use Rattle.link_laws.specs.entries.Entries.Entry.{Took}
-use Rattle.history.specs.Steps.{entries_for}
-use Rattle.link_wires.specs.declared.wire.Flying.{Flying}
-use Rattle.world.specs.declared.node.Node.{Node}
-use Rattle.world.specs.declared.node.Place.{Place}
-use Rattle.world.specs.declared.side.Side.{Side}
-use Rattle.link_wires.specs.Notes.{side_of}
-use Rattle.world.specs.Nodes.{NodeStandsFor}
-use Rattle.link_wires.specs.Wires.{WireStandsFor, IsMade, kept_of}
-use Rattle.world.specs.Sides.{LinkStandsFor, IsMidway, HasHappened}
-use Rattle.link_wires.specs.Notes.{AreNoted}
-use Rattle.link_wires.proofs.Notes.{end_is, more_noted}
+use Rattle.link_wires.specs.Wires.{IsMade, kept_of}
 use Rattle.link_wires.proofs.Wires.{IsTakenOff, first_is, there_is_one, there_is_none, taken_off}
 
 -- ## The first frame

@@ -1,9 +1,6 @@
 use Rattle.std.proofs.Common.{◌≡◌, ◌++◌, ap, sym, subst, ◌∙◌, refl}
-use Rattle.node_sites.specs.declared.power.Power.TheVariants.{On, Off}
-use Rattle.node_sites.specs.Powers.{memory_kept, node_memory}
+use Rattle.node_world.proofs.Words.{Off, On, RunsAs, frames_emitted, memory_kept, node_memory}
 use Rattle.std.specs.List.{flat_map}
-use Rattle.node_world.specs.Controllers.{frames_emitted}
-use Rattle.node_core.specs.Running.{RunsAs}
 use Rattle.node_world.proofs.controller.finish_controller.Goals as goal
 
 pub returns-then-not-live-clause-cut : goal.returns-then-not-live-clause-cut

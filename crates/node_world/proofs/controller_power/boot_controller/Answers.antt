@@ -1,14 +1,6 @@
 use Rattle.std.proofs.Common.{ℕ, List, refl, sym, ap, subst, ◌∙◌}
-use Rattle.swp_base.specs.InMemory.{Memory}
-use Rattle.journal_laws.specs.Journal.{count_of}
-use Rattle.node_machine.specs.world.World.{link_to}
-use Rattle.link_wires.proofs.Results.{on_ok}
+use Rattle.node_world.proofs.Words.{EndsBoot, IsSoundMemory, Memory, On, count_of, kept_is, link_to, memory_kept, on_ok}
 use Rattle.node_laws.specs.telling.Telling.{hosts_in}
-use Rattle.node_sites.specs.Memories.{IsSoundMemory}
-use Rattle.node_sites.specs.Powers.{memory_kept}
-use Rattle.node_sites.specs.declared.power.Power.TheVariants.{On}
-use Rattle.node_sites.specs.WorldBoots.{EndsBoot}
-use Rattle.node_sites.proofs.Powers.{kept_is}
 use Rattle.node_world.proofs.ControllersPower.{boot_runs, boot_lost}
 use Rattle.node_world.proofs.controller_power.boot_controller.Goals as goal
 

@@ -1,4 +1,4 @@
-use Rattle.link_wires.proofs.Results.{on_ok}
+use Rattle.node_world.proofs.Words.{on_ok}
 use Rattle.node_world.proofs.ControllersPower.{was_cut}
 use Rattle.node_world.proofs.controller_power.cut_controller.Goals as goal
 

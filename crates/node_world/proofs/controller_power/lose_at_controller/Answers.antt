@@ -1,7 +1,6 @@
 use Rattle.std.proofs.Common.{ℕ, ap, sym, ◌∙◌}
 use Rattle.std.specs.Prelude.{slice_index_or, slice_set}
-use Rattle.node_machine.specs.world.World.{link_to}
-use Rattle.node_sites.specs.declared.power.Power.TheVariants.{On}
+use Rattle.node_world.proofs.Words.{On, link_to}
 use Rattle.node_world.proofs.ControllersHear.{place_is_on, place_is_off, found_there, site_read, changed_there}
 use Rattle.node_world.proofs.ControllersLose.{lost_on, a_host_of, counted_there, lost_there, plain_there, off_there}
 use Rattle.node_world.proofs.controller_power.lose_at_controller.Goals as goal

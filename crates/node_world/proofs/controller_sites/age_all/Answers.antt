@@ -1,7 +1,6 @@
 use Rattle.std.proofs.Common.{ℕ, ◌<◌, ◌≤◌, List, length, refl, ap, arith, ◌∙◌}
 use Rattle.std.specs.Prelude.{slice_index_or}
-use Rattle.trace_model.specs.declared.entry.Entry.{Entry}
-use Rattle.node_machine.specs.world.World.{Site}
+use Rattle.node_world.proofs.Words.{Entry, Site}
 use Rattle.node_world.specs.HostSteps.{site_ages}
 use Rattle.node_world.proofs.SitesKept.{walk_begins, walk_next, walk_ends}
 use Rattle.node_world.proofs.controller_sites.age_all.Goals as goal

@@ -1,6 +1,6 @@
 use Rattle.std.proofs.Common.{ℕ, ◌<◌, ◌≤◌, [], length, refl, ap, arith}
 use Rattle.std.specs.Prelude.{slice_index_or}
-use Rattle.node_world.specs.Controllers.{with_bare_link}
+use Rattle.node_world.proofs.Words.{with_bare_link}
 use Rattle.node_world.proofs.SitesKept.{walk_begins, walk_next, walk_ends}
 use Rattle.node_world.proofs.controller_sites.empty_all.Goals as goal
 

@@ -1,6 +1,5 @@
 use Rattle.std.proofs.Common.{List}
-use Rattle.node_machine.specs.world.World.{Site}
-use Rattle.node_world.specs.Controllers.{SitesAre}
+use Rattle.node_world.proofs.Words.{Site, SitesAre}
 use Rattle.node_world.proofs.PlacesFound.{PassedBy}
 use Rattle.node_world.proofs.controller_sites.searched_place.Given as goal
 

@@ -1,9 +1,7 @@
 use Rattle.std.proofs.Common.{ℕ, ◌<◌, ◌≤◌, List, length, refl, ap, arith, ◌∙◌}
 use Rattle.std.specs.Prelude.{slice_index_or}
-use Rattle.node_machine.specs.Parts.{Core, Port}
-use Rattle.node_machine.specs.world.World.{Site}
+use Rattle.node_world.proofs.Words.{Core, Port, RunsAs, Site}
 use Rattle.node_world.proofs.FramesToAll.{sends_first, sends_next, all_sent, room_left}
-use Rattle.node_core.specs.Running.{RunsAs}
 use Rattle.node_world.proofs.controller_sites.send_to_all.Goals as goal
 
 pub loop-i-init : goal.loop-i-init

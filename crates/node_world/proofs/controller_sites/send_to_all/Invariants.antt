@@ -1,10 +1,6 @@
 use Rattle.std.proofs.Common.{◌≡◌, List, drop}
-use Rattle.node_machine.specs.Parts.{Core, Port}
-use Rattle.node_machine.specs.world.World.{Site}
-use Rattle.node_world.specs.Controllers.{HaveRoom, SendsTo}
+use Rattle.node_world.proofs.Words.{Core, HaveRoom, Port, RunsAs, SendsTo, Site, node_memory}
 use Rattle.node_world.proofs.FramesToAll.{SendingOn}
-use Rattle.node_core.specs.Running.{RunsAs}
-use Rattle.node_sites.specs.Powers.{node_memory}
 use Rattle.node_world.proofs.controller_sites.send_to_all.Given as goal
 
 -- the frames to so many hosts went out

@@ -3,11 +3,8 @@ use Rattle.std.specs.Prelude.{Some, None}
 use Rattle.trace_model.specs.declared.entry.NoCause.TheVariants as no
 use Rattle.trace_model.specs.declared.line.Line.TheVariants as line
 use Rattle.nv_journal.proofs.Appending.{on_err}
-use Rattle.link_wires.specs.Damages.{Finds}
+use Rattle.node_world.proofs.Words.{Finds, Loses, Takes, frames_at, is_running, misread_in, node_of}
 use Rattle.link_wires.specs.declared.finding.Damaged.TheVariants.{Refused, Same, Lost, Undetected}
-use Rattle.node_machine.specs.world.World.{node_of}
-use Rattle.node_machine.specs.world.World.Happening.{Takes, Loses}
-use Rattle.node_machine.specs.world.Lines.{frames_at, is_running, misread_in}
 use Rattle.node_world.proofs.Comings.{unrefused}
 use Rattle.node_world.proofs.LinesDamage.{finds_read, lost_is, misread_not, off_refused, on_refused, same_is}
 use Rattle.node_world.proofs.LinesEnd.{line_goes, line_refused}

@@ -1,11 +1,7 @@
 use Rattle.std.proofs.Common.{◌≡◌, ℕ, ◌<◌, ◌≤◌, true, false, refl, ap, sym, ◌∙◌, arith}
 use Rattle.std.proofs.lemmas.Result.{on_ok_weaker}
 use Rattle.trace_model.specs.declared.line.Line.TheVariants as line
-use Rattle.link_laws.specs.messages.Links.Comes.{NextFrame}
-use Rattle.history.specs.Follows.{taken_of}
-use Rattle.node_machine.specs.world.World.{node_of}
-use Rattle.node_machine.specs.world.World.Happening.{Takes}
-use Rattle.node_machine.specs.world.Lines.{is_running, frames_at}
+use Rattle.node_world.proofs.Words.{NextFrame, Takes, frames_at, is_running, node_of, taken_of}
 use Rattle.node_core.proofs.Notes.{no_some}
 use Rattle.node_world.proofs.Comings.{unrefused}
 use Rattle.node_world.proofs.CountsStay.{taken_within}

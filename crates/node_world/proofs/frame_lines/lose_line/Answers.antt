@@ -1,12 +1,8 @@
 use Rattle.std.proofs.Common.{List, [], ◌∷◌, ◌++◌, refl, sym, subst, ap, ◌∙◌}
 use Rattle.std.proofs.lemmas.Result.{on_ok_weaker}
-use Rattle.trace_model.specs.declared.entry.Entry.{Entry}
+use Rattle.node_world.proofs.Words.{Entry, Loses, OnDemand, WorldBecomes, world_step}
 use Rattle.trace_model.specs.declared.entry.Entry.TheVariants as note
 use Rattle.trace_model.specs.declared.line.Line.TheVariants as line
-use Rattle.link_laws.specs.messages.Links.Loss.{OnDemand}
-use Rattle.node_machine.specs.world.World.{world_step}
-use Rattle.node_machine.specs.world.World.Happening.{Loses}
-use Rattle.node_world.specs.Controllers.{WorldBecomes}
 use Rattle.node_world.proofs.LinesGo.{within, is_there, world_goes, world_refused}
 use Rattle.node_world.proofs.frame_lines.lose_line.Goals as goal
 

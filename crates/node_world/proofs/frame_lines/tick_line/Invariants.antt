@@ -1,10 +1,7 @@
 use Rattle.std.proofs.Common.{◌≡◌, false}
-use Rattle.trace_model.specs.declared.line.Header.{Header}
+use Rattle.node_world.proofs.Words.{Header, MayPlay, Ticks, WorldIs}
 use Rattle.trace_model.specs.declared.line.Line.TheVariants as line
 use Rattle.node_machine.specs.world.World.{NodeWorld}
-use Rattle.node_machine.specs.world.World.Happening.{Ticks}
-use Rattle.node_world.specs.Controllers.{WorldIs}
-use Rattle.node_world.specs.Whole.{MayPlay}
 use Rattle.node_world.proofs.LinesAgain.{Again}
 use Rattle.node_world.proofs.frame_lines.tick_line.Given as goal
 

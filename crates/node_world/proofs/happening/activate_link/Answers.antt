@@ -1,19 +1,12 @@
 use Rattle.std.proofs.Common.{◌≡◌, ◌+◌, ℕ, List, ◌++◌, ap, sym, subst, ◌∙◌, append_assoc, arith}
 use Rattle.std.specs.List.{AllByRecursion}
-use Rattle.trace_model.specs.Lines.{IsHost}
-use Rattle.trace_model.specs.declared.entry.Entry.{Entry}
-use Rattle.link_laws.specs.messages.Links.Comes.{Starts}
-use Rattle.node_machine.specs.world.World.{NodeWorld, activates, comes_at, end_c, end_h}
+use Rattle.node_world.proofs.Words.{Entry, FewBehind, HostSite, IsHost, IsThere, IsWithinBounds, MayGoOn, Power, Starts, WorldBecomes, comes_at, end_c, end_h}
+use Rattle.node_machine.specs.world.World.{NodeWorld, activates}
 use Rattle.node_laws.proofs.telling.Events.{comes_goes}
-use Rattle.node_sites.specs.declared.places.HostSite.{HostSite}
-use Rattle.node_world.specs.Bounds.{FewBehind}
-use Rattle.node_world.specs.Controllers.{WorldBecomes, MayGoOn, IsThere}
-use Rattle.node_world.specs.Whole.{IsWithinBounds}
 use Rattle.node_world.proofs.Comings.{unrefused}
 use Rattle.node_world.proofs.FewInWorlds.{few_behind_coming, longer}
 use Rattle.node_world.proofs.LinesAgain.{hosts_come, there_still}
 use Rattle.node_world.proofs.happening.activate_link.Goals as goal
-use Rattle.node_sites.specs.declared.power.Power.{Power}
 
 -- the world behind the first step, which is as ready for the second one
 abbrev near : NodeWorld → ℕ → ℕ → NodeWorld × List Entry

@@ -1,12 +1,8 @@
 use Rattle.std.proofs.Common.{rules, ◌≡◌, ◌==◌, ℕ, false, [], refl, ap, sym, subst, ◌∙◌}
 use Rattle.std.specs.Prelude.{None}
 use Rattle.std.proofs.lemmas.Bool.{ne_eqb}
-use Rattle.swp_base.specs.InMemory.{Plan}
-use Rattle.node_machine.specs.world.World.{NodeWorld, Site, link_to, memory_at, site_at, with_site, world_step}
-use Rattle.node_machine.specs.world.World.Happening.{Arms}
-use Rattle.node_sites.specs.declared.places.HostSite.{HostSite}
-use Rattle.node_sites.specs.Places.{SiteIs}
-use Rattle.node_world.specs.Controllers.{StandsAt, WorldIs}
+use Rattle.node_world.proofs.Words.{Arms, HostSite, Plan, Site, SiteIs, StandsAt, WorldIs, link_to, memory_at, site_at, with_site, world_step}
+use Rattle.node_machine.specs.world.World.{NodeWorld}
 use Rattle.node_world.proofs.AtHosts.{reads, site_stands}
 use Rattle.node_world.proofs.HostsInWorlds.{armed_in_world}
 use Rattle.node_world.proofs.HostsPower.{armed, none_changed}

@@ -2,19 +2,8 @@ use Rattle.std.proofs.Common.{rules, ◌≡◌, ◌==◌, ℕ, Bool, true, false
 use Rattle.std.specs.Prelude.{Option, None}
 use Rattle.std.proofs.lemmas.Bool.{ne_eqb}
 use Rattle.std.proofs.lemmas.Result.{on_ok_weaker}
-use Rattle.swp_act.specs.Activation.{new_uicc}
-use Rattle.journal_laws.specs.Planned.{fails_within, after_planned}
-use Rattle.link_laws.specs.machine.Machine.{new_link_end}
-use Rattle.link_laws.specs.machine.Machine.Role.{Uicc}
-use Rattle.node_machine.specs.Parts.{Running}
-use Rattle.node_machine.specs.Node.{boot_writes}
-use Rattle.node_machine.specs.world.World.{Site, boots, host_cut, memory_at, node_at}
-use Rattle.node_laws.specs.telling.Telling.{IfOff}
-use Rattle.node_sites.specs.declared.places.HostSite.{HostSite}
-use Rattle.node_sites.specs.Places.{SiteIs}
-use Rattle.node_world.specs.Controllers.{StandsAt, WorldBecomes}
-use Rattle.node_world.specs.HostSteps.{host_boots}
-use Rattle.node_sites.specs.Memories.{IsSoundMemory}
+use Rattle.node_world.proofs.Words.{HostSite, IfOff, IsSoundMemory, Running, Site, SiteIs, StandsAt, Uicc, WorldBecomes, after_planned, boot_writes, boots}
+use Rattle.node_world.proofs.Words.{fails_within, host_boots, host_cut, memory_at, new_link_end, new_uicc, node_at}
 use Rattle.node_world.proofs.AtHosts.{is_host, nowhere, reads, site_stands}
 use Rattle.node_world.proofs.HostsBoot.{boot_goes, boot_stops}
 use Rattle.node_world.proofs.HostsInWorlds.{boots_in_world}

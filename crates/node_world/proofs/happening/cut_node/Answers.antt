@@ -3,12 +3,7 @@ use Rattle.std.specs.Prelude.{Option, None}
 use Rattle.std.proofs.lemmas.Bool.{ne_eqb}
 use Rattle.std.proofs.lemmas.Result.{on_ok_weaker}
 use Rattle.trace_model.specs.declared.entry.Entry.TheVariants as note
-use Rattle.node_machine.specs.Parts.{Running}
-use Rattle.node_machine.specs.world.World.{host_cut, node_at, world_step}
-use Rattle.node_machine.specs.world.World.Happening.{IsCut}
-use Rattle.node_sites.specs.declared.places.HostSite.{HostSite}
-use Rattle.node_sites.specs.Places.{SiteIs}
-use Rattle.node_world.specs.Controllers.{StandsAt, WorldBecomes}
+use Rattle.node_world.proofs.Words.{HostSite, IsCut, Running, SiteIs, StandsAt, WorldBecomes, host_cut, node_at, world_step}
 use Rattle.node_world.proofs.AtHosts.{reads, site_stands}
 use Rattle.node_world.proofs.HostsInWorlds.{cut_in_world}
 use Rattle.node_world.proofs.HostsPower.{node_nowhere, node_there, runs_so}

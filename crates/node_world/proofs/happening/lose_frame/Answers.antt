@@ -1,16 +1,7 @@
 use Rattle.std.proofs.Common.{◌≡◌, true, subst}
 use Rattle.std.proofs.lemmas.Bool.{not-false, not-true}
 use Rattle.std.proofs.lemmas.Result.{on_ok_weaker}
-use Rattle.trace_model.specs.declared.line.End.{End}
-use Rattle.link_laws.specs.entries.Entries.{first_lost}
-use Rattle.history.specs.Follows.{frames_to}
-use Rattle.history.specs.Steps.{entries_for}
-use Rattle.link_wires.specs.Notes.{side_of}
-use Rattle.node_machine.specs.world.World.{frame_lost}
-use Rattle.node_sites.specs.declared.places.HostSite.{HostSite}
-use Rattle.node_sites.specs.Places.{SiteIs}
-use Rattle.node_world.specs.Controllers.{StandsAt, WorldBecomes}
-use Rattle.node_world.specs.HostSteps.{site_loses}
+use Rattle.node_world.proofs.Words.{End, HostSite, SiteIs, StandsAt, WorldBecomes, entries_for, first_lost, frame_lost, frames_to, side_of, site_loses}
 use Rattle.node_world.proofs.AtHosts.{controller_end_is, is_host, nowhere, reads, site_stands}
 use Rattle.node_world.proofs.HostsInWorlds.{loses_in_world}
 use Rattle.node_world.proofs.NearKept.{found_becomes, loses_leaves}

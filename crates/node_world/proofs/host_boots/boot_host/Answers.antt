@@ -1,8 +1,5 @@
 use Rattle.std.proofs.Common.{◌≡◌, ℕ, ◌≤◌, sym, ap, subst, ◌∙◌, arith}
-use Rattle.journal_laws.specs.Journal.{count_of}
-use Rattle.link_wires.proofs.Results.{on_ok}
-use Rattle.node_sites.specs.Memories.{IsSoundMemory}
-use Rattle.node_sites.proofs.Powers.{kept_is}
+use Rattle.node_world.proofs.Words.{IsSoundMemory, count_of, kept_is, on_ok}
 use Rattle.node_world.proofs.HostsBoot.{boots_here, runs_now, lost_power}
 use Rattle.node_world.proofs.host_boots.boot_host.Goals as goal
 

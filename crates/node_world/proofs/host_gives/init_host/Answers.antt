@@ -1,17 +1,12 @@
 use Rattle.std.proofs.Common.{ℕ, List, [], ◌∷◌, refl, sym, subst, ◌∙◌, ap}
 use Rattle.std.specs.Prelude.{Some, None, Ok, replicate}
-use Rattle.node_machine.specs.Parts.{Deed}
-use Rattle.node_machine.specs.world.World.{beginning}
-use Rattle.link_laws.specs.messages.Links.Comes.{NoInput}
+use Rattle.node_world.proofs.Words.{Deed, NoInput, RunsAs, beginning, node_memory, none_noted}
 use Rattle.node_core.specs.Giving.{refusal_noted}
-use Rattle.node_sites.proofs.Renumbered.{none_noted}
 use Rattle.node_world.proofs.HostsAre.{is_on, is_off, unchanged}
 use Rattle.node_world.proofs.HostsBegin.{begins_at_end, has_end}
 use Rattle.node_world.proofs.HostsGoOn.{began, is_done}
 use Rattle.node_world.proofs.HostsRefuse.{is_some_host, sending_off, sending_so, still_stands, beginning_mute}
-use Rattle.node_sites.specs.Powers.{node_memory}
 use Rattle.node_world.proofs.host_gives.init_host.Goals as goal
-use Rattle.node_core.specs.Running.{RunsAs}
 
 pub init-requires-clause-runs : goal.init-requires-clause-runs
 init-requires-clause-runs c =

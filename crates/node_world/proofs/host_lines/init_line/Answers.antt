@@ -1,13 +1,9 @@
 use Rattle.std.proofs.Common.{List, [], ◌∷◌, ◌++◌, refl, sym, subst, ap, ◌∙◌}
 use Rattle.std.specs.Prelude.{Option, Some, None}
 use Rattle.std.proofs.lemmas.Result.{on_ok_weaker}
-use Rattle.trace_model.specs.declared.entry.Entry.{Entry}
+use Rattle.node_world.proofs.Words.{Entry, Inits, NoCause, SitesBecome, if_accepted, world_step}
 use Rattle.trace_model.specs.declared.entry.Entry.TheVariants as note
-use Rattle.trace_model.specs.declared.entry.NoCause.{NoCause}
 use Rattle.trace_model.specs.declared.line.Line.TheVariants as line
-use Rattle.node_machine.specs.world.World.{world_step}
-use Rattle.node_machine.specs.world.World.Happening.{Inits}
-use Rattle.node_world.specs.Whole.{SitesBecome, if_accepted}
 use Rattle.node_world.proofs.LinesGo.{within, is_there, hosts_go, hosts_refused}
 use Rattle.node_world.proofs.host_lines.init_line.Goals as goal
 

@@ -1,12 +1,10 @@
 use Rattle.std.proofs.Common.{map, refl, ap, sym, ◌∙◌}
-use Rattle.link_laws.specs.messages.Links.Comes.{NoInput}
+use Rattle.node_world.proofs.Words.{Desk, NoInput, port_for}
 use Rattle.node_world.proofs.Plainly.{was_lost}
 use Rattle.node_world.proofs.HostsAre.{is_on, is_off}
 use Rattle.node_world.proofs.HostsBegin.{begins_at_end, has_end}
 use Rattle.node_world.proofs.HostsLose.{at_controller, not_refused, not_running, as_lost, counted}
 use Rattle.node_world.proofs.host_losses.lose_for.Goals.{else-to-via-then-to+else-is_refusal, else-to-via-else-to}
-use Rattle.node_machine.specs.Parts.{Desk}
-use Rattle.node_machine.specs.world.World.{port_for}
 use Rattle.node_world.proofs.host_losses.lose_for.Goals as goal
 
 pub refused-requires : goal.refused-requires

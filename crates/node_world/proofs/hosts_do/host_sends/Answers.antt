@@ -1,17 +1,9 @@
 use Rattle.std.proofs.Common.{rules, ℕ, ◌==◌, List, sym, subst, ◌≡◌, ap, ◌∙◌}
 use Rattle.std.specs.Prelude.{IfOk, slice_set, Option, Some}
 use Rattle.std.proofs.lemmas.Result.{IfOk-weaker}
-use Rattle.trace_model.specs.declared.entry.NoCause.{NoCause}
-use Rattle.trace_model.specs.declared.line.End.{End}
+use Rattle.node_world.proofs.Words.{BecomesUnless, End, Gives, NoCause, NoInput, SitesBecome, StandsAt, begins_with, end_h, host_stepped, if_accepted}
+use Rattle.node_world.proofs.Words.{refusal_in, sending, sending_refused, site_at, world_step}
 use Rattle.trace_model.specs.declared.line.Line.TheVariants as line
-use Rattle.link_laws.specs.messages.Links.Comes.{NoInput}
-use Rattle.node_machine.specs.Node.{begins_with}
-use Rattle.node_machine.specs.world.World.{end_h, site_at, sending, world_step}
-use Rattle.node_machine.specs.world.World.Happening.{Gives}
-use Rattle.node_machine.specs.world.Lines.{refusal_in}
-use Rattle.node_world.specs.Controllers.{StandsAt}
-use Rattle.node_world.specs.HostSteps.{host_stepped, sending_refused, BecomesUnless}
-use Rattle.node_world.specs.Whole.{SitesBecome, if_accepted}
 use Rattle.node_world.proofs.AtHosts.{at_place, room_there, site_stands, end_is, nowhere}
 use Rattle.node_world.proofs.HostsFound.{send_there, steps_there, becomes_unless}
 use Rattle.node_world.proofs.hosts_do.host_sends.Goals as goal

@@ -1,10 +1,5 @@
 use Rattle.std.proofs.Common.{length, sym, subst, ap, ◌∙◌}
-use Rattle.link_laws.specs.messages.Links.{Link}
-use Rattle.history.specs.Follows.{frames_to}
-use Rattle.node_laws.proofs.telling.Nodes.{link_is}
-use Rattle.node_sites.specs.declared.places.HostSite.{HostSite}
-use Rattle.node_world.specs.Controllers.{StandsAt}
-use Rattle.node_sites.specs.Places.{SiteIs}
+use Rattle.node_world.proofs.Words.{HostSite, Link, SiteIs, StandsAt, frames_to, link_is}
 use Rattle.node_world.proofs.AtHosts.{reads, site_stands}
 use Rattle.node_world.proofs.looking.on_the_way.Goals as goal
 

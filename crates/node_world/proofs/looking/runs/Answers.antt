@@ -1,10 +1,8 @@
 use Rattle.std.proofs.Common.{rules, ◌≡◌, ◌==◌, false, get_or, sym, subst, ap, ◌∙◌}
 use Rattle.std.specs.Prelude.{is_some}
 use Rattle.std.proofs.lemmas.Bool.{ne_eqb}
-use Rattle.node_sites.specs.declared.places.HostSite.{HostSite}
-use Rattle.node_world.specs.Controllers.{StandsAt}
+use Rattle.node_world.proofs.Words.{HostSite, SiteIs, StandsAt}
 use Rattle.node_sites.specs.Powers.{is_on}
-use Rattle.node_sites.specs.Places.{SiteIs}
 use Rattle.node_world.proofs.AtHosts.{reads, runs_alike, site_stands}
 use Rattle.node_world.proofs.HostsPower.{node_there}
 use Rattle.node_world.proofs.looking.runs.Goals as goal

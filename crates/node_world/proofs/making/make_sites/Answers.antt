@@ -1,8 +1,7 @@
 use Rattle.std.proofs.Common.{◌≡◌, ℕ, ◌+◌, List, [], ◌∷◌, ◌++◌, get_or, map, take, ap, sym, subst, ◌∙◌}
 use Rattle.std.specs.Prelude.{replicate}
 use Rattle.std.proofs.lemmas.List.{take_more, take_all, map-append}
-use Rattle.node_machine.specs.world.World.{new_site, Site}
-use Rattle.node_world.specs.Controllers.{SitesAre}
+use Rattle.node_world.proofs.Words.{Site, SitesAre, new_site}
 use Rattle.node_world.proofs.SitesKept.{together}
 use Rattle.node_world.proofs.making.make_sites.Goals as goal
 

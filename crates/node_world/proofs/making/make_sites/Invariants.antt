@@ -1,7 +1,6 @@
 use Rattle.std.proofs.Common.{map, take}
 use Rattle.std.specs.Prelude.{replicate}
-use Rattle.node_machine.specs.world.World.{new_site}
-use Rattle.node_world.specs.Controllers.{SitesAre}
+use Rattle.node_world.proofs.Words.{SitesAre, new_site}
 use Rattle.node_world.proofs.making.make_sites.Given as goal
 
 -- so many hosts are made

@@ -1,6 +1,7 @@
 use Rattle.std.proofs.Common.{◌≡◌, ◌∙◌, sym, ap, ℕ, Bool, ◌==◌, arith}
 use Rattle.std.specs.List.{list_any}
-use Rattle.gate_admin.specs.View.{hosts_where, mask_of}
+use Rattle.gate_admin.specs.View.{hosts_where}
+use Rattle.node_world.proofs.Words.{mask_of}
 use Rattle.gate_admin.proofs.ViewLemmas.{hosts_below, mask_of-taken, hosts_below-left, double}
 use Rattle.node_world.proofs.making.mask_of.Goals as goal
 use Rattle.node_world.proofs.making.mask_of.Goals.{then-contains, else-contains}

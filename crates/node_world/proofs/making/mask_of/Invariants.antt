@@ -1,6 +1,6 @@
 use Rattle.std.proofs.Common.{◌≡◌, ℕ, ◌<◌, ◌^◌, ◌==◌}
 use Rattle.std.specs.List.{list_any}
-use Rattle.gate_admin.specs.View.{mask_of}
+use Rattle.node_world.proofs.Words.{mask_of}
 use Rattle.gate_admin.proofs.ViewLemmas.{hosts_below}
 use Rattle.node_world.proofs.making.mask_of.Given as goal
 

@@ -3,8 +3,7 @@ use Rattle.std.specs.Prelude.{Some, None}
 use Rattle.std.proofs.lemmas.Result.{on_ok_weaker}
 use Rattle.trace_model.specs.declared.entry.NoCause.TheVariants as no
 use Rattle.trace_model.specs.declared.line.Line.TheVariants as line
-use Rattle.node_machine.specs.world.World.Happening.{Activates}
-use Rattle.node_machine.specs.world.Lines.{if_off, is_running}
+use Rattle.node_world.proofs.Words.{Activates, if_off, is_running}
 use Rattle.node_world.proofs.LinesGo.{is_there}
 use Rattle.node_world.proofs.LinesEnd.{first_is, line_goes, line_refused, off_is, on_is, second_is}
 use Rattle.node_world.proofs.node_lines.activate_line.Goals as goal

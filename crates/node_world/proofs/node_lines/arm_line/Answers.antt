@@ -1,9 +1,7 @@
 use Rattle.std.proofs.Common.{◌<◌, ℕ, List, length, refl, sym, subst, append-nil}
 use Rattle.std.specs.List.{each_same}
 use Rattle.trace_model.specs.declared.line.Line.TheVariants as line
-use Rattle.node_machine.specs.world.World.{world_step}
-use Rattle.node_machine.specs.world.World.Happening.{Arms}
-use Rattle.node_world.specs.Controllers.{WorldIs}
+use Rattle.node_world.proofs.Words.{Arms, WorldIs, world_step}
 use Rattle.node_world.proofs.LinesEnd.{line_goes}
 use Rattle.node_world.proofs.LinesGo.{within}
 use Rattle.node_world.proofs.node_lines.arm_line.Goals as goal

@@ -2,9 +2,7 @@ use Rattle.std.proofs.Common.{◌≡◌, true, false, refl, sym, ◌∙◌}
 use Rattle.std.proofs.lemmas.Result.{on_ok_weaker}
 use Rattle.trace_model.specs.declared.entry.NoCause.TheVariants as no
 use Rattle.trace_model.specs.declared.line.Line.TheVariants as line
-use Rattle.node_machine.specs.world.World.{node_at}
-use Rattle.node_machine.specs.world.World.Happening.{Boots}
-use Rattle.node_machine.specs.world.Lines.{is_running}
+use Rattle.node_world.proofs.Words.{Boots, is_running, node_at}
 use Rattle.node_world.proofs.LinesEnd.{line_goes, line_refused, node_known, stands_not, runs_refused, boots_free}
 use Rattle.node_world.proofs.node_lines.boot_line.Goals as goal
 

@@ -3,11 +3,7 @@ use Rattle.std.specs.Prelude.{Option, IfOk}
 use Rattle.std.specs.Option.{option_map}
 use Rattle.std.proofs.lemmas.Bool.{ne_eqb}
 use Rattle.hci_tables.specs.Tables.{HciTables}
-use Rattle.node_machine.specs.Parts.{Running}
-use Rattle.node_machine.specs.world.World.{node_at}
-use Rattle.node_sites.specs.declared.places.HostSite.{HostSite}
-use Rattle.node_world.specs.Controllers.{StandsAt}
-use Rattle.node_sites.specs.Places.{SiteIs}
+use Rattle.node_world.proofs.Words.{HostSite, Running, SiteIs, StandsAt, node_at}
 use Rattle.node_world.proofs.AtHosts.{reads, site_stands}
 use Rattle.node_world.proofs.HostsPower.{node_there}
 use Rattle.node_world.proofs.node_lines.copied_tables.Goals as goal

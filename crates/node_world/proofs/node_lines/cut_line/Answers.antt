@@ -2,9 +2,7 @@ use Rattle.std.proofs.Common.{◌≡◌, true, false, refl, sym, ◌∙◌}
 use Rattle.std.proofs.lemmas.Result.{on_ok_weaker}
 use Rattle.trace_model.specs.declared.entry.NoCause.TheVariants as no
 use Rattle.trace_model.specs.declared.line.Line.TheVariants as line
-use Rattle.node_machine.specs.world.World.{node_at}
-use Rattle.node_machine.specs.world.World.Happening.{IsCut}
-use Rattle.node_machine.specs.world.Lines.{is_running}
+use Rattle.node_world.proofs.Words.{IsCut, is_running, node_at}
 use Rattle.node_world.proofs.LinesEnd.{line_goes, line_refused, off_is, on_is, stands_there}
 use Rattle.node_world.proofs.node_lines.cut_line.Goals as goal
 

@@ -1,18 +1,11 @@
 use Rattle.std.proofs.Common.{List, [], ◌∷◌, ◌++◌, refl, sym, subst, ap, ◌∙◌}
 use Rattle.std.specs.Prelude.{Option, Some, None, option_map}
 use Rattle.std.proofs.lemmas.Result.{on_ok_weaker}
-use Rattle.trace_model.specs.declared.entry.Entry.{Entry}
+use Rattle.node_world.proofs.Words.{AsksReset, Entry, ResetRefused, Resets, WorldBecomes, comes_at, if_accepted, if_off, is_running, node_of}
 use Rattle.trace_model.specs.declared.entry.Entry.TheVariants as note
 use Rattle.trace_model.specs.declared.line.Line.TheVariants as line
-use Rattle.link_end.specs.declared.report.ResetRefused.{ResetRefused}
-use Rattle.link_laws.specs.messages.Links.Comes.{AsksReset}
 use Rattle.trace_model.specs.declared.entry.NoCause.TheVariants as no
-use Rattle.node_machine.specs.world.World.{comes_at, node_of}
-use Rattle.node_machine.specs.world.Lines.{if_off, is_running}
-use Rattle.node_machine.specs.world.World.Happening.{Resets}
-use Rattle.node_world.specs.Controllers.{WorldBecomes}
 use Rattle.node_world.specs.HostSteps.{reset_noted}
-use Rattle.node_world.specs.Whole.{if_accepted}
 use Rattle.node_world.proofs.LinesEnd.{line_refused, off_is, first_is}
 use Rattle.node_world.proofs.LinesGo.{within, is_there, world_goes, world_refused}
 use Rattle.node_world.proofs.LinesReset.{reset_runs}

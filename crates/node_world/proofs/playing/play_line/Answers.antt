@@ -1,9 +1,8 @@
 use Rattle.std.proofs.Common.{◌≡◌, sym, subst}
 use Rattle.std.specs.Prelude.{None, IfOk, OnErr}
-use Rattle.trace_model.specs.declared.line.Line.{Line}
+use Rattle.node_world.proofs.Words.{Line, LinePlayed, MayPlay, line_step, misread_in}
 use Rattle.nv_journal.proofs.Appending.{on_err}
-use Rattle.node_machine.specs.world.Lines.{line_step, misread_in}
-use Rattle.node_world.specs.Whole.{IsMisreadIn, LinePlayed, MayPlay}
+use Rattle.node_world.specs.Whole.{IsMisreadIn}
 use Rattle.node_world.proofs.LinesDamage.{is_sound, sound_reads}
 use Rattle.node_world.proofs.playing.play_line.Goals as goal
 

@@ -2,10 +2,9 @@ use Rattle.std.proofs.Common.{◌≡◌, ap, sym, subst, ◌∙◌}
 use Rattle.std.proofs.lemmas.Bool.{true≢false}
 use Rattle.std.proofs.lemmas.Result.{on_ok_weaker}
 use Rattle.std.specs.Prelude.{OnOk}
-use Rattle.gate_admin.specs.View.{has, hosts_where}
-use Rattle.trace_model.specs.declared.line.Line.{Line}
-use Rattle.node_machine.specs.world.Lines.{line_step}
-use Rattle.node_world.specs.Whole.{LinePlayed, MayPlay, is_damaging}
+use Rattle.gate_admin.specs.View.{hosts_where}
+use Rattle.node_world.proofs.Words.{Line, LinePlayed, MayPlay, has, line_step}
+use Rattle.node_world.specs.Whole.{is_damaging}
 use Rattle.node_world.proofs.PlayedByHosts.{init_played, never_busy, never_ready, never_settles, send_played}
 use Rattle.node_world.proofs.playing.play_sound.Goals as goal
 

@@ -1,5 +1,5 @@
 use Rattle.std.proofs.lemmas.Result.{on_ok_weaker}
-use Rattle.node_machine.specs.world.Rounds.{ends_in_order, ends_take_all}
+use Rattle.node_world.proofs.Words.{ends_in_order, ends_take_all}
 use Rattle.node_world.proofs.RoundsGo.{round_gone}
 use Rattle.node_world.proofs.rounds.go_round.Goals as goal
 

@@ -1,10 +1,6 @@
 use Rattle.std.proofs.Common.{◌≡◌, ℕ, ◌<◌, ◌≤◌, true, false, ap, sym, subst, ◌∙◌, arith, length}
 use Rattle.std.specs.Prelude.{replicate}
-use Rattle.link_laws.specs.messages.Links.Comes.{NextFrame}
-use Rattle.node_machine.specs.world.World.{node_of}
-use Rattle.node_machine.specs.world.World.Happening.{Takes}
-use Rattle.node_machine.specs.world.Lines.{all_happen, is_running, frames_at}
-use Rattle.node_world.specs.Rounds.{WorldHasGone}
+use Rattle.node_world.proofs.Words.{NextFrame, Takes, WorldHasGone, all_happen, frames_at, is_running, node_of}
 use Rattle.node_world.proofs.Comings.{unrefused}
 use Rattle.node_world.proofs.LinesAgain.{few_on_way, again_begins, again_ends, again_goes, again_next, again_stops, bounds_again}
 use Rattle.node_world.proofs.LinesAgain.{hosts_come, there_still}

@@ -1,7 +1,6 @@
 use Rattle.std.proofs.Common.{◌≡◌, false}
 use Rattle.node_machine.specs.world.World.{NodeWorld}
-use Rattle.node_machine.specs.world.World.Happening.{Takes}
-use Rattle.node_world.specs.Controllers.{WorldIs}
+use Rattle.node_world.proofs.Words.{Takes, WorldIs}
 use Rattle.node_world.specs.Rounds.{MayTakeAll}
 use Rattle.node_world.proofs.LinesAgain.{Again}
 use Rattle.node_world.proofs.rounds.take_all.Given as goal

@@ -1,7 +1,6 @@
 use Rattle.std.proofs.Common.{ℕ, ◌+◌, ◌*◌, ◌<◌, ◌≤◌, ◌∷◌, ap, length, arith}
 use Rattle.std.specs.Prelude.{slice_index_or}
-use Rattle.node_machine.specs.world.World.{end_c, end_h}
-use Rattle.node_machine.specs.world.Rounds.{ends_in_order}
+use Rattle.node_world.proofs.Words.{end_c, end_h, ends_in_order}
 use Rattle.node_laws.proofs.rounds.Ends.{ends_of}
 use Rattle.node_world.proofs.RoundsGo.{link_taken, may_take, next_link, taken_next, taking_begins, taking_ends}
 use Rattle.node_world.proofs.rounds.take_in_order.Goals as goal

@@ -1,6 +1,6 @@
 use Rattle.std.proofs.Common.{◌≡◌, false}
 use Rattle.node_machine.specs.world.World.{NodeWorld}
-use Rattle.node_world.specs.Controllers.{WorldIs}
+use Rattle.node_world.proofs.Words.{WorldIs}
 use Rattle.node_world.specs.Rounds.{MayTakeInOrder}
 use Rattle.node_world.proofs.RoundsGo.{HaveTakenSo}
 use Rattle.node_world.proofs.rounds.take_in_order.Given as goal

@@ -1,5 +1,5 @@
 use Rattle.node_world.proofs.ControllersHear.{room_kept}
-use Rattle.link_wires.proofs.Results.{on_ok}
+use Rattle.node_world.proofs.Words.{on_ok}
 use Rattle.node_world.proofs.ControllersAge.{older, older_world, older_timely, older_goes_on, older_resets, older_few, older_is, then_ticks}
 use Rattle.std.proofs.Common.{map}
 use Rattle.node_world.proofs.steps.begin_tick.Goals as goal

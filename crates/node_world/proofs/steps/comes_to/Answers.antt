@@ -2,14 +2,10 @@ use Rattle.std.proofs.Common.{◌≡◌, ◌==◌, Bool, sym, subst, ap, ◌∙�
 use Rattle.std.specs.Prelude.{slice_set, Option, Some, None}
 use Rattle.std.proofs.lemmas.Bool.{not-false, not-true}
 use Rattle.std.proofs.lemmas.Result.{IfOk-weaker}
-use Rattle.link_end.specs.declared.report.ResetRefused.{ResetRefused}
-use Rattle.trace_model.specs.declared.line.End.{End}
-use Rattle.node_machine.specs.world.Lines.{machine_in}
-use Rattle.node_machine.specs.world.World.{comes_at, end_c, end_h, node_at, node_of}
-use Rattle.node_sites.specs.Arrivals.{as_comes, MayCome}
-use Rattle.node_world.specs.Controllers.{StandsAt, WorldBecomes, WorldUnless}
-use Rattle.node_world.specs.HostSteps.{host_hears, refusal_coming, BecomesUnless}
-use Rattle.node_world.specs.Whole.{if_accepted}
+use Rattle.node_world.proofs.Words.{BecomesUnless, End, ResetRefused, StandsAt, WorldBecomes, as_comes, comes_at, end_c, end_h, host_hears, if_accepted}
+use Rattle.node_world.proofs.Words.{machine_in, node_at, node_of, refusal_coming}
+use Rattle.node_sites.specs.Arrivals.{MayCome}
+use Rattle.node_world.specs.Controllers.{WorldUnless}
 use Rattle.node_world.proofs.AtHosts.{at_place, controller_end_is, counts_coming, end_is, nowhere, room_there, site_stands}
 use Rattle.node_world.proofs.HostsFound.{refusal_there}
 use Rattle.node_world.proofs.HostsInWorlds.{hears_in_world}

@@ -1,21 +1,10 @@
 use Rattle.std.proofs.Common.{ℕ, false, List, ap, refl, sym, subst, ◌∙◌, append-nil}
 use Rattle.std.specs.Prelude.{slice_index_or, slice_set, Option, Some, None, Ok}
 use Rattle.std.specs.List.{AllByRecursion}
-use Rattle.trace_model.specs.Lines.{IsHost}
-use Rattle.trace_model.specs.declared.entry.Entry.{Entry}
-use Rattle.link_laws.specs.machine.Machine.{LinkInput}
-use Rattle.link_laws.specs.messages.Links.{Comes}
-use Rattle.node_machine.specs.Parts.{Running}
-use Rattle.node_machine.specs.world.World.{NodeWorld, link_to}
+use Rattle.node_world.proofs.Words.{AreDifferent, Comes, Entry, IsHost, IsNodePlace, LinkInput, On, Power, Running, WorldBecomes, as_comes, as_it_comes_to}
+use Rattle.node_world.proofs.Words.{link_to, noted_behind, session_at}
+use Rattle.node_machine.specs.world.World.{NodeWorld}
 use Rattle.node_ends.specs.Inputs.{input_of_end}
-use Rattle.node_laws.specs.kept.Hosts.{AreDifferent}
-use Rattle.node_sites.specs.declared.power.Power.{Power}
-use Rattle.node_sites.specs.declared.power.Power.TheVariants.{On}
-use Rattle.node_sites.specs.Arrivals.{as_comes}
-use Rattle.node_sites.specs.Numbers.{session_at}
-use Rattle.node_sites.specs.Powers.{IsNodePlace}
-use Rattle.node_sites.proofs.Renumbered.{noted_behind}
-use Rattle.node_world.specs.Controllers.{WorldBecomes, as_it_comes_to}
 use Rattle.node_world.proofs.AtHosts.{nowhere}
 use Rattle.node_world.proofs.Comings.{as_none, as_some, may_arrive, off_refuses_none, none_refused, wires_as_were, arrived_noted}
 use Rattle.node_world.proofs.ControllersHear.{place_is_on, place_is_off, comes_off, comes_none, hosts_as_it_comes, room_kept, resets_as_it_comes}

@@ -1,17 +1,8 @@
 use Rattle.std.proofs.Common.{◌≡◌, true, ℕ, List, ◌++◌, map, refl, sym, ap, subst, ◌∙◌, arith}
 use Rattle.std.specs.Prelude.{Some, None, Ok, replicate}
-use Rattle.trace_model.specs.declared.entry.Entry.{Entry}
-use Rattle.link_laws.specs.machine.Machine.{LinkInput}
-use Rattle.link_laws.specs.messages.Links.{Link, exchanged}
-use Rattle.link_laws.specs.entries.Entries.End.{Host}
-use Rattle.history.specs.Steps.{entries_for}
-use Rattle.node_machine.specs.world.World.{Site, arrival}
+use Rattle.node_world.proofs.Words.{Entry, HasBecome, Host, HostSite, Link, LinkInput, On, Site, arrival, as_comes, entries_for, exchanged, session_at}
 use Rattle.node_ends.specs.Inputs.{input_of_end}
-use Rattle.node_sites.specs.declared.places.HostSite.{HostSite}
-use Rattle.node_sites.specs.declared.power.Power.TheVariants.{On}
-use Rattle.node_sites.specs.Arrivals.{as_comes}
-use Rattle.node_sites.specs.Numbers.{session_at, with_session_number}
-use Rattle.node_world.specs.HostSteps.{HasBecome}
+use Rattle.node_sites.specs.Numbers.{with_session_number}
 use Rattle.node_world.proofs.Comings.{as_none, as_some, may_arrive, off_refuses_none, none_refused, wires_as_were, arrived_noted}
 use Rattle.node_world.proofs.ControllersHear.{come_resets}
 use Rattle.node_world.proofs.HostsAre.{is_on, is_off, unchanged_as, hears_off, hears_none}

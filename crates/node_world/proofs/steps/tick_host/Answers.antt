@@ -1,8 +1,7 @@
 use Rattle.std.proofs.Common.{refl, ap}
 use Rattle.std.specs.Prelude.{replicate}
-use Rattle.link_laws.specs.messages.Links.Comes.{NoInput}
+use Rattle.node_world.proofs.Words.{NoInput, none_noted}
 use Rattle.std.proofs.lemmas.Result.{IfOk-at_ok}
-use Rattle.node_sites.proofs.Renumbered.{none_noted}
 use Rattle.node_world.proofs.Comings.{done_always, done_so}
 use Rattle.node_world.proofs.HostsAre.{is_on, is_off}
 use Rattle.node_world.proofs.HostsBegin.{begins_at_end}

@@ -1,8 +1,7 @@
 use Rattle.std.proofs.Common.{◌≡◌, ℕ, ◌+◌, ◌<◌, ◌≤◌, ◌^◌, List, ◌++◌, ◌∷◌, length, ap, sym, subst, arith}
 use Rattle.std.specs.Prelude.{slice_index_or}
-use Rattle.trace_model.specs.declared.entry.Entry.{Entry}
-use Rattle.node_machine.specs.world.World.{Site}
-use Rattle.node_world.specs.Whole.{IsToTick, SitesTick, AreToTick}
+use Rattle.node_world.proofs.Words.{AreToTick, Entry, Site}
+use Rattle.node_world.specs.Whole.{IsToTick, SitesTick}
 use Rattle.node_world.proofs.FramesToAll.{of_these}
 use Rattle.node_world.proofs.SitesKept.{walk_begins, walk_next, walk_ends}
 use Rattle.node_world.proofs.WorldsTick.{tick_of, tick_told, ticks_are}

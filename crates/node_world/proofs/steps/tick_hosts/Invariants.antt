@@ -1,7 +1,5 @@
 use Rattle.std.proofs.Common.{◌≡◌, List, false}
-use Rattle.node_machine.specs.world.World.{Site}
-use Rattle.node_world.specs.Controllers.{SitesAre}
-use Rattle.node_world.specs.Whole.{AreToTick}
+use Rattle.node_world.proofs.Words.{AreToTick, Site, SitesAre}
 use Rattle.node_world.proofs.SitesKept.{Walked}
 use Rattle.node_world.proofs.WorldsTick.{tick_of, tick_told}
 use Rattle.node_world.proofs.steps.tick_hosts.Given as goal

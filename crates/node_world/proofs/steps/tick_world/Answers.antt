@@ -1,5 +1,5 @@
 use Rattle.std.proofs.lemmas.Result.{on_ok_weaker}
-use Rattle.node_world.specs.Controllers.{near_ticks}
+use Rattle.node_world.proofs.Words.{near_ticks}
 use Rattle.node_world.proofs.NearKept.{counted_in_tick, room_for_all}
 use Rattle.node_world.proofs.WorldsTick.{all_tick, hosts_may_tick}
 use Rattle.node_world.proofs.steps.tick_world.Goals as goal

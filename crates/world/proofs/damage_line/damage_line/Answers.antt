@@ -1,9 +1,7 @@
 use Rattle.std.proofs.Common.{List, [], ◌∷◌, ◌++◌, refl, sym, ap, ◌∙◌}
-use Rattle.trace_model.specs.declared.entry.Entry.TheVariants.{No}
-use Rattle.link_laws.specs.sessions.Sessions.{OnWire}
+use Rattle.world.proofs.Words.{No, OnWire, Taken, WasLost, damage_causes, first_verdict, frames_to, seen_from}
 use Rattle.link_laws.specs.messages.Links.{Loss}
-use Rattle.history.specs.Histories.Cause.{Taken, WasLost}
-use Rattle.history.specs.Follows.{seen_from, frames_to, damage_causes, if_out_of_reach, first_verdict}
+use Rattle.history.specs.Follows.{if_out_of_reach}
 use Rattle.world.proofs.LineLemmas.{refused_does, happened_does}
 use Rattle.world.proofs.Stepping.{lost_is}
 use Rattle.world.proofs.damage_line.damage_line.Goals as goal

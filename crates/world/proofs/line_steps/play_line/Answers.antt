@@ -1,12 +1,7 @@
 use Rattle.std.proofs.Common.{◌≡◌, refl, sym, ap, subst, ◌∙◌}
 use Rattle.std.specs.Prelude.{true, false}
-use Rattle.trace_model.specs.declared.line.End.{End}
-use Rattle.trace_model.specs.declared.line.Line.{Line}
+use Rattle.world.proofs.Words.{End, IsLineOf, Line, Readied, end_for, seen_from}
 use Rattle.trace_model.specs.declared.line.Line.TheVariants as line
-use Rattle.trace_model.specs.Lines.{IsLineOf}
-use Rattle.history.specs.Histories.Cause.{Readied}
-use Rattle.history.specs.Follows.{seen_from}
-use Rattle.world.specs.Lines.{end_for}
 use Rattle.world.proofs.LineLemmas.{same_does, happened_does}
 use Rattle.world.proofs.Repeating.{few_here, few_short}
 use Rattle.world.proofs.line_steps.play_line.Goals as goal

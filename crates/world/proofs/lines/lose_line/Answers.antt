@@ -1,10 +1,5 @@
 use Rattle.std.proofs.Common.{[], ◌∷◌, ◌++◌, refl, ap, ◌∙◌}
-use Rattle.trace_model.specs.declared.entry.Entry.TheVariants.{No}
-use Rattle.trace_model.specs.declared.entry.NoCause.TheVariants.{Empty}
-use Rattle.link_laws.specs.messages.Links.Loss.{OnDemand}
-use Rattle.history.specs.Histories.Cause.{WasLost}
-use Rattle.history.specs.Follows.{seen_from}
-use Rattle.link_wires.proofs.Results.{on_ok}
+use Rattle.world.proofs.Words.{Empty, No, OnDemand, WasLost, on_ok, seen_from}
 use Rattle.world.proofs.LineLemmas.{refused_does, happened_does, none_there, some_there}
 use Rattle.world.proofs.Stepping.{lost_is}
 use Rattle.world.proofs.lines.lose_line.Goals as goal

@@ -1,12 +1,7 @@
 use Rattle.std.proofs.Common.{[], ◌∷◌, ◌++◌, refl, sym, ap, ◌∙◌}
 use Rattle.std.specs.Prelude.{is_some}
-use Rattle.trace_model.specs.declared.entry.Entry.TheVariants.{No}
-use Rattle.link_laws.specs.machine.Machine.{LinkEnd, after_input, ended_by}
+use Rattle.world.proofs.Words.{Link, LinkEnd, No, WasReset, after_input, ended_by, on_ok, seen_from, with_ended}
 use Rattle.link_laws.specs.machine.Machine.LinkInput.{Reset}
-use Rattle.link_laws.specs.messages.Links.{Link, with_ended}
-use Rattle.history.specs.Histories.Cause.{WasReset}
-use Rattle.history.specs.Follows.{seen_from}
-use Rattle.link_wires.proofs.Results.{on_ok}
 use Rattle.world.proofs.Bare.{reset_most}
 use Rattle.world.proofs.Acting.{room_here, midway, input_noted}
 use Rattle.world.proofs.Giving.{still}

@@ -1,14 +1,7 @@
 use Rattle.std.proofs.Common.{◌≡◌, List, ℕ, [], ◌∷◌, ◌++◌, refl, sym, ap, subst, ◌∙◌}
 use Rattle.std.specs.Prelude.{Some, false, is_some}
-use Rattle.trace_model.specs.declared.entry.Entry.TheVariants.{No}
-use Rattle.link_laws.specs.machine.Machine.{LinkEnd, Message, give_refusal, turn}
-use Rattle.link_laws.specs.machine.Machine.Turn.{Give}
-use Rattle.link_laws.specs.messages.Links.{Link}
-use Rattle.history.specs.Histories.Cause.{Given}
-use Rattle.history.specs.Follows.{as_noted, seen_from}
-use Rattle.link_wires.proofs.Results.{on_ok}
-use Rattle.world.specs.declared.node.Place.{Place}
-use Rattle.world.specs.Nodes.{NodeStandsFor}
+use Rattle.world.proofs.Words.{Give, Given, Link, LinkEnd, Message, No, NodeStandsFor, Place, give_refusal, on_ok, seen_from, turn}
+use Rattle.history.specs.Follows.{as_noted}
 use Rattle.world.proofs.Bare.{give_most}
 use Rattle.world.proofs.Acting.{midway, session_is}
 use Rattle.world.proofs.Giving.{refused_give, accepted, gives}

@@ -1,11 +1,5 @@
 use Rattle.std.proofs.Common.{[], ◌∷◌, ◌++◌, List, replicate, sym, ap, ◌∙◌, arith, subst}
-use Rattle.trace_model.specs.declared.entry.Entry.{Entry}
-use Rattle.trace_model.specs.declared.entry.Entry.TheVariants.{No}
-use Rattle.trace_model.specs.declared.entry.NoCause.TheVariants.{Empty}
-use Rattle.history.specs.Histories.Cause.{Taken}
-use Rattle.history.specs.Follows.{frames_to}
-use Rattle.link_wires.proofs.Results.{on_ok}
-use Rattle.world.specs.Lines.{HasRepeated}
+use Rattle.world.proofs.Words.{Empty, Entry, HasRepeated, No, Taken, frames_to, on_ok}
 use Rattle.world.proofs.LineLemmas.{refused_does, none_there, some_there}
 use Rattle.world.proofs.Repeating.{repeats_does, kept_len, taken_few}
 use Rattle.world.proofs.repeats.deliver_line.Goals as goal

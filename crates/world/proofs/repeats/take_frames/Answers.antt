@@ -1,9 +1,5 @@
 use Rattle.std.proofs.Common.{◌≡◌, ℕ, suc, ◌+◌, replicate, refl, subst, arith}
-use Rattle.link_laws.specs.messages.Links.{Link}
-use Rattle.history.specs.Histories.Cause.{Taken}
-use Rattle.history.specs.Steps.{link_after_all}
-use Rattle.history.specs.Follows.{seen_from}
-use Rattle.world.specs.Lines.{HasRepeated}
+use Rattle.world.proofs.Words.{HasRepeated, Link, Taken, link_after_all, seen_from}
 use Rattle.world.proofs.Given.{sent_repeated}
 use Rattle.world.proofs.Repeating.{happened_caused, repeats_none, repeats_more, few_here, few_short, room_for, grows_more, grows_in_all}
 use Rattle.world.proofs.repeats.take_frames.Goals as goal

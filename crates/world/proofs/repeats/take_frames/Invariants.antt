@@ -1,7 +1,5 @@
 use Rattle.std.proofs.Common.{◌+◌, ◌*◌, ◌≤◌}
-use Rattle.link_laws.specs.messages.Links.{Link}
-use Rattle.history.specs.Histories.Cause.{Taken}
-use Rattle.world.specs.Lines.{SidesStandFor, HasRepeated, HaveSent}
+use Rattle.world.proofs.Words.{HasRepeated, HaveSent, Link, SidesStandFor, Taken}
 use Rattle.world.proofs.repeats.take_frames.Given as goal
 
 abbrev pub invariant-loop : goal.invariant-loop

@@ -1,14 +1,7 @@
 use Rattle.std.proofs.Common.{[], subst}
-use Rattle.trace_model.specs.declared.line.End.{End}
-use Rattle.link_laws.specs.entries.Entries.{aged_entries, tick_entries}
+use Rattle.world.proofs.Words.{AreNoted, End, GoesOut, HaveSent, Link, aged, exchanged, idle, on_ok, side_of, tick_entries, ticks_at_controller}
+use Rattle.link_laws.specs.entries.Entries.{aged_entries}
 use Rattle.link_laws.specs.sessions.Sessions.{aged_wire}
-use Rattle.link_laws.specs.messages.Links.{Link, aged, exchanged, ticks_at_controller}
-use Rattle.link_laws.specs.messages.Links.Ending.{GoesOut}
-use Rattle.history.specs.Steps.{idle}
-use Rattle.link_wires.specs.Notes.{side_of}
-use Rattle.link_wires.specs.Notes.{AreNoted}
-use Rattle.world.specs.Lines.{HaveSent}
-use Rattle.link_wires.proofs.Results.{on_ok}
 use Rattle.world.proofs.LineLemmas.{seen_here, seen_at_controller}
 use Rattle.world.proofs.Given.{sent_ticked}
 use Rattle.world.proofs.Stepping.{aged_is}

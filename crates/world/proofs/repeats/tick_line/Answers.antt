@@ -1,10 +1,7 @@
 use Rattle.std.proofs.Common.{◌≡◌, ℕ, suc, ◌+◌, List, replicate, refl, sym, ap, subst, ◌∙◌, arith}
-use Rattle.trace_model.specs.declared.entry.Entry.{Entry}
+use Rattle.world.proofs.Words.{Entry, HasRepeated, Ticked, link_after_all}
 use Rattle.std.specs.Prelude.{unwrap_or}
-use Rattle.history.specs.Histories.Cause.{Ticked}
-use Rattle.history.specs.Steps.{link_after_all}
 use Rattle.world.proofs.Given.{sent_repeated}
-use Rattle.world.specs.Lines.{HasRepeated}
 use Rattle.world.proofs.Repeating.{repeats_none, repeats_more, repeats_does}
 use Rattle.world.proofs.repeats.tick_line.Goals as goal
 

@@ -1,7 +1,5 @@
 use Rattle.std.proofs.Common.{◌+◌, ◌*◌, ◌≤◌}
-use Rattle.link_laws.specs.messages.Links.{Link}
-use Rattle.history.specs.Histories.Cause.{Ticked}
-use Rattle.world.specs.Lines.{SidesStandFor, HasRepeated, HaveSent}
+use Rattle.world.proofs.Words.{HasRepeated, HaveSent, Link, SidesStandFor, Ticked}
 use Rattle.world.proofs.repeats.tick_line.Given as goal
 
 abbrev pub invariant-loop : goal.invariant-loop

@@ -1,12 +1,5 @@
 use Rattle.std.proofs.Common.{List, sym, subst}
-use Rattle.trace_model.specs.declared.entry.Entry.{Entry}
-use Rattle.trace_model.specs.declared.line.End.{End}
-use Rattle.trace_model.specs.Ends.{other_end}
-use Rattle.link_laws.specs.messages.Links.{Link}
-use Rattle.history.specs.Follows.{link_after_lines}
-use Rattle.lines_told.specs.lines.Plays.{taking_on}
-use Rattle.link_wires.proofs.Results.{on_ok}
-use Rattle.world.specs.Lines.{SidesStandFor, DoesAll}
+use Rattle.world.proofs.Words.{DoesAll, End, Entry, Link, SidesStandFor, link_after_lines, on_ok, other_end, taking_on}
 use Rattle.world.proofs.RoundLemmas.{does_both, does_tick, other_sees, other_did, sent_taking}
 use Rattle.world.proofs.rounds.play_round.Goals as goal
 

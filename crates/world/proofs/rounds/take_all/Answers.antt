@@ -1,8 +1,5 @@
 use Rattle.std.proofs.Common.{◌≡◌, ℕ, length, subst, arith}
-use Rattle.history.specs.Histories.Cause.{Taken}
-use Rattle.history.specs.Follows.{frames_to}
-use Rattle.link_wires.proofs.Results.{on_ok}
-use Rattle.world.specs.Lines.{HasRepeated}
+use Rattle.world.proofs.Words.{HasRepeated, Taken, frames_to, on_ok}
 use Rattle.world.proofs.Repeating.{kept_len}
 use Rattle.world.proofs.RoundLemmas.{does_taking}
 use Rattle.world.proofs.rounds.take_all.Goals as goal

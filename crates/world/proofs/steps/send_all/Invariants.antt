@@ -1,7 +1,6 @@
 use Rattle.std.proofs.Common.{◌+◌, ◌-◌, ◌≤◌}
 use Rattle.link_laws.specs.machine.Machine.{LinkEnd as Machine}
-use Rattle.link_laws.specs.messages.Links.{Link}
-use Rattle.world.specs.Sides.{IsMidway}
+use Rattle.world.proofs.Words.{IsMidway, Link}
 use Rattle.world.proofs.Sending.{Sending}
 use Rattle.world.proofs.steps.send_all.Given as goal
 

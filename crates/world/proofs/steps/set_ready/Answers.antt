@@ -1,7 +1,5 @@
 use Rattle.std.proofs.Common.{not, false}
-use Rattle.link_laws.specs.machine.Machine.{LinkEnd, turn}
-use Rattle.link_laws.specs.machine.Machine.Turn.{Hold}
-use Rattle.link_wires.proofs.Results.{on_ok}
+use Rattle.world.proofs.Words.{Hold, LinkEnd, on_ok, turn}
 use Rattle.world.proofs.Bare.{hold_most}
 use Rattle.world.proofs.Acting.{room_here, midway}
 use Rattle.world.proofs.steps.set_ready.Goals as goal

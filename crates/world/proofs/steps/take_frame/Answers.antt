@@ -1,10 +1,7 @@
 use Rattle.std.proofs.Common.{sym, ◌∙◌}
 use Rattle.std.specs.Prelude.{Some}
-use Rattle.link_laws.specs.machine.Machine.{LinkEnd, after_input, turn}
-use Rattle.link_laws.specs.machine.Machine.LinkInput.{Take}
-use Rattle.link_laws.specs.machine.Machine.Turn.{FetchMessage}
+use Rattle.world.proofs.Words.{FetchMessage, LinkEnd, Take, after_input, on_ok, turn}
 use Rattle.link_laws.specs.entries.Entries.{left_after}
-use Rattle.link_wires.proofs.Results.{on_ok}
 use Rattle.world.proofs.Bare.{took_most}
 use Rattle.world.proofs.Acting.{bare_here, room_here}
 use Rattle.link_wires.proofs.Wires.{IsTakenOff}

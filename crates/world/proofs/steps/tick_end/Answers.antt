@@ -1,12 +1,8 @@
 use Rattle.std.proofs.Common.{List, sym, subst, append-nil}
 use Rattle.std.specs.Prelude.{is_some}
-use Rattle.link_laws.specs.machine.Machine.{LinkEnd, after_input, ended_by}
+use Rattle.world.proofs.Words.{AreNoted, Link, LinkEnd, LinkStandsFor, after_input, ended_by, on_ok, side_of, with_ended}
 use Rattle.link_laws.specs.machine.Machine.LinkInput.{Tick}
-use Rattle.link_laws.specs.messages.Links.{Link, with_ended}
 use Rattle.link_laws.specs.entries.Entries.{Entry as Noted}
-use Rattle.link_wires.specs.Notes.{side_of, AreNoted}
-use Rattle.world.specs.Sides.{LinkStandsFor}
-use Rattle.link_wires.proofs.Results.{on_ok}
 use Rattle.world.proofs.Bare.{tick_most}
 use Rattle.world.proofs.Acting.{bare_here, room_here, midway, input_noted, idle_ticks, idle_entries}
 use Rattle.world.proofs.steps.tick_end.Goals as goal

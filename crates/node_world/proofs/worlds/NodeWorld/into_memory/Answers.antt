@@ -1,8 +1,6 @@
 use Rattle.std.proofs.Common.{List, sym, subst, ◌∙◌}
 use Rattle.std.proofs.lemmas.Bool.{eq-eqb, ne_eqb}
-use Rattle.lines_told.specs.lines.Below.{nodes_behind}
-use Rattle.lines_told.specs.lines.Plays.{lines_played}
-use Rattle.node_world.specs.Controllers.{SitesAre}
+use Rattle.node_world.proofs.Words.{SitesAre, lines_played, nodes_behind}
 use Rattle.node_world.proofs.WorldsStepped.{found_behind, controller_kept, host_kept, host_is_there}
 use Rattle.node_world.proofs.worlds.NodeWorld.into_memory.Goals as goal
 

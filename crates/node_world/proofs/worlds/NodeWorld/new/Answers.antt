@@ -1,10 +1,8 @@
 use Rattle.std.proofs.Common.{List, ℕ, ◌==◌, refl, ap, subst, map, ◌∙◌}
 use Rattle.std.specs.Prelude.{replicate}
-use Rattle.node_sites.specs.declared.power.Power.TheVariants.{Off}
+use Rattle.node_world.proofs.Words.{Off, SitesAre, mask_of, new_site}
 use Rattle.std.specs.List.{list_any}
-use Rattle.gate_admin.specs.View.{hosts_where, mask_of}
-use Rattle.node_machine.specs.world.World.{new_site}
-use Rattle.node_world.specs.Controllers.{SitesAre}
+use Rattle.gate_admin.specs.View.{hosts_where}
 use Rattle.node_world.proofs.WorldsStepped.{stands_at_first}
 use Rattle.node_world.proofs.worlds.NodeWorld.new.Goals as goal
 

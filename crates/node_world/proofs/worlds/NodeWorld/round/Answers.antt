@@ -3,11 +3,7 @@ use Rattle.std.proofs.lemmas.List.{with_items_is}
 use Rattle.std.specs.Prelude.{OnOk}
 use Rattle.std.specs.Vec.{with_items}
 use Rattle.node_world.specs.declared.worlds.NodeWorld.{NodeWorld}
-use Rattle.node_machine.specs.world.Rounds.{world_round}
-use Rattle.lines_told.specs.lines.Below.{nodes_behind}
-use Rattle.lines_told.specs.lines.Plays.{lines_played}
-use Rattle.node_world.specs.Controllers.{WorldIs}
-use Rattle.node_world.specs.Rounds.{WorldHasGone}
+use Rattle.node_world.proofs.Words.{WorldHasGone, WorldIs, lines_played, nodes_behind, world_round}
 use Rattle.node_world.proofs.WorldsStepped.{may_be_gone, round_answered, round_told_so, rounds_few}
 use Rattle.node_world.proofs.worlds.NodeWorld.round.Goals as goal
 

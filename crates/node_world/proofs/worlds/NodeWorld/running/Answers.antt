@@ -1,7 +1,5 @@
 use Rattle.std.proofs.Common.{List, subst, sym}
-use Rattle.lines_told.specs.lines.Below.{nodes_behind}
-use Rattle.lines_told.specs.lines.Plays.{lines_played}
-use Rattle.node_world.specs.Controllers.{WorldIs}
+use Rattle.node_world.proofs.Words.{WorldIs, lines_played, nodes_behind}
 use Rattle.node_world.proofs.WorldsStepped.{in_order_behind}
 use Rattle.node_world.proofs.worlds.NodeWorld.running.Goals as goal
 

@@ -1,8 +1,5 @@
 use Rattle.std.proofs.Common.{◌≡◌, ◌≤◌, List, length, subst, sym, arith}
-use Rattle.node_machine.specs.world.Lines.{frames_at}
-use Rattle.lines_told.specs.lines.Below.{nodes_behind}
-use Rattle.lines_told.specs.lines.Plays.{lines_played}
-use Rattle.node_world.specs.Controllers.{SitesAre}
+use Rattle.node_world.proofs.Words.{SitesAre, frames_at, lines_played, nodes_behind}
 use Rattle.node_world.proofs.LinesAgain.{few_on_way}
 use Rattle.node_world.proofs.WorldsStepped.{in_order_behind}
 use Rattle.node_world.proofs.worlds.NodeWorld.standing.Goals as goal

@@ -3,11 +3,7 @@ use Rattle.std.proofs.lemmas.List.{with_items_is}
 use Rattle.std.specs.Prelude.{None, IfOk}
 use Rattle.std.specs.Vec.{with_items}
 use Rattle.node_world.specs.declared.worlds.NodeWorld.{NodeWorld}
-use Rattle.node_machine.specs.world.Lines.{line_step}
-use Rattle.lines_told.specs.lines.Below.{nodes_behind}
-use Rattle.lines_told.specs.lines.Plays.{lines_played}
-use Rattle.node_world.specs.Controllers.{WorldIs}
-use Rattle.node_world.specs.Whole.{LinePlayed}
+use Rattle.node_world.proofs.Words.{LinePlayed, WorldIs, line_step, lines_played, nodes_behind}
 use Rattle.node_world.proofs.WorldsStepped.{may_be_said, stands_answered, entries_answered, steps_few}
 use Rattle.node_world.proofs.worlds.NodeWorld.step.Goals as goal
 

@@ -1,13 +1,6 @@
 use Rattle.std.proofs.Common.{◌≡◌, ◌+◌, ◌-◌, List, sym, ap, subst, ◌∙◌}
-use Rattle.trace_model.specs.declared.line.Line.{Line}
-use Rattle.link_laws.specs.messages.Links.{Link}
-use Rattle.history.specs.Follows.{Follows, link_at}
-use Rattle.history.proofs.Leading.{lines_lead}
-use Rattle.lines_told.specs.lines.Below.{bare_link_behind}
-use Rattle.lines_told.specs.lines.Plays.{lines_played, lines_said}
-use Rattle.link_laws.specs.messages.Rsets.{FewRsets}
-use Rattle.world.specs.BareWorlds.{most_rsets}
-use Rattle.world.specs.Lines.{HaveSent}
+use Rattle.world.proofs.Words.{FewRsets, HaveSent, Line, Link, bare_link_behind, lines_lead, lines_played, lines_said, link_at, most_rsets}
+use Rattle.history.specs.Follows.{Follows}
 use Rattle.world.proofs.PlaysOnLinks.{plays_low}
 use Rattle.world.proofs.bare_world.BareWorld.count_as_rounds.Goals as goal
 

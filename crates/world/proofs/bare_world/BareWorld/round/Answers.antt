@@ -1,10 +1,5 @@
 use Rattle.std.proofs.Common.{◌≡◌, ◌+◌, false, List, refl, ap}
-use Rattle.trace_model.specs.declared.line.End.{End}
-use Rattle.history.specs.Histories.{History}
-use Rattle.history.specs.Follows.{link_at}
-use Rattle.lines_told.specs.lines.Plays.{Play}
-use Rattle.world.specs.declared.bare_world.BareWorld.{BareWorld}
-use Rattle.world.specs.BareWorlds.{WorldStandsFor}
+use Rattle.world.proofs.Words.{BareWorld, End, History, Play, WorldStandsFor, link_at}
 use Rattle.world.proofs.LineLemmas.{seen_at_controller}
 use Rattle.world.proofs.BareWorlds.{Law, WentRound, GoesRound, controller_of, round_goes, few_sent, few_rounds}
 use Rattle.world.proofs.bare_world.BareWorld.round.Goals as goal

@@ -1,13 +1,6 @@
 use Rattle.std.proofs.Common.{List, ◌≡◌, ◌+◌, true, false, refl, sym, ap, subst, ◌∙◌}
 use Rattle.std.specs.Prelude.{None}
-use Rattle.trace_model.specs.declared.line.End.{End}
-use Rattle.link_laws.specs.messages.Links.{Link}
-use Rattle.history.specs.Histories.{History}
-use Rattle.history.specs.Follows.{link_at}
-use Rattle.world.specs.declared.bare_world.BareWorld.{BareWorld}
-use Rattle.world.specs.Lines.{end_for}
-use Rattle.lines_told.specs.lines.Plays.{Play}
-use Rattle.world.specs.BareWorlds.{WorldStandsFor}
+use Rattle.world.proofs.Words.{BareWorld, End, History, Link, Play, WorldStandsFor, end_for, link_at}
 use Rattle.world.proofs.LineLemmas.{seen_at_host, seen_at_controller}
 use Rattle.world.proofs.BareWorlds.{Law, WasStepped, Grows, controller_of, host_grows, controller_grows, few_sent, few_said, none_misread, one_misread}
 use Rattle.world.proofs.bare_world.BareWorld.step.Goals as goal

@@ -1,9 +1,6 @@
 use Rattle.std.proofs.Common.{◌≡◌, sym, subst}
 use Rattle.std.specs.List.{AllByRecursion}
-use Rattle.trace_model.specs.declared.line.Header.{Header}
-use Rattle.lines_told.specs.lines.Plays.{IsPlayFor, lines_played}
-use Rattle.world.specs.declared.bare_world.BareWorld.{BareWorld}
-use Rattle.world.specs.BareWorlds.{WorldStandsFor}
+use Rattle.world.proofs.Words.{BareWorld, Header, IsPlayFor, WorldStandsFor, lines_played}
 use Rattle.world.proofs.Below.{stands_bare, of_its_header}
 use Rattle.world.proofs.world_steps.Below.count_as_rounds.Goals as goal
 

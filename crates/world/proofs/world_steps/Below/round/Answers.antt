@@ -1,12 +1,8 @@
 use Rattle.std.proofs.Common.{◌≡◌, List, [], ◌∷◌, ◌++◌, ap, subst, ◌∙◌}
 use Rattle.std.proofs.lemmas.Result.{on_ok_weaker}
-use Rattle.trace_model.specs.declared.line.Header.{Header}
-use Rattle.history.specs.Histories.{History}
-use Rattle.lines_told.specs.lines.Plays.{Play, lines_played, round_behind, told_of_play}
-use Rattle.lines_told.specs.lines.Plays.Play.{Round}
-use Rattle.world.specs.declared.bare_world.BareWorld.{BareWorld}
-use Rattle.world.specs.BareWorlds.{WorldStandsFor, with_steps}
-use Rattle.world.specs.Worlds.{StandsBelow}
+use Rattle.world.proofs.Words.{BareWorld, Header, History, Play, Round, StandsBelow, WorldStandsFor, lines_played, round_behind}
+use Rattle.lines_told.specs.lines.Plays.{told_of_play}
+use Rattle.world.specs.BareWorlds.{with_steps}
 use Rattle.world.proofs.Below.{stands_bare, of_its_header}
 use Rattle.world.proofs.world_steps.Below.round.Goals as goal
 use Rattle.world.proofs.world_steps.Below.round.Goals.{After-round}

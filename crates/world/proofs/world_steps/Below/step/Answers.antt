@@ -1,15 +1,10 @@
 use Rattle.std.proofs.Common.{◌≡◌, List, [], ◌∷◌, ◌++◌, sym, ap, subst, ◌∙◌}
 use Rattle.std.specs.Prelude.{None}
 use Rattle.std.proofs.lemmas.Result.{on_ok_weaker, IfErr-weaker}
-use Rattle.trace_model.specs.declared.line.Header.{Header}
-use Rattle.trace_model.specs.declared.line.Line.{Line}
-use Rattle.history.specs.Histories.{History, noted}
-use Rattle.history.specs.Follows.{host_of, link_at, misread, outcome_of, with_step}
-use Rattle.lines_told.specs.lines.Plays.{Play, lines_played}
-use Rattle.lines_told.specs.lines.Plays.Play.{Said}
-use Rattle.world.specs.declared.bare_world.BareWorld.{BareWorld}
-use Rattle.world.specs.BareWorlds.{WorldStandsFor, IsFaultOf}
-use Rattle.world.specs.Worlds.{StandsBelow, IsFaultThere}
+use Rattle.world.proofs.Words.{BareWorld, Header, History, IsFaultThere, Line, Play, Said, StandsBelow, WorldStandsFor, host_of, lines_played, link_at, misread}
+use Rattle.world.proofs.Words.{noted, outcome_of}
+use Rattle.history.specs.Follows.{with_step}
+use Rattle.world.specs.BareWorlds.{IsFaultOf}
 use Rattle.world.proofs.Below.{stands_bare, of_its_header, told_bare, misread_bare, fault_bare}
 use Rattle.world.proofs.world_steps.Below.step.Goals as goal
 use Rattle.world.proofs.world_steps.Below.step.Goals.{After-step}

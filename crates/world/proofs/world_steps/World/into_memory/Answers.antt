@@ -1,6 +1,6 @@
 use Rattle.std.proofs.Common.{◌≡◌, rules}
 use Rattle.lines_told.specs.lines.Below.{memory_behind}
-use Rattle.lines_told.specs.lines.Plays.{lines_played}
+use Rattle.world.proofs.Words.{lines_played}
 use Rattle.world.proofs.Histories.{world_kept}
 use Rattle.world.proofs.world_steps.World.into_memory.Goals as goal
 

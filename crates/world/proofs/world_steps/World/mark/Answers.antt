@@ -2,10 +2,8 @@ use Rattle.std.proofs.Common.{◌≡◌, ◌++◌, ◌+◌, ◌-◌, List, map, 
 use Rattle.std.specs.Prelude.{Some, replicate}
 use Rattle.trace_model.specs.declared.entry.Entry.TheVariants.{Echo, Settled}
 use Rattle.trace_model.specs.declared.line.Line.TheVariants as line
-use Rattle.lines_told.specs.lines.Plays.{Play, lines_said, rounds_played}
-use Rattle.lines_told.specs.lines.Plays.Play.{Said, Round}
+use Rattle.world.proofs.Words.{Play, Round, Said, World, lines_said, rounds_played}
 use Rattle.node_world.proofs.FewPlays.{few_at_all}
-use Rattle.world.specs.declared.world_steps.World.{World}
 use Rattle.world.specs.Worlds.{MayBeMarked, MayClose, MayCountBelow, MayOpen}
 use Rattle.world.proofs.Playing.{closes_at_most, closes_few, closes_for, closes_rounds, closes_said, may_count, opens, parts_done, plays_are}
 use Rattle.world.proofs.world_steps.World.mark.Goals as goal

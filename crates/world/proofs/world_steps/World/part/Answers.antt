@@ -1,14 +1,10 @@
 use Rattle.std.proofs.Common.{◌≡◌, ◌+◌, ◌∷◌, ◌++◌, List, [], length, map, refl, ap, sym, subst, ◌∙◌, arith}
 use Rattle.std.specs.Prelude.{Some, OnOk}
 use Rattle.std.proofs.lemmas.Result.{IfErr-weaker, on_ok_weaker}
-use Rattle.trace_model.specs.declared.line.Line.{Line}
-use Rattle.lines_told.specs.lines.Below.{told_below}
-use Rattle.lines_told.specs.lines.Plays.{Play, lines_played}
-use Rattle.lines_told.specs.lines.Plays.Play.{Said}
+use Rattle.world.proofs.Words.{IsFaultThere, Line, Play, Said, World, lines_played, told_below}
 use Rattle.world.specs.declared.fault.WorldFault.TheVariants as fault
 use Rattle.world.specs.declared.world_steps.OpenLine.{OpenLine}
-use Rattle.world.specs.declared.world_steps.World.{World}
-use Rattle.world.specs.Worlds.{IsFaultThere, last_noted}
+use Rattle.world.specs.Worlds.{last_noted}
 use Rattle.world.proofs.Histories.{parts_with, within_legal}
 use Rattle.world.proofs.Playing.{played_parts, said_within, part_sure, stands_with_part, never_undetected}
 use Rattle.world.proofs.world_steps.World.part.Goals as goal

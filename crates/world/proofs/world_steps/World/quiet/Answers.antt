@@ -1,6 +1,5 @@
 use Rattle.std.proofs.Common.{sym, ◌∙◌}
-use Rattle.trace_model.specs.declared.line.Header.{Header}
-use Rattle.world.specs.declared.bare_world.BareWorld.{BareWorld}
+use Rattle.world.proofs.Words.{BareWorld, Header}
 use Rattle.world.proofs.Below.{stands_bare, of_its_header, rests_bare}
 use Rattle.world.proofs.world_steps.World.quiet.Goals as goal
 

@@ -1,8 +1,6 @@
 use Rattle.std.proofs.Common.{List, [], ◌∷◌, ◌++◌, refl}
 use Rattle.std.proofs.lemmas.Result.{on_ok_weaker}
-use Rattle.lines_told.specs.lines.Plays.{Play}
-use Rattle.lines_told.specs.lines.Plays.Play.{Round}
-use Rattle.world.specs.declared.world_steps.World.{World}
+use Rattle.world.proofs.Words.{Play, Round, World}
 use Rattle.world.proofs.Histories.{world_legal}
 use Rattle.world.proofs.Playing.{stands_with_round}
 use Rattle.world.proofs.world_steps.World.round.Goals as goal

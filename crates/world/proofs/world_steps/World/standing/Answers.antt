@@ -1,8 +1,5 @@
 use Rattle.std.proofs.Common.{List, length, sym, ap, ◌∙◌}
-use Rattle.trace_model.specs.declared.line.End.{End}
-use Rattle.trace_model.specs.declared.line.Header.{Header}
-use Rattle.link_laws.specs.sessions.Sessions.{OnWire}
-use Rattle.world.specs.declared.bare_world.BareWorld.{BareWorld}
+use Rattle.world.proofs.Words.{BareWorld, End, Header, OnWire}
 use Rattle.world.proofs.Below.{stands_bare, of_its_header, frames_bare}
 use Rattle.world.proofs.world_steps.World.standing.Goals as goal
 
