@@ -126,7 +126,8 @@ taken_shift e c =
 pub ticked_shift : (e : EndState) → Shift e (ticked e) (is_some (tick_answer e).ended) false
 ticked_shift e =
     by_tick (λ f answer. Shift e f (is_some answer.ended) false) e (same_shift e e refl)
-    (λ w. ⊎_elim (λ p. on (record e { timer = e.timer + 1 }) p p refl refl refl refl) (λ p. waits (record e { timer = e.timer + 1 }) p (waiting_not_up e p) refl) w)
+    (λ w. ⊎_elim (λ p. on (record e { timer = e.timer + 1 }) p p refl refl refl refl)
+    (λ p. waits (record e { timer = e.timer + 1 }) p (waiting_not_up e p) refl) w)
     (λ p. on (sent_again e) p p refl refl refl refl) (λ p. Ends refl refl p (waiting_not_up (waiting_from e) refl) refl)
     (λ p. waits (asked_again e) p (waiting_not_up e p) refl) (λ p. waits (given_up e) p (down_not_up (given_up e) refl) refl)
   where
