@@ -28,11 +28,11 @@ as_comes (coming.Reset window) = AsksReset window
 as_comes (coming.Start value) = Starts value
 
 -- it may come to an end of the controller, or of a host: a window is 1 to 4, and a power mode 00 or 01
-abbrev pub MayCome : Bool → Incoming → Type 0
-MayCome at_host coming.NextFrame = Unit {0}
-MayCome at_host (coming.Reset window) = IfSome window (λ (w : ℕ). (1 ≤ w) × (w ≤ 4))
-MayCome true (coming.Start value) = Unit {0}
-MayCome false (coming.Start value) = value ≤ 1
+abbrev pub MayArrive : Bool → Incoming → Type 0
+MayArrive at_host coming.NextFrame = Unit {0}
+MayArrive at_host (coming.Reset window) = IfSome window (λ (w : ℕ). (1 ≤ w) × (w ≤ 4))
+MayArrive true (coming.Start value) = Unit {0}
+MayArrive false (coming.Start value) = value ≤ 1
 
 -- what has come, as an input of the machine of an end
 abbrev pub input_arrived : Arrived → LinkInput
@@ -53,15 +53,15 @@ refusal_arrived (arrived.Reset window) port = reset_refusal_at port
 refusal_arrived (arrived.Start value) port = None
 
 -- it is what had to come
-abbrev pub IsOf : Incoming → Arrived → Type 0
-IsOf coming.NextFrame (arrived.Frame read) = (lpdu : List ℕ) × (read ≡ control_of lpdu)
-IsOf (coming.Reset window) a = a ≡ arrived.Reset window
-IsOf (coming.Start value) a = a ≡ arrived.Start value
-IsOf _ _ = ⊥
+abbrev pub IsArrivalOf : Incoming → Arrived → Type 0
+IsArrivalOf coming.NextFrame (arrived.Frame read) = (lpdu : List ℕ) × (read ≡ control_of lpdu)
+IsArrivalOf (coming.Reset window) a = a ≡ arrived.Reset window
+IsArrivalOf (coming.Start value) a = a ≡ arrived.Start value
+IsArrivalOf _ _ = ⊥
 
 -- It has come to the near end of a link: a frame is off its wire and noted, and activation has emptied both wires.
 pub record HasArrived (new : Wires) (to : End) (l : Link) (what : Incoming) (before now : List Entry) (a : Arrived) : Type 0 where
-  pub is : IsOf what a
+  pub is : IsArrivalOf what a
   pub input : input_of l (as_comes what) ≡ Some (input_arrived a)
   pub wires : WiresStandFor new (seen_from to (as_it_comes l (as_comes what)))
   pub noted : AreNoted to before now (arrival (side_of to) l (as_comes what))
@@ -72,6 +72,6 @@ pub record NoneArrived (new : Wires) (to : End) (l : Link) (what : Incoming) (be
   pub wires : WiresStandFor new (seen_from to l)
   pub noted : now ≡ before
 
-abbrev pub ComesTo : Wires → End → Link → Incoming → List Entry → List Entry → Option Arrived → Type 0
-ComesTo new to l what before now None = NoneArrived new to l what before now
-ComesTo new to l what before now (Some a) = HasArrived new to l what before now a
+abbrev pub ComesToEnd : Wires → End → Link → Incoming → List Entry → List Entry → Option Arrived → Type 0
+ComesToEnd new to l what before now None = NoneArrived new to l what before now
+ComesToEnd new to l what before now (Some a) = HasArrived new to l what before now a

@@ -109,7 +109,7 @@ impl Wires {
     ghost use Rattle.history.specs.Follows.{seen_from, frames_to};
     ghost use Rattle.link_wires.specs.Notes.{side_of, AreNoted};
     ghost use Rattle.link_wires.specs.Damages.{Finds};
-    ghost use Rattle.node_sites.specs.Arrivals.{ComesTo};
+    ghost use Rattle.node_sites.specs.Arrivals.{ComesToEnd};
     ghost use Rattle.node_sites.specs.LinksKept.{WiresStandFor, with_bare_wires, without_first, IsTakenFirst};
 
     /// The wires of a new link: no frame stands on them.
@@ -205,7 +205,7 @@ impl Wires {
         entries: &mut Vec<Entry>,
     ) -> Result<Option<Arrived>, AllocError>
         ensures { (l : Link) → WiresStandFor self.old (seen_from to l)
-            → IfOk result (ComesTo self.new to l what entries.old.items entries.new.items) }
+            → IfOk result (ComesToEnd self.new to l what entries.old.items entries.new.items) }
     {
         match what {
             Incoming::NextFrame => match self.take_first(to, entries)? {

@@ -1,8 +1,8 @@
 -- What comes to an end of the world, once it is off its wire: when it may come to a node, and why it is refused.
 use Rattle.std.proofs.Common.{◌≡◌, ℕ, Bool, true, false, List, [], ◌∷◌, ◌++◌, map, refl, ap, sym, subst, ◌∙◌, append-nil}
 use Rattle.std.specs.Prelude.{Option, Some, None, option_map, Result, Ok, Err, OnOk, MatchResult, is_ok}
-use Rattle.node_world.proofs.Words.{Arrived, AsksReset, Comes, End, Entry, HostSite, Incoming, IsOf, Link, LinkEnd, NextFrame, NoInput, OnWire, Port, Power}
-use Rattle.node_world.proofs.Words.{Reset, ResetRefused, Running, Starts, Stops, Wires, WiresStandFor, WorldBecomes, arrival, as_comes, as_it_comes}
+use Rattle.node_world.proofs.Words.{Arrived, AsksReset, Comes, End, Entry, HostSite, Incoming, IsArrivalOf, Link, LinkEnd, NextFrame, NoInput, OnWire, Port}
+use Rattle.node_world.proofs.Words.{Power, Reset, ResetRefused, Running, Starts, Stops, Wires, WiresStandFor, WorldBecomes, arrival, as_comes, as_it_comes}
 use Rattle.node_world.proofs.Words.{entries_for, if_accepted, input_of, refusal_arrived, refusal_coming, reset_refusal, side_of}
 use Rattle.link_laws.specs.entries.Entries.{End as Side}
 use Rattle.link_end.specs.Reports.{reset_refused}
@@ -13,7 +13,7 @@ use Rattle.node_ends.specs.Ends.{MayStartAt}
 use Rattle.node_core.proofs.Behind.{power_may_start}
 use Rattle.node_sites.specs.declared.incoming.Incoming.TheVariants as coming
 use Rattle.node_sites.specs.declared.incoming.Arrived.TheVariants as arrived
-use Rattle.node_sites.specs.Arrivals.{ComesTo, HasArrived, NoneArrived, MayArriveAt, MayCome}
+use Rattle.node_sites.specs.Arrivals.{ComesToEnd, HasArrived, NoneArrived, MayArriveAt, MayArrive}
 use Rattle.node_sites.specs.Numbers.{with_session_number}
 
 -- what was done holds
@@ -28,16 +28,16 @@ done_always (Err why) m = cc
 
 -- something has come, or nothing
 pub as_some : {new : Wires} {to : End} {l : Link} {what : Incoming} {before now : List Entry} {o : Option Arrived} {a : Arrived} → o ≡ Some a
-    → ComesTo new to l what before now o → HasArrived new to l what before now a
-as_some {new} {to} {l} {what} {before} {now} is h = let C : Option Arrived → Type 0 = ComesTo new to l what before now in subst C is h
+    → ComesToEnd new to l what before now o → HasArrived new to l what before now a
+as_some {new} {to} {l} {what} {before} {now} is h = let C : Option Arrived → Type 0 = ComesToEnd new to l what before now in subst C is h
 
 pub as_none : {new : Wires} {to : End} {l : Link} {what : Incoming} {before now : List Entry} {o : Option Arrived} → o ≡ None
-    → ComesTo new to l what before now o → NoneArrived new to l what before now
-as_none {new} {to} {l} {what} {before} {now} is h = let C : Option Arrived → Type 0 = ComesTo new to l what before now in subst C is h
+    → ComesToEnd new to l what before now o → NoneArrived new to l what before now
+as_none {new} {to} {l} {what} {before} {now} is h = let C : Option Arrived → Type 0 = ComesToEnd new to l what before now in subst C is h
 
 -- ## When it may come
 
-pub may_arrive : (at_host : Bool) (what : Incoming) (a : Arrived) (port : Option Port) → IsOf what a → MayCome at_host what
+pub may_arrive : (at_host : Bool) (what : Incoming) (a : Arrived) (port : Option Port) → IsArrivalOf what a → MayArrive at_host what
     → ((value : ℕ) → at_host ≡ true → MayStartAt value port) → MayArriveAt a port
 may_arrive b coming.NextFrame (arrived.Frame read) port is may starts = is
 may_arrive b coming.NextFrame (arrived.Reset window) port is may starts = absurd is
@@ -51,7 +51,8 @@ may_arrive false (coming.Start value) a port is may starts =
 -- ## Why it is refused
 
 -- at an end of a node that runs
-pub refused_so : (what : Incoming) (a : Arrived) (p : Port) (node : Option Running) (r : Running) (e : LinkEnd) → IsOf what a → p.side ≡ e → node ≡ Some r
+pub refused_so : (what : Incoming) (a : Arrived) (p : Port) (node : Option Running) (r : Running) (e : LinkEnd) → IsArrivalOf what a
+    → p.side ≡ e → node ≡ Some r
     → refusal_arrived a (Some p) ≡ refusal_coming node e (as_comes what)
 refused_so coming.NextFrame (arrived.Frame read) p at r e is side on = refl
 refused_so coming.NextFrame (arrived.Reset window) p at r e is side on = absurd is
@@ -81,7 +82,7 @@ pub wires_as_were : {new : Wires} {to : End} {l : Link} {before now : List Entry
     → HasArrived new to l what before now a → refusal_arrived a port ≡ Some why → WiresStandFor new (seen_from to l) × (now ≡ before)
 wires_as_were {new} {to} {l} {before} {now} {why} what a port h = go what a h.is h.wires h.noted
   where
-    go : (what : Incoming) (a : Arrived) → IsOf what a → WiresStandFor new (seen_from to (as_it_comes l (as_comes what)))
+    go : (what : Incoming) (a : Arrived) → IsArrivalOf what a → WiresStandFor new (seen_from to (as_it_comes l (as_comes what)))
         → AreNoted to before now (arrival (side_of to) l (as_comes what)) → refusal_arrived a port ≡ Some why
         → WiresStandFor new (seen_from to l) × (now ≡ before)
     go coming.NextFrame (arrived.Frame read) is w noted q = absurd (cc q)

@@ -3,13 +3,13 @@ use Rattle.std.proofs.Common.{◌≡◌, ℕ, ◌==◌, Bool, true, false, not, 
 use Rattle.std.specs.Prelude.{if◌then◌else◌, Option, Some, None, Result, OnOk}
 use Rattle.std.specs.List.{AllByRecursion}
 use Rattle.node_world.proofs.Words.{AreNumbered, AreSessions, Arrived, AsksReset, AtEnd, BeginsOver, Comes, Controller, CountsFew, Desk, Ending, Entry}
-use Rattle.node_world.proofs.Words.{FewAreCounted, GoesOnWith, HasEnds, HasGone, HostSite, IfItRuns, Incoming, IsNodePlace, IsOf, Link, LinkEnd, LinkInput}
-use Rattle.node_world.proofs.Words.{MayGoOn, Memory, NextFrame, NoInput, Node, NumberedEnd, On, OnWire, Port, Power, Reset, ResetRefused, Running, RunsAs}
-use Rattle.node_world.proofs.Words.{SameWires, SendsTo, Site, SitesAre, Starts, StaysCounted, Step, Stops, Tick, TimePasses, WentOffWith, Work, WorldBecomes}
-use Rattle.node_world.proofs.Words.{after_input, after_planned, arrival, as_comes, as_it_comes, as_it_comes_to, between, comes_at, comes_to, controller_work}
-use Rattle.node_world.proofs.Words.{end_c, entries_for, happens_at_controller, has_come, hosts_of_ends, input_at, input_of, kept_alike, link_is, link_to}
-use Rattle.node_world.proofs.Words.{near_end_in, next_frame, node_memory, number_of, on_ok, port_at, port_for, refusal_arrived, refusal_coming, site_at, steps}
-use Rattle.node_world.proofs.Words.{turns_at, wires_for, work_numbers, work_of}
+use Rattle.node_world.proofs.Words.{FewAreCounted, GoesOnWith, HasEnds, HasGone, HostSite, IfItRuns, Incoming, IsArrivalOf, IsNodePlace, Link, LinkEnd}
+use Rattle.node_world.proofs.Words.{LinkInput, MayGoOn, Memory, NextFrame, NoInput, Node, NumberedEnd, On, OnWire, Port, Power, Reset, ResetRefused, Running}
+use Rattle.node_world.proofs.Words.{RunsAs, SameWires, SendsTo, Site, SitesAre, Starts, StaysCounted, Step, Stops, Tick, TimePasses, WentOffWith, Work}
+use Rattle.node_world.proofs.Words.{WorldBecomes, after_input, after_planned, arrival, as_comes, as_it_comes, as_it_comes_to, between, comes_at, comes_to}
+use Rattle.node_world.proofs.Words.{controller_work, end_c, entries_for, happens_at_controller, has_come, hosts_of_ends, input_at, input_of, kept_alike}
+use Rattle.node_world.proofs.Words.{link_is, link_to, near_end_in, next_frame, node_memory, number_of, on_ok, port_at, port_for, refusal_arrived}
+use Rattle.node_world.proofs.Words.{refusal_coming, site_at, steps, turns_at, wires_for, work_numbers, work_of}
 use Rattle.node_world.proofs.Comings.{refused_so}
 use Rattle.node_world.proofs.ControllersHear.{come_far}
 use Rattle.node_machine.specs.Node.{NodeInput}
@@ -184,7 +184,7 @@ module _ (w : NodeWorld) (r : Running) (h : ℕ) (comes : Comes) (i : LinkInput)
   -- ## Its refusal
 
   -- what its node tells of what came
-  pub refused_there : (what : Incoming) (a : Arrived) (why : Option ResetRefused) → IsOf what a
+  pub refused_there : (what : Incoming) (a : Arrived) (why : Option ResetRefused) → IsArrivalOf what a
       → refusal_arrived a (port_at (map (λ (d : Desk). port_for (plain d.host) d) r.desks) h) ≡ why
       → why ≡ refusal_coming w.controller (plain h).side (as_comes what)
   refused_there what a why is_of told =

@@ -1,9 +1,10 @@
 -- What is refused of a host of the world, by what its node refuses.
 use Rattle.std.proofs.Common.{◌≡◌, ℕ, ◌≤◌, ◌==◌, ◌&&◌, Bool, true, false, cond, List, [], ◌∷◌, map, refl, ap, sym, subst, ◌∙◌, append-nil, arith}
 use Rattle.std.specs.Prelude.{Option, Some, None, is_some}
-use Rattle.node_world.proofs.Words.{AreMute, Arrived, Core, Desk, Entry, HasBecome, HasEnds, HostSite, IfItRuns, Incoming, IsHostOf, IsNodePlace, IsOf, LinkEnd}
-use Rattle.node_world.proofs.Words.{Memory, Message, NoCause, NoInput, Node, On, Port, Power, ResetRefused, Running, RunsAs, Site, SiteIs, Wires, WiresStandFor}
-use Rattle.node_world.proofs.Words.{as_comes, beginning, host_opened, node_memory, port_at, port_for, refusal_arrived, refusal_coming, sending, sending_refused}
+use Rattle.node_world.proofs.Words.{AreMute, Arrived, Core, Desk, Entry, HasBecome, HasEnds, HostSite, IfItRuns, Incoming, IsArrivalOf, IsHostOf, IsNodePlace}
+use Rattle.node_world.proofs.Words.{LinkEnd, Memory, Message, NoCause, NoInput, Node, On, Port, Power, ResetRefused, Running, RunsAs, Site, SiteIs, Wires}
+use Rattle.node_world.proofs.Words.{WiresStandFor, as_comes, beginning, host_opened, node_memory, port_at, port_for, refusal_arrived, refusal_coming, sending}
+use Rattle.node_world.proofs.Words.{sending_refused}
 use Rattle.trace_model.specs.declared.entry.NoCause.TheVariants as no
 use Rattle.link_laws.specs.machine.Machine.{give_refusal}
 use Rattle.node_machine.specs.Parts.Deed.{Sends, Orders}
@@ -65,7 +66,7 @@ module _ (k : HostSite) (s : Site) (n : Node Memory) (is : SiteIs k s) (host : I
   is_some_host = let some = eqb-false s.host 0 host.number in let same = runs_here.number in omega (arith, some, same)
 
   -- what its node tells of what came
-  pub refused_here : (what : Incoming) (a : Arrived) (why : Option ResetRefused) → IsOf what a
+  pub refused_here : (what : Incoming) (a : Arrived) (why : Option ResetRefused) → IsArrivalOf what a
       → ((core : Core) (ports : List Port) → RunsAs n core ports → refusal_arrived a (port_at ports k.host) ≡ why)
       → why ≡ refusal_coming s.node s.link.host.side (as_comes what)
   refused_here what a why is_of f =

@@ -4,7 +4,7 @@ ghost use Rattle.node_machine.specs.Node.NodeInput.{TimePasses};
 ghost use Rattle.node_machine.specs.world.World.{NodeWorld, Site, comes_at, end_c, link_to, node_at, node_of};
 ghost use Rattle.node_machine.specs.world.World.{controller_ticks, host_ticks, hosts_tick, world_ticks};
 ghost use Rattle.node_machine.specs.world.Lines.{machine_in};
-ghost use Rattle.node_sites.specs.Arrivals.{as_comes, MayCome};
+ghost use Rattle.node_sites.specs.Arrivals.{as_comes, MayArrive};
 ghost use Rattle.node_sites.specs.Places.{SiteIs};
 ghost use Rattle.node_world.specs.Controllers.{SitesAre, WorldIs, WorldBecomes, WorldUnless, MayGoOn, IsThere, AreTimely, HaveRoom, FewAreCounted};
 ghost use Rattle.node_world.specs.Controllers.{FewAreCountedAt, near_ticks};
@@ -32,7 +32,7 @@ fn comes_to_host(
     noted: &mut Noted,
 ) -> Result<Option<ResetRefused>, NoMemory>
     requires state { (s : Site) × SiteIs site.old s × IsHostOf s × CountsComing s (as_comes what) }
-    requires may { MayCome true what }
+    requires may { MayArrive true what }
     requires room { site.old.wires.resets + 17 < 2 ^ 32 }
     requires memory { noted.old.short ≡ false }
     ensures refusal { (s : Site) → SiteIs site.old s → IsHostOf s
@@ -76,7 +76,7 @@ fn comes_to_controller(
     noted: &mut Noted,
 ) -> Result<Option<ResetRefused>, NoMemory>
     requires state { (w : NodeWorld) × WorldIs controller.old sites.old w × MayGoOn w × IsThere host w }
-    requires may { MayCome false what }
+    requires may { MayArrive false what }
     requires room { HaveRoom sites.old }
     requires memory { noted.old.short ≡ false }
     ensures refusal { (w : NodeWorld) → WorldIs controller.old sites.old w → MayGoOn w → IsThere host w
@@ -127,7 +127,7 @@ pub(crate) fn comes_to(
     noted: &mut Noted,
 ) -> Result<Option<ResetRefused>, NoMemory>
     requires state { (w : NodeWorld) × WorldIs controller.old sites.old w × IsWithinBounds w × IsThere at.link w }
-    requires may { MayCome at.at_host what }
+    requires may { MayArrive at.at_host what }
     requires memory { noted.old.short ≡ false }
     ensures refusal { (w : NodeWorld) → WorldIs controller.old sites.old w → IsWithinBounds w → IsThere at.link w
         → IfOk result (λ why. why ≡ refusal_coming (node_at w (node_of at)) (machine_in w at) (as_comes what)) }

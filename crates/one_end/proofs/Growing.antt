@@ -12,7 +12,7 @@ use Rattle.lone_laws.specs.alone.Ends.{EndForm, bytes_bring, first_comes, end_ca
 use Rattle.one_end.specs.Alone.{RunsAlone}
 use Rattle.one_end.specs.declared.one_end.OneEnd.{OneEnd}
 use Rattle.one_end.specs.Running.{answers_alone, all_answered, BringsAlone, HasAnswered, RunsYet}
-use Rattle.one_end.specs.Standing.{StandsAlone, IsAlone, booted_from, end_booted, run_brings, HasBooted, HasHeard, HasRun, IsRunOfBytes}
+use Rattle.one_end.specs.Standing.{StandsAlone, IsAlone, booted_from, end_booted, run_brings, HasBooted, HearsAlone, HasRun, IsRunOfBytes}
 use Rattle.one_end.specs.Reading.{form_read, ReaderStandsFor}
 use Rattle.one_end.specs.Writing.{form_named}
 use Rattle.one_end.proofs.Composing.{brings_on, brings_as, all_answered-append}
@@ -47,7 +47,7 @@ module _ {N : Type 0} (writes : N → ℕ → List ℕ → Bool → N → Type 0
 
   -- more bytes come
   pub has_heard : (d e : OneEnd N) (more : List ℕ) (stopped : Bool) (bytes written before now : List ℕ) → e.form ≡ d.form
-      → e.node.number ≡ d.node.number → HasRun writes content first d false bytes (written ++ before) → HasHeard writes d e stopped more before now
+      → e.node.number ≡ d.node.number → HasRun writes content first d false bytes (written ++ before) → HearsAlone writes d e stopped more before now
       → HasRun writes content first e stopped (bytes ++ more) (written ++ now)
   has_heard d e more stopped bytes written before now same own b heard =
       let form : EndForm = form_named d.form in
@@ -90,7 +90,7 @@ pub unit_heard : {N : Type 0} (writes : N → ℕ → List ℕ → Bool → N �
     → bytes_bring (form_read d.reader) number older came ≡ FrameComes lpdu ∷ [])
     → ((l : Lone) → RunsAlone d.node l [] → HasAnswered writes d.node.store.journal.nv node.store.journal.nv (RunsYet node stopped)
     (λ m. answers_alone (form_named d.form) (over l m) (FrameComes sent)) before now)
-    → HasHeard writes d (record d { node = node }) stopped came before now
+    → HearsAlone writes d (record d { node = node }) stopped came before now
 unit_heard writes d node came lpdu sent is own stands brings answered l older s =
     let number : ℕ = d.node.number in
     heard_so writes d (record d { node = node }) came l older s s.form_is own (stands number older s.reads)
@@ -99,7 +99,7 @@ unit_heard writes d node came lpdu sent is own stands brings answered l older s 
 
 -- so it may go on
 pub goes_on : {N : Type 0} (writes : N → ℕ → List ℕ → Bool → N → Type 0) (d e : OneEnd N) (more : List ℕ) (stopped : Bool) {before now : List ℕ}
-    → HasHeard writes d e stopped more before now → (l : Lone) × (older : List ℕ) × StandsAlone d l older → stopped ≡ false
+    → HearsAlone writes d e stopped more before now → (l : Lone) × (older : List ℕ) × StandsAlone d l older → stopped ≡ false
     → (l : Lone) × (older : List ℕ) × StandsAlone e l older
 goes_on writes d e more stopped heard (l, older, s) on =
     let b = (heard l older s).brings in

@@ -27,8 +27,8 @@ abbrev pub IsAlone : {N : Type 0} → OneEnd N → List ℕ → Bool → Lone �
 IsAlone e older stopped l = (stopped ≡ is_none l.node) × (stopped ≡ false → StandsAlone e l older)
 
 -- These bytes came to the one end, which is the other then, and what it wrote was appended.
-abbrev pub HasHeard : {N : Type 0} → (N → ℕ → List ℕ → Bool → N → Type 0) → OneEnd N → OneEnd N → Bool → List ℕ → List ℕ → List ℕ → Type 0
-HasHeard writes d e stopped bytes before now =
+abbrev pub HearsAlone : {N : Type 0} → (N → ℕ → List ℕ → Bool → N → Type 0) → OneEnd N → OneEnd N → Bool → List ℕ → List ℕ → List ℕ → Type 0
+HearsAlone writes d e stopped bytes before now =
     (l : Lone) (older : List ℕ) → StandsAlone d l older
     → HasAnswered writes d.node.store.journal.nv e.node.store.journal.nv (IsAlone e (reverse bytes ++ older) stopped)
     (λ m. all_answered (form_named d.form) (record l { memory = m }) (bytes_bring (form_named d.form) d.node.number older bytes)) before now

@@ -6,7 +6,7 @@ ghost use Rattle.lone_laws.specs.alone.Lone.{Lone};
 ghost use Rattle.lone_laws.specs.alone.Ends.{first_comes};
 ghost use Rattle.one_end.specs.Alone.{RunsAlone};
 ghost use Rattle.one_end.specs.Running.{all_answered, HasAnswered};
-ghost use Rattle.one_end.specs.Standing.{StandsAlone, IsAlone, HasBooted, HasRun, HasHeard};
+ghost use Rattle.one_end.specs.Standing.{StandsAlone, IsAlone, HasBooted, HasRun, HearsAlone};
 ghost use Rattle.one_end.specs.Writing.{form_named};
 
 use crate::coming::{Coming, comings_of, first_comings};
@@ -95,7 +95,7 @@ fn hear_in_parts<N: Nv + Drop>(end: &mut OneEnd<N>, bytes: &[u8], out: &mut Outp
     ensures form { end.new.form ≡ end.old.form }
     ensures some { 0 < length bytes.now → 0 < result.count }
     ensures within { result.count ≤ length bytes.now }
-    ensures heard { HasHeard N.writes end.old end.new result.stopped (take result.count bytes.now) out.old.items out.new.items }
+    ensures heard { HearsAlone N.writes end.old end.new result.stopped (take result.count bytes.now) out.old.items out.new.items }
     ensures count { N.faults end.old.node.store.journal.nv ≤ N.faults end.new.node.store.journal.nv }
     ensures rose { IsTrue result.stopped → Rose (N.faults end.old.node.store.journal.nv) (N.faults end.new.node.store.journal.nv) }
     ensures number { end.new.node.number ≡ end.old.node.number }

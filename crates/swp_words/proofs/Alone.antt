@@ -13,7 +13,7 @@ use Rattle.one_end.specs.Writing.{form_named}
 use Rattle.one_end.proofs.Growing.{is_run_of}
 use Rattle.swp_words.specs.declared.status.Status.{Status}
 use Rattle.swp_words.specs.declared.status.Status.TheVariants as status
-use Rattle.swp_words.specs.Ends.{Began, IsEndOf, HasHeardAlone, HasGoneOut, IsWaitingAlone, IsCutAlone, IsWrittenBefore, IsBrokenAlone}
+use Rattle.swp_words.specs.Ends.{Began, IsEndBegun, HasHeardAlone, HasGoneOut, IsWaitingAlone, IsCutAlone, IsWrittenBefore, IsBrokenAlone}
 use Rattle.swp_words.specs.Ends.{IsStoppedAlone, IsTooLongAlone}
 use Rattle.swp_words.specs.Ends.{IsHearing, EndedAlone, HasRunAlone, IsRunBefore}
 use Rattle.swp_words.specs.Ends.{IsRunBrokenOff, IsRunStopped, IsRunCutOff, RanSo, EndedSo, HasNextGeneration}
@@ -27,7 +27,7 @@ use Rattle.swp_base.specs.Outside.{Rose}
 use Rattle.hci_store.specs.Starting.{ready_writes, HasWritten}
 
 module _ {N : Type 0} (writes : N → ℕ → List ℕ → Bool → N → Type 0) (is_clf : Bool) (o : Began N) (role : o.number ≡ cond is_clf 0 2) where
-  pub run_is : (e : OneEnd N) (stopped : Bool) (bytes written : List ℕ) → IsEndOf o e → HasRun writes o.content o.first e stopped bytes written
+  pub run_is : (e : OneEnd N) (stopped : Bool) (bytes written : List ℕ) → IsEndBegun o e → HasRun writes o.content o.first e stopped bytes written
       → IsRunOfBytes writes o.first e.node.store.journal.nv stopped (form_named o.form) is_clf o.content bytes written
   run_is e stopped bytes written same h =
       subst (λ f. IsRunOfBytes writes o.first e.node.store.journal.nv stopped (form_named f) is_clf o.content bytes written) same.0
@@ -116,7 +116,7 @@ module _ {N : Type 0} (writes : N → ℕ → List ℕ → Bool → N → Type 0
 
 -- ## Before the first byte
 
-module _ {N : Type 0} (writes : N → ℕ → List ℕ → Bool → N → Type 0) (o : Began N) (tells : Bool) (e : OneEnd N) (same : IsEndOf o e) where
+module _ {N : Type 0} (writes : N → ℕ → List ℕ → Bool → N → Type 0) (o : Began N) (tells : Bool) (e : OneEnd N) (same : IsEndBegun o e) where
   pub begins_broken : (given : ℕ) (stopped : Bool) (input was after items : List ℕ)
       → HasRun writes o.content o.first e stopped [] items → (n : ℕ) → (IsTrue tells → after ≡ was ++ take n items)
       → IsBrokenAlone writes tells given o e input input was after

@@ -30,14 +30,14 @@ pub record Began (N : Type 0) : Type 0 where
   pub first : N
 
 -- that node is at this end
-abbrev pub IsEndOf : {N : Type 0} → Began N → OneEnd N → Type 0
-IsEndOf o e = (e.form ≡ o.form) × (e.node.number ≡ o.number)
+abbrev pub IsEndBegun : {N : Type 0} → Began N → OneEnd N → Type 0
+IsEndBegun o e = (e.form ≡ o.form) × (e.node.number ≡ o.number)
 
 -- These bytes came to a node, and all that it wrote for them went out. Whether the sink tells what was written comes behind what the node
 -- is; what it held before and holds now comes last.
 pub record HasHeardAlone {N : Type 0} (writes : N → ℕ → List ℕ → Bool → N → Type 0) (tells : Bool)
     (o : Began N) (e : OneEnd N) (stopped : Bool) (bytes before after : List ℕ) : Type 0 where
-  pub end_is : IsEndOf o e
+  pub end_is : IsEndBegun o e
   pub written : List ℕ
   pub run : HasRun writes o.content o.first e stopped bytes written
   pub after_is : IsTrue tells → after ≡ before ++ written
@@ -52,7 +52,7 @@ pub record HasGoneOut (tells : Bool) (waited waiting was now : List ℕ) : Type 
 -- These bytes came to a node. What it wrote for them begins with a text that went out; more of it may have gone out, and the rest waits.
 pub record IsWaitingAlone {N : Type 0} (writes : N → ℕ → List ℕ → Bool → N → Type 0) (tells : Bool)
     (o : Began N) (e : OneEnd N) (stopped : Bool) (bytes earlier waiting before after : List ℕ) : Type 0 where
-  pub end_is : IsEndOf o e
+  pub end_is : IsEndBegun o e
   pub sent : List ℕ
   pub run : HasRun writes o.content o.first e stopped bytes ((earlier ++ sent) ++ waiting)
   pub after_is : IsTrue tells → after ≡ before ++ (earlier ++ sent)
@@ -60,7 +60,7 @@ pub record IsWaitingAlone {N : Type 0} (writes : N → ℕ → List ℕ → Bool
 -- These bytes came to a node. What it wrote for them begins with a text that went out; of the rest a front did.
 pub record IsCutAlone {N : Type 0} (writes : N → ℕ → List ℕ → Bool → N → Type 0) (tells : Bool)
     (o : Began N) (e : OneEnd N) (bytes earlier before after : List ℕ) : Type 0 where
-  pub end_is : IsEndOf o e
+  pub end_is : IsEndBegun o e
   pub stopped : Bool
   pub last : List ℕ
   pub run : HasRun writes o.content o.first e stopped bytes (earlier ++ last)
@@ -71,7 +71,7 @@ pub record IsCutAlone {N : Type 0} (writes : N → ℕ → List ℕ → Bool →
 abbrev pub IsWrittenBefore : {N : Type 0} → (N → ℕ → List ℕ → Bool → N → Type 0) → Began N → List ℕ → List ℕ → List ℕ → Type 0
 IsWrittenBefore {N} writes o front piece earlier =
     ((front ≡ []) × (piece ≡ []) × (earlier ≡ []))
-    ⊎ ((d : OneEnd N) × IsEndOf o d × HasRun writes o.content o.first d false front earlier)
+    ⊎ ((d : OneEnd N) × IsEndBegun o d × HasRun writes o.content o.first d false front earlier)
 
 -- A write failed: all that the node wrote for the bytes before those of the last read went out, and a front of what it wrote for some of these.
 -- No more was read than these.

@@ -11,7 +11,8 @@ ghost use Rattle.lone_laws.specs.alone.Lone.{Lone};
 ghost use Rattle.lone_laws.specs.alone.Memories.{IsTakenMemory};
 ghost use Rattle.one_end.specs.Alone.{RunsAlone};
 ghost use Rattle.one_end.specs.Standing.{StandsAlone, HasRun, HasBooted};
-ghost use Rattle.swp_words.specs.Ends.{Began, IsEndOf, HasHeardAlone, IsWaitingAlone, IsCutAlone, HasGoneOut, EndedInBytes, IsOfEnd, IsOfLone, RanSo, EndedSo};
+ghost use Rattle.swp_words.specs.Ends.{Began, IsEndBegun, HasHeardAlone, IsWaitingAlone, IsCutAlone, HasGoneOut, EndedInBytes};
+ghost use Rattle.swp_words.specs.Ends.{IsOfEnd, IsOfLone, RanSo, EndedSo};
 ghost use Rattle.swp_words.specs.Ends.{IsOfEndWord, status_of_boot};
 ghost use Rattle.swp_words.specs.Ends.{AnsweredSo, HasNextGeneration, IsRefusedFor};
 ghost use Rattle.one_end.specs.Writing.{form_named};
@@ -224,12 +225,12 @@ fn hear_all<S: Source, K: Sink, N: Nv + Drop>(
     ensures nv_fault { result ≡ Status.NvFault → (stopped ≡ true)
         ⊎ Rose (N.faults ending.old.end.node.store.journal.nv) (N.faults ending.new.end.node.store.journal.nv) }
     ensures nv_kept { stopped ≡ true → ending.new.end ≡ ending.old.end }
-    ensures ran { IsTrue S.tells → (o : Began N) (is_clf : Bool) → IsEndOf o ending.old.end → o.number ≡ (if is_clf then 0 else 2)
+    ensures ran { IsTrue S.tells → (o : Began N) (is_clf : Bool) → IsEndBegun o ending.old.end → o.number ≡ (if is_clf then 0 else 2)
         → HasRun N.writes o.content o.first ending.old.end stopped [] ending.old.out.items
         → RanSo N.writes K.tells (S.end source.new).given
         (form_named o.form) is_clf o.content o.first ending.new.end.node.store.journal.nv result (S.left source.old) (S.left source.new)
         (K.written sink.old) (K.written sink.new) }
-    ensures ahead { IsTrue S.tells → (o : Began N) → IsEndOf o ending.old.end
+    ensures ahead { IsTrue S.tells → (o : Began N) → IsEndBegun o ending.old.end
         → HasRun N.writes o.content o.first ending.old.end stopped [] ending.old.out.items
         → length (S.left source.old) ≤ most_bytes + 4096 + length (S.left source.new) }
     ensures read_fault { result ≡ Status.ReadFault → Rose (S.faults source.old) (S.faults source.new) }

@@ -4,7 +4,7 @@ use Rattle.std.proofs.lemmas.Bool.{not-false, not-true}
 use Rattle.std.proofs.lemmas.Result.{IfOk-weaker}
 use Rattle.node_world.proofs.Words.{BecomesUnless, End, ResetRefused, StandsAt, WorldBecomes, as_comes, comes_at, end_c, end_h, host_hears, if_accepted}
 use Rattle.node_world.proofs.Words.{machine_in, node_at, node_of, refusal_coming}
-use Rattle.node_sites.specs.Arrivals.{MayCome}
+use Rattle.node_sites.specs.Arrivals.{MayArrive}
 use Rattle.node_world.specs.Controllers.{WorldUnless}
 use Rattle.node_world.proofs.AtHosts.{at_place, controller_end_is, counts_coming, end_is, nowhere, room_there, site_stands}
 use Rattle.node_world.proofs.HostsFound.{refusal_there}
@@ -40,11 +40,11 @@ comes_to_host-requires-clause-room c =
 -- it may come there
 pub comes_to_controller-requires-clause-may : goal.comes_to_controller-requires-clause-may
 comes_to_controller-requires-clause-may c =
-    let M : Bool → Type 0 = λ b. MayCome b c.args.what in subst M (not-true c.args.at.at_host c.if-not-at.true) c.requires.may
+    let M : Bool → Type 0 = λ b. MayArrive b c.args.what in subst M (not-true c.args.at.at_host c.if-not-at.true) c.requires.may
 
 pub comes_to_host-requires-clause-may : goal.comes_to_host-requires-clause-may
 comes_to_host-requires-clause-may c =
-    let M : Bool → Type 0 = λ b. MayCome b c.args.what in subst M (not-false c.args.at.at_host c.if-not-at.false) c.requires.may
+    let M : Bool → Type 0 = λ b. MayArrive b c.args.what in subst M (not-false c.args.at.at_host c.if-not-at.false) c.requires.may
 
 pub returns-then-not-at-clause-refusal : goal.returns-then-not-at-clause-refusal
 returns-then-not-at-clause-refusal c w world ready there =
