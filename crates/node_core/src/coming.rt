@@ -112,7 +112,7 @@ impl<N: Nv + Drop> Node<N> {
 
     // What an input at the end of the link with this host did is noted, where anything of it is, with the message that it brought. That
     // message, where one came, lies in the front of the buffer then.
-    #[inline]
+    #[inline(always)]
     pub(crate) fn note_input<W: Watch>(
         &self,
         host: u8,

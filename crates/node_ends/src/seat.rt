@@ -185,6 +185,7 @@ impl Seat {
 
     // Takes what an LPDU says, and fetches the message that it brings. While a message waits here the end is held, so that none comes.
     // At most six control frames wait to be sent.
+    #[inline(always)]
     fn take(&mut self, pool: &mut Pool, read: &Result<Control, LpduFault>) -> LinkReport
         requires stands { (m : Machine) × HoldsSeat pool.old self.old m }
         requires held { WaitsHeld self.old.waiting self.old.side }

@@ -26,6 +26,7 @@ use swp_base::MemNv;
 /// # Errors
 ///
 /// A reset is refused: activation isn't done, or the end waits for the acceptance of a reset already. Nothing changed.
+#[inline(always)]
 pub fn step(
     node: &mut RunningNode<MemNv>,
     input: NodeInput<'_>,

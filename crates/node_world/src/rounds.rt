@@ -16,6 +16,7 @@ use swp_base::NoMemory;
 use trace_model::End;
 
 // An end takes all that stands on its wire now, until its node loses its power. Where that doesn't run, nothing happens.
+#[inline(always)]
 fn take_all(
     controller: &mut Power,
     sites: &mut [HostSite],

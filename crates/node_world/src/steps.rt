@@ -26,6 +26,7 @@ use trace_model::End;
 
 // This comes to the end of a host. Where the host doesn't run, or no frame is on the way, nothing happens; and where a reset is refused,
 // which is answered.
+#[inline(always)]
 fn comes_to_host(
     site: &mut HostSite,
     what: Incoming,
@@ -68,6 +69,7 @@ fn comes_to_host(
 
 // This comes to the controller's end of the link with this host. Where the controller doesn't run, or no frame is on the way, nothing
 // happens; and where a reset is refused, which is answered.
+#[inline(always)]
 fn comes_to_controller(
     controller: &mut Power,
     sites: &mut [HostSite],
@@ -119,6 +121,7 @@ fn comes_to_controller(
 /// # Errors
 ///
 /// No memory is left; what the world stands for then isn't said.
+#[inline(always)]
 pub(crate) fn comes_to(
     controller: &mut Power,
     sites: &mut [HostSite],

@@ -61,6 +61,7 @@ fn asks_for_reset(is_clf: bool, became_active: bool) -> bool
 }
 
 /// Appends the frames that are to go out, in their order.
+#[inline(always)]
 fn send_out<N: Nv + Drop>(node: &mut RunningNode<N>, form: Form, out: &mut Output)
     requires may { (l : Lone) × (frames : List Control) × RunsAlone node.old l frames × (length frames ≤ 17) }
     requires room { length out.old.items + 17 * 323 ≤ 52224 }
@@ -83,6 +84,7 @@ fn send_out<N: Nv + Drop>(node: &mut RunningNode<N>, form: Form, out: &mut Outpu
 }
 
 /// The node makes a step, and what it writes then is appended.
+#[inline(always)]
 fn step<N: Nv + Drop>(
     node: &mut RunningNode<N>,
     form: Form,

@@ -124,8 +124,10 @@ none_aged : (who : End) (w : List OnWire) (b : ℕ) → b < 4 → Young b w → 
 none_aged who [] b i y = (refl, refl)
 none_aged who (x ∷ xs) b i y =
     by_test {P = (aged_entries who (x ∷ xs) ≡ []) × (aged_wire (x ∷ xs) ≡ older (x ∷ xs))} (nat_lt x.age 4)
-    (λ q. (rw q (none_aged who xs x.age (omega (arith, i, y.0)) y.1).0,
-    rw q (ap (λ v. record x { age = x.age + 1 } ∷ v) (none_aged who xs x.age (omega (arith, i, y.0)) y.1).1)))
+    (λ q. (
+      rw q (none_aged who xs x.age (omega (arith, i, y.0)) y.1).0,
+      rw q (ap (λ v. record x { age = x.age + 1 } ∷ v) (none_aged who xs x.age (omega (arith, i, y.0)) y.1).1),
+    ))
     (λ q. absurd (let g = ltb-false x.age 4 q in omega (arith, g, i, y.0)))
 
 -- the wire to an end is w
