@@ -46,8 +46,8 @@ typedef enum swp_code {
 } swp_code;
 
 /* Bytes of heap that each object needs where a pointer has 8 bytes; with pointers of 4 bytes it needs fewer. A heap begins at a multiple of 8. */
-#define SWP_HOST_HEAP 35232u
-#define SWP_CONTROLLER_HEAP(hosts) (5572u + (hosts) * 29660u)
+#define SWP_HOST_HEAP 35128u
+#define SWP_CONTROLLER_HEAP(hosts) (5572u + (hosts) * 29556u)
 #define SWP_LINK_HEAP 29800u
 #define SWP_DECODER_HEAP 8392u
 

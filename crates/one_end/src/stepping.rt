@@ -3,6 +3,7 @@ ghost use Rattle.std.specs.Prelude.{◌≡◌, ◌≤◌, ◌+◌, ◌*◌, ◌&
 ghost use Rattle.swp_base.specs.Outside.{Rose};
 ghost use Rattle.swp_base.specs.declared.control_frames.Control.{Control};
 ghost use Rattle.lone_laws.specs.alone.Lone.{Lone, LoneCause};
+ghost use Rattle.lone_laws.specs.alone.Lone.LoneCause.{FrameComes};
 ghost use Rattle.lone_laws.specs.alone.Ends.{asks_reset};
 ghost use Rattle.one_end.specs.Alone.{RunsAlone, TakesAlone};
 ghost use Rattle.one_end.specs.Running.{frames_written, cause_of, does_alone, answers_alone, all_answered, RunsYet, RunsReady, HasAnswered};
@@ -12,7 +13,7 @@ use crate::coming::Coming;
 use crate::writing::{Form, Output, write_out};
 use node_core::{NodeInput, RunningNode, a_reset_of_an_end_that_became_active_is_not_refused};
 use node_ends::LinkInput;
-use swp_base::Nv;
+use swp_base::{Lpdu, Nv};
 use swp_lpdu::read_lpdu;
 use trace_model::{Entry, Watch};
 
@@ -121,6 +122,26 @@ fn step<N: Nv + Drop>(
     came
 }
 
+/// A frame with this LPDU comes to the node, and what it writes then is appended.
+#[inline(always)]
+fn take<N: Nv + Drop>(node: &mut RunningNode<N>, form: Form, lpdu: &Lpdu, out: &mut Output) -> Came
+    requires may { (l : Lone) × RunsAlone node.old l [] }
+    requires room { length out.old.items + 17 * 323 ≤ 52224 }
+    ensures done { (l : Lone) → RunsAlone node.old l []
+        → HasAnswered N.writes node.old.store.journal.nv node.new.store.journal.nv (RunsReady node.new result.stopped result.asks_reset)
+        (λ m. does_alone (form_named form) (record l { memory = m }) (FrameComes lpdu.now)) out.old.items out.new.items }
+    ensures asks { (l : Lone) → RunsAlone node.old l [] → result.asks_reset ≡ asks_reset l (FrameComes lpdu.now) }
+    ensures sized { length out.new.items ≤ length out.old.items + 17 * 323 }
+    ensures count { N.faults node.old.store.journal.nv ≤ N.faults node.new.store.journal.nv }
+    ensures rose { IsTrue result.stopped → Rose (N.faults node.old.store.journal.nv) (N.faults node.new.store.journal.nv) }
+    ensures number { node.new.number ≡ node.old.number }
+{
+    // This comes first: it is long, and moved once more where it is made in one case of several.
+    let read = read_lpdu(lpdu);
+    let what = LinkInput::Frame(&read);
+    step(node, form, NodeInput::At { host: HOST, what }, out)
+}
+
 /// This comes to the node, and what it writes then is appended. A frame that was refused counts, and makes no step.
 fn comes<N: Nv + Drop>(
     node: &mut RunningNode<N>,
@@ -140,11 +161,7 @@ fn comes<N: Nv + Drop>(
     ensures number { node.new.number ≡ node.old.number }
 {
     match coming {
-        Coming::Frame(lpdu) => {
-            let read = read_lpdu(lpdu);
-            let what = LinkInput::Frame(&read);
-            step(node, form, NodeInput::At { host: HOST, what }, out)
-        }
+        Coming::Frame(lpdu) => take(node, form, lpdu, out),
         Coming::Refused(_) => {
             node.refused(HOST);
             Came {

@@ -1,37 +1,25 @@
 -- What comes is a step, or a frame that is refused.
 use Rattle.std.proofs.Common.{◌∷◌, [], refl, ap}
 use Rattle.hci_store.specs.Stored.{Stored}
-use Rattle.lone_laws.specs.alone.Lone.LoneCause.{FrameComes, TickComes, StartComes, StopComes}
+use Rattle.lone_laws.specs.alone.Lone.LoneCause.{TickComes, StartComes, StopComes}
 use Rattle.one_end.specs.Writing.{form_named}
-use Rattle.one_end.proofs.Alone.{frame_taken, tick_taken, start_taken, stop_taken, frame_at_end, answers_refused}
+use Rattle.one_end.proofs.Alone.{tick_taken, start_taken, stop_taken, answers_refused}
 use Rattle.one_end.proofs.stepping.comes.Goals as goal
 
-pub step-requires-clause-may : goal.step-requires-clause-may
-step-requires-clause-may g c =
-    let m = c.requires.may in
-    let says = c.read_lpdu-read.ensures.says in
-    (m.0, FrameComes c.in-Frame.lpdu, frame_taken m.1 c.in-Frame.lpdu (frame_at_end c.in-Frame.lpdu says) (c.in-Frame.lpdu, says) refl)
-
 pub returns-in-Frame-clause-done : goal.returns-in-Frame-clause-done
-returns-in-Frame-clause-done g c l a =
-    let lpdu = c.in-Frame.lpdu in
-    let says = c.read_lpdu-read.ensures.says in
-    rw c.in-Frame.is (c.step.ensures.done l (FrameComes lpdu) (frame_taken a lpdu (frame_at_end lpdu says) (lpdu, says) refl))
+returns-in-Frame-clause-done g c l a = rw c.in-Frame.is (c.take.ensures.done l a)
 
 pub returns-in-Frame-clause-asks : goal.returns-in-Frame-clause-asks
-returns-in-Frame-clause-asks g c l a =
-    let lpdu = c.in-Frame.lpdu in
-    let says = c.read_lpdu-read.ensures.says in
-    rw c.in-Frame.is (c.step.ensures.asks l (FrameComes lpdu) (frame_taken a lpdu (frame_at_end lpdu says) (lpdu, says) refl))
+returns-in-Frame-clause-asks g c l a = rw c.in-Frame.is (c.take.ensures.asks l a)
 
-pub step-requires-in-Tick-clause-may : goal.step-requires-in-Tick-clause-may
-step-requires-in-Tick-clause-may g c = let m = c.requires.may in (m.0, TickComes, tick_taken m.1)
+pub step-requires-clause-may : goal.step-requires-clause-may
+step-requires-clause-may g c = let m = c.requires.may in (m.0, TickComes, tick_taken m.1)
 
 pub returns-in-Tick-clause-done : goal.returns-in-Tick-clause-done
-returns-in-Tick-clause-done g c l a = rw c.in-Tick.is (c.step-in-Tick.ensures.done l TickComes (tick_taken a))
+returns-in-Tick-clause-done g c l a = rw c.in-Tick.is (c.step.ensures.done l TickComes (tick_taken a))
 
 pub returns-in-Tick-clause-asks : goal.returns-in-Tick-clause-asks
-returns-in-Tick-clause-asks g c l a = rw c.in-Tick.is (c.step-in-Tick.ensures.asks l TickComes (tick_taken a))
+returns-in-Tick-clause-asks g c l a = rw c.in-Tick.is (c.step.ensures.asks l TickComes (tick_taken a))
 
 pub step-requires-in-Start-clause-may : goal.step-requires-in-Start-clause-may
 step-requires-in-Start-clause-may g c = let m = c.requires.may in (m.0, StartComes 1, start_taken m.1)
