@@ -3,9 +3,7 @@
 behind a gate or ./swp-build; it wants valgrind.
 
 Each block of lines is played a thousand times on a bare link, and on the link of a controller and one host that are up. Of a block it
-prints the instructions, text included, and of each frame that is taken in it those of the step that takes it, with all that this
-brings about: entries, frames that go out, and at a node the turn of the message that came. Of a node's frame it prints what its turns
-take, which an end alone doesn't have, and the ratio without them."""
+prints the instructions, text included, at a node also what its turns take, which an end alone doesn't have, and the ratio without them."""
 
 import os
 import re
@@ -25,39 +23,35 @@ TIMES = 1000
 
 
 def counted(program, lines, folder):
-    """All instructions of a schedule, and those of the steps that take frames."""
+    """All instructions of a schedule, and those of the turns of nodes."""
     schedule, profile = os.path.join(folder, "schedule"), os.path.join(folder, "profile")
     with open(schedule, "w", encoding="ascii") as file:
         file.write("\n".join(lines) + "\n")
     with open(schedule, "rb") as source:
         told = subprocess.run(
             ["valgrind", "--tool=callgrind", f"--callgrind-out-file={profile}", program, "replay"],
-            stdin=source, stdout=subprocess.PIPE, stderr=subprocess.PIPE, text=True, check=True,
+            stdin=source, stdout=subprocess.DEVNULL, stderr=subprocess.PIPE, text=True, check=True,
         )
-    taken = len(re.findall(r"^took ", told.stdout, re.M))
     table = subprocess.run(["callgrind_annotate", "--inclusive=yes", profile], stdout=subprocess.PIPE, text=True, check=True).stdout
-    steps = [re.search(rf"^ *([\d,]+) .*{name}", table, re.M) for name in ("take_frame", "settle_and_pass")]
-    return int(re.search(r"Collected : (\d+)", told.stderr)[1]), taken, *(int(it[1].replace(",", "")) if it else 0 for it in steps)
+    turns = re.search(r"^ *([\d,]+) .*settle_and_pass", table, re.M)
+    return int(re.search(r"Collected : (\d+)", told.stderr)[1]), int(turns[1].replace(",", "")) if turns else 0
 
 
 def main():
     program = os.path.abspath(sys.argv[1] if len(sys.argv) > 1 else "crates/swp/out/swp")
     if not os.path.exists(program):
         sys.exit(f"{program} is not there: ./swp-build proves and builds it")
-    print("| block | bare, a block | nodes, a block | ratio | bare, a frame | nodes, a frame | ratio | its turns | ratio without |")
-    print("|---|---|---|---|---|---|---|---|---|")
+    print("| block | bare | nodes | ratio | its turns | ratio without |")
+    print("|---|---|---|---|---|---|")
     with tempfile.TemporaryDirectory() as folder:
         for name, block in BLOCKS.items():
-            cells, frames = [], []
+            cells = []
             for head in (BARE, NODES):
-                start, few, before, settled = counted(program, head, folder)
-                all_of, taken, behind, passed = counted(program, head + block * TIMES, folder)
-                cells.append((all_of - start) / TIMES)
-                frames.append((behind - before) / (taken - few) if taken > few else None)
-                turns = (passed - settled) / (taken - few) if taken > few else None
-            ends = [f"{it:,.0f}" if it else "" for it in frames] + [f"{frames[1] / frames[0]:.2f}" if frames[0] else ""]
-            ends += [f"{turns:,.0f}", f"{(frames[1] - turns) / frames[0]:.2f}"] if frames[0] else ["", ""]
-            print(f"| {name} | {cells[0]:,.0f} | {cells[1]:,.0f} | {cells[1] / cells[0]:.2f} | {' | '.join(ends)} |")
+                start, before = counted(program, head, folder)
+                all_of, behind = counted(program, head + block * TIMES, folder)
+                cells.append(((all_of - start) / TIMES, (behind - before) / TIMES))
+            (bare, _), (nodes, turns) = cells
+            print(f"| {name} | {bare:,.0f} | {nodes:,.0f} | {nodes / bare:.2f} | {turns:,.0f} | {(nodes - turns) / bare:.2f} |")
 
 
 if __name__ == "__main__":
