@@ -294,22 +294,6 @@ impl End {
         LinkReport::nothing()
     }
 
-    // A frame of SHDLC comes: it is taken where the end is open.
-    fn hear_if_open(&mut self, pool: &mut Pool, control: &Control) -> LinkReport
-        requires stands { (m : Machine) × EndStandsFor self.old pool.old m }
-        requires ready { MayTake self.old pool.old }
-        requires room { length self.old.shdlc.due < 8 }
-        requires frame { IsShdlc control.now }
-        ensures stands { (m : Machine) → EndStandsFor self.old pool.old m → EndStandsFor self.new pool.new (after_input m (Take control.now)) }
-        ensures answer { (m : Machine) → EndStandsFor self.old pool.old m → result ≡ report_told (report m (Take control.now)) }
-        ensures elsewhere { EndLeavesOthers pool.old pool.new self.old self.new }
-    {
-        if !self.activation.is_open() {
-            return LinkReport::nothing();
-        }
-        self.hear(pool, control)
-    }
-
     /// Takes a frame. It asks that the last message was fetched, and that no fetched one is still in the blocks for what comes, or
     /// that the end is held. At most six control frames wait to be fetched before.
     pub fn take(&mut self, pool: &mut Pool, control: &Control) -> LinkReport
@@ -332,7 +316,10 @@ impl End {
             }
             Control::Clt => self.pass_over(),
             Control::I { .. } | Control::S { .. } | Control::Rset { .. } | Control::Ua => {
-                self.hear_if_open(pool, control)
+                if !self.activation.is_open() {
+                    return LinkReport::nothing();
+                }
+                self.hear(pool, control)
             }
         }
     }
@@ -583,15 +570,20 @@ impl End {
         ensures read { (m : Machine) → EndStandsFor self.old pool.now m → IfSome (next_frame m) (λ c. control_of (lpdu_of c) ≡ Ok c) }
         ensures boxes { (self.new.outbox ≡ self.old.outbox) × (self.new.inbox ≡ self.old.inbox) }
     {
-        if let Some(FragmentDue { ns, nr, info }) = self.fragment_due() {
-            let lpdu = write_fragment(ns, nr, info);
-            self.count_fragment();
-            return Some(lpdu);
+        if self.acts.is_empty() {
+            if let Some(FragmentDue { ns, nr, info }) = self.shdlc.fragment_due() {
+                let lpdu = write_fragment(ns, nr, info);
+                self.shdlc.count_fragment();
+                return Some(lpdu);
+            }
         }
-        let Some(control) = self.next_control() else {
-            return None;
-        };
-        Some(write_lpdu(&control))
+        if let Some(act) = next_act(&mut self.acts) {
+            return Some(write_lpdu(&Control::Act { act, again: false }));
+        }
+        match self.shdlc.next_out() {
+            Some(control) => Some(write_lpdu(&control)),
+            None => None,
+        }
     }
 
     // Whether no control frame waits to be fetched, ACT frames among them, and all fragments that were offered were sent: no frame is to
@@ -605,42 +597,6 @@ impl End {
             return false;
         }
         self.shdlc.has_none_due()
-    }
-
-    // The fragment that is to be sent next, with the numbers of its I frame, where no control frame waits to be fetched before it, ACT
-    // frames among them. `count_fragment` counts it as sent: both together are what `next_control` does then. None where a control frame
-    // waits, or where no fragment is to be sent.
-    fn fragment_due(&self) -> Option<FragmentDue<'_>>
-        ensures frame { (pool : PoolState) (m : Machine) → EndStandsFor self.now pool m → controls_in self.now ≡ 0
-            → option_map frame_shown result ≡ next_frame m }
-        ensures waits { controls_in self.now ≢ 0 → result ≡ None }
-        ensures due { OnSome result (IsFragmentNext self.now) }
-    {
-        if !self.acts.is_empty() {
-            return None;
-        }
-        self.shdlc.fragment_due()
-    }
-
-    // The fragment that is to be sent next counts as sent. No control frame waits to be fetched.
-    fn count_fragment(&mut self)
-        requires { IsFragmentNext self.old }
-        ensures stands { (pool : PoolState) (m : Machine) → EndStandsFor self.old pool m → EndStandsFor self.new pool (after_input m Fetch) }
-        ensures boxes { (self.new.outbox ≡ self.old.outbox) × (self.new.inbox ≡ self.old.inbox) }
-    {
-        self.shdlc.count_fragment();
-    }
-
-    // Fetches the frame that is to be sent now, as `next_out` does, before it is written as an LPDU.
-    fn next_control(&mut self) -> Option<Control>
-        ensures stands { (pool : PoolState) (m : Machine) → EndStandsFor self.old pool m → EndStandsFor self.new pool (after_input m Fetch) }
-        ensures answer { (pool : PoolState) (m : Machine) → EndStandsFor self.old pool m → result ≡ next_frame m }
-        ensures boxes { (self.new.outbox ≡ self.old.outbox) × (self.new.inbox ≡ self.old.inbox) }
-    {
-        match next_act(&mut self.acts) {
-            Some(act) => Some(Control::Act { act, again: false }),
-            None => self.shdlc.next_out(),
-        }
     }
 
     /// Takes a message for sending on a pipe that isn't reserved. It isn't empty.
@@ -659,7 +615,19 @@ impl End {
         ensures elsewhere { EndLeavesOthers pool.old pool.new self.old self.new }
     {
         match self.shdlc.state() {
-            LinkState::Up => self.send_up(pool, pipe, message),
+            LinkState::Up => {
+                if message.len() > MAX_MESSAGE as usize {
+                    let len = message.len().min(u32::MAX as usize) as u32;
+                    return Err(SendRefused::TooLong { len });
+                }
+                match self.outbox.accept(pool, pipe, message) {
+                    Ok(()) => {
+                        self.refill(pool);
+                        Ok(())
+                    }
+                    Err(NoRoom { need, spare }) => Err(SendRefused::Full { need, spare }),
+                }
+            }
             LinkState::Waiting => Err(SendRefused::NotUp),
             LinkState::Down => Err(SendRefused::NotUp),
         }
@@ -692,67 +660,23 @@ impl End {
         ensures owner { self.new.outbox.owner ≡ self.old.outbox.owner }
     {
         match self.shdlc.state() {
-            LinkState::Up => self.pass_up(pool, pipe, chain),
+            LinkState::Up => {
+                let len = pool.len(&chain);
+                if len > MAX_MESSAGE {
+                    return Err((chain, SendRefused::TooLong { len }));
+                }
+                match self.outbox.accept_chain(pool, pipe, chain) {
+                    Ok(()) => {
+                        self.refill(pool);
+                        Ok(())
+                    }
+                    Err((chain, NoRoom { need, spare })) => {
+                        Err((chain, SendRefused::Full { need, spare }))
+                    }
+                }
+            }
             LinkState::Waiting => Err((chain, SendRefused::NotUp)),
             LinkState::Down => Err((chain, SendRefused::NotUp)),
-        }
-    }
-
-    // The same at an end that is Up.
-    fn pass_up(
-        &mut self,
-        pool: &mut Pool,
-        pipe: u8,
-        chain: Chain,
-    ) -> Result<(), (Chain, SendRefused)>
-        requires stands { (m : Machine) × EndStandsFor self.old pool.old m }
-        requires up { self.old.shdlc.phase ≡ LinkState.Up }
-        requires chain { MayPass pool.old self.old chain }
-        requires sendable { IsSendable (pipe, chain_bytes pool.old chain) }
-        ensures stands { (m : Machine) → EndStandsFor self.old pool.old m
-            → EndStandsFor self.new pool.new (after_input m (FromNode (Give (pipe, chain_bytes pool.old chain)))) }
-        ensures answer { (m : Machine) → EndStandsFor self.old pool.old m → result ≡ pass_told m (pipe, chain_bytes pool.old chain) chain }
-        ensures refused { OnErr result ((pool.new ≡ pool.old) × (self.new ≡ self.old)) }
-        ensures back { IfErr result (λ e. e.0 ≡ chain) }
-        ensures elsewhere { OnOk result
-            (LeavesOthersBut pool.old pool.new self.old.outbox.owner chain self.old.outbox.queue.items self.new.outbox.queue.items) }
-        ensures inbox { self.new.inbox ≡ self.old.inbox }
-        ensures owner { self.new.outbox.owner ≡ self.old.outbox.owner }
-    {
-        let len = pool.len(&chain);
-        if len > MAX_MESSAGE {
-            return Err((chain, SendRefused::TooLong { len }));
-        }
-        match self.outbox.accept_chain(pool, pipe, chain) {
-            Ok(()) => {
-                self.refill(pool);
-                Ok(())
-            }
-            Err((chain, NoRoom { need, spare })) => Err((chain, SendRefused::Full { need, spare })),
-        }
-    }
-
-    // Takes a message for sending at an end that is Up.
-    fn send_up(&mut self, pool: &mut Pool, pipe: u8, message: &[u8]) -> Result<(), SendRefused>
-        requires stands { (m : Machine) × EndStandsFor self.old pool.old m }
-        requires up { self.old.shdlc.phase ≡ LinkState.Up }
-        requires sendable { IsSendable (pipe, message.now) }
-        ensures stands { (m : Machine) → EndStandsFor self.old pool.old m
-            → EndStandsFor self.new pool.new (after_input m (FromNode (Give (pipe, message.now)))) }
-        ensures answer { (m : Machine) → EndStandsFor self.old pool.old m → result ≡ give_told m (pipe, message.now) }
-        ensures refused { OnErr result ((pool.new ≡ pool.old) × (self.new ≡ self.old)) }
-        ensures elsewhere { EndLeavesOthers pool.old pool.new self.old self.new }
-    {
-        if message.len() > MAX_MESSAGE as usize {
-            let len = message.len().min(u32::MAX as usize) as u32;
-            return Err(SendRefused::TooLong { len });
-        }
-        match self.outbox.accept(pool, pipe, message) {
-            Ok(()) => {
-                self.refill(pool);
-                Ok(())
-            }
-            Err(NoRoom { need, spare }) => Err(SendRefused::Full { need, spare }),
         }
     }
 }

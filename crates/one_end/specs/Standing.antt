@@ -1,11 +1,13 @@
 -- A node alone, for which states of its machine it stands, and for which bytes.
-use Rattle.std.specs.Prelude.{◌≡◌, ℕ, Bool, false, if◌then◌else◌, List, [], ◌∷◌, ◌++◌, reverse, is_none, Option, None, Some}
+use Rattle.std.specs.Prelude.{◌≡◌, ℕ, Bool, false, if◌then◌else◌, List, [], ◌∷◌, ◌++◌, reverse, is_none, Some}
 use Rattle.swp_base.specs.InMemory.{Memory}
 use Rattle.journal_laws.specs.Writes.{Write}
 use Rattle.journal_laws.specs.Planned.{after_planned}
-use Rattle.nv_journal.specs.declared.JournalFault.{JournalFault}
 use Rattle.link_laws.specs.machine.Machine.{new_link_end}
-use Rattle.node_core.specs.Booting.{found_in_memory, IsStartRefused}
+pub use Rattle.node_core.specs.Booting.{IsBootRefused}
+pub use Rattle.node_core.specs.declared.booting.BootFault.{BootFault}
+pub use Rattle.node_core.specs.declared.booting.BootFault.TheVariants.{Journal, NoMemory}
+use Rattle.node_core.specs.Booting.{found_in_memory}
 use Rattle.node_core.specs.Bringing.{WereMade, Foretells}
 use Rattle.lone_laws.specs.alone.Lone.{Lone, LoneCause, role_alone, lone_after}
 use Rattle.lone_laws.specs.alone.Ends.{EndForm, first_comes, bytes_bring, end_causes, end_written}
@@ -53,12 +55,6 @@ end_booted is_clf content m = booted_from (if is_clf then 0 else 2) content m
 -- all that comes to the node over these bytes, the oldest first, but for the resets that it asks for itself
 abbrev pub run_brings : EndForm → ℕ → List ℕ → List LoneCause
 run_brings form number bytes = first_comes form number ++ bytes_bring form number [] bytes
-
--- Without memory for the node the memory wasn't touched; else its store didn't start on it, for this fault.
-abbrev pub IsNotBooted : {N : Type 0} → (N → Bool → N → Type 0) → (N → ℕ → List ℕ → Bool → N → Type 0) → (N → ℕ) → Bool → (N → List ℕ) → N → N
-    → Option JournalFault → Type 0
-IsNotBooted reads writes faults tells content old new None = new ≡ old
-IsNotBooted reads writes faults tells content old new (Some f) = IsStartRefused reads writes faults tells content old new f
 
 -- A node found this content as it booted, and has its power: the first memory here is that behind the boot.
 abbrev pub HasBooted : {N : Type 0} → (N → ℕ → List ℕ → Bool → N → Type 0) → List ℕ → N → Node N → Type 0

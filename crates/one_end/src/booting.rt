@@ -6,36 +6,14 @@ ghost use Rattle.hci_store.specs.Starting.{ready_writes, HasWritten};
 ghost use Rattle.lone_laws.specs.alone.Lone.{Lone};
 ghost use Rattle.node_core.specs.Booting.{IsBootRefused};
 ghost use Rattle.one_end.specs.Alone.{RunsAlone};
-ghost use Rattle.one_end.specs.Standing.{HasBooted, IsNotBooted};
+ghost use Rattle.one_end.specs.Standing.{HasBooted};
 
-use node_core::{BootFault, BootRefused, RunningNode};
-use nv_journal::JournalFault;
+use node_core::{BootRefused, RunningNode};
 use std::alloc::Global;
 use swp_base::Nv;
 
 /// The mask of host 02.
 const HOST_MASK: u8 = 4;
-
-/// A node that didn't boot: the memory is handed back.
-#[derive(Drop)]
-pub struct NotBooted<N> {
-    pub nv: N,
-    /// Why its store doesn't start; `None` where there was no memory for the node.
-    pub fault: Option<JournalFault>,
-}
-
-/// A boot was refused.
-fn not_booted<N: Nv + Drop>(refused: BootRefused<N>) -> NotBooted<N>
-    ensures { (old : N) → IsBootRefused N.reads N.writes N.faults N.tells N.content old refused.nv refused.fault
-        → IsNotBooted N.reads N.writes N.faults N.tells N.content old result.nv result.fault }
-{
-    let BootRefused { nv, fault } = refused;
-    let fault = match fault {
-        BootFault::NoMemory => None,
-        BootFault::Journal(fault) => Some(fault),
-    };
-    NotBooted { nv, fault }
-}
 
 /// The controller with one link, to host 02, or host 02 with its link boots from a memory of 65,536 bytes. It takes all its memory here. A
 /// memory that says nothing is formatted; one of version 01 is written anew as a snapshot of version 02 before the node answers.
@@ -48,7 +26,7 @@ pub fn boot<N: Nv + Drop>(
     alloc: Global,
     is_clf: bool,
     nv: N,
-) -> Result<RunningNode<N>, NotBooted<N>>
+) -> Result<RunningNode<N>, BootRefused<N>>
     requires size { N.capacity nv ≡ 65536 }
     ensures number { IfOk result (λ n. n.number ≡ (if is_clf then 0 else 2)) }
     ensures may { IfOk result (λ n. (l : Lone) × RunsAlone n l []) }
@@ -59,11 +37,11 @@ pub fn boot<N: Nv + Drop>(
     ensures count { IfOk result (λ n. N.faults nv ≤ N.faults n.store.journal.nv) }
     ensures made { IsTrue N.tells
         → IfOk result (λ n. HasWritten N.reads N.writes N.content (ready_writes (N.content nv)) nv true n.store.journal.nv) }
-    ensures refused { IfErr result (λ e. IsNotBooted N.reads N.writes N.faults N.tells N.content nv e.nv e.fault) }
+    ensures refused { IfErr result (λ e. IsBootRefused N.reads N.writes N.faults N.tells N.content nv e.nv e.fault) }
 {
     let number = if is_clf { 0 } else { 2 };
     match RunningNode::boot(alloc, number, HOST_MASK, nv) {
         Ok(node) => Ok(node),
-        Err(refused) => Err(not_booted(refused)),
+        Err(refused) => Err(refused),
     }
 }

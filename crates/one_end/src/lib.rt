@@ -11,9 +11,9 @@ mod reading;
 mod stepping;
 mod writing;
 
-pub use booting::{NotBooted, boot};
+pub use booting::boot;
 pub use line::LineReader;
-pub use node_core::RunningNode;
+pub use node_core::{BootFault, BootRefused, RunningNode};
 pub use one_end::{Heard, OneEnd, begin, hear, memory_of};
 pub use reading::{Brought, Reader, Stretch};
 pub use writing::{Form, Output, ROOM, write_out};

@@ -98,7 +98,7 @@ impl Reader {
     {
         match self {
             Reader::Line(line) => line.pass(bytes),
-            Reader::Bytes(link) => pass_units(link, bytes),
+            Reader::Bytes(link) => link.pass(bytes),
         }
     }
 
@@ -115,7 +115,7 @@ impl Reader {
     {
         match self {
             Reader::Line(_) => None,
-            Reader::Bytes(link) => whole_unit(link, bytes),
+            Reader::Bytes(link) => link.whole_lpdu(bytes),
         }
     }
 
@@ -164,29 +164,6 @@ fn nothing() -> Brought
         stops: false,
         ticks: false,
     }
-}
-
-/// Takes the first of these bytes of a byte link, with which no unit ends. It answers how many they are.
-#[inline(always)]
-fn pass_units(link: &mut ByteLink, bytes: &[u8]) -> usize
-    ensures within { result ≤ length bytes.now }
-    ensures stands { (older : List ℕ) → ByteLinkStandsFor link.old older → ByteLinkStandsFor link.new (reverse (take result bytes.now) ++ older) }
-    ensures quiet { (number : ℕ) (older : List ℕ) → ByteLinkStandsFor link.old older → bytes_bring OnBytes number older (take result bytes.now) ≡ [] }
-{
-    link.pass(bytes)
-}
-
-/// The LPDU of the unit of a byte link with which these bytes begin, where it is whole.
-#[inline(always)]
-fn whole_unit<'a>(link: &ByteLink, bytes: &'a [u8]) -> Option<&'a [u8]>
-    ensures lpdu { IfSome result (λ lpdu. IsLpdu lpdu.now) }
-    ensures within { IfSome result (λ lpdu. length lpdu.now + 4 ≤ length bytes.now) }
-    ensures stands { IfSome result (λ lpdu. (older : List ℕ) → ByteLinkStandsFor link.now older
-        → ByteLinkStandsFor link.now (reverse (take (length lpdu.now + 4) bytes.now) ++ older)) }
-    ensures brings { IfSome result (λ lpdu. (number : ℕ) (older : List ℕ) → ByteLinkStandsFor link.now older
-        → bytes_bring OnBytes number older (take (length lpdu.now + 4) bytes.now) ≡ FrameComes lpdu.now ∷ []) }
-{
-    link.whole_lpdu(bytes)
 }
 
 /// What a unit of a byte link brings.

@@ -2,13 +2,13 @@
 use Rattle.std.proofs.Common.{◌≡◌, ℕ, zero, suc, ◌+◌, ◌-◌, ◌<◌, ◌≤◌, arith, Bool, true, false, cond, IsTrue, List, [], ◌∷◌, ◌++◌, length, take, drop}
 use Rattle.std.proofs.Common.{get_or, refl, sym, ap, subst}
 use Rattle.std.proofs.Common.{◌∙◌, inl, inr, append_assoc, append-nil, length-append}
-use Rattle.std.specs.Prelude.{Option, Some, None}
+use Rattle.std.specs.Prelude.{None}
 use Rattle.std.proofs.lemmas.List.{take-append-drop, length-take-le, length-drop}
 use Rattle.nv_journal.specs.declared.JournalFault.{JournalFault}
 use Rattle.nv_journal.specs.declared.JournalFault.TheVariants as image
 use Rattle.lone_laws.specs.alone.Ends.{EndForm}
 use Rattle.one_end.specs.declared.one_end.OneEnd.{OneEnd}
-use Rattle.one_end.specs.Standing.{HasRun, IsRunOfBytes, IsNotBooted}
+use Rattle.one_end.specs.Standing.{BootFault, HasRun, IsBootRefused, IsRunOfBytes, Journal, NoMemory}
 use Rattle.one_end.specs.Writing.{form_named}
 use Rattle.one_end.proofs.Growing.{is_run_of}
 use Rattle.swp_words.specs.declared.status.Status.{Status}
@@ -305,19 +305,19 @@ spent_is_other is = cc
 
 -- a boot that was refused
 pub refused_ended : {N : Type 0} (reads : N → Bool → N → Type 0) (writes : N → ℕ → List ℕ → Bool → N → Type 0) (faults : N → ℕ) (nv_tells : Bool)
-    (content : N → List ℕ) (tells : Bool) (given : ℕ) (form : EndForm) (is_clf : Bool) (old new : N) (fault : Option JournalFault) (input before : List ℕ)
-    → IsTrue nv_tells → IsNotBooted reads writes faults nv_tells content old new fault
+    (content : N → List ℕ) (tells : Bool) (given : ℕ) (form : EndForm) (is_clf : Bool) (old new : N) (fault : BootFault) (input before : List ℕ)
+    → IsTrue nv_tells → IsBootRefused reads writes faults nv_tells content old new fault
     → EndedSo reads writes content tells given form is_clf old new (status_of_boot fault) input input before before
-refused_ended reads writes faults nv_tells content tells given form is_clf old new None input before told k = (k, (refl, λ t. refl))
-refused_ended reads writes faults nv_tells content tells given form is_clf old new (Some image.NvFault) input before told k =
+refused_ended reads writes faults nv_tells content tells given form is_clf old new NoMemory input before told k = (k, (refl, λ t. refl))
+refused_ended reads writes faults nv_tells content tells given form is_clf old new (Journal image.NvFault) input before told k =
     inl (record { nothing = (refl, λ t. refl); where_cut = k.torn told refl; same = k.left told })
-refused_ended reads writes faults nv_tells content tells given form is_clf old new (Some (image.UnknownFormat version)) input before told k =
+refused_ended reads writes faults nv_tells content tells given form is_clf old new (Journal (image.UnknownFormat version)) input before told k =
     let only = k.unwritten (unknown_is_other version) in
     record { nothing = (refl, λ t. refl); why = inl (k.image told tt); read = only.read; same = only.kept told }
-refused_ended reads writes faults nv_tells content tells given form is_clf old new (Some (image.BadRecord at)) input before told k =
+refused_ended reads writes faults nv_tells content tells given form is_clf old new (Journal (image.BadRecord at)) input before told k =
     let only = k.unwritten (record_is_other at) in
     record { nothing = (refl, λ t. refl); why = inl (k.image told tt); read = only.read; same = only.kept told }
-refused_ended reads writes faults nv_tells content tells given form is_clf old new (Some image.GenerationsSpent) input before told k =
+refused_ended reads writes faults nv_tells content tells given form is_clf old new (Journal image.GenerationsSpent) input before told k =
     let only = k.unwritten spent_is_other in
     record { nothing = (refl, λ t. refl); why = inr (refl, k.spent told refl); read = only.read; same = only.kept told }
 
@@ -360,22 +360,22 @@ lone_kind (status.Undetected line) k = absurd k
 lone_kind status.NoMemory k = absurd k
 lone_kind (status.BadImage why) k = absurd k
 
-kind_of_boot : (fault : Option JournalFault) → IsOfEndWord (status_of_boot fault)
-kind_of_boot None = tt
-kind_of_boot (Some image.NvFault) = tt
-kind_of_boot (Some (image.UnknownFormat version)) = tt
-kind_of_boot (Some (image.BadRecord at)) = tt
-kind_of_boot (Some image.GenerationsSpent) = tt
+kind_of_boot : (fault : BootFault) → IsOfEndWord (status_of_boot fault)
+kind_of_boot NoMemory = tt
+kind_of_boot (Journal image.NvFault) = tt
+kind_of_boot (Journal (image.UnknownFormat version)) = tt
+kind_of_boot (Journal (image.BadRecord at)) = tt
+kind_of_boot (Journal image.GenerationsSpent) = tt
 
-pub boot_kind : (fault : Option JournalFault) (s : Status) → s ≡ status_of_boot fault → IsOfEndWord s
+pub boot_kind : (fault : BootFault) (s : Status) → s ≡ status_of_boot fault → IsOfEndWord s
 boot_kind fault s is = subst IsOfEndWord (sym is) (kind_of_boot fault)
 
 -- where a fault of the memory refused a boot, its count rose
 pub refused_rose : {N : Type 0} (reads : N → Bool → N → Type 0) (writes : N → ℕ → List ℕ → Bool → N → Type 0) (faults : N → ℕ) (nv_tells : Bool)
-    (content : N → List ℕ) (old new : N) (fault : Option JournalFault) (s : Status) → IsNotBooted reads writes faults nv_tells content old new fault
+    (content : N → List ℕ) (old new : N) (fault : BootFault) (s : Status) → IsBootRefused reads writes faults nv_tells content old new fault
     → s ≡ status_of_boot fault → s ≡ status.NvFault → Rose (faults old) (faults new)
-refused_rose reads writes faults nv_tells content old new None s k is nv = absurd (cc)
-refused_rose reads writes faults nv_tells content old new (Some image.NvFault) s k is nv = k.rose refl
-refused_rose reads writes faults nv_tells content old new (Some (image.UnknownFormat version)) s k is nv = absurd (cc)
-refused_rose reads writes faults nv_tells content old new (Some (image.BadRecord at)) s k is nv = absurd (cc)
-refused_rose reads writes faults nv_tells content old new (Some image.GenerationsSpent) s k is nv = absurd (cc)
+refused_rose reads writes faults nv_tells content old new NoMemory s k is nv = absurd (cc)
+refused_rose reads writes faults nv_tells content old new (Journal image.NvFault) s k is nv = k.rose refl
+refused_rose reads writes faults nv_tells content old new (Journal (image.UnknownFormat version)) s k is nv = absurd (cc)
+refused_rose reads writes faults nv_tells content old new (Journal (image.BadRecord at)) s k is nv = absurd (cc)
+refused_rose reads writes faults nv_tells content old new (Journal image.GenerationsSpent) s k is nv = absurd (cc)

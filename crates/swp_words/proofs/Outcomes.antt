@@ -1,10 +1,10 @@
 -- What a run of one node comes to, if nothing outside fails.
 use Rattle.std.proofs.Common.{◌≡◌, ◌⊎◌, ◌∷◌, ◌++◌, ◌<◌, ◌≤◌, ℕ, Bool, IsTrue, List, length, length-append, refl, sym, ap, ◌∙◌, subst, inl, inr, arith}
-use Rattle.std.specs.Prelude.{◌≢◌, ◌↔◌, Option, Some, None}
+use Rattle.std.specs.Prelude.{◌≢◌, ◌↔◌, Some, None}
 use Rattle.nv_journal.specs.declared.JournalFault.{JournalFault}
 use Rattle.nv_journal.specs.declared.JournalFault.TheVariants as image
 use Rattle.lone_laws.specs.alone.Ends.{EndForm}
-use Rattle.one_end.specs.Standing.{IsNotBooted}
+use Rattle.one_end.specs.Standing.{BootFault, IsBootRefused, Journal, NoMemory}
 use Rattle.hci_store.specs.Image.{image_fault}
 use Rattle.hci_store.specs.Refusals.{IsSpent, IsOnlyRead}
 use Rattle.swp_words.specs.declared.status.Status.{Status}
@@ -66,37 +66,37 @@ module _ {N : Type 0} (reads : N → Bool → N → Type 0) (writes : N → ℕ 
   too_many_ended (status.Undetected line) h kind more read write nv = absurd kind
 
 -- a boot that was refused read and wrote nothing that could fail but its memory
-pub boot_unfailed : (fault : Option JournalFault) (s : Status) → s ≡ status_of_boot fault → (¬ (s ≡ status.ReadFault)) × (¬ (s ≡ status.WriteFault))
-boot_unfailed None s is = (λ q. cc, λ q. cc)
-boot_unfailed (Some image.NvFault) s is = (λ q. cc, λ q. cc)
-boot_unfailed (Some (image.UnknownFormat version)) s is = (λ q. cc, λ q. cc)
-boot_unfailed (Some (image.BadRecord at)) s is = (λ q. cc, λ q. cc)
-boot_unfailed (Some image.GenerationsSpent) s is = (λ q. cc, λ q. cc)
+pub boot_unfailed : (fault : BootFault) (s : Status) → s ≡ status_of_boot fault → (¬ (s ≡ status.ReadFault)) × (¬ (s ≡ status.WriteFault))
+boot_unfailed NoMemory s is = (λ q. cc, λ q. cc)
+boot_unfailed (Journal image.NvFault) s is = (λ q. cc, λ q. cc)
+boot_unfailed (Journal (image.UnknownFormat version)) s is = (λ q. cc, λ q. cc)
+boot_unfailed (Journal (image.BadRecord at)) s is = (λ q. cc, λ q. cc)
+boot_unfailed (Journal image.GenerationsSpent) s is = (λ q. cc, λ q. cc)
 
 -- a boot that was refused for a memory with a fault was refused for that fault
 pub image_refused : {N : Type 0} (reads : N → Bool → N → Type 0) (writes : N → ℕ → List ℕ → Bool → N → Type 0) (faults : N → ℕ) (nv_tells : Bool)
-    (content : N → List ℕ) (old new : N) (fault : Option JournalFault) (s : Status) (f : JournalFault)
-    → IsNotBooted reads writes faults nv_tells content old new fault → s ≡ status_of_boot fault → IsTrue nv_tells → image_fault (content old) ≡ Some f
+    (content : N → List ℕ) (old new : N) (fault : BootFault) (s : Status) (f : JournalFault)
+    → IsBootRefused reads writes faults nv_tells content old new fault → s ≡ status_of_boot fault → IsTrue nv_tells → image_fault (content old) ≡ Some f
     → ¬ (s ≡ status.NvFault) → (s ≡ status.BadImage f) ⊎ (s ≡ status.NoMemory)
-image_refused reads writes faults nv_tells content old new None s f k is told bad nv = inr is
-image_refused reads writes faults nv_tells content old new (Some image.NvFault) s f k is told bad nv = absurd (nv is)
-image_refused reads writes faults nv_tells content old new (Some (image.UnknownFormat version)) s f k is told bad nv =
+image_refused reads writes faults nv_tells content old new NoMemory s f k is told bad nv = inr is
+image_refused reads writes faults nv_tells content old new (Journal image.NvFault) s f k is told bad nv = absurd (nv is)
+image_refused reads writes faults nv_tells content old new (Journal (image.UnknownFormat version)) s f k is told bad nv =
     let found = k.image told tt in inl (cc)
-image_refused reads writes faults nv_tells content old new (Some (image.BadRecord at)) s f k is told bad nv =
+image_refused reads writes faults nv_tells content old new (Journal (image.BadRecord at)) s f k is told bad nv =
     let found = k.image told tt in inl (cc)
-image_refused reads writes faults nv_tells content old new (Some image.GenerationsSpent) s f k is told bad nv =
+image_refused reads writes faults nv_tells content old new (Journal image.GenerationsSpent) s f k is told bad nv =
     let sound = (k.spent told refl).sound in absurd (cc)
 
 -- a memory that a boot refused, while none of its calls failed, was read alone
 pub image_unwritten : {N : Type 0} (reads : N → Bool → N → Type 0) (writes : N → ℕ → List ℕ → Bool → N → Type 0) (faults : N → ℕ) (nv_tells : Bool)
-    (content : N → List ℕ) (old new : N) (fault : Option JournalFault) (s : Status) (f : JournalFault)
-    → IsNotBooted reads writes faults nv_tells content old new fault → s ≡ status_of_boot fault → s ≡ status.BadImage f
+    (content : N → List ℕ) (old new : N) (fault : BootFault) (s : Status) (f : JournalFault)
+    → IsBootRefused reads writes faults nv_tells content old new fault → s ≡ status_of_boot fault → s ≡ status.BadImage f
     → IsOnlyRead reads nv_tells content old new
-image_unwritten reads writes faults nv_tells content old new None s f k is bad = absurd (cc)
-image_unwritten reads writes faults nv_tells content old new (Some image.NvFault) s f k is bad = absurd (cc)
-image_unwritten reads writes faults nv_tells content old new (Some (image.UnknownFormat version)) s f k is bad = k.unwritten (unknown_is_other version)
-image_unwritten reads writes faults nv_tells content old new (Some (image.BadRecord at)) s f k is bad = k.unwritten (record_is_other at)
-image_unwritten reads writes faults nv_tells content old new (Some image.GenerationsSpent) s f k is bad = k.unwritten spent_is_other
+image_unwritten reads writes faults nv_tells content old new NoMemory s f k is bad = absurd (cc)
+image_unwritten reads writes faults nv_tells content old new (Journal image.NvFault) s f k is bad = absurd (cc)
+image_unwritten reads writes faults nv_tells content old new (Journal (image.UnknownFormat version)) s f k is bad = k.unwritten (unknown_is_other version)
+image_unwritten reads writes faults nv_tells content old new (Journal (image.BadRecord at)) s f k is bad = k.unwritten (record_is_other at)
+image_unwritten reads writes faults nv_tells content old new (Journal image.GenerationsSpent) s f k is bad = k.unwritten spent_is_other
 
 -- a node that runs isn't refused for its memory
 pub runs_on_image : (s : Status) (f : JournalFault) → IsOfLone s → s ≡ status.BadImage f → ⊥
@@ -147,16 +147,16 @@ not_as s f content (inr is) = (λ bad. absurd (both bad), λ h. absurd (h.2 is))
 
 -- a boot that was refused was so for its memory, exactly, but where there was no memory for the node or the one that it boots from failed
 pub refused_exactly : {N : Type 0} (reads : N → Bool → N → Type 0) (writes : N → ℕ → List ℕ → Bool → N → Type 0) (faults : N → ℕ) (nv_tells : Bool)
-    (content : N → List ℕ) (old new : N) (fault : Option JournalFault) (s : Status) (f : JournalFault)
-    → IsNotBooted reads writes faults nv_tells content old new fault → s ≡ status_of_boot fault → IsTrue nv_tells
+    (content : N → List ℕ) (old new : N) (fault : BootFault) (s : Status) (f : JournalFault)
+    → IsBootRefused reads writes faults nv_tells content old new fault → s ≡ status_of_boot fault → IsTrue nv_tells
     → (s ≡ status.BadImage f) ↔ (IsRefusedFor f (content old) × (s ≢ status.NoMemory) × (s ≢ status.NvFault))
-refused_exactly reads writes faults nv_tells content old new None s f k is told = not_as s f (content old) (inl is)
-refused_exactly reads writes faults nv_tells content old new (Some image.NvFault) s f k is told = not_as s f (content old) (inr is)
-refused_exactly reads writes faults nv_tells content old new (Some (image.UnknownFormat version)) s f k is told =
+refused_exactly reads writes faults nv_tells content old new NoMemory s f k is told = not_as s f (content old) (inl is)
+refused_exactly reads writes faults nv_tells content old new (Journal image.NvFault) s f k is told = not_as s f (content old) (inr is)
+refused_exactly reads writes faults nv_tells content old new (Journal (image.UnknownFormat version)) s f k is told =
     refused_as s f (image.UnknownFormat version) (content old) is (inl (k.image told tt))
-refused_exactly reads writes faults nv_tells content old new (Some (image.BadRecord at)) s f k is told =
+refused_exactly reads writes faults nv_tells content old new (Journal (image.BadRecord at)) s f k is told =
     refused_as s f (image.BadRecord at) (content old) is (inl (k.image told tt))
-refused_exactly reads writes faults nv_tells content old new (Some image.GenerationsSpent) s f k is told =
+refused_exactly reads writes faults nv_tells content old new (Journal image.GenerationsSpent) s f k is told =
     let spent = k.spent told refl in
     refused_as s f image.GenerationsSpent (content old) is
     (inr (refl, record { version = spent.version; generation = spent.generation; sound = spent.sound; kept = refl }))

@@ -1,5 +1,5 @@
 -- What a node alone has read and written, by the status with which it ended.
-use Rattle.std.specs.Prelude.{◌≡◌, ◌≢◌, ◌⊎◌, ℕ, ◌≤◌, Bool, true, false, IsTrue, List, [], ◌∷◌, ◌++◌, length, take, codes, Option, Some, None}
+use Rattle.std.specs.Prelude.{◌≡◌, ◌≢◌, ◌⊎◌, ℕ, ◌≤◌, Bool, true, false, IsTrue, List, [], ◌∷◌, ◌++◌, length, take, codes, Some, None}
 use Rattle.lone_laws.specs.alone.Lone.{Lone}
 pub use Rattle.lone_laws.specs.alone.Ends.{EndForm}
 pub use Rattle.one_end.specs.Writing.{form_named}
@@ -16,7 +16,7 @@ use Rattle.nv_journal.specs.declared.JournalFault.{JournalFault}
 use Rattle.nv_journal.specs.declared.JournalFault.TheVariants.{GenerationsSpent}
 use Rattle.one_end.specs.declared.one_end.OneEnd.{OneEnd}
 use Rattle.one_end.specs.declared.writing.Form.{Form}
-use Rattle.one_end.specs.Standing.{HasRun, StandsAlone, IsRunOfBytes}
+use Rattle.one_end.specs.Standing.{BootFault, HasRun, IsRunOfBytes, Journal, NoMemory, StandsAlone}
 use Rattle.swp_words.specs.declared.status.Status.{Status}
 use Rattle.swp_words.specs.declared.status.Status.TheVariants as status
 use Rattle.swp_words.specs.Images.{status_of_fault}
@@ -327,9 +327,9 @@ AnsweredSo tells form is_clf old new status.NvFault input left before after =
 AnsweredSo tells form is_clf old new s input left before after = IsNothingDone tells input left before after
 
 -- how a run ends whose boot was refused, for this fault or without memory
-abbrev pub status_of_boot : Option JournalFault → Status
-status_of_boot None = status.NoMemory
-status_of_boot (Some fault) = status_of_fault fault
+abbrev pub status_of_boot : BootFault → Status
+status_of_boot NoMemory = status.NoMemory
+status_of_boot (Journal fault) = status_of_fault fault
 
 -- how such a run can end
 abbrev pub IsOfEndWord : Status → Type 0

@@ -23,7 +23,8 @@ use crate::records::piece_behind;
 use crate::status::{Ended, Status};
 use crate::tables::refused;
 use one_end::{
-    Form, Heard, NotBooted, OneEnd, Output, ROOM, RunningNode, begin, boot, hear, memory_of,
+    BootFault, BootRefused, Form, Heard, OneEnd, Output, ROOM, RunningNode, begin, boot, hear,
+    memory_of,
 };
 use std::alloc::Global;
 use swp_base::{Failed, Nv, Sink, Source};
@@ -282,14 +283,14 @@ fn run_alone<S: Source, K: Sink, N: Nv + Drop>(
 }
 
 /// How a run ends whose boot was refused.
-fn refused_boot<N>(unbooted: NotBooted<N>) -> Ended<N>
+fn refused_boot<N>(unbooted: BootRefused<N>) -> Ended<N>
     ensures memory { result.nv ≡ unbooted.nv }
     ensures status { result.status ≡ status_of_boot unbooted.fault }
 {
-    let NotBooted { nv, fault } = unbooted;
+    let BootRefused { nv, fault } = unbooted;
     let status = match fault {
-        None => Status::NoMemory,
-        Some(fault) => refused(fault),
+        BootFault::NoMemory => Status::NoMemory,
+        BootFault::Journal(fault) => refused(fault),
     };
     Ended { status, nv }
 }

@@ -25,6 +25,3 @@ returns-in-Ok-clause-booted g c told =
     ] in
     let k = c.in-Ok.ensures in
     boot_finds g.N.Nv.writes c.args.is_clf c.if-is_clf.number number k.number (g.N.Nv.content c.args.nv) k.runs (k.found told)
-
-pub returns-in-Err-clause-refused : goal.returns-in-Err-clause-refused
-returns-in-Err-clause-refused g c = c.not_booted.ensures c.args.nv c.in-Err.ensures.refused

@@ -1,80 +1,120 @@
-use Rattle.std.proofs.Common.{◌≡◌, ℕ, List, sym, ap, ◌∙◌, subst, arith, length}
-use Rattle.std.specs.Prelude.{Option, Some, Ok, IfSome, option_map}
+use Rattle.std.proofs.Common.{◌≡◌, ℕ, List, [], sym, ap, ◌∙◌, subst}
+use Rattle.std.specs.Prelude.{Option, Some, Ok, IfSome, map, option_map}
+use Rattle.std.proofs.lemmas.Bool.{eqb-true}
+use Rattle.std.proofs.lemmas.List.{nil_from_length}
+use Rattle.block_pool.specs.Pool.{PoolState}
 use Rattle.swp_base.specs.declared.control_frames.Control.{Control}
-use Rattle.shdlc_core.specs.Kept.{frame_shown}
+use Rattle.shdlc_core.specs.Kept.{ShdlcStandsFor, frame_shown}
+use Rattle.shdlc_core.specs.Machine.{EndState, frame_due}
 use Rattle.swp_lpdu.specs.Controls.{lpdu_of, control_of}
+use Rattle.link_laws.specs.machine.Machine.{LinkEnd, next_frame}
+use Rattle.link_end.specs.Dues.{behind_front, front_act, kept_nearer}
 use Rattle.link_end.specs.declared.«end».End.{End}
-use Rattle.link_end.specs.Ends.{controls_in, IsFragmentNext}
+use Rattle.link_end.specs.Ends.{EndStandsFor}
 use Rattle.link_end.proofs.FormLemmas.{next_numbers}
+use Rattle.link_end.proofs.NodeLemmas.{act_sent, link_fetched, link_frame}
 use Rattle.link_end.proofs.«end».End.next_due.Goals as goal
 
 -- a frame is read again as it was made
 abbrev IsReadAgain : Option Control → Type 0
 IsReadAgain o = IfSome o (λ c. control_of (lpdu_of c) ≡ Ok c)
 
--- no control frame waits where a fragment is next
-none_waits : (k : End) → IsFragmentNext k → controls_in k ≡ 0
-none_waits k next =
-    let acts : length k.acts.items ≡ 0 = ap length next.acts in
-    let due : length k.shdlc.due ≡ 0 = ap length next.fragment.due in
-    omega arith
-
 -- ## A fragment is next
+
+-- where no control frame waits, what the SHDLC end is to send next is the next frame of the end
+next_is : {pool : PoolState} {k : End} {m : LinkEnd} {o : Option Control} → EndStandsFor k pool m → k.acts.items ≡ [] → k.shdlc.due ≡ []
+    → ((e : EndState) → ShdlcStandsFor k.shdlc e → k.shdlc.due ≡ [] → o ≡ frame_due e) → o ≡ next_frame m
+next_is h acts due frame = link_frame h (sym (ap front_act acts)) (λ e stands. frame e stands due)
 
 pub write_fragment-lpdu-requires-clause-ns : goal.write_fragment-lpdu-requires-clause-ns
 write_fragment-lpdu-requires-clause-ns c =
     let m = c.requires.0 in
-    let next = c.fragment_due.ensures.frame c.args.pool.now m c.requires.1 (none_waits c.args.self.now c.in-Some.ensures.due) in
+    let next = next_is c.requires.1
+    (nil_from_length c.args.self.now.acts.items (eqb-true _ 0 (sym c.is_empty.ensures ∙ c.if-is_empty.true))) c.in-Some.ensures.due.due c.fragment_due.ensures.frame in
     (next_numbers m (frame_shown c.in-Some.field-0) (sym next ∙ ap (option_map frame_shown) c.in-Some.is)).0
 
 pub write_fragment-lpdu-requires-clause-nr : goal.write_fragment-lpdu-requires-clause-nr
 write_fragment-lpdu-requires-clause-nr c =
     let m = c.requires.0 in
-    let next = c.fragment_due.ensures.frame c.args.pool.now m c.requires.1 (none_waits c.args.self.now c.in-Some.ensures.due) in
+    let next = next_is c.requires.1
+    (nil_from_length c.args.self.now.acts.items (eqb-true _ 0 (sym c.is_empty.ensures ∙ c.if-is_empty.true))) c.in-Some.ensures.due.due c.fragment_due.ensures.frame in
     (next_numbers m (frame_shown c.in-Some.field-0) (sym next ∙ ap (option_map frame_shown) c.in-Some.is)).1
 
 pub returns-in-Some-clause-stands : goal.returns-in-Some-clause-stands
-returns-in-Some-clause-stands c m h = c.count_fragment.ensures.stands c.args.pool.now m h
+returns-in-Some-clause-stands c m h =
+    let none : c.args.self.now.acts.items ≡ [] =
+    nil_from_length c.args.self.now.acts.items (eqb-true _ 0 (sym c.is_empty.ensures ∙ c.if-is_empty.true)) in
+    link_fetched h (record {
+      front = sym (ap front_act none);
+      nearer = none ∙ sym (ap (λ acts. map kept_nearer (behind_front acts)) none);
+      stands = c.count_fragment.ensures.stands;
+    })
 
 pub returns-in-Some-clause-answer : goal.returns-in-Some-clause-answer
 returns-in-Some-clause-answer c m h =
-    let next = c.fragment_due.ensures.frame c.args.pool.now m h (none_waits c.args.self.now c.in-Some.ensures.due) in
+    let next = next_is h
+    (nil_from_length c.args.self.now.acts.items (eqb-true _ 0 (sym c.is_empty.ensures ∙ c.if-is_empty.true))) c.in-Some.ensures.due.due c.fragment_due.ensures.frame in
     ap (λ (l : List ℕ). Some l) c.write_fragment-lpdu.ensures.bytes
     ∙ ap (option_map lpdu_of) (sym (ap (option_map frame_shown) c.in-Some.is) ∙ next)
 
 pub returns-in-Some-clause-read : goal.returns-in-Some-clause-read
 returns-in-Some-clause-read c m h =
-    let next = c.fragment_due.ensures.frame c.args.pool.now m h (none_waits c.args.self.now c.in-Some.ensures.due) in
+    let next = next_is h
+    (nil_from_length c.args.self.now.acts.items (eqb-true _ 0 (sym c.is_empty.ensures ∙ c.if-is_empty.true))) c.in-Some.ensures.due.due c.fragment_due.ensures.frame in
     subst IsReadAgain (sym (ap (option_map frame_shown) c.in-Some.is) ∙ next)
     (ap control_of (sym c.write_fragment-lpdu.ensures.bytes) ∙ c.write_fragment-lpdu.ensures.read_again)
 
--- ## None is
+-- ## An ACT frame is next
 
-pub write_lpdu-requires : goal.write_lpdu-requires
-write_lpdu-requires c =
-    let m = c.requires.0 in
-    next_numbers m c.in-Some-next_control.control (sym (c.next_control.ensures.answer c.args.pool.now m c.requires.1) ∙ c.in-Some-next_control.is)
+pub returns-in-Some-next_act-clause-stands : goal.returns-in-Some-next_act-clause-stands
+returns-in-Some-next_act-clause-stands c m h =
+    (act_sent c.args.pool.now c.args.self.now c.next_act.new.acts m c.in-Some-next_act.act h c.in-Some-next_act.ensures.act
+    c.in-Some-next_act.ensures.sent).1
 
-pub returns-clause-stands : goal.returns-clause-stands
-returns-clause-stands c m h = c.next_control.ensures.stands c.args.pool.now m h
+pub returns-in-Some-next_act-clause-answer : goal.returns-in-Some-next_act-clause-answer
+returns-in-Some-next_act-clause-answer c m h =
+    let sent = act_sent c.args.pool.now c.args.self.now c.next_act.new.acts m c.in-Some-next_act.act h c.in-Some-next_act.ensures.act
+    c.in-Some-next_act.ensures.sent in
+    ap (λ (l : List ℕ). Some l) c.write_lpdu.ensures.bytes ∙ ap (option_map lpdu_of) sent.0
 
-pub returns-clause-answer : goal.returns-clause-answer
-returns-clause-answer c m h =
-    ap (λ (l : List ℕ). Some l) c.write_lpdu.ensures.bytes
-    ∙ ap (option_map lpdu_of) (sym c.in-Some-next_control.is ∙ c.next_control.ensures.answer c.args.pool.now m h)
+pub returns-in-Some-next_act-clause-read : goal.returns-in-Some-next_act-clause-read
+returns-in-Some-next_act-clause-read c m h =
+    let sent = act_sent c.args.pool.now c.args.self.now c.next_act.new.acts m c.in-Some-next_act.act h c.in-Some-next_act.ensures.act
+    c.in-Some-next_act.ensures.sent in
+    subst IsReadAgain sent.0 (ap control_of (sym c.write_lpdu.ensures.bytes) ∙ c.write_lpdu.ensures.read_again)
 
-pub returns-clause-read : goal.returns-clause-read
-returns-clause-read c m h =
-    subst IsReadAgain (sym c.in-Some-next_control.is ∙ c.next_control.ensures.answer c.args.pool.now m h)
-    (ap control_of (sym c.write_lpdu.ensures.bytes) ∙ c.write_lpdu.ensures.read_again)
+-- ## What the SHDLC end is to send next, or nothing
 
-pub returns-in_default-next_control-clause-stands : goal.returns-in_default-next_control-clause-stands
-returns-in_default-next_control-clause-stands c m h = c.next_control.ensures.stands c.args.pool.now m h
+pub write_lpdu-requires-in-Some-next_out : goal.write_lpdu-requires-in-Some-next_out
+write_lpdu-requires-in-Some-next_out c =
+    let next = link_frame c.requires.1 c.in_default-next_act.ensures.act c.next_out.ensures.frame in
+    next_numbers c.requires.0 c.in-Some-next_out.control (sym next ∙ c.in-Some-next_out.is)
 
-pub returns-in_default-next_control-clause-answer : goal.returns-in_default-next_control-clause-answer
-returns-in_default-next_control-clause-answer c m h =
-    ap (option_map lpdu_of) (sym c.in_default-next_control.is ∙ c.next_control.ensures.answer c.args.pool.now m h)
+pub returns-in-Some-next_out-clause-stands : goal.returns-in-Some-next_out-clause-stands
+returns-in-Some-next_out-clause-stands c m h =
+    let a = c.in_default-next_act.ensures in
+    link_fetched h (record { front = a.act; nearer = a.nearer; stands = c.next_out.ensures.stands })
 
-pub returns-in_default-next_control-clause-read : goal.returns-in_default-next_control-clause-read
-returns-in_default-next_control-clause-read c m h =
-    subst IsReadAgain (sym c.in_default-next_control.is ∙ c.next_control.ensures.answer c.args.pool.now m h) tt
+pub returns-in-Some-next_out-clause-answer : goal.returns-in-Some-next_out-clause-answer
+returns-in-Some-next_out-clause-answer c m h =
+    let next = link_frame h c.in_default-next_act.ensures.act c.next_out.ensures.frame in
+    ap (λ (l : List ℕ). Some l) c.write_lpdu-in-Some-next_out.ensures.bytes ∙ ap (option_map lpdu_of) (sym c.in-Some-next_out.is ∙ next)
+
+pub returns-in-Some-next_out-clause-read : goal.returns-in-Some-next_out-clause-read
+returns-in-Some-next_out-clause-read c m h =
+    let next = link_frame h c.in_default-next_act.ensures.act c.next_out.ensures.frame in
+    subst IsReadAgain (sym c.in-Some-next_out.is ∙ next)
+    (ap control_of (sym c.write_lpdu-in-Some-next_out.ensures.bytes) ∙ c.write_lpdu-in-Some-next_out.ensures.read_again)
+
+pub returns-in-None-clause-stands : goal.returns-in-None-clause-stands
+returns-in-None-clause-stands c m h =
+    let a = c.in_default-next_act.ensures in
+    link_fetched h (record { front = a.act; nearer = a.nearer; stands = c.next_out.ensures.stands })
+
+pub returns-in-None-clause-answer : goal.returns-in-None-clause-answer
+returns-in-None-clause-answer c m h =
+    ap (option_map lpdu_of) (sym c.in-None.is ∙ link_frame h c.in_default-next_act.ensures.act c.next_out.ensures.frame)
+
+pub returns-in-None-clause-read : goal.returns-in-None-clause-read
+returns-in-None-clause-read c m h =
+    subst IsReadAgain (sym c.in-None.is ∙ link_frame h c.in_default-next_act.ensures.act c.next_out.ensures.frame) tt

@@ -11,12 +11,12 @@ use Rattle.link_end.specs.Ends.{EndStandsFor}
 use Rattle.link_end.specs.Reports.{pass_by}
 use Rattle.link_end.specs.declared.report.SendRefused.TheVariants.{Full as SendFull}
 use Rattle.link_end.proofs.NodeLemmas.{spare_is, refused_long, refused_full, refused_none, refusal_stays, gives, message_passed}
-use Rattle.link_end.proofs.«end».End.pass_up.Goals as goal
+use Rattle.link_end.proofs.«end».End.send_chain.Goals as goal
 
 pub returns-then-len-gt-MAX_MESSAGE-clause-stands : goal.returns-then-len-gt-MAX_MESSAGE-clause-stands
 returns-then-len-gt-MAX_MESSAGE-clause-stands c m h =
     let x : Message = (c.args.pipe, chain_bytes c.args.pool.now c.args.chain) in
-    let up : m.shdlc.phase ≡ Up = sym h.halfway.link.kept.phase ∙ c.requires.up in
+    let up : m.shdlc.phase ≡ Up = sym h.halfway.link.kept.phase ∙ (sym c.state.ensures.value ∙ c.in-Up.is) in
     let P : LinkEnd → Type 0 = λ y. EndStandsFor c.args.self.now c.args.pool.now y in
     subst P
     (sym (refusal_stays m x (TooLong (length x.1)) (refused_long m x up (let l = c.len-len.ensures in omega (arith, l, c.if-len-gt-MAX_MESSAGE.true))))) h
@@ -24,19 +24,19 @@ returns-then-len-gt-MAX_MESSAGE-clause-stands c m h =
 pub returns-in-Ok-clause-stands : goal.returns-in-Ok-clause-stands
 returns-in-Ok-clause-stands c m h =
     let x : Message = (c.args.pipe, chain_bytes c.args.pool.now c.args.chain) in
-    let up : m.shdlc.phase ≡ Up = sym h.halfway.link.kept.phase ∙ c.requires.up in
+    let up : m.shdlc.phase ≡ Up = sym h.halfway.link.kept.phase ∙ (sym c.state.ensures.value ∙ c.in-Up.is) in
     let fits : blocks_for (length x.1) ≤ spare m =
     subst (λ n. blocks_for (length x.1) ≤ n) (sym (spare_is c.args.pool.now c.args.self.now m h)) (c.in-Ok.ensures.room.0 refl) in
     let P : LinkEnd → Type 0 = λ y. EndStandsFor c.refill.new.self c.refill.new.pool y in
     subst P (sym (gives m x (refused_none m x up (let l = c.len-len.ensures in omega (arith, l, c.if-len-gt-MAX_MESSAGE.false)) fits)))
     (c.refill.ensures.stands _
-    (message_passed (record { before = h; up = c.requires.up; sendable = c.requires.sendable; accepts = c.in-Ok.ensures.ok }) c.requires.chain
+    (message_passed (record { before = h; up = (sym c.state.ensures.value ∙ c.in-Up.is); sendable = c.requires.sendable; accepts = c.in-Ok.ensures.ok }) c.requires.chain
     c.in-Ok.ensures.elsewhere))
 
 pub returns-in-Ok-clause-answer : goal.returns-in-Ok-clause-answer
 returns-in-Ok-clause-answer c m h =
     let x : Message = (c.args.pipe, chain_bytes c.args.pool.now c.args.chain) in
-    let up : m.shdlc.phase ≡ Up = sym h.halfway.link.kept.phase ∙ c.requires.up in
+    let up : m.shdlc.phase ≡ Up = sym h.halfway.link.kept.phase ∙ (sym c.state.ensures.value ∙ c.in-Up.is) in
     let fits : blocks_for (length x.1) ≤ spare m =
     subst (λ n. blocks_for (length x.1) ≤ n) (sym (spare_is c.args.pool.now c.args.self.now m h)) (c.in-Ok.ensures.room.0 refl) in
     sym (ap (pass_by c.args.chain) (refused_none m x up (let l = c.len-len.ensures in omega (arith, l, c.if-len-gt-MAX_MESSAGE.false)) fits))
@@ -45,7 +45,7 @@ pub returns-in-Err-clause-stands : goal.returns-in-Err-clause-stands
 returns-in-Err-clause-stands c m h =
     let x : Message = (c.args.pipe, chain_bytes c.args.pool.now c.args.chain) in
     let k = c.args.self.now in
-    let up : m.shdlc.phase ≡ Up = sym h.halfway.link.kept.phase ∙ c.requires.up in
+    let up : m.shdlc.phase ≡ Up = sym h.halfway.link.kept.phase ∙ (sym c.state.ensures.value ∙ c.in-Up.is) in
     let full = refused_full m x up (let l = c.len-len.ensures in omega (arith, l, c.if-len-gt-MAX_MESSAGE.false))
     (λ fits. (let n = c.in-Err.ensures.room.1 (subst (λ n. blocks_for (length x.1) ≤ n) (spare_is c.args.pool.now k m h) fits) in cc)) in
     let P : LinkEnd → Type 0 = λ y. EndStandsFor (record k { outbox = c.accept_chain.new.self }) c.accept_chain.new.pool y in
@@ -58,7 +58,7 @@ pub returns-in-Err-clause-answer : goal.returns-in-Err-clause-answer
 returns-in-Err-clause-answer c m h =
     let x : Message = (c.args.pipe, chain_bytes c.args.pool.now c.args.chain) in
     let k = c.args.self.now in
-    let up : m.shdlc.phase ≡ Up = sym h.halfway.link.kept.phase ∙ c.requires.up in
+    let up : m.shdlc.phase ≡ Up = sym h.halfway.link.kept.phase ∙ (sym c.state.ensures.value ∙ c.in-Up.is) in
     let spares = spare_is c.args.pool.now k m h in
     let full = refused_full m x up (let l = c.len-len.ensures in omega (arith, l, c.if-len-gt-MAX_MESSAGE.false))
     (λ fits. (let n = c.in-Err.ensures.room.1 (subst (λ n. blocks_for (length x.1) ≤ n) spares fits) in cc)) in

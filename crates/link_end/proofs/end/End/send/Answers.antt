@@ -11,30 +11,30 @@ use Rattle.link_end.specs.Reports.{by_refusal_told}
 use Rattle.link_end.specs.declared.report.SendRefused.TheVariants.{Full as SendFull}
 use Rattle.link_end.proofs.NodeLemmas.{spare_is, refused_long, refused_full, refused_none, refusal_stays, gives, message_given}
 use Rattle.link_end.proofs.BoxLemmas.{leaves_same}
-use Rattle.link_end.proofs.«end».End.send_up.Goals as goal
+use Rattle.link_end.proofs.«end».End.send.Goals as goal
 
 pub returns-then-message-clause-stands : goal.returns-then-message-clause-stands
 returns-then-message-clause-stands c m h =
     let x : Message = (c.args.pipe, c.args.message.now) in
-    let up : m.shdlc.phase ≡ Up = sym h.halfway.link.kept.phase ∙ c.requires.up in
+    let up : m.shdlc.phase ≡ Up = sym h.halfway.link.kept.phase ∙ (sym c.state.ensures.value ∙ c.in-Up.is) in
     let P : LinkEnd → Type 0 = λ y. EndStandsFor c.args.self.now c.args.pool.now y in
     subst P (sym (refusal_stays m x (TooLong (length x.1)) (refused_long m x up c.if-message.true))) h
 
 pub returns-in-Ok-clause-stands : goal.returns-in-Ok-clause-stands
 returns-in-Ok-clause-stands c m h =
     let x : Message = (c.args.pipe, c.args.message.now) in
-    let up : m.shdlc.phase ≡ Up = sym h.halfway.link.kept.phase ∙ c.requires.up in
+    let up : m.shdlc.phase ≡ Up = sym h.halfway.link.kept.phase ∙ (sym c.state.ensures.value ∙ c.in-Up.is) in
     let fits : blocks_for (length x.1) ≤ spare m =
     subst (λ n. blocks_for (length x.1) ≤ n) (sym (spare_is c.args.pool.now c.args.self.now m h)) (c.in-Ok.ensures.room.0 refl) in
     let P : LinkEnd → Type 0 = λ y. EndStandsFor c.refill.new.self c.refill.new.pool y in
     subst P (sym (gives m x (refused_none m x up c.if-message.false fits)))
     (c.refill.ensures.stands _
-    (message_given (record { before = h; up = c.requires.up; sendable = c.requires.sendable; accepts = c.in-Ok.ensures.ok }) c.in-Ok.ensures.elsewhere).0)
+    (message_given (record { before = h; up = (sym c.state.ensures.value ∙ c.in-Up.is); sendable = c.requires.sendable; accepts = c.in-Ok.ensures.ok }) c.in-Ok.ensures.elsewhere).0)
 
 pub returns-in-Ok-clause-answer : goal.returns-in-Ok-clause-answer
 returns-in-Ok-clause-answer c m h =
     let x : Message = (c.args.pipe, c.args.message.now) in
-    let up : m.shdlc.phase ≡ Up = sym h.halfway.link.kept.phase ∙ c.requires.up in
+    let up : m.shdlc.phase ≡ Up = sym h.halfway.link.kept.phase ∙ (sym c.state.ensures.value ∙ c.in-Up.is) in
     let fits : blocks_for (length x.1) ≤ spare m =
     subst (λ n. blocks_for (length x.1) ≤ n) (sym (spare_is c.args.pool.now c.args.self.now m h)) (c.in-Ok.ensures.room.0 refl) in
     sym (ap by_refusal_told (refused_none m x up c.if-message.false fits))
@@ -42,7 +42,7 @@ returns-in-Ok-clause-answer c m h =
 pub returns-in-Ok-clause-elsewhere : goal.returns-in-Ok-clause-elsewhere
 returns-in-Ok-clause-elsewhere c =
     let given = message_given {x = (c.args.pipe, c.args.message.now)}
-    (record { before = c.requires.stands.1; up = c.requires.up; sendable = c.requires.sendable; accepts = c.in-Ok.ensures.ok }) c.in-Ok.ensures.elsewhere in
+    (record { before = c.requires.stands.1; up = (sym c.state.ensures.value ∙ c.in-Up.is); sendable = c.requires.sendable; accepts = c.in-Ok.ensures.ok }) c.in-Ok.ensures.elsewhere in
     let boxes = c.refill.ensures.boxes in
     let P : PoolState
     → Type 0 = λ p. LeavesBoxes c.args.pool.now p c.args.self.now.outbox c.args.self.now.inbox c.refill.new.self.outbox c.refill.new.self.inbox in
@@ -53,7 +53,7 @@ pub returns-in-Err-clause-stands : goal.returns-in-Err-clause-stands
 returns-in-Err-clause-stands c m h =
     let x : Message = (c.args.pipe, c.args.message.now) in
     let k = c.args.self.now in
-    let up : m.shdlc.phase ≡ Up = sym h.halfway.link.kept.phase ∙ c.requires.up in
+    let up : m.shdlc.phase ≡ Up = sym h.halfway.link.kept.phase ∙ (sym c.state.ensures.value ∙ c.in-Up.is) in
     let full = refused_full m x up c.if-message.false
     (λ fits. (let n = c.in-Err.ensures.room.1 (subst (λ n. blocks_for (length x.1) ≤ n) (spare_is c.args.pool.now k m h) fits) in cc)) in
     let P : LinkEnd → Type 0 = λ y. EndStandsFor (record k { outbox = c.accept.new.self }) c.accept.new.pool y in
@@ -66,7 +66,7 @@ pub returns-in-Err-clause-answer : goal.returns-in-Err-clause-answer
 returns-in-Err-clause-answer c m h =
     let x : Message = (c.args.pipe, c.args.message.now) in
     let k = c.args.self.now in
-    let up : m.shdlc.phase ≡ Up = sym h.halfway.link.kept.phase ∙ c.requires.up in
+    let up : m.shdlc.phase ≡ Up = sym h.halfway.link.kept.phase ∙ (sym c.state.ensures.value ∙ c.in-Up.is) in
     let spares = spare_is c.args.pool.now k m h in
     let full = refused_full m x up c.if-message.false
     (λ fits. (let n = c.in-Err.ensures.room.1 (subst (λ n. blocks_for (length x.1) ≤ n) spares fits) in cc)) in
