@@ -1,5 +1,5 @@
 -- What comes is a step, or a frame that is refused.
-use Rattle.std.proofs.Common.{◌∷◌, [], refl, ap}
+use Rattle.std.proofs.Common.{◌∷◌, [], ap}
 use Rattle.hci_store.specs.Stored.{Stored}
 use Rattle.lone_laws.specs.alone.Lone.LoneCause.{TickComes, StartComes, StopComes}
 use Rattle.one_end.specs.Writing.{form_named}
