@@ -22,8 +22,7 @@ use Rattle.shdlc_core.specs.Kept.{KeptEnd, ShdlcStandsFor}
 use Rattle.shdlc_core.specs.Machine.{EndState, Session, Fragment, reset_with, is_waiting, no_session, fetched, frame_due, fragment_due, put_out}
 use Rattle.shdlc_core.specs.Offering.{StandsBefore, StandsWith, HasSession, with_out, left_waiting}
 use Rattle.shdlc_core.proofs.Offering.{stands_reset, stands_idle, stands_fetched, fetched_alike, stands_put}
-use Rattle.hcp_packet.specs.Packets.{packets_of, packets_in, packet_bytes, fragments_of, IsSendable}
-use Rattle.hcp_chain.specs.Joining.{are_taken, open_after}
+use Rattle.hcp_packet.specs.Packets.{packets_of, packet_bytes, fragments_of, IsSendable}
 use Rattle.hcp_chain.specs.Holding.{held_blocks, HoldsChains, messages_in as messages_of}
 use Rattle.link_laws.specs.machine.Machine.{LinkEnd as Machine, ActDue as Due, Message, Refused, moved, after_input, is_open, window_of, frame_fetched}
 use Rattle.link_laws.specs.machine.Machine.{next_frame}
@@ -36,7 +35,7 @@ use Rattle.link_messages.specs.declared.outbox.Queued.{Queued}
 use Rattle.link_messages.specs.declared.outbox.Outbox.{Outbox}
 use Rattle.link_messages.specs.declared.inbox.Got.{Got}
 use Rattle.link_messages.specs.declared.inbox.Inbox.{Inbox}
-use Rattle.link_messages.specs.Outgoing.{chain_in, messages_of_all, waiting_in, rest_among, Accepts, OutboxLeavesOthers as OutboxLeaves, LeavesOthersBut}
+use Rattle.link_messages.specs.Outgoing.{chain_in, messages_of_all, waiting_in, Accepts, OutboxLeavesOthers as OutboxLeaves, LeavesOthersBut}
 use Rattle.link_messages.proofs.OutgoingLemmas.{aside-with_used}
 use Rattle.link_messages.specs.Incoming.{got_chains, messages_under_way, came_whole, InboxLiesIn}
 use Rattle.link_messages.proofs.Among.{whole-push, fragments-push}

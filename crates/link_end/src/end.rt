@@ -106,7 +106,7 @@ impl End {
         self.offer_more(pool);
     }
 
-    // The same where some wait.
+    // The same where some wait, as behind a message that was given.
     #[inline(never)]
     fn offer_more(&mut self, pool: &mut Pool)
         requires { OutboxLiesIn pool.old self.old.outbox }
@@ -622,7 +622,7 @@ impl End {
                 }
                 match self.outbox.accept(pool, pipe, message) {
                     Ok(()) => {
-                        self.refill(pool);
+                        self.offer_more(pool);
                         Ok(())
                     }
                     Err(NoRoom { need, spare }) => Err(SendRefused::Full { need, spare }),
@@ -667,7 +667,7 @@ impl End {
                 }
                 match self.outbox.accept_chain(pool, pipe, chain) {
                     Ok(()) => {
-                        self.refill(pool);
+                        self.offer_more(pool);
                         Ok(())
                     }
                     Err((chain, NoRoom { need, spare })) => {

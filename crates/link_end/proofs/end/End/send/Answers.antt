@@ -26,9 +26,9 @@ returns-in-Ok-clause-stands c m h =
     let up : m.shdlc.phase ≡ Up = sym h.halfway.link.kept.phase ∙ (sym c.state.ensures.value ∙ c.in-Up.is) in
     let fits : blocks_for (length x.1) ≤ spare m =
     subst (λ n. blocks_for (length x.1) ≤ n) (sym (spare_is c.args.pool.now c.args.self.now m h)) (c.in-Ok.ensures.room.0 refl) in
-    let P : LinkEnd → Type 0 = λ y. EndStandsFor c.refill.new.self c.refill.new.pool y in
+    let P : LinkEnd → Type 0 = λ y. EndStandsFor c.offer_more.new.self c.offer_more.new.pool y in
     subst P (sym (gives m x (refused_none m x up c.if-message.false fits)))
-    (c.refill.ensures.stands _
+    (c.offer_more.ensures.stands _
     (message_given (record { before = h; up = (sym c.state.ensures.value ∙ c.in-Up.is); sendable = c.requires.sendable; accepts = c.in-Ok.ensures.ok }) c.in-Ok.ensures.elsewhere).0)
 
 pub returns-in-Ok-clause-answer : goal.returns-in-Ok-clause-answer
@@ -43,11 +43,11 @@ pub returns-in-Ok-clause-elsewhere : goal.returns-in-Ok-clause-elsewhere
 returns-in-Ok-clause-elsewhere c =
     let given = message_given {x = (c.args.pipe, c.args.message.now)}
     (record { before = c.requires.stands.1; up = (sym c.state.ensures.value ∙ c.in-Up.is); sendable = c.requires.sendable; accepts = c.in-Ok.ensures.ok }) c.in-Ok.ensures.elsewhere in
-    let boxes = c.refill.ensures.boxes in
+    let boxes = c.offer_more.ensures.boxes in
     let P : PoolState
-    → Type 0 = λ p. LeavesBoxes c.args.pool.now p c.args.self.now.outbox c.args.self.now.inbox c.refill.new.self.outbox c.refill.new.self.inbox in
-    subst P (sym c.refill.ensures.pool)
-    (leaves_same c.refill.new.self.outbox c.refill.new.self.inbox given.1 boxes.1 boxes.0 boxes.2)
+    → Type 0 = λ p. LeavesBoxes c.args.pool.now p c.args.self.now.outbox c.args.self.now.inbox c.offer_more.new.self.outbox c.offer_more.new.self.inbox in
+    subst P (sym c.offer_more.ensures.pool)
+    (leaves_same c.offer_more.new.self.outbox c.offer_more.new.self.inbox given.1 boxes.1 boxes.0 boxes.2)
 
 pub returns-in-Err-clause-stands : goal.returns-in-Err-clause-stands
 returns-in-Err-clause-stands c m h =
