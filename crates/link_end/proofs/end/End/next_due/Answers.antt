@@ -1,5 +1,5 @@
-use Rattle.std.proofs.Common.{◌≡◌, ℕ, List, [], sym, ap, ◌∙◌, subst}
-use Rattle.std.specs.Prelude.{Option, Some, Ok, IfSome, map, option_map}
+use Rattle.std.proofs.Common.{◌≡◌, ℕ, Bool, true, List, [], length, sym, ap, ◌∙◌, subst}
+use Rattle.std.specs.Prelude.{◌==◌, Option, Some, Ok, IfSome, map, option_map}
 use Rattle.std.proofs.lemmas.Bool.{eqb-true}
 use Rattle.std.proofs.lemmas.List.{nil_from_length}
 use Rattle.block_pool.specs.Pool.{PoolState}
@@ -22,22 +22,23 @@ IsReadAgain o = IfSome o (λ c. control_of (lpdu_of c) ≡ Ok c)
 -- ## A fragment is next
 
 -- where no control frame waits, what the SHDLC end is to send next is the next frame of the end
-next_is : {pool : PoolState} {k : End} {m : LinkEnd} {o : Option Control} → EndStandsFor k pool m → k.acts.items ≡ [] → k.shdlc.due ≡ []
+next_is : {pool : PoolState} {k : End} {m : LinkEnd} {o : Option Control} {none : Bool} → EndStandsFor k pool m
+    → none ≡ (length k.acts.items == 0) → none ≡ true → k.shdlc.due ≡ []
     → ((e : EndState) → ShdlcStandsFor k.shdlc e → k.shdlc.due ≡ [] → o ≡ frame_due e) → o ≡ next_frame m
-next_is h acts due frame = link_frame h (sym (ap front_act acts)) (λ e stands. frame e stands due)
+next_is {k = k} h is none due frame =
+    let acts : k.acts.items ≡ [] = nil_from_length k.acts.items (eqb-true _ 0 (sym is ∙ none)) in
+    link_frame h (sym (ap front_act acts)) (λ e stands. frame e stands due)
 
 pub write_fragment-lpdu-requires-clause-ns : goal.write_fragment-lpdu-requires-clause-ns
 write_fragment-lpdu-requires-clause-ns c =
     let m = c.requires.0 in
-    let next = next_is c.requires.1
-    (nil_from_length c.args.self.now.acts.items (eqb-true _ 0 (sym c.is_empty.ensures ∙ c.if-is_empty.true))) c.in-Some.ensures.due.due c.fragment_due.ensures.frame in
+    let next = next_is c.requires.1 c.is_empty.ensures c.if-is_empty.true c.in-Some.ensures.due.due c.fragment_due.ensures.frame in
     (next_numbers m (frame_shown c.in-Some.field-0) (sym next ∙ ap (option_map frame_shown) c.in-Some.is)).0
 
 pub write_fragment-lpdu-requires-clause-nr : goal.write_fragment-lpdu-requires-clause-nr
 write_fragment-lpdu-requires-clause-nr c =
     let m = c.requires.0 in
-    let next = next_is c.requires.1
-    (nil_from_length c.args.self.now.acts.items (eqb-true _ 0 (sym c.is_empty.ensures ∙ c.if-is_empty.true))) c.in-Some.ensures.due.due c.fragment_due.ensures.frame in
+    let next = next_is c.requires.1 c.is_empty.ensures c.if-is_empty.true c.in-Some.ensures.due.due c.fragment_due.ensures.frame in
     (next_numbers m (frame_shown c.in-Some.field-0) (sym next ∙ ap (option_map frame_shown) c.in-Some.is)).1
 
 pub returns-in-Some-clause-stands : goal.returns-in-Some-clause-stands
@@ -52,15 +53,13 @@ returns-in-Some-clause-stands c m h =
 
 pub returns-in-Some-clause-answer : goal.returns-in-Some-clause-answer
 returns-in-Some-clause-answer c m h =
-    let next = next_is h
-    (nil_from_length c.args.self.now.acts.items (eqb-true _ 0 (sym c.is_empty.ensures ∙ c.if-is_empty.true))) c.in-Some.ensures.due.due c.fragment_due.ensures.frame in
+    let next = next_is h c.is_empty.ensures c.if-is_empty.true c.in-Some.ensures.due.due c.fragment_due.ensures.frame in
     ap (λ (l : List ℕ). Some l) c.write_fragment-lpdu.ensures.bytes
     ∙ ap (option_map lpdu_of) (sym (ap (option_map frame_shown) c.in-Some.is) ∙ next)
 
 pub returns-in-Some-clause-read : goal.returns-in-Some-clause-read
 returns-in-Some-clause-read c m h =
-    let next = next_is h
-    (nil_from_length c.args.self.now.acts.items (eqb-true _ 0 (sym c.is_empty.ensures ∙ c.if-is_empty.true))) c.in-Some.ensures.due.due c.fragment_due.ensures.frame in
+    let next = next_is h c.is_empty.ensures c.if-is_empty.true c.in-Some.ensures.due.due c.fragment_due.ensures.frame in
     subst IsReadAgain (sym (ap (option_map frame_shown) c.in-Some.is) ∙ next)
     (ap control_of (sym c.write_fragment-lpdu.ensures.bytes) ∙ c.write_fragment-lpdu.ensures.read_again)
 

@@ -29,7 +29,9 @@ returns-in-Ok-clause-stands c m h =
     let P : LinkEnd → Type 0 = λ y. EndStandsFor c.offer_more.new.self c.offer_more.new.pool y in
     subst P (sym (gives m x (refused_none m x up c.if-message.false fits)))
     (c.offer_more.ensures.stands _
-    (message_given (record { before = h; up = (sym c.state.ensures.value ∙ c.in-Up.is); sendable = c.requires.sendable; accepts = c.in-Ok.ensures.ok }) c.in-Ok.ensures.elsewhere).0)
+    (message_given
+    (record { before = h; up = sym c.state.ensures.value ∙ c.in-Up.is; sendable = c.requires.sendable; accepts = c.in-Ok.ensures.ok })
+    c.in-Ok.ensures.elsewhere).0)
 
 pub returns-in-Ok-clause-answer : goal.returns-in-Ok-clause-answer
 returns-in-Ok-clause-answer c m h =
@@ -42,7 +44,8 @@ returns-in-Ok-clause-answer c m h =
 pub returns-in-Ok-clause-elsewhere : goal.returns-in-Ok-clause-elsewhere
 returns-in-Ok-clause-elsewhere c =
     let given = message_given {x = (c.args.pipe, c.args.message.now)}
-    (record { before = c.requires.stands.1; up = (sym c.state.ensures.value ∙ c.in-Up.is); sendable = c.requires.sendable; accepts = c.in-Ok.ensures.ok }) c.in-Ok.ensures.elsewhere in
+    (record { before = c.requires.stands.1; up = sym c.state.ensures.value ∙ c.in-Up.is; sendable = c.requires.sendable; accepts = c.in-Ok.ensures.ok })
+    c.in-Ok.ensures.elsewhere in
     let boxes = c.offer_more.ensures.boxes in
     let P : PoolState
     → Type 0 = λ p. LeavesBoxes c.args.pool.now p c.args.self.now.outbox c.args.self.now.inbox c.offer_more.new.self.outbox c.offer_more.new.self.inbox in

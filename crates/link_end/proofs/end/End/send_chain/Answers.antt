@@ -30,7 +30,8 @@ returns-in-Ok-clause-stands c m h =
     let P : LinkEnd → Type 0 = λ y. EndStandsFor c.offer_more.new.self c.offer_more.new.pool y in
     subst P (sym (gives m x (refused_none m x up (let l = c.len-len.ensures in omega (arith, l, c.if-len-gt-MAX_MESSAGE.false)) fits)))
     (c.offer_more.ensures.stands _
-    (message_passed (record { before = h; up = (sym c.state.ensures.value ∙ c.in-Up.is); sendable = c.requires.sendable; accepts = c.in-Ok.ensures.ok }) c.requires.chain
+    (message_passed
+    (record { before = h; up = sym c.state.ensures.value ∙ c.in-Up.is; sendable = c.requires.sendable; accepts = c.in-Ok.ensures.ok }) c.requires.chain
     c.in-Ok.ensures.elsewhere))
 
 pub returns-in-Ok-clause-answer : goal.returns-in-Ok-clause-answer
