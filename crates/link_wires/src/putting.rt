@@ -1,8 +1,8 @@
 //! A frame goes out of an end of a link, or the first one on the way to an end is lost.
-ghost use Rattle.std.specs.Prelude.{◌≡◌, ℕ, ◌+◌, ◌<◌, ◌≤◌, ◌^◌, List, Ok, drop, if◌then◌else◌, OnOk};
+ghost use Rattle.std.specs.Prelude.{◌≡◌, ℕ, ◌+◌, ◌<◌, ◌≤◌, ◌^◌, List, Ok, drop, OnOk};
 ghost use Rattle.swp_base.specs.declared.control_frames.Control.{Control as Frame};
 ghost use Rattle.swp_lpdu.specs.Controls.{lpdu_of, control_of};
-ghost use Rattle.link_laws.specs.sessions.Sessions.{OnWire, is_rset};
+ghost use Rattle.link_laws.specs.sessions.Sessions.{OnWire};
 ghost use Rattle.link_laws.specs.messages.Links.{Link, Loss, put};
 ghost use Rattle.link_laws.specs.entries.Entries.{put_entries, first_lost};
 ghost use Rattle.history.specs.Steps.{lost_as};
@@ -10,30 +10,14 @@ ghost use Rattle.link_wires.specs.Notes.{side_of, AreNoted};
 ghost use Rattle.link_wires.specs.Wires.{WireStandsFor};
 ghost use Rattle.link_wires.specs.Putting.{GoesOutOf};
 
-use crate::wire::{Flying, is_reset, put_last};
+use crate::wire::{Flying, is_reset};
 use circular_buffer::HeapCircularBuffer;
 use std::alloc::AllocError;
 use swp_base::Lpdu;
 use trace_model::{End, Entry, LostCause};
 
-// The number of a frame that an end puts on its link: RSETs are numbered from 1 as they are put there.
-#[inline(never)]
-fn number_of(lpdu: &Lpdu, emitted: &mut u32, resets: &mut u32) -> u32
-    requires { resets.old + 1 < 2 ^ 32 }
-    ensures number { (c : Frame) → control_of lpdu.now ≡ Ok c → result ≡ (if is_rset c then resets.old + 1 else 0) }
-    ensures resets { (c : Frame) → control_of lpdu.now ≡ Ok c → resets.new ≡ (if is_rset c then resets.old + 1 else resets.old) }
-    ensures emitted { (c : Frame) → control_of lpdu.now ≡ Ok c → emitted.new ≡ (if is_rset c then resets.old + 1 else emitted.old) }
-    ensures grows { resets.new ≤ resets.old + 1 }
-{
-    if !is_reset(lpdu) {
-        return 0;
-    }
-    *resets += 1;
-    *emitted = *resets;
-    *resets
-}
-
-/// An end puts a frame on the wire to the other end of its link.
+/// An end puts a frame on the wire to the other end of its link, where it stands last. Where the wire is full, the oldest frame on it is lost.
+/// RSETs are numbered from 1 as they are put on their link.
 ///
 /// # Errors
 ///
@@ -52,7 +36,12 @@ pub fn put_frame(
         × AreNoted at entries.old.items entries.new.items (put_entries (side_of at) l c)) }
     ensures grows { resets.new ≤ resets.old + 1 }
 {
-    let number = number_of(&lpdu, emitted, resets);
+    let mut number = 0;
+    if is_reset(&lpdu) {
+        *resets += 1;
+        *emitted = *resets;
+        number = *resets;
+    }
     entries.push(Entry::Emit {
         at,
         lpdu: lpdu.copied(),
@@ -62,7 +51,14 @@ pub fn put_frame(
         age: 0,
         number,
     };
-    put_last(at.other(), flying, wire, entries)
+    if let Some(lost) = wire.push_back(flying) {
+        entries.push(Entry::Lost {
+            at: at.other(),
+            lpdu: lost.lpdu,
+            cause: LostCause::Full,
+        })?;
+    }
+    Ok(())
 }
 
 /// The first frame on the wire to an end is lost. Where there is none, nothing happens.

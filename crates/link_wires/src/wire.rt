@@ -2,11 +2,11 @@
 ghost use Rattle.std.specs.Prelude.{◌≡◌, ℕ, ◌+◌, ◌<◌, ◌≤◌, ◌^◌, [], ◌∷◌, ◌++◌, List, length, OnOk, OnSome, IfOk, IfSome, IfNone, Ok, IsTrue, ◌↔◌};
 ghost use Rattle.swp_base.specs.declared.control_frames.Control.{Control as Frame};
 ghost use Rattle.swp_lpdu.specs.Controls.{lpdu_of, control_of};
-ghost use Rattle.link_laws.specs.sessions.Sessions.{OnWire, is_rset, aged_wire, fits};
+ghost use Rattle.link_laws.specs.sessions.Sessions.{OnWire, is_rset, aged_wire};
 ghost use Rattle.history.specs.Follows.{taken_of};
-ghost use Rattle.link_laws.specs.entries.Entries.{aged_entries, pushed_out, far};
+ghost use Rattle.link_laws.specs.entries.Entries.{aged_entries, far};
 ghost use Rattle.link_wires.specs.Notes.{side_of};
-ghost use Rattle.link_wires.specs.Wires.{WireStandsFor, IsMade, kept_of};
+ghost use Rattle.link_wires.specs.Wires.{WireStandsFor};
 ghost use Rattle.link_wires.specs.Notes.{AreNoted};
 
 use circular_buffer::HeapCircularBuffer;
@@ -46,27 +46,6 @@ pub fn is_reset(lpdu: &Lpdu) -> bool
     ensures { (c : Frame) → control_of lpdu.now ≡ Ok c → result ≡ is_rset c }
 {
     lpdu.bytes()[0] == RSET
-}
-
-/// A frame stands last on a wire to an end. Where the wire is full, the oldest frame on it is lost.
-pub fn put_last(
-    to: End,
-    flying: Flying,
-    wire: &mut HeapCircularBuffer<Flying>,
-    entries: &mut Vec<Entry>,
-) -> Result<(), AllocError>
-    ensures { (frames : List OnWire) (x : OnWire) → WireStandsFor wire.old frames → flying ≡ kept_of x → IsMade x
-        → OnOk result (WireStandsFor wire.new (fits (frames ++ x ∷ []))
-        × AreNoted to entries.old.items entries.new.items (pushed_out (side_of to) (frames ++ x ∷ []))) }
-{
-    if let Some(lost) = wire.push_back(flying) {
-        entries.push(Entry::Lost {
-            at: to,
-            lpdu: lost.lpdu,
-            cause: LostCause::Full,
-        })?;
-    }
-    Ok(())
 }
 
 // The first frame on a wire to an end grows older by one tick and stands behind all others, or is lost where it is too old.
