@@ -23,7 +23,7 @@ use Rattle.link_messages.specs.declared.outbox.Queued.{Queued}
 use Rattle.link_messages.specs.declared.outbox.Outbox.{Outbox}
 use Rattle.link_messages.specs.Outgoing.{chain_in, queued_message, messages_of_all, queued_messages, waiting_in, rest_among, AreKept}
 use Rattle.link_messages.specs.Outgoing.{OutboxLiesIn, OutboxLeavesOthers, Accepts, LeavesOthersBut, GivesFront, GivesBack}
-use Rattle.link_messages.proofs.Among.{whole-first, waiting-first, length-first, waiting-push, length-push}
+use Rattle.link_messages.proofs.Among.{whole-first, whole-none, waiting-first, length-first, waiting-push, length-push}
 use Rattle.link_laws.proofs.machine.Sound.{fragments_count as length-fragments}
 
 -- the same bytes are the same messages
@@ -421,6 +421,18 @@ all_cut pool box lies =
       (λ none. omega (arith, len, ap length none, lies.cut)),
     )
 
+-- while one is left, one is found
+pub one_found : (pool : PoolState) (box : Outbox) (at place : ℕ) → OutboxLiesIn pool box → 0 < box.left → LooksFor pool box at place
+    → None ≡ slice_get box.queue.items at → ⊥
+one_found pool box at place lies some looks none =
+    let found : None ≡ slice_get (fragments_of (queued_messages pool box)) box.cut =
+    sym (ap (λ l. slice_get (fragments_of (messages_of_all pool l)) place) (drop_none box.queue.items at none) ∙ nothing place) ∙ looks.fragment in
+    let all = (all_cut pool box lies).1 (drop_none (fragments_of (queued_messages pool box)) box.cut found) in
+    absurd (omega (arith, all, some))
+  where
+    nothing : (n : ℕ) → slice_get (fragments_of []) n ≡ None
+    nothing n = refl
+
 -- ---- acknowledging
 
 pub record Acknowledges (first now : PoolState) (before box : Outbox) (whole : ℕ) : Type 0 where
@@ -443,11 +455,6 @@ acknowledges_more first now new before box after whole a g fewer = record {
   has = a.has;
   few = a.few;
 }
-
--- the front was there
-pub front_given : (b : Bool) (P : Type 0) (items : List Queued) (Q : Type 0) → OnTrue b P → OnFalse b Q → (Q → items ≡ []) → (items ≡ [] → ⊥) → P
-front_given true P items Q p q none some = p
-front_given false P items Q p q none some = absurd (some (none q))
 
 -- ---- a chain of another owner
 
@@ -511,6 +518,46 @@ some_left pool (x ∷ items) m rest e none = cc
 
 pub first_is : (x y : Message) (xs ys : List Message) → x ∷ xs ≡ y ∷ ys → x ≡ y
 first_is x y xs ys e = cc
+
+-- ---- acknowledging on
+
+-- the front was there
+pub front_given : (b : Bool) (P : Type 0) (items : List Queued) (Q : Type 0) → OnTrue b P → OnFalse b Q → (Q → items ≡ []) → (items ≡ [] → ⊥) → P
+front_given true P items Q p q none some = p
+front_given false P items Q p q none some = absurd (some (none q))
+
+-- the first message isn't acknowledged whole
+pub none_whole : (pool : PoolState) (box : Outbox) (q : Queued) → Some q ≡ slice_get box.queue.items 0 → box.acked < packet_count (length (chain_bytes pool q.chain))
+    → (whole_among (queued_messages pool box) box.acked ≡ 0) × (rest_among (queued_messages pool box) box.acked ≡ box.acked)
+none_whole pool box q found low =
+    let P : List Queued → Type 0 = λ l. (whole_among (messages_of_all pool l) box.acked ≡ 0) × (rest_among (messages_of_all pool l) box.acked ≡ box.acked) in
+    subst P (sym (front_is box.queue.items q found)) (whole-none (queued_message pool q) (messages_of_all pool (drop 1 box.queue.items)) box.acked low)
+
+pub none_left : (pool : PoolState) (box : Outbox) → None ≡ slice_get box.queue.items 0
+    → (whole_among (queued_messages pool box) box.acked ≡ 0) × (rest_among (queued_messages pool box) box.acked ≡ box.acked)
+none_left pool box found =
+    let P : List Queued → Type 0 = λ l. (whole_among (messages_of_all pool l) box.acked ≡ 0) × (rest_among (messages_of_all pool l) box.acked ≡ box.acked) in
+    subst P (sym (none_first box.queue.items found)) (refl, refl)
+
+-- the first message is live
+pub first_live : (pool : PoolState) (box : Outbox) (q : Queued) → AreKept pool box.owner box.queue → Some q ≡ slice_get box.queue.items 0 → IsLive pool q.chain
+first_live pool box q kept found = (subst (OwnsAll Queued chain_in pool box.owner) (front_is box.queue.items q found) kept.own).0.live
+
+-- it was acknowledged whole, and its blocks were given back
+pub first_given : (pool new : PoolState) (box after : Outbox) (q : Queued) (b : Bool) (count : ℕ) → OutboxLiesIn pool box
+    → Some q ≡ slice_get box.queue.items 0 → OnTrue b (GivesFront pool new box after)
+    → OnFalse b ((box.queue.items ≡ []) × (after ≡ box) × (new ≡ pool)) → count ≡ packet_count (length (chain_bytes pool q.chain)) → count ≤ box.acked
+    → GivesBack pool new box (record after { acked = after.acked - count; cut = after.cut - count }) 1
+    × (length after.queue.items + 1 ≡ length box.queue.items)
+first_given pool new box after q b count lies found given none counted low =
+    let items = box.queue.items in
+    let messages : queued_messages pool box ≡ queued_message pool q ∷ messages_of_all pool (drop 1 items) =
+    ap (messages_of_all pool) (front_is items q found) in
+    let g = front_given b (GivesFront pool new box after) items _ given none (λ n. n.0) (λ e. some_left pool items _ _ messages e) in
+    let first : queued_message pool q ≡ g.first = first_is _ g.first _ _ (sym messages ∙ g.messages) in
+    let same : packet_count (length g.first.1) ≡ count = ap (λ (x : Message). packet_count (length x.1)) (sym first) ∙ sym counted in
+    let P : ℕ → Type 0 = λ n. GivesBack pool new box (record after { acked = after.acked - n; cut = after.cut - n }) 1 in
+    (subst P same (gives_whole pool new box after g lies (omega (arith, same, low))), g.fewer)
 
 pub some_waits : (x : List ℕ) (xs ys : List (List ℕ)) → ys ≡ x ∷ xs → ys ≡ [] → ⊥
 some_waits x xs ys e none = cc

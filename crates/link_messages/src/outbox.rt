@@ -29,15 +29,15 @@ pub struct Outbox {
 }
 
 impl Outbox {
-    ghost use Rattle.std.specs.Prelude.{◌≡◌, ◌≢◌, ◌+◌, ◌-◌, ◌^◌, ◌<◌, ◌≤◌, ◌↔◌, ◌++◌, [], ◌∷◌, length, slice_get, IfOk, IfErr, IsOk, OnOk, OnErr};
-    ghost use Rattle.std.specs.Prelude.{List, IsTrue, IsNone, OnSome, IfSome, IfNone};
+    ghost use Rattle.std.specs.Prelude.{◌≡◌, ◌≢◌, ◌+◌, ◌-◌, ◌^◌, ◌<◌, ◌≤◌, ◌↔◌, ◌++◌, [], ◌∷◌, length, IfOk, IfErr, IsOk, OnOk, OnErr};
+    ghost use Rattle.std.specs.Prelude.{IsTrue, IsNone, OnSome, IfNone};
     ghost use Rattle.std.specs.Option.{option_to_list};
     ghost use Rattle.std.specs.Bool.{OnTrue, OnFalse};
     ghost use Rattle.circular_buffer.specs.Buffer.{buffer};
     ghost use Rattle.block_pool.specs.Slots.{blocks_for};
     ghost use Rattle.block_pool.specs.Pool.{PoolState, IsLive, chain_bytes, spare_of};
-    ghost use Rattle.hcp_packet.specs.Packets.{packet_count, fragments_of, IsSendable};
-    ghost use Rattle.link_laws.specs.machine.Machine.{Message, whole_among};
+    ghost use Rattle.hcp_packet.specs.Packets.{packet_count, IsSendable};
+    ghost use Rattle.link_laws.specs.machine.Machine.{whole_among};
     ghost use Rattle.link_messages.specs.declared.outbox.Queued.{Queued};
     ghost use Rattle.link_messages.specs.Outgoing.{queued_messages, waiting_in, rest_among, AreKept, OutboxLiesIn, OutboxLeavesOthers, LeavesOthersBut};
     ghost use Rattle.link_messages.specs.Outgoing.{Accepts, GivesFront, GivesBack, acked_more};
@@ -94,7 +94,7 @@ impl Outbox {
           left = self.old.left + packet_count (length (chain_bytes pool.now chain));
         } }
     {
-        self.left += fragment_count(pool, &chain);
+        self.left += pool.len(&chain).div_ceil(hcp_packet::MAX_DATA as u32);
         let _fits = self.queue.try_push_back(Queued { pipe, chain });
     }
 
@@ -145,26 +145,12 @@ impl Outbox {
         ensures lies { OutboxLiesIn pool.old self.new }
         ensures unchanged { pool.new ≡ pool.old }
     {
-        if self.has_all_cut() {
+        if self.left == 0 {
             return None;
         }
-        match self.fragment_at(pool) {
-            Some(info) => {
-                self.cut += 1;
-                self.left -= 1;
-                Some(info)
-            }
-            None => None,
-        }
-    }
-
-    // The first fragment that wasn't cut yet, where there is one.
-    fn fragment_at(&self, pool: &mut Pool) -> Option<Info>
-        requires { OutboxLiesIn pool.old self.now }
-        ensures fragment { result ≡ slice_get (fragments_of (queued_messages pool.old self.now)) self.now.cut }
-        ensures unchanged { pool.new ≡ pool.old }
-    {
         let mut place = self.cut;
+        self.cut += 1;
+        self.left -= 1;
         let mut at = 0;
         while let Some(queued) = self.queue.get(at) {
             let from = place * hcp_packet::MAX_DATA as u32;
@@ -189,44 +175,18 @@ impl Outbox {
     {
         self.acked += u32::from(count);
         let mut whole = 0;
-        while self.give_first(pool) {
+        while let Some(first) = self.queue.front() {
+            let len = pool.len(&first.chain);
+            let fragments = len.div_ceil(hcp_packet::MAX_DATA as u32);
+            if fragments > self.acked {
+                return whole;
+            }
+            let _given = self.give_front(pool);
+            self.acked -= fragments;
+            self.cut -= fragments;
             whole += 1;
         }
         whole
-    }
-
-    // Gives the blocks of the first message back, where it is acknowledged whole.
-    fn give_first(&mut self, pool: &mut Pool) -> bool
-        requires { OutboxLiesIn pool.old self.old }
-        ensures given { OnTrue result (GivesBack pool.old pool.new self.old self.new 1) }
-        ensures fewer { OnTrue result (length self.new.queue.items + 1 ≡ length self.old.queue.items) }
-        ensures kept { OnFalse result ((self.new ≡ self.old) × (pool.new ≡ pool.old)) }
-        ensures all { OnFalse result (whole_among (queued_messages pool.old self.old) self.old.acked ≡ 0) }
-        ensures rest { OnFalse result (rest_among (queued_messages pool.old self.old) self.old.acked ≡ self.old.acked) }
-    {
-        let Some(count) = self.first_count(pool) else {
-            return false;
-        };
-        if count > self.acked {
-            return false;
-        }
-        let _given = self.give_front(pool);
-        self.acked -= count;
-        self.cut -= count;
-        true
-    }
-
-    // How many fragments the first message has, where there is one.
-    fn first_count(&self, pool: &Pool) -> Option<u32>
-        requires { AreKept pool.now self.now.owner self.now.queue }
-        ensures first { IfSome result (λ n. (m : Message) × (rest : List Message) × (queued_messages pool.now self.now ≡ m ∷ rest)
-            × (n ≡ packet_count (length m.1))) }
-        ensures none { IfNone result (self.now.queue.items ≡ []) }
-    {
-        match self.queue.front() {
-            Some(first) => Some(fragment_count(pool, &first.chain)),
-            None => None,
-        }
     }
 
     /// Takes a message that lies in a chain of another owner, which is passed on as it is. `Err` comes where its blocks exceed what
@@ -257,15 +217,6 @@ impl Outbox {
             Err(full) => Err((chain, full)),
         }
     }
-}
-
-/// How many fragments the message in a chain has.
-fn fragment_count(pool: &Pool, chain: &Chain) -> u32
-    requires { IsLive pool.now chain.now }
-    ensures count { result ≡ packet_count (length (chain_bytes pool.now chain.now)) }
-    ensures short { length (chain_bytes pool.now chain.now) < 2 ^ 32 }
-{
-    pool.len(chain).div_ceil(hcp_packet::MAX_DATA as u32)
 }
 
 /// The fragment of a message of `len` bytes that begins at one of these.

@@ -2,8 +2,8 @@ use Rattle.std.proofs.Common.{length}
 use Rattle.link_messages.proofs.OutgoingLemmas.{Acknowledges}
 use Rattle.link_messages.proofs.outbox.Outbox.acknowledge.Given as goal
 
-abbrev pub invariant-loop-whole : goal.invariant-loop-whole
-invariant-loop-whole l = Acknowledges l.initial.pool l.pool l.initial.self l.self l.whole
+abbrev pub invariant-loop-first : goal.invariant-loop-first
+invariant-loop-first l = Acknowledges l.initial.pool l.pool l.initial.self l.self l.whole
 
-abbrev pub decreases-loop-whole : goal.decreases-loop-whole
-decreases-loop-whole l = length l.self.queue.items
+abbrev pub decreases-loop-first : goal.decreases-loop-first
+decreases-loop-first l = length l.self.queue.items
