@@ -18,8 +18,8 @@ use Rattle.hci_store.specs.Stored.{HoldsTables}
 use Rattle.hci_store.specs.Snapshots.{sync_command, set_command, create_command, open_command, static_command, snapshot_of}
 use Rattle.hci_store.specs.Recordable.{IsRecordable}
 use Rattle.journal_laws.specs.declared.state.State.{State}
-use Rattle.journal_laws.specs.Operations.{append_writes, compact_writes}
-use Rattle.hci_store.specs.Committing.{record_fits, snapshot_bodies, room_writes, with_room, commit_writes}
+use Rattle.journal_laws.specs.Operations.{append_writes}
+use Rattle.hci_store.specs.Committing.{room_writes, with_room, commit_writes}
 use Rattle.hci_store.proofs.Applying.{fold-push, are_commands-push}
 use Rattle.hci_store.proofs.Closing.{same_closed}
 use Rattle.hci_store.proofs.SnapshotLaw.{snapshot_again}
@@ -97,11 +97,6 @@ made-cut writes (w ∷ first) then_these old new (inl a) = inl a
 made-cut writes (w ∷ first) then_these old new (inr a) = inr (a.0, a.1, made-cut writes first then_these a.0 new a.2)
 
 module _ {M : Type 0} (writes : M → ℕ → List ℕ → Bool → M → Type 0) (s : State) (t : HciTables) where
-  pub room_made : (body : List ℕ) (old : M) (ok : Bool) (new : M) → record_fits s body ≡ false
-      → AreMade writes (compact_writes s (snapshot_bodies t)) old ok new → AreMade writes (room_writes s t body) old ok new
-  room_made body old ok new full made =
-      subst (λ b. AreMade writes (cond b [] (compact_writes s (snapshot_bodies t))) old ok new) (sym full) made
-
   pub commit_made : (body first second : List ℕ) (middle : State) (old between : M) (ok : Bool) (new : M) → first ≡ body → second ≡ body
       → middle ≡ with_room s t first
       → AreMade writes (room_writes s t first) old true between → AreMade writes (append_writes middle second) between ok new

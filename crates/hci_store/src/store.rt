@@ -252,7 +252,7 @@ impl<N: Nv + Drop> Store<N> {
         ensures unchanged { self.new ≡ self.old }
     {
         let body = write_command(command);
-        self.is_fitting(body.as_slice()) || self.journal.generation() < u32::MAX
+        body.len() as u32 + 5 <= self.journal.left() || self.journal.generation() < u32::MAX
     }
 
     /// Writes the tables as a snapshot into the other bank where a record with this body doesn't fit into the bank in use.
@@ -280,7 +280,7 @@ impl<N: Nv + Drop> Store<N> {
         ensures cut { IsTrue N.tells → result ≡ Err JournalFault.NvFault
             → Keeps (N.content self.new.journal.nv) self.old.tables (count_of self.old.journal.state) }
     {
-        if self.is_fitting(body) {
+        if body.len() as u32 + 5 <= self.journal.left() {
             return Ok(());
         }
         self.compact()
@@ -314,14 +314,6 @@ impl<N: Nv + Drop> Store<N> {
         }
         let snapshot = snapshot_of(&self.tables);
         self.journal.compact(&snapshot)
-    }
-
-    /// Whether a record with this body fits into the bank in use.
-    fn is_fitting(&self, body: &[u8]) -> bool
-        requires short { length body.now ≤ 61 }
-        ensures { result ≡ record_fits self.now.journal.state body.now }
-    {
-        body.len() as u32 + 5 <= self.journal.left()
     }
 
     /// Appends the record of a command that fits, and does what it says.
