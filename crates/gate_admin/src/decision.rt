@@ -1,7 +1,7 @@
 //! Decisions.
 ghost use Rattle.std.specs.Prelude.{◌≡◌, ◌≤◌, ◌<◌};
 ghost use Rattle.gate_answers.specs.Answers.{IsCommandMessage, instruction_in, body_in};
-ghost use Rattle.gate_admin.specs.Decide.{IsRecordableDecision, decided, carried_out, administration};
+ghost use Rattle.gate_admin.specs.Decide.{IsRecordableDecision, decided};
 
 use crate::parameters::{get, set};
 use crate::pipes::{clear, close, create, delete, open, refusal_of_pipe};
@@ -47,42 +47,13 @@ pub fn decide(tables: &Tables, view: &LinkView, host: u8, pipe: u8, message: &[u
     ensures recordable { IsRecordableDecision result }
 {
     let instruction = instruction_of(message);
-    match refusal_of_pipe(tables, host, pipe, instruction) {
-        Some(response) => Decision::Answer(refused(response)),
-        None => carry_out(tables, view, host, pipe, instruction, behind_first(message)),
+    if let Some(response) = refusal_of_pipe(tables, host, pipe, instruction) {
+        return Decision::Answer(refused(response));
     }
-}
-
-// What is done with a command where no test of the pipe holds.
-fn carry_out(
-    tables: &Tables,
-    view: &LinkView,
-    host: u8,
-    pipe: u8,
-    instruction: u8,
-    body: &[u8],
-) -> Decision
-    requires some { 1 ≤ host }
-    requires host { host ≤ 7 }
-    requires pipe { pipe < 112 }
-    ensures decided { result ≡ carried_out tables.now view.now host pipe instruction body.now }
-    ensures recordable { IsRecordableDecision result }
-{
+    let body = behind_first(message);
     match instruction {
         ANY_OPEN_PIPE => open(tables, host, pipe, body),
         ANY_CLOSE_PIPE => close(host, pipe, body),
-        _ => administer(tables, view, host, instruction, body),
-    }
-}
-
-// The commands that the administration gate knows.
-fn administer(tables: &Tables, view: &LinkView, host: u8, instruction: u8, body: &[u8]) -> Decision
-    requires some { 1 ≤ host }
-    requires host { host ≤ 7 }
-    ensures decided { result ≡ administration tables.now view.now host instruction body.now }
-    ensures recordable { IsRecordableDecision result }
-{
-    match instruction {
         ANY_SET_PARAMETER => set(view, host, body),
         ANY_GET_PARAMETER => get(tables, view, host, body),
         ADM_CREATE_PIPE => create(tables, view, host, body),

@@ -3,8 +3,6 @@ ghost use Rattle.std.specs.Prelude.{◌≡◌, ℕ, ◌≤◌, ◌<◌, ◌^◌,
 ghost use Rattle.std.specs.Prelude.{IfSome, IsSome};
 ghost use Rattle.std.specs.List.{list_any};
 ghost use Rattle.std.specs.Option.{ForSome, option_to_list, option_map_or, option_and_then};
-ghost use Rattle.whitelist.specs.Whitelist.{holds};
-ghost use Rattle.registry.specs.Values.{value_at};
 ghost use Rattle.pipe_table.specs.PipeRows.{IsDynamic, pipe_at, lowest_free, joins_host};
 ghost use Rattle.hci_tables.specs.Commands.{IsCommand};
 ghost use Rattle.gate_answers.specs.Answers.{first_of};
@@ -78,18 +76,15 @@ pub fn is_opened(tables: &Tables, host: u8, pipe: u8) -> bool
     ensures { result ≡ is_opened tables.now host pipe }
 {
     if pipe < FIRST_DYNAMIC {
-        return is_among(tables.statics(), host, pipe);
+        return tables
+            .statics()
+            .iter()
+            .any(|pair| pair.0 == host && pair.1 == pipe);
     }
     match tables.pipes().find(pipe) {
         Some(row) => row.opened,
         None => false,
     }
-}
-
-fn is_among(statics: &[(u8, u8)], host: u8, pipe: u8) -> bool
-    ensures { result ≡ list_any (λ static. static.0 == host && static.1 == pipe) statics.now }
-{
-    statics.iter().any(|pair| pair.0 == host && pair.1 == pipe)
 }
 
 // How many other opened dynamic pipes end where this one does.
@@ -209,21 +204,11 @@ fn refusal_to_create(
 fn allows(tables: &Tables, dest: u8, host: u8) -> bool
     ensures { result ≡ allows tables.now dest host }
 {
-    1 <= dest && dest <= 7 && whitelist_holds(tables, dest, host)
-}
-
-fn whitelist_holds(tables: &Tables, dest: u8, host: u8) -> bool
-    requires some { 1 ≤ dest }
-    requires host { dest ≤ 7 }
-    ensures { result ≡ holds (value_at tables.now.values dest 0 3) host }
-{
-    holds(
-        tables
-            .registry()
-            .get(dest, ADMINISTRATION_GATE, WHITELIST)
-            .as_slice(),
-        host,
-    )
+    if !(1 <= dest && dest <= 7) {
+        return false;
+    }
+    let list = tables.registry().get(dest, ADMINISTRATION_GATE, WHITELIST);
+    holds(list.as_slice(), host)
 }
 
 // A pipe to the controller is made at once; for one to another host that host is asked.
