@@ -1,13 +1,14 @@
 -- What a controller does, case by case, over what its code keeps.
 use Rattle.std.proofs.Common.{◌≡◌, ℕ, Bool, true, false, cond, eqb, eq-eqb, ◌&&◌, List, [], ◌∷◌, refl, sym, subst, ap, ap₂, ◌∙◌}
-use Rattle.std.specs.Prelude.{Some, None, Ok, map}
+use Rattle.std.specs.Prelude.{Option, Some, None, Ok, map, option_map}
 use Rattle.std.specs.Option.{option_map_or}
 use Rattle.std.proofs.lemmas.Bool.{cond_both}
-use Rattle.hcp_packet.specs.declared.MessageKind.TheVariants.{Command as IsCommand, Response as IsResponse}
+use Rattle.hcp_packet.specs.declared.MessageKind.TheVariants.{Command as IsCommand, Event as IsEvent, Response as IsResponse}
 use Rattle.hcp_packet.specs.MessageHeader.{header_of}
 use Rattle.pipe_table.specs.declared.row.PipeRow.{PipeRow}
 use Rattle.hci_tables.specs.declared.command.Command.{Command}
 use Rattle.hci_tables.specs.declared.command.Command.TheVariants.{Create}
+use Rattle.hci_tables.specs.Tables.{HciTables}
 use Rattle.hci_store.specs.Stored.{Stored}
 use Rattle.gate_answers.specs.Answers.{instruction_in, body_in}
 use Rattle.gate_admin.specs.declared.view.LinkView.{LinkView}
@@ -16,21 +17,21 @@ use Rattle.gate_admin.specs.declared.decision.Decision.TheVariants.{Commit}
 use Rattle.gate_admin.specs.View.{has, hosts_where}
 use Rattle.gate_admin.specs.Decide.{decided}
 use Rattle.link_laws.specs.machine.Machine.{Message}
-use Rattle.node_machine.specs.Parts.{Core, Port}
+use Rattle.node_machine.specs.Parts.{About, Core, Port, Deed}
 use Rattle.node_machine.specs.Parts.Deed.{Commits, Sends, SaysOk, Tells, Drops}
 use Rattle.node_machine.specs.Carrying.{port_at, has_room_for, own_view}
 use Rattle.node_machine.specs.Controller.{asks_for, view_for, commit_deeds, decision_deeds, gate_deeds, own_gate, goes_through, served_at, command_deeds}
-use Rattle.node_machine.specs.Controller.{agreed, view_of, about_at, notice_deeds}
-use Rattle.node_machine.specs.Controller.{unless_asking, if_notice, kind_deeds, controller_deeds}
-use Rattle.node_deeds.specs.declared.desks.About.{About as KeptAbout}
+use Rattle.node_machine.specs.Controller.{agreed, view_of, about_at, about_of, notice_deeds, has_link}
+use Rattle.node_machine.specs.Controller.{unless_asking, if_notice, event_deeds, kind_deeds, relayed_to, own_deeds, deeds_by_relay, controller_deeds}
 use Rattle.node_deeds.specs.declared.desks.About.TheVariants as about
+use Rattle.node_deeds.specs.declared.desks.Unanswered.{Unanswered}
 use Rattle.node_deeds.specs.declared.desks.Desk.{Desk as KeptDesk}
-use Rattle.node_deeds.specs.Shown.{creation_of_row, ports_shown, AreSeen}
+use Rattle.node_deeds.specs.Shown.{creation_of_row, about_shown, notice_shown, ports_shown, AreSeen}
 use Rattle.node_deeds.specs.Desks.{desk_of}
 use Rattle.node_deeds.specs.Cores.{controller_core, IsCoreOf, IsSoundDesk, AreSoundDesks}
-use Rattle.node_deeds.specs.Replies.{about_deeds}
 use Rattle.node_deeds.proofs.Headers.{command_instruction}
 use Rattle.node_deeds.proofs.Ports.{deeds_alike}
+use Rattle.node_deeds.proofs.Views.{link_found}
 
 -- ## Messages
 
@@ -45,10 +46,14 @@ module _ (core : Core) (ports : List Port) (h : ℕ) (m : Message) where
       ap (λ k. command_deeds (view_of core ports) h m.0 k (body_in m.1)) (sym (command_instruction m.1 n e))
       ∙ (ap (λ b. unless_asking (view_of core ports) h m n b) (sym free) ∙ ap (λ x. kind_deeds (view_of core ports) h m x) (sym e))
 
-  pub kind_replies : (code : ℕ) → header_of m.1 ≡ Ok (IsResponse, code) → m.0 ≡ 1
-      → notice_deeds (own_view core) code (about_at (port_at ports h)) ≡ kind_deeds (view_of core ports) h m (header_of m.1)
-  kind_replies code e one =
-      ap (λ b. if_notice (view_of core ports) h m code b) (sym (eq-eqb m.0 1 one)) ∙ ap (λ x. kind_deeds (view_of core ports) h m x) (sym e)
+  pub kind_tells : (n : ℕ) → header_of m.1 ≡ Ok (IsEvent, n) → event_deeds core.tables h m ≡ kind_deeds (view_of core ports) h m (header_of m.1)
+  kind_tells n e = ap (λ x. kind_deeds (view_of core ports) h m x) (sym e)
+
+  pub kind_replies : (code : ℕ) (what : Option About) → what ≡ about_at (port_at ports h) → header_of m.1 ≡ Ok (IsResponse, code) → m.0 ≡ 1
+      → notice_deeds (own_view core) code what ≡ kind_deeds (view_of core ports) h m (header_of m.1)
+  kind_replies code what same e one =
+      ap (λ o. notice_deeds (own_view core) code o) same
+      ∙ (ap (λ b. if_notice (view_of core ports) h m code b) (sym (eq-eqb m.0 1 one)) ∙ ap (λ x. kind_deeds (view_of core ports) h m x) (sym e))
 
   pub gate_serves : (pipe n gate errors : ℕ) (body : List ℕ) → cond (goes_through core.tables h pipe n) (own_gate core.tables h pipe) None ≡ Some gate
       → errors ≡ option_map_or (λ (p : Port). p.desk.errors) (port_at ports h) 0
@@ -73,13 +78,14 @@ decision_commits core h pipe decision c answer tell notice e room =
     ap (λ b. commit_deeds b h pipe c answer.items (map (λ told. Tells told notice.items) (hosts_where (has tell)))) (sym room)
     ∙ ap (decision_deeds (own_view core) h pipe) (sym e)
 
-pub about_agrees : (core : Core) (code : ℕ) (row : PipeRow) (what : KeptAbout) → what ≡ about.Waits row
-    → (eqb code 0 && has_room_for core.journal (Create row)) ≡ true → agreed true (creation_of_row row) ≡ about_deeds core code what
-about_agrees core code row what e both = ap (λ b. agreed b (creation_of_row row)) (sym both) ∙ ap (about_deeds core code) (sym e)
-
-pub about_disagrees : (core : Core) (code : ℕ) (row : PipeRow) (what : KeptAbout) → what ≡ about.Waits row
-    → (eqb code 0 && has_room_for core.journal (Create row)) ≡ false → agreed false (creation_of_row row) ≡ about_deeds core code what
-about_disagrees core code row what e both = ap (λ b. agreed b (creation_of_row row)) (sym both) ∙ ap (about_deeds core code) (sym e)
+-- an answer to a notice about a creation that waits
+pub agreed_or_not : (core : Core) (code : ℕ) (o : Option Unanswered) (n : Unanswered) (row : PipeRow) (agrees : Bool) → o ≡ Some n
+    → n.about ≡ about.Waits row → (eqb code 0 && has_room_for core.journal (Create row)) ≡ agrees
+    → agreed agrees (creation_of_row row) ≡ notice_deeds (own_view core) code (about_of (option_map notice_shown o))
+agreed_or_not core code o n row agrees some waits both =
+    ap (λ b. agreed b (creation_of_row row)) (sym both)
+    ∙ (ap (λ what. notice_deeds (own_view core) code (Some (about_shown what))) (sym waits)
+    ∙ ap (λ o. notice_deeds (own_view core) code (about_of (option_map notice_shown o))) (sym some))
 
 pub second_fails : (a b : Bool) → b ≡ false → (a && b) ≡ false
 second_fails true b e = e
@@ -110,3 +116,24 @@ deeds_of_core s core up desks ports h m kept seen =
     deeds_alike (ports_shown up desks) ports (sym seen.same) (controller_core s.journal.state s.tables) h m
     ∙ (ap₂ (λ journal tables. controller_deeds (view_of (controller_core journal tables) ports) h m) (sym kept.journal) (sym kept.tables)
     ∙ same_core core ports h m)
+
+-- a message that isn't relayed
+pub not_relayed : {N : Type 0} (s : Stored N) (core : Core) (up : ℕ) (desks : List KeptDesk) (ports : List Port) (h : ℕ) (m : Message)
+    → IsCoreOf s core → AreSeen up desks ports → (t : HciTables) → t ≡ s.tables → None ≡ relayed_to t h m
+    → (linked : Bool) → linked ≡ has_link (ports_shown up desks) h → (done : List Deed)
+    → done ≡ own_deeds (view_of (controller_core s.journal.state s.tables) (ports_shown up desks)) h m linked
+    → done ≡ controller_deeds (view_of core ports) h m
+not_relayed s core up desks ports h m kept seen t same none linked link done own =
+    let v = view_of (controller_core s.journal.state s.tables) (ports_shown up desks) in
+    own
+    ∙ (ap (own_deeds v h m) link
+    ∙ (ap (deeds_by_relay v h m) (none ∙ ap (λ t. relayed_to t h m) same) ∙ deeds_of_core s core up desks ports h m kept seen))
+
+-- one of a host whose link is up
+pub own_done : {N : Type 0} (s : Stored N) (core : Core) (up : ℕ) (desks : List KeptDesk) (ports : List Port) (h : ℕ) (m : Message)
+    → IsCoreOf s core → AreSeen up desks ports → (t : HciTables) → t ≡ s.tables → None ≡ relayed_to t h m
+    → (d : KeptDesk) → Some d ≡ desk_of desks h → (b : Bool) → b ≡ has up d.host → b ≡ true → (done : List Deed)
+    → done ≡ kind_deeds (view_of (controller_core s.journal.state s.tables) (ports_shown up desks)) h m (header_of m.1)
+    → done ≡ controller_deeds (view_of core ports) h m
+own_done s core up desks ports h m kept seen t same none d found b up_is on done own =
+    not_relayed s core up desks ports h m kept seen t same none true (sym on ∙ (up_is ∙ link_found up desks h (Some d) found)) done own

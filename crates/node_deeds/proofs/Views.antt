@@ -9,18 +9,16 @@ use Rattle.pipe_table.specs.declared.row.PipeRow.{PipeRow}
 use Rattle.hci_tables.specs.Tables.{HciTables, is_opened}
 use Rattle.gate_admin.specs.View.{has, mask_of, hosts_where}
 use Rattle.gate_admin.proofs.ViewLemmas.{hosts_below, hosts_below-left, mask_of-taken, double}
-use Rattle.node_machine.specs.Parts.{Creation, Core, Port, Deed}
-use Rattle.node_machine.specs.Parts.Deed.{Drops}
-use Rattle.node_machine.specs.Carrying.{port_at, own_view}
+use Rattle.node_machine.specs.Parts.{Creation, Port}
+use Rattle.node_machine.specs.Carrying.{port_at}
 use Rattle.node_machine.specs.Controller.{has_link, asks_for, asked_at, is_asked_at, creation_in, pipe_of, waiting_pipes, is_connected_at, view_for}
-use Rattle.node_machine.specs.Controller.{notice_deeds, about_at, about_of}
+use Rattle.node_machine.specs.Controller.{about_at, about_of}
 use Rattle.node_deeds.specs.declared.desks.About.{About as KeptAbout}
 use Rattle.node_deeds.specs.declared.desks.About.TheVariants as about
 use Rattle.node_deeds.specs.declared.desks.Unanswered.{Unanswered}
 use Rattle.node_deeds.specs.declared.desks.Desk.{Desk as KeptDesk}
 use Rattle.node_deeds.specs.Shown.{about_shown, notice_shown, port_shown, ports_shown, row_about, row_noticed, row_waits_for, awaited_pipe}
 use Rattle.node_deeds.specs.Desks.{desk_of, configured_by, connected_by, noticed_by, asked_in, asked_by, errors_by}
-use Rattle.node_deeds.specs.Replies.{about_deeds}
 use Rattle.node_deeds.proofs.Ports.{find-map, hosts_same, view_with, view_made}
 
 -- ## One end
@@ -85,43 +83,10 @@ waiting_shown : (up : ℕ) (desks : List KeptDesk) → filter_map awaited_pipe d
 waiting_shown up [] = refl
 waiting_shown up (d ∷ desks) = ap₂ (λ o pipes. cons_option o pipes) (pipe_shown d.notice) (waiting_shown up desks)
 
--- an answer to the notice of the desk that is found
-notice_reply : Core → ℕ → Option Unanswered → List Deed
-notice_reply core code None = Drops 1 ∷ []
-notice_reply core code (Some n) = about_deeds core code n.about
-
-notice_replied : (core : Core) (code : ℕ) (o : Option Unanswered)
-    → notice_reply core code o ≡ notice_deeds (own_view core) code (about_of (option_map notice_shown o))
-unfolding notice_reply
-notice_replied core code None = refl
-notice_replied core code (Some n) = by_about n.age n.about where
-  by_about : (age : ℕ) (a : KeptAbout)
-      → about_deeds core code a ≡ notice_deeds (own_view core) code (about_of (Some (record { about = about_shown a; age = age })))
-  by_about age (about.Waits row) = refl
-  by_about age about.Forgotten = refl
-  by_about age about.Removed = refl
-
-reply_found : (core : Core) (code up : ℕ) (desks : List KeptDesk) (h : ℕ) (o : Option KeptDesk) → o ≡ desk_of desks h
-    → notice_deeds (own_view core) code (about_at (option_map (port_shown up) o))
-    ≡ notice_deeds (own_view core) code (about_at (port_at (ports_shown up desks) h))
-reply_found core code up desks h o found =
-    ap (λ (o : Option Port). notice_deeds (own_view core) code (about_at o)) (port_found up desks h o found)
-
-pub no_desk : (core : Core) (code up : ℕ) (desks : List KeptDesk) (h : ℕ) → None ≡ desk_of desks h
-    → Drops 1 ∷ [] ≡ notice_deeds (own_view core) code (about_at (port_at (ports_shown up desks) h))
-no_desk core code up desks h found = reply_found core code up desks h None found
-
-pub no_notice : (core : Core) (code up : ℕ) (desks : List KeptDesk) (h : ℕ) (d : KeptDesk) → Some d ≡ desk_of desks h → d.notice ≡ None
-    → Drops 1 ∷ [] ≡ notice_deeds (own_view core) code (about_at (port_at (ports_shown up desks) h))
-unfolding notice_reply
-no_notice core code up desks h d found none =
-    ap (notice_reply core code) (sym none) ∙ (notice_replied core code d.notice ∙ reply_found core code up desks h (Some d) found)
-
-pub one_notice : (core : Core) (code up : ℕ) (desks : List KeptDesk) (h : ℕ) (d : KeptDesk) (n : Unanswered) → Some d ≡ desk_of desks h
-    → d.notice ≡ Some n → about_deeds core code n.about ≡ notice_deeds (own_view core) code (about_at (port_at (ports_shown up desks) h))
-unfolding notice_reply
-one_notice core code up desks h d n found some =
-    ap (notice_reply core code) (sym some) ∙ (notice_replied core code d.notice ∙ reply_found core code up desks h (Some d) found)
+-- what the notice to the host of the desk that is found is about
+pub about_found : (up : ℕ) (desks : List KeptDesk) (h : ℕ) (d : KeptDesk) → Some d ≡ desk_of desks h
+    → about_of (option_map notice_shown d.notice) ≡ about_at (port_at (ports_shown up desks) h)
+about_found up desks h d found = ap about_at (port_found up desks h (Some d) found)
 
 -- ## Masks
 

@@ -1,36 +1,23 @@
-//! Deeds that answer, and those that wait for room in the journal.
+//! Deeds that answer.
 ghost use Rattle.std.specs.Prelude.{◌≡◌, ◌∷◌, [], ◌<◌, ◌≤◌, ◌^◌, IsTrue, IsSome, length};
 ghost use Rattle.hci_tables.specs.Commands.{IsCommand};
 ghost use Rattle.gate_answers.specs.Answers.{IsCommandMessage, answer_of, instruction_in, body_in};
 ghost use Rattle.gate_link.specs.Link.{link_served};
-ghost use Rattle.node_machine.specs.Carrying.{has_room_for};
 ghost use Rattle.node_machine.specs.Controller.{answers_on, link_deeds};
 ghost use Rattle.node_deeds.specs.Shown.{Handling, deeds_shown};
-ghost use Rattle.node_deeds.specs.Cores.{IsReady, AreDoable};
+ghost use Rattle.node_deeds.specs.Cores.{AreDoable};
 ghost use Rattle.node_deeds.specs.declared.deeds.Deed.TheVariants as kept;
 
-use crate::deeds::{Deed, Deeds, only};
+use crate::deeds::{Deed, Deeds};
 use gate_answers::{Answer, Response, refused};
-use hci_store::Store;
 use hci_tables::Command;
-use swp_base::Nv;
-
-/// Whether the journal has room for a command. The store stays as it is.
-pub(crate) fn has_room<N: Nv + Drop>(store: &mut Store<N>, command: &Command) -> bool
-    requires ready { IsReady store.old }
-    requires command { IsCommand command.now }
-    ensures room { result ≡ has_room_for store.old.journal.state command.now }
-    ensures unchanged { store.new ≡ store.old }
-{
-    store.room(command)
-}
 
 /// The message is dropped.
 pub(crate) fn dropped(deeds: &mut Deeds, pipe: u8)
     requires none { deeds.old.items ≡ [] }
     ensures { deeds.new.items ≡ kept.Drops pipe ∷ [] }
 {
-    only(deeds, Deed::Drops { pipe });
+    deeds.push(Deed::Drops { pipe });
 }
 
 /// The message goes on to a host.
@@ -38,7 +25,7 @@ pub(crate) fn passed_on(deeds: &mut Deeds, host: u8)
     requires none { deeds.old.items ≡ [] }
     ensures { deeds.new.items ≡ kept.PassesOn host ∷ [] }
 {
-    only(deeds, Deed::PassesOn { host });
+    deeds.push(Deed::PassesOn { host });
 }
 
 /// An answer to a host on the pipe of its command.
@@ -46,14 +33,11 @@ pub(crate) fn answered(deeds: &mut Deeds, host: u8, pipe: u8, message: Answer)
     requires none { deeds.old.items ≡ [] }
     ensures { deeds.new.items ≡ kept.Sends host pipe message ∷ [] }
 {
-    only(
-        deeds,
-        Deed::Sends {
-            host,
-            pipe,
-            message,
-        },
-    );
+    deeds.push(Deed::Sends {
+        host,
+        pipe,
+        message,
+    });
 }
 
 /// An answer of this code alone.
@@ -69,7 +53,7 @@ pub(crate) fn committed(deeds: &mut Deeds, host: u8, pipe: u8, command: Command,
     requires none { deeds.old.items ≡ [] }
     ensures { deeds.new.items ≡ kept.Commits command ∷ kept.Sends host pipe message ∷ kept.SaysOk ∷ [] }
 {
-    only(deeds, Deed::Commits(command));
+    deeds.push(Deed::Commits(command));
     deeds.push(Deed::Sends {
         host,
         pipe,
@@ -90,7 +74,7 @@ pub(crate) fn link_answered(deeds: &mut Deeds, errors: u16, host: u8, pipe: u8, 
     let (answer, set) = gate_link::serve(errors, message);
     match set {
         Some(errors) => {
-            only(deeds, Deed::SetsErrors { errors });
+            deeds.push(Deed::SetsErrors { errors });
             deeds.push(Deed::Sends {
                 host,
                 pipe,

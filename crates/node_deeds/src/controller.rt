@@ -1,10 +1,9 @@
 //! What a controller does with a message of a host.
 ghost use Rattle.std.specs.Prelude.{◌≡◌, [], ℕ, ◌≤◌, ◌<◌, ◌==◌, ◌&&◌, if◌then◌else◌, List, length, None};
 ghost use Rattle.std.specs.List.{list_any};
-ghost use Rattle.hcp_packet.specs.MessageHeader.{header_of};
 ghost use Rattle.gate_answers.specs.Answers.{IsCommandMessage, instruction_in, body_in};
 ghost use Rattle.node_machine.specs.Parts.{Core, Port};
-ghost use Rattle.node_machine.specs.Controller.{has_link, gate_deeds, own_gate, goes_through, command_deeds, event_deeds, kind_deeds, relay_deeds, view_of};
+ghost use Rattle.node_machine.specs.Controller.{has_link, gate_deeds, own_gate, goes_through, command_deeds, event_deeds, relay_deeds, view_of};
 ghost use Rattle.node_machine.specs.Controller.{is_command_message};
 ghost use Rattle.node_machine.specs.Controller.{controller_deeds};
 ghost use Rattle.node_deeds.specs.Shown.{ports_shown, row_waits_for, deeds_shown, AreSeen};
@@ -12,10 +11,10 @@ ghost use Rattle.node_deeds.specs.Cores.{controller_core, handled, IsReady, IsCo
 
 use crate::answering::{answered, dropped, link_answered, passed_on, refused_on};
 use crate::deeds::Deeds;
-use crate::desks::Desk;
+use crate::desks::{Desk, desk_at};
 use crate::pipes::{goes_through, is_gate, own_gate, relayed_to};
 use crate::replies::{administered, replied};
-use crate::view::{ADMINISTRATION_PIPE, errors_at, is_asking, is_linked, view_for};
+use crate::view::{ADMINISTRATION_PIPE, errors_at, is_asking, is_in, is_linked, view_for};
 use gate_admin::is_opened;
 use gate_answers::{IDENTITY_GATE, LINK_MANAGEMENT_GATE, LOOPBACK_GATE, Response, instruction_of};
 use gate_loopback::posts_back;
@@ -52,15 +51,42 @@ pub fn put_controller_deeds<N: Nv + Drop>(
     ensures doable { AreDoable deeds.new.items }
     ensures unchanged { store.new ≡ store.old }
 {
-    match relayed_to(store.tables(), host, pipe, message) {
-        Some(other) => relayed(deeds, desks, up, host, other, pipe, message),
-        None => {
-            if is_linked(desks, up, host) {
-                own_deeds(deeds, store, desks, up, host, pipe, message)
+    if let Some(other) = relayed_to(store.tables(), host, pipe, message) {
+        relayed(deeds, desks, up, host, other, pipe, message);
+        return;
+    }
+    let Some(desk) = desk_at(desks, host) else {
+        dropped(deeds, pipe);
+        return;
+    };
+    if !is_in(up, desk.host) {
+        dropped(deeds, pipe);
+        return;
+    }
+    match read_header(message) {
+        // A command of a host whose creation waits is dropped on pipe 01.
+        Ok((MessageKind::Command, _instruction)) => {
+            if is_waiting(desks, host, pipe) {
+                dropped(deeds, pipe)
+            } else {
+                commanded(deeds, store, desks, up, host, pipe, message)
+            }
+        }
+        Ok((MessageKind::Event, _instruction)) => posted(
+            deeds,
+            store.tables(),
+            host,
+            pipe,
+            message,
+        ),
+        Ok((MessageKind::Response, code)) => {
+            if pipe == ADMINISTRATION_PIPE {
+                replied(deeds, store, desk, code)
             } else {
                 dropped(deeds, pipe)
             }
         }
+        Err(_fault) => dropped(deeds, pipe),
     }
 }
 
@@ -87,55 +113,6 @@ fn is_command(message: &[u8]) -> bool
     ensures { result ≡ is_command_message message.now }
 {
     matches!(read_header(message), Ok((MessageKind::Command, _)))
-}
-
-// A message that isn't relayed, of a host whose link is up. A command of one whose creation waits is dropped on pipe 01.
-fn own_deeds<N: Nv + Drop>(
-    deeds: &mut Deeds,
-    store: &mut Store<N>,
-    desks: &[Desk],
-    up: u8,
-    host: u8,
-    pipe: u8,
-    message: &[u8],
-)
-    requires ready { IsReady store.old }
-    requires few { length desks.now ≤ 7 }
-    requires sound { AreSoundDesks desks.now }
-    requires some { 1 ≤ host }
-    requires host { host ≤ 7 }
-    requires pipe { pipe < 112 }
-    requires none { deeds.old.items ≡ [] }
-    ensures deeds { deeds_shown (handled pipe message.now) deeds.new.items
-        ≡ kind_deeds (view_of (controller_core store.old.journal.state store.old.tables) (ports_shown up desks.now)) host (pipe, message.now)
-        (header_of message.now) }
-    ensures doable { AreDoable deeds.new.items }
-    ensures unchanged { store.new ≡ store.old }
-{
-    match read_header(message) {
-        Ok((MessageKind::Command, _instruction)) => {
-            if is_waiting(desks, host, pipe) {
-                dropped(deeds, pipe)
-            } else {
-                commanded(deeds, store, desks, up, host, pipe, message)
-            }
-        }
-        Ok((MessageKind::Event, _instruction)) => posted(
-            deeds,
-            store.tables(),
-            host,
-            pipe,
-            message,
-        ),
-        Ok((MessageKind::Response, code)) => {
-            if pipe == ADMINISTRATION_PIPE {
-                replied(deeds, store, desks, host, code)
-            } else {
-                dropped(deeds, pipe)
-            }
-        }
-        Err(_fault) => dropped(deeds, pipe),
-    }
 }
 
 // A command on this pipe of the host waits for the answer to an earlier creation.

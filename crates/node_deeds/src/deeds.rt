@@ -64,14 +64,6 @@ impl Default for Deed {
 /// tells up to six others. This project's own.
 pub type Deeds = ArrayVec<Deed, 9>;
 
-/// No deed but this one is done.
-pub(crate) fn only(deeds: &mut Deeds, deed: Deed)
-    requires none { deeds.old.items ≡ [] }
-    ensures { deeds.new.items ≡ deed ∷ [] }
-{
-    deeds.push(deed);
-}
-
 /// The two ends of a pipe and its number, as the notice and the answer of its creation carry them.
 pub(crate) fn ends_of(row: &PipeRow) -> [u8; 5]
     ensures { result ≡ ends_of row.now }

@@ -9,7 +9,7 @@ ghost use Rattle.node_deeds.specs.Shown.{Handling, deeds_shown};
 ghost use Rattle.node_deeds.specs.Cores.{IsReady, AreDoable};
 ghost use Rattle.node_deeds.specs.Hosts.{host_core};
 
-use crate::answering::{body_in, committed, has_room, refused_on};
+use crate::answering::{body_in, committed, refused_on};
 use crate::deeds::Deeds;
 use crate::view::ADMINISTRATION_PIPE;
 use gate_answers::{
@@ -65,7 +65,7 @@ fn accepts<N: Nv + Drop>(deeds: &mut Deeds, store: &mut Store<N>, host: u8, comm
     ensures doable { AreDoable deeds.new.items }
     ensures unchanged { store.new ≡ store.old }
 {
-    if has_room(store, &command) {
+    if store.room(&command) {
         committed(
             deeds,
             host,

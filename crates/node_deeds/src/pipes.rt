@@ -3,7 +3,7 @@ ghost use Rattle.std.specs.Prelude.{◌≡◌};
 ghost use Rattle.node_machine.specs.Controller.{own_gate, goes_through, relayed_to};
 ghost use Rattle.pipe_table.specs.PipeRows.{pipe_at};
 ghost use Rattle.node_machine.specs.HostReplies.{is_gate};
-ghost use Rattle.node_deeds.specs.Pipes.{is_opening_or_closing, gate_in};
+ghost use Rattle.node_deeds.specs.Pipes.{gate_in};
 
 use gate_admin::{far_end, is_opened};
 use gate_answers::{ADMINISTRATION_GATE, ANY_CLOSE_PIPE, ANY_OPEN_PIPE};
@@ -33,23 +33,17 @@ pub(crate) fn goes_through(tables: &Tables, host: u8, pipe: u8, instruction: u8)
 pub(crate) fn relayed_to(tables: &Tables, host: u8, pipe: u8, message: &[u8]) -> Option<u8>
     ensures { result ≡ relayed_to tables.now host (pipe, message.now) }
 {
-    if !is_opened(tables, host, pipe) || opens_or_closes(message) {
+    let opens_or_closes = matches!(
+        read_header(message),
+        Ok((MessageKind::Command, ANY_OPEN_PIPE | ANY_CLOSE_PIPE))
+    );
+    if !is_opened(tables, host, pipe) || opens_or_closes {
         return None;
     }
     match far_end(tables, host, pipe) {
         Some((other, _gate)) if other != 0 => Some(other),
         _ => None,
     }
-}
-
-// Whether a message is a command that opens or closes a pipe.
-fn opens_or_closes(message: &[u8]) -> bool
-    ensures { result ≡ is_opening_or_closing message.now }
-{
-    matches!(
-        read_header(message),
-        Ok((MessageKind::Command, ANY_OPEN_PIPE | ANY_CLOSE_PIPE))
-    )
 }
 
 /// Whether this is the gate.

@@ -1,20 +1,19 @@
 //! What a controller does where its administration gate has decided, and where a host has answered a notice.
-ghost use Rattle.std.specs.Prelude.{◌≡◌, [], ℕ, ◌≤◌, ◌<◌, ◌++◌, true, false, map, length};
+ghost use Rattle.std.specs.Prelude.{◌≡◌, [], ℕ, ◌≤◌, ◌<◌, ◌++◌, true, false, map, option_map, length};
 ghost use Rattle.pipe_table.specs.declared.row.PipeRow.{PipeRow};
 ghost use Rattle.hci_tables.specs.Commands.{IsCommand};
 ghost use Rattle.gate_answers.specs.Answers.{IsCommandMessage, instruction_in, body_in};
 ghost use Rattle.gate_admin.specs.View.{has, hosts_where};
 ghost use Rattle.gate_admin.specs.Decide.{decided, IsRecordableDecision};
 ghost use Rattle.node_machine.specs.Parts.Deed.{Tells};
-ghost use Rattle.node_machine.specs.Carrying.{port_at, has_room_for, own_view};
-ghost use Rattle.node_machine.specs.Controller.{decision_deeds, agreed, about_at, notice_deeds};
-ghost use Rattle.node_deeds.specs.Shown.{Handling, ports_shown, deeds_shown, creation_of_row};
-ghost use Rattle.node_deeds.specs.Cores.{controller_core, handled, IsReady, AreDoable, AreSoundDesks, IsSoundDecision, TellsFew};
-ghost use Rattle.node_deeds.specs.Replies.{about_deeds, IsSoundAbout};
+ghost use Rattle.node_machine.specs.Carrying.{own_view};
+ghost use Rattle.node_machine.specs.Controller.{decision_deeds, agreed, about_of, notice_deeds};
+ghost use Rattle.node_deeds.specs.Shown.{Handling, notice_shown, deeds_shown, creation_of_row};
+ghost use Rattle.node_deeds.specs.Cores.{controller_core, handled, IsReady, AreDoable, IsSoundDesk, IsSoundDecision, TellsFew};
 
-use crate::answering::{answered, committed, dropped, has_room, refused_on};
-use crate::deeds::{Deed, Deeds, ends_of, only};
-use crate::desks::{About, Desk, desk_at};
+use crate::answering::{answered, committed, dropped, refused_on};
+use crate::deeds::{Deed, Deeds, ends_of};
+use crate::desks::{About, Desk};
 use crate::view::{ADMINISTRATION_PIPE, is_in};
 use gate_admin::{Decision, LinkView, decide};
 use gate_answers::{Notice, Response, answer, refused};
@@ -73,14 +72,14 @@ fn done<N: Nv + Drop>(
             tell,
             notice,
         } => {
-            if has_room(store, &command) {
+            if store.room(&command) {
                 committed(deeds, host, pipe, command, answer);
                 tell_hosts(deeds, tell, &notice);
             } else {
                 refused_on(deeds, host, pipe, Response::NotOk)
             }
         }
-        Decision::Ask { command, .. } => only(deeds, Deed::Asks(created_by(command))),
+        Decision::Ask { command, .. } => deeds.push(Deed::Asks(created_by(command))),
     }
 }
 
@@ -122,52 +121,30 @@ fn copy_of(notice: &Notice) -> Notice
     copy
 }
 
-/// A host has answered with this code on pipe 01: its notice is answered, and the creation that it was asked for is done or not,
+/// The host of this desk has answered with this code on pipe 01: its notice is answered, and the creation that it was asked for is done or not,
 /// where it waits.
-pub(crate) fn replied<N: Nv + Drop>(
-    deeds: &mut Deeds,
-    store: &mut Store<N>,
-    desks: &[Desk],
-    host: u8,
-    code: u8,
-)
+pub(crate) fn replied<N: Nv + Drop>(deeds: &mut Deeds, store: &mut Store<N>, desk: &Desk, code: u8)
     requires ready { IsReady store.old }
-    requires sound { AreSoundDesks desks.now }
-    requires none { deeds.old.items ≡ [] }
-    ensures deeds { (a : Handling) (up : ℕ) → deeds_shown a deeds.new.items
-        ≡ notice_deeds (own_view (controller_core store.old.journal.state store.old.tables)) code (about_at (port_at (ports_shown up desks.now) host)) }
-    ensures doable { AreDoable deeds.new.items }
-    ensures unchanged { store.new ≡ store.old }
-{
-    match desk_at(desks, host) {
-        Some(desk) => match desk.notice {
-            Some(notice) => settled(deeds, store, notice.about, code),
-            None => dropped(deeds, ADMINISTRATION_PIPE),
-        },
-        None => dropped(deeds, ADMINISTRATION_PIPE),
-    }
-}
-
-// The notice is answered by this code.
-fn settled<N: Nv + Drop>(deeds: &mut Deeds, store: &mut Store<N>, about: About, code: u8)
-    requires ready { IsReady store.old }
-    requires sound { IsSoundAbout about }
+    requires sound { IsSoundDesk desk.now }
     requires none { deeds.old.items ≡ [] }
     ensures deeds { (a : Handling) → deeds_shown a deeds.new.items
-        ≡ about_deeds (controller_core store.old.journal.state store.old.tables) code about }
+        ≡ notice_deeds (own_view (controller_core store.old.journal.state store.old.tables)) code (about_of (option_map notice_shown desk.now.notice)) }
     ensures doable { AreDoable deeds.new.items }
     ensures unchanged { store.new ≡ store.old }
 {
-    match about {
-        About::Waits(row) => {
-            if code == 0 && has_room(store, &Command::Create(row)) {
-                agreed(deeds, row)
-            } else {
-                disagreed(deeds, &row)
+    match desk.notice {
+        Some(notice) => match notice.about {
+            About::Waits(row) => {
+                if code == 0 && store.room(&Command::Create(row)) {
+                    agreed(deeds, row)
+                } else {
+                    disagreed(deeds, &row)
+                }
             }
-        }
-        About::Forgotten => only(deeds, Deed::IsAnswered),
-        About::Removed => only(deeds, Deed::IsAnswered),
+            About::Forgotten => deeds.push(Deed::IsAnswered),
+            About::Removed => deeds.push(Deed::IsAnswered),
+        },
+        None => dropped(deeds, ADMINISTRATION_PIPE),
     }
 }
 
@@ -179,7 +156,7 @@ fn agreed(deeds: &mut Deeds, row: PipeRow)
     ensures doable { AreDoable deeds.new.items }
 {
     let message = answer(Response::Ok, &ends_of(&row));
-    only(deeds, Deed::IsAnswered);
+    deeds.push(Deed::IsAnswered);
     deeds.push(Deed::Commits(Command::Create(row)));
     deeds.push(Deed::Releases { asker: row.creator });
     deeds.push(Deed::Sends {
@@ -196,7 +173,7 @@ fn disagreed(deeds: &mut Deeds, row: &PipeRow)
     ensures deeds { (a : Handling) → deeds_shown a deeds.new.items ≡ agreed false (creation_of_row row.now) }
     ensures doable { AreDoable deeds.new.items }
 {
-    only(deeds, Deed::IsAnswered);
+    deeds.push(Deed::IsAnswered);
     deeds.push(Deed::Releases { asker: row.creator });
     deeds.push(Deed::Sends {
         host: row.creator,

@@ -11,8 +11,7 @@ ghost use Rattle.node_deeds.specs.Cores.{IsReady, AreDoable};
 ghost use Rattle.node_deeds.specs.Hosts.{host_core, handled_by, init_running, learned_of, heard_deeds, next_deeds};
 ghost use Rattle.journal_laws.specs.declared.state.State.{State};
 
-use crate::answering::has_room;
-use crate::deeds::{Deed, Deeds, InitEnd, only};
+use crate::deeds::{Deed, Deeds, InitEnd};
 use crate::host::Tasks;
 use crate::inits::{Init, Ordered, order_at};
 use crate::notices::pipe_named_in;
@@ -44,7 +43,7 @@ pub(crate) fn heard<N: Nv + Drop>(
     let Some(order) = tasks.command else {
         return;
     };
-    only(deeds, Deed::Hears);
+    deeds.push(Deed::Hears);
     learn_if_ok(deeds, store, host, code, order, value);
     if let Some(init) = &tasks.init {
         go_on(deeds, store, host, init, code, value);
@@ -114,7 +113,7 @@ fn learn_command<N: Nv + Drop>(deeds: &mut Deeds, store: &mut Store<N>, command:
     ensures doable { AreDoable deeds.new.items }
     ensures unchanged { store.new ≡ store.old }
 {
-    if command.is_recordable() && has_room(store, &command) {
+    if command.is_recordable() && store.room(&command) {
         deeds.push(Deed::Commits(command));
     }
 }

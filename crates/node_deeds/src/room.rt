@@ -39,37 +39,31 @@ fn lack_of(deed: &Deed, host: u8, len: usize, spares: &[u16]) -> Option<Shortfal
         → option_map lack_shown result ≡ lack_by (λ h. slice_index spares.now h) (needs host (deed_shown a deed.now ∷ [])) }
 {
     match deed {
-        Deed::PassesOn { host: to } => lack_at(spares, *to, blocks_for(len)),
+        Deed::PassesOn { host: to } => lack_at(spares, *to, len),
         Deed::Sends {
             host: to,
             message,
             ..
-        } => lack_at(spares, *to, blocks_for(message.len())),
+        } => lack_at(spares, *to, message.len()),
         Deed::Asks(row) => {
             let aside = lack_at(spares, row.creator, 1);
             if aside.is_some() {
                 return aside;
             }
-            lack_at(spares, row.dest, blocks_for(asking_notice(row).len()))
+            lack_at(spares, row.dest, asking_notice(row).len())
         }
-        Deed::Tells { host: to, message } => lack_at(spares, *to, blocks_for(message.len())),
-        Deed::Orders(order) => lack_at(spares, host, blocks_for(order.len())),
+        Deed::Tells { host: to, message } => lack_at(spares, *to, message.len()),
+        Deed::Orders(order) => lack_at(spares, host, order.len()),
         _ => None,
     }
 }
 
-// How many blocks a message of this length needs.
-fn blocks_for(len: usize) -> u16
+// A message of this length needs more blocks than are spare at the end of the link with a host.
+fn lack_at(spares: &[u16], host: u8, len: usize) -> Option<Shortfall>
     requires { len ≤ 4096 }
-    ensures { result ≡ (len + 31) / 32 }
+    ensures { option_map lack_shown result ≡ short_of (slice_index spares.now host) ((len + 31) / 32) }
 {
-    len.div_ceil(BLOCK_BYTES) as u16
-}
-
-// So many blocks are more than are spare at the end of the link with a host.
-fn lack_at(spares: &[u16], host: u8, need: u16) -> Option<Shortfall>
-    ensures { option_map lack_shown result ≡ short_of (slice_index spares.now host) need }
-{
+    let need = len.div_ceil(BLOCK_BYTES) as u16;
     let spare = spares.get(usize::from(host)).copied().unwrap_or(0);
     if spare < need {
         Some(Shortfall { need, spare })

@@ -1,9 +1,16 @@
-use Rattle.std.proofs.Common.{sym, ap, ◌∙◌}
-use Rattle.node_machine.specs.Controller.{relayed_to, own_deeds, deeds_by_relay, view_of}
+use Rattle.std.proofs.Common.{false, eqb, ◌&&◌, sym, ap, ◌∙◌}
+use Rattle.std.specs.Prelude.{Some, None, Ok}
+use Rattle.node_machine.specs.Controller.{relayed_to, deeds_by_relay, event_deeds, view_of}
 use Rattle.node_deeds.specs.Shown.{ports_shown, deeds_shown}
 use Rattle.node_deeds.specs.Cores.{controller_core, handled}
-use Rattle.node_deeds.proofs.Control.{deeds_of_core}
+use Rattle.node_deeds.proofs.Control.{desk_sound, kind_waits, kind_commands, kind_tells, kind_replies}
+use Rattle.node_deeds.proofs.Control.{deeds_of_core, not_relayed, own_done}
+use Rattle.node_deeds.proofs.Views.{link_found, asks_shown, about_found}
 use Rattle.node_deeds.proofs.controller.put_controller_deeds.Goals as goal
+
+pub replied-requires-clause-sound : goal.replied-requires-clause-sound
+replied-requires-clause-sound g c =
+    desk_sound c.args.desks.now c.args.host c.in-Some-desk_at.desk.now c.requires.sound (sym c.in-Some-desk_at.ensures)
 
 pub returns-in-Some-clause-deeds : goal.returns-in-Some-clause-deeds
 returns-in-Some-clause-deeds g c = λ core ports kept seen.
@@ -17,30 +24,84 @@ returns-in-Some-clause-deeds g c = λ core ports kept seen.
     ∙ (ap (deeds_by_relay (view_of (controller_core s.journal.state s.tables) (ports_shown up desks)) h a.message) (sym to)
     ∙ deeds_of_core s core up desks ports h a.message kept seen)
 
-pub returns-then-is_linked-clause-deeds : goal.returns-then-is_linked-clause-deeds
-returns-then-is_linked-clause-deeds g c = λ core ports kept seen.
+pub returns-in_default-desk_at-clause-deeds : goal.returns-in_default-desk_at-clause-deeds
+returns-in_default-desk_at-clause-deeds g c = λ core ports kept seen.
     let s = c.args.store.now in
     let h = c.args.host in
     let up = c.args.up in
     let desks = c.args.desks.now in
     let a = handled c.args.pipe c.args.message.now in
-    let to = ap (λ t. relayed_to t h a.message) (sym c.tables.ensures) ∙ (sym c.relayed_to.ensures ∙ c.in-None.is) in
-    let linked = sym c.is_linked.ensures ∙ c.if-is_linked.true in
-    c.own_deeds.ensures.deeds
-    ∙ (ap (own_deeds (view_of (controller_core s.journal.state s.tables) (ports_shown up desks)) h a.message) (sym linked)
-    ∙ (ap (deeds_by_relay (view_of (controller_core s.journal.state s.tables) (ports_shown up desks)) h a.message) (sym to)
-    ∙ deeds_of_core s core up desks ports h a.message kept seen))
+    not_relayed s core up desks ports h a.message kept seen _ c.tables.ensures c.in_default.ensures false
+    (link_found up desks h None c.in_default-desk_at.ensures) _ (ap (deeds_shown a) c.dropped.ensures)
 
-pub returns-else-is_linked-clause-deeds : goal.returns-else-is_linked-clause-deeds
-returns-else-is_linked-clause-deeds g c = λ core ports kept seen.
+pub returns-then-not-is_in-clause-deeds : goal.returns-then-not-is_in-clause-deeds
+returns-then-not-is_in-clause-deeds g c = λ core ports kept seen.
     let s = c.args.store.now in
     let h = c.args.host in
     let up = c.args.up in
     let desks = c.args.desks.now in
     let a = handled c.args.pipe c.args.message.now in
-    let to = ap (λ t. relayed_to t h a.message) (sym c.tables.ensures) ∙ (sym c.relayed_to.ensures ∙ c.in-None.is) in
-    let linked = sym c.is_linked.ensures ∙ c.if-is_linked.false in
-    ap (deeds_shown a) c.dropped.ensures
-    ∙ (ap (own_deeds (view_of (controller_core s.journal.state s.tables) (ports_shown up desks)) h a.message) (sym linked)
-    ∙ (ap (deeds_by_relay (view_of (controller_core s.journal.state s.tables) (ports_shown up desks)) h a.message) (sym to)
-    ∙ deeds_of_core s core up desks ports h a.message kept seen))
+    not_relayed s core up desks ports h a.message kept seen _ c.tables.ensures c.in_default.ensures false
+    (sym c.if-not-is_in.true ∙ (c.is_in.ensures ∙ link_found up desks h (Some c.in-Some-desk_at.desk.now) c.in-Some-desk_at.ensures)) _
+    (ap (deeds_shown a) c.dropped-then-not-is_in.ensures)
+
+pub returns-then-is_waiting-clause-deeds : goal.returns-then-is_waiting-clause-deeds
+returns-then-is_waiting-clause-deeds g c = λ core ports kept seen.
+    let s = c.args.store.now in
+    let h = c.args.host in
+    let up = c.args.up in
+    let desks = c.args.desks.now in
+    let a = handled c.args.pipe c.args.message.now in
+    let core_is = controller_core s.journal.state s.tables in
+    let arm = c.in-Ok-Command-default in
+    let header = sym c.read_header.ensures.header ∙ (arm.is ∙ ap (λ kind. Ok (kind, arm._instruction)) arm.field-0-0-is) in
+    let waits = ap (λ b. eqb c.args.pipe 1 && b) (sym (asks_shown up desks h)) ∙ (sym c.is_waiting.ensures ∙ c.if-is_waiting.true) in
+    own_done s core up desks ports h a.message kept seen _ c.tables.ensures c.in_default.ensures _ c.in-Some-desk_at.ensures _ c.is_in.ensures
+    c.if-not-is_in.false _
+    (ap (deeds_shown a) c.dropped-then-is_waiting.ensures ∙ kind_waits core_is (ports_shown up desks) h a.message arm._instruction header waits)
+
+pub returns-else-is_waiting-clause-deeds : goal.returns-else-is_waiting-clause-deeds
+returns-else-is_waiting-clause-deeds g c = λ core ports kept seen.
+    let s = c.args.store.now in
+    let h = c.args.host in
+    let up = c.args.up in
+    let desks = c.args.desks.now in
+    let a = handled c.args.pipe c.args.message.now in
+    let core_is = controller_core s.journal.state s.tables in
+    let arm = c.in-Ok-Command-default in
+    let header = sym c.read_header.ensures.header ∙ (arm.is ∙ ap (λ kind. Ok (kind, arm._instruction)) arm.field-0-0-is) in
+    let waits = ap (λ b. eqb c.args.pipe 1 && b) (sym (asks_shown up desks h)) ∙ (sym c.is_waiting.ensures ∙ c.if-is_waiting.false) in
+    own_done s core up desks ports h a.message kept seen _ c.tables.ensures c.in_default.ensures _ c.in-Some-desk_at.ensures _ c.is_in.ensures
+    c.if-not-is_in.false _
+    (c.commanded.ensures.deeds ∙ kind_commands core_is (ports_shown up desks) h a.message arm._instruction header waits)
+
+pub returns-in-Ok-Event-default-clause-deeds : goal.returns-in-Ok-Event-default-clause-deeds
+returns-in-Ok-Event-default-clause-deeds g c = λ core ports kept seen.
+    let s = c.args.store.now in
+    let h = c.args.host in
+    let up = c.args.up in
+    let desks = c.args.desks.now in
+    let a = handled c.args.pipe c.args.message.now in
+    let core_is = controller_core s.journal.state s.tables in
+    let arm = c.in-Ok-Event-default in
+    let header = sym c.read_header.ensures.header ∙ (arm.is ∙ ap (λ kind. Ok (kind, arm._instruction)) arm.field-0-0-is) in
+    own_done s core up desks ports h a.message kept seen _ c.tables.ensures c.in_default.ensures _ c.in-Some-desk_at.ensures _ c.is_in.ensures
+    c.if-not-is_in.false _
+    (c.posted.ensures.deeds ∙ (ap (λ t. event_deeds t h a.message) c.tables-in-Ok-Event-default.ensures
+    ∙ kind_tells core_is (ports_shown up desks) h a.message arm._instruction header))
+
+pub returns-then-pipe-eq-ADMINISTRATION_PIPE-clause-deeds : goal.returns-then-pipe-eq-ADMINISTRATION_PIPE-clause-deeds
+returns-then-pipe-eq-ADMINISTRATION_PIPE-clause-deeds g c = λ core ports kept seen.
+    let s = c.args.store.now in
+    let h = c.args.host in
+    let up = c.args.up in
+    let desks = c.args.desks.now in
+    let a = handled c.args.pipe c.args.message.now in
+    let core_is = controller_core s.journal.state s.tables in
+    let arm = c.in-Ok-Response-default in
+    let header = sym c.read_header.ensures.header ∙ (arm.is ∙ ap (λ kind. Ok (kind, arm.code)) arm.field-0-0-is) in
+    own_done s core up desks ports h a.message kept seen _ c.tables.ensures c.in_default.ensures _ c.in-Some-desk_at.ensures _ c.is_in.ensures
+    c.if-not-is_in.false _
+    (c.replied.ensures.deeds a
+    ∙ kind_replies core_is (ports_shown up desks) h a.message arm.code _ (about_found up desks h c.in-Some-desk_at.desk.now c.in-Some-desk_at.ensures) header
+    c.if-pipe-eq-ADMINISTRATION_PIPE.true)

@@ -1,31 +1,33 @@
-use Rattle.std.proofs.Common.{sym, subst, ap, ◌∙◌}
-use Rattle.node_deeds.specs.Shown.{deeds_shown, row_noticed}
-use Rattle.node_deeds.specs.Cores.{controller_core, IsSoundRow}
-use Rattle.node_deeds.proofs.Control.{desk_sound}
-use Rattle.node_deeds.proofs.Views.{no_desk, no_notice, one_notice}
+use Rattle.std.proofs.Common.{true, false, eqb, eq-eqb, sym, ◌∙◌}
+use Rattle.std.proofs.lemmas.Bool.{and_from, ne_eqb}
+use Rattle.hci_tables.specs.declared.command.Command.TheVariants.{Create}
+use Rattle.node_machine.specs.Carrying.{has_room_for}
+use Rattle.node_deeds.specs.Cores.{controller_core}
+use Rattle.node_deeds.proofs.Control.{agreed_or_not, first_fails, second_fails}
 use Rattle.node_deeds.proofs.replies.replied.Goals as goal
+use Rattle.node_deeds.proofs.replies.replied.Goals.{else-code-eq0-via-then-code-eq0+else-room, else-code-eq0-via-else-code-eq0}
 
-pub settled-requires-clause-sound : goal.settled-requires-clause-sound
-settled-requires-clause-sound g c =
-    let sound = desk_sound c.args.desks.now c.args.host c.in-Some.desk.now c.requires.sound (sym c.in-Some.ensures) in
-    subst (λ (o : _). IsSoundRow (row_noticed o)) c.in-Some-notice.is sound
-
-pub returns-in-Some-notice-clause-deeds : goal.returns-in-Some-notice-clause-deeds
-returns-in-Some-notice-clause-deeds g c =
+pub returns-then-room-clause-deeds : goal.returns-then-room-clause-deeds
+returns-then-room-clause-deeds g c =
     let s = c.args.store.now in
-    λ a up. c.settled.ensures.deeds a
-    ∙ one_notice (controller_core s.journal.state s.tables) c.args.code up c.args.desks.now c.args.host c.in-Some.desk.now c.in-Some-notice.notice
-    c.in-Some.ensures c.in-Some-notice.is
+    let row = c.in-Waits.row in
+    let core = controller_core s.journal.state s.tables in
+    let room = sym c.room.ensures.room ∙ c.if-room.true in
+    let both = and_from (eqb c.args.code 0) (has_room_for s.journal.state (Create row)) (eq-eqb c.args.code 0 c.if-code-eq0.true) room in
+    λ a. c.agreed.ensures.deeds a ∙ agreed_or_not core c.args.code c.args.desk.now.notice c.in-Some.notice row true c.in-Some.is c.in-Waits.is both
 
-pub returns-in-None-notice-clause-deeds : goal.returns-in-None-notice-clause-deeds
-returns-in-None-notice-clause-deeds g c =
+pub returns-else-code-eq0-clause-deeds : goal.returns-else-code-eq0-clause-deeds
+returns-else-code-eq0-clause-deeds g c =
     let s = c.args.store.now in
-    λ a up. ap (deeds_shown a) c.dropped.ensures
-    ∙ no_notice (controller_core s.journal.state s.tables) c.args.code up c.args.desks.now c.args.host c.in-Some.desk.now c.in-Some.ensures
-    c.in-None-notice.is
-
-pub returns-in-None-clause-deeds : goal.returns-in-None-clause-deeds
-returns-in-None-clause-deeds g c =
-    let s = c.args.store.now in
-    λ a up. ap (deeds_shown a) c.dropped-in-None.ensures
-    ∙ no_desk (controller_core s.journal.state s.tables) c.args.code up c.args.desks.now c.args.host c.in-None.ensures
+    let row = c.in-Waits.row in
+    let core = controller_core s.journal.state s.tables in
+    let otherwise = agreed_or_not core c.args.code c.args.desk.now.notice c.in-Some.notice row false c.in-Some.is c.in-Waits.is in
+    elim c.else-code-eq0.branch [
+      | else-code-eq0-via-then-code-eq0+else-room w ↦
+          let room = sym w.room.ensures.room ∙ w.if-room.false in
+          let both = second_fails (eqb c.args.code 0) (has_room_for s.journal.state (Create row)) room in
+          λ a. c.disagreed.ensures.deeds a ∙ otherwise both
+      | else-code-eq0-via-else-code-eq0 w ↦
+          let both = first_fails (eqb c.args.code 0) (has_room_for s.journal.state (Create row)) (ne_eqb c.args.code 0 w.if-code-eq0.false) in
+          λ a. c.disagreed.ensures.deeds a ∙ otherwise both
+    ]

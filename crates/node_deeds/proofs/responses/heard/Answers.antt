@@ -3,6 +3,7 @@ use Rattle.std.specs.Prelude.{Option, Some, None}
 use Rattle.node_machine.specs.Carrying.{own_view}
 use Rattle.node_machine.specs.Parts.Deed.{Hears}
 use Rattle.node_machine.specs.HostReplies.{init_deeds}
+use Rattle.node_deeds.specs.declared.deeds.Deed.TheVariants as deed
 use Rattle.node_deeds.specs.declared.inits.Init.{Init as KeptInit}
 use Rattle.node_deeds.specs.Shown.{deeds_shown, init_shown}
 use Rattle.node_deeds.specs.Hosts.{init_running, host_core, handled_by, learned_of, heard_deeds}
@@ -23,7 +24,8 @@ returns-in-Some-init-clause-deeds g c = λ pipe message.
     ∙ (ap (λ kept. deeds_shown a c.learn_if_ok.new.deeds.items
     ++ init_deeds (own_view (host_core host kept.journal.state kept.tables (Some i))) code value (Some i)) c.learn_if_ok.ensures.unchanged
     ∙ (ap (λ ds. ds ++ init_deeds (own_view core) code value (Some i))
-    (c.learn_if_ok.ensures.deeds a (Some i) ∙ ap (λ items. deeds_shown a items ++ learns) c.only.ensures)
+    (c.learn_if_ok.ensures.deeds a (Some i)
+    ∙ ap (λ items. deeds_shown a items ++ learns) (c.push.ensures.items ∙ ap (λ items. items ++ deed.Hears ∷ []) c.requires.none))
     ∙ ap (heard_deeds core code value) (sym c.in-Some.is))) in
     subst
     (λ (o : Option KeptInit). deeds_shown (handled_by host (init_running o) pipe message) c.go_on.new.deeds.items
@@ -41,7 +43,7 @@ returns-in_default-init-clause-deeds g c = λ pipe message.
     let learns = cond (eqb code 0) (learned_of core c.in-Some.order value) [] in
     let at : deeds_shown a c.learn_if_ok.new.deeds.items ≡ heard_deeds core code value c.args.tasks.now.command =
     c.learn_if_ok.ensures.deeds a None
-    ∙ (ap (λ items. deeds_shown a items ++ learns) c.only.ensures
+    ∙ (ap (λ items. deeds_shown a items ++ learns) (c.push.ensures.items ∙ ap (λ items. items ++ deed.Hears ∷ []) c.requires.none)
     ∙ (sym (append-nil (Hears ∷ learns)) ∙ ap (heard_deeds core code value) (sym c.in-Some.is))) in
     subst
     (λ (o : Option KeptInit). deeds_shown (handled_by host (init_running o) pipe message) c.learn_if_ok.new.deeds.items
