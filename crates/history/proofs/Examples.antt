@@ -1,8 +1,11 @@
--- The worked examples compute: what the definition notes of each line is the transcript.
-use Rattle.history.proofs.Words.{Age, Asked, Busy, Controller, Deliver, End, Entry, Host, Line, Link, List, Lose, No, NoAnswer, None, NotUp, OnDemand, Outcome}
-use Rattle.history.proofs.Words.{Ready, Reset, Send, Some, [], bare_link, end_of, link_after_line, noted, outcome_of, refl, ℕ, ◌∷◌, ◌≡◌}
-use Rattle.trace_model.specs.declared.entry.Entry.TheVariants.{Took, Lost, Down, Up, GaveUp, Acked, Got, Sent, Emit}
-use Rattle.trace_model.specs.declared.line.Line.TheVariants.{Tick}
+-- Worked examples compute: a reset while the end waits, damage that makes another frame, and a frame that a full wire pushes out. The other ones
+-- are computed from text to text, in `node_examples`.
+use Rattle.std.specs.Prelude.{true, replicate}
+use Rattle.history.proofs.Words.{Asked, Beyond, Controller, Damage, End, Entry, Full, Given, Host, Line, Link, List, No, None, OnWire, Outcome, Reset, Rr, Rset}
+use Rattle.history.proofs.Words.{S, Some, Waiting, [], bare_link, end_of, event_at, is_some, link_after, link_after_line, misread, noted, outcome_of, refl}
+use Rattle.history.proofs.Words.{refusal, ℕ, ◌∷◌, ◌≡◌}
+use Rattle.swp_base.specs.Bits.{bits_of_byte}
+use Rattle.trace_model.specs.declared.entry.Entry.TheVariants.{Lost, Down, Sent, Emit}
 
 abbrev pub end_c : ℕ → End
 end_c h = end_of h Controller
@@ -11,109 +14,35 @@ abbrev pub end_h : ℕ → End
 end_h h = end_of h Host
 
 -- what is noted below each line of a schedule, on the link with this host
-abbrev pub noted_by_line : ℕ → Link → List Line → List (List Entry)
+abbrev noted_by_line : ℕ → Link → List Line → List (List Entry)
 noted_by_line h l [] = []
 noted_by_line h l (line ∷ lines) = let o : Outcome = outcome_of h l line in noted o ∷ noted_by_line h (link_after_line l o) lines
 
--- one message
-abbrev one_message_lines : List Line
-one_message_lines =
-    Send (end_h 2) 1 (3 ∷ []) ∷
-    Deliver (end_c 2) None ∷
-    Deliver (end_h 2) None ∷ []
+reset_twice : noted_by_line 2 bare_link (Reset (end_h 2) None ∷ Reset (end_h 2) (Some 2) ∷ []) ≡
+    (Down (end_h 2) Asked ∷ Emit (end_h 2) (249 ∷ 4 ∷ 0 ∷ []) ∷ []) ∷ (No Waiting ∷ []) ∷ []
+reset_twice = refl
 
-one_message : noted_by_line 2 bare_link one_message_lines ≡
-    (Sent (end_h 2) 0 1 (3 ∷ []) ∷ Emit (end_h 2) (128 ∷ 129 ∷ 3 ∷ []) ∷ []) ∷
-    (Took (end_c 2) (128 ∷ 129 ∷ 3 ∷ []) ∷ Got (end_c 2) 0 1 (3 ∷ []) ∷ Emit (end_c 2) (193 ∷ []) ∷ []) ∷
-    (Took (end_h 2) (193 ∷ []) ∷ Acked (end_h 2) 0 1 ∷ []) ∷ []
-one_message = refl
+-- damage that the CRC doesn't show
+abbrev given : Link
+given = link_after bare_link (Given (end_h 2) (1, 3 ∷ []))
 
--- lost frame is rejected and resent
-abbrev lost_frame_is_rejected_and_resent_lines : List Line
-lost_frame_is_rejected_and_resent_lines =
-    Send (end_h 2) 1 (3 ∷ []) ∷
-    Send (end_h 2) 1 (3 ∷ []) ∷
-    Send (end_h 2) 1 (3 ∷ []) ∷
-    Deliver (end_c 2) (Some 1) ∷
-    Lose (end_c 2) ∷
-    Deliver (end_c 2) None ∷
-    Deliver (end_h 2) None ∷
-    Deliver (end_c 2) None ∷ []
+another_frame_is_read : is_some (misread given (Damage (end_c 2) (record { items = 24 ∷ 28 ∷ 35 ∷ 40 ∷ [] }))) ≡ true
+unfolding bits_of_byte
+another_frame_is_read = refl
 
-lost_frame_is_rejected_and_resent : noted_by_line 2 bare_link lost_frame_is_rejected_and_resent_lines ≡
-    (Sent (end_h 2) 0 1 (3 ∷ []) ∷ Emit (end_h 2) (128 ∷ 129 ∷ 3 ∷ []) ∷ []) ∷
-    (Sent (end_h 2) 0 1 (3 ∷ []) ∷ Emit (end_h 2) (136 ∷ 129 ∷ 3 ∷ []) ∷ []) ∷
-    (Sent (end_h 2) 0 1 (3 ∷ []) ∷ Emit (end_h 2) (144 ∷ 129 ∷ 3 ∷ []) ∷ []) ∷
-    (Took (end_c 2) (128 ∷ 129 ∷ 3 ∷ []) ∷ Got (end_c 2) 0 1 (3 ∷ []) ∷ Emit (end_c 2) (193 ∷ []) ∷ []) ∷
-    (Lost (end_c 2) (136 ∷ 129 ∷ 3 ∷ []) OnDemand ∷ []) ∷
-    (Took (end_c 2) (144 ∷ 129 ∷ 3 ∷ []) ∷ Emit (end_c 2) (201 ∷ []) ∷ []) ∷
-    (Took (end_h 2) (193 ∷ []) ∷ Acked (end_h 2) 0 1 ∷ Took (end_h 2) (201 ∷ []) ∷ Emit (end_h 2) (136 ∷ 129 ∷ 3 ∷ []) ∷ Emit (end_h 2)
-    (144 ∷ 129 ∷ 3 ∷ []) ∷ []) ∷
-    (Took (end_c 2) (136 ∷ 129 ∷ 3 ∷ []) ∷ Got (end_c 2) 0 1 (3 ∷ []) ∷ Emit (end_c 2) (194 ∷ []) ∷ Took (end_c 2) (144 ∷ 129 ∷ 3 ∷ []) ∷ Got (end_c 2) 0 1
-    (3 ∷ []) ∷ Emit (end_c 2) (195 ∷ []) ∷ []) ∷ []
-lost_frame_is_rejected_and_resent = refl
+past_the_frame : refusal given (Damage (end_c 2) (record { items = 55 ∷ 300 ∷ [] })) ≡ Some (Beyond 56)
+unfolding bits_of_byte
+past_the_frame = refl
 
--- crossed resets
-abbrev crossed_resets_lines : List Line
-crossed_resets_lines =
-    Reset (end_c 2) None ∷
-    Reset (end_h 2) None ∷
-    Deliver (end_c 2) None ∷
-    Deliver (end_h 2) None ∷
-    Deliver (end_c 2) None ∷ []
+-- 64 frames stand on the wire, the first an RSET
+abbrev standing : List OnWire
+standing =
+    record { frame = Rset 4 0; age = 0; number = 7 }
+    ∷ replicate 63 (record { frame = S Rr 0; age = 0; number = 0 })
 
-crossed_resets : noted_by_line 2 bare_link crossed_resets_lines ≡
-    (Down (end_c 2) Asked ∷ Emit (end_c 2) (249 ∷ 4 ∷ 0 ∷ []) ∷ []) ∷
-    (Down (end_h 2) Asked ∷ Emit (end_h 2) (249 ∷ 4 ∷ 0 ∷ []) ∷ []) ∷
-    (Took (end_c 2) (249 ∷ 4 ∷ 0 ∷ []) ∷ Emit (end_c 2) (230 ∷ []) ∷ []) ∷
-    (Took (end_h 2) (249 ∷ 4 ∷ 0 ∷ []) ∷ Emit (end_h 2) (230 ∷ []) ∷ Took (end_h 2) (230 ∷ []) ∷ Up (end_h 2) 2 ∷ []) ∷
-    (Took (end_c 2) (230 ∷ []) ∷ Up (end_c 2) 2 ∷ []) ∷ []
-crossed_resets = refl
+abbrev crowded : Link
+crowded = record bare_link { to_controller = standing }
 
--- busy then ready
-abbrev busy_then_ready_lines : List Line
-busy_then_ready_lines =
-    Busy (end_c 2) ∷
-    Send (end_h 2) 1 (3 ∷ []) ∷
-    Deliver (end_c 2) None ∷
-    Ready (end_c 2) ∷
-    Deliver (end_h 2) None ∷ []
-
-busy_then_ready : noted_by_line 2 bare_link busy_then_ready_lines ≡
-    ([]) ∷
-    (Sent (end_h 2) 0 1 (3 ∷ []) ∷ Emit (end_h 2) (128 ∷ 129 ∷ 3 ∷ []) ∷ []) ∷
-    (Took (end_c 2) (128 ∷ 129 ∷ 3 ∷ []) ∷ Emit (end_c 2) (208 ∷ []) ∷ []) ∷
-    (Emit (end_c 2) (192 ∷ []) ∷ []) ∷
-    (Took (end_h 2) (208 ∷ []) ∷ Took (end_h 2) (192 ∷ []) ∷ Emit (end_h 2) (128 ∷ 129 ∷ 3 ∷ []) ∷ []) ∷ []
-busy_then_ready = refl
-
--- nobody delivers five tries
-abbrev nobody_delivers_five_tries_lines : List Line
-nobody_delivers_five_tries_lines =
-    Send (end_h 2) 1 (3 ∷ []) ∷
-    Tick (Some 60) ∷ []
-
-nobody_delivers_five_tries : noted_by_line 2 bare_link nobody_delivers_five_tries_lines ≡
-    (Sent (end_h 2) 0 1 (3 ∷ []) ∷ Emit (end_h 2) (128 ∷ 129 ∷ 3 ∷ []) ∷ []) ∷
-    (Lost (end_c 2) (128 ∷ 129 ∷ 3 ∷ []) Age ∷ Emit (end_h 2) (128 ∷ 129 ∷ 3 ∷ []) ∷ Lost (end_c 2) (128 ∷ 129 ∷ 3 ∷ []) Age ∷ Emit (end_h 2)
-    (128 ∷ 129 ∷ 3 ∷ []) ∷ Lost (end_c 2) (128 ∷ 129 ∷ 3 ∷ []) Age ∷ Emit (end_h 2) (128 ∷ 129 ∷ 3 ∷ []) ∷ Lost (end_c 2) (128 ∷ 129 ∷ 3 ∷ []) Age ∷ Emit
-    (end_h 2) (128 ∷ 129 ∷ 3 ∷ []) ∷ Lost (end_c 2) (128 ∷ 129 ∷ 3 ∷ []) Age ∷ Emit (end_h 2) (128 ∷ 129 ∷ 3 ∷ []) ∷ Lost (end_c 2)
-    (128 ∷ 129 ∷ 3 ∷ []) Age ∷ Down (end_h 2) NoAnswer ∷ Emit (end_h 2) (249 ∷ 4 ∷ 0 ∷ []) ∷ []) ∷ []
-nobody_delivers_five_tries = refl
-
--- reset gives up
-abbrev reset_gives_up_lines : List Line
-reset_gives_up_lines =
-    Reset (end_h 2) None ∷
-    Tick (Some 50) ∷
-    Send (end_h 2) 1 (3 ∷ []) ∷
-    Reset (end_h 2) None ∷ []
-
-reset_gives_up : noted_by_line 2 bare_link reset_gives_up_lines ≡
-    (Down (end_h 2) Asked ∷ Emit (end_h 2) (249 ∷ 4 ∷ 0 ∷ []) ∷ []) ∷
-    (Lost (end_c 2) (249 ∷ 4 ∷ 0 ∷ []) Age ∷ Emit (end_h 2) (249 ∷ 4 ∷ 0 ∷ []) ∷ Lost (end_c 2) (249 ∷ 4 ∷ 0 ∷ []) Age ∷ Emit (end_h 2)
-    (249 ∷ 4 ∷ 0 ∷ []) ∷ Lost (end_c 2) (249 ∷ 4 ∷ 0 ∷ []) Age ∷ Emit (end_h 2) (249 ∷ 4 ∷ 0 ∷ []) ∷ Lost (end_c 2) (249 ∷ 4 ∷ 0 ∷ []) Age ∷ Emit
-    (end_h 2) (249 ∷ 4 ∷ 0 ∷ []) ∷ Lost (end_c 2) (249 ∷ 4 ∷ 0 ∷ []) Age ∷ GaveUp (end_h 2) 5 ∷ []) ∷
-    (No NotUp ∷ []) ∷
-    (Emit (end_h 2) (249 ∷ 4 ∷ 0 ∷ []) ∷ []) ∷ []
-reset_gives_up = refl
+first_goes : (event_at 2 crowded (Given (end_h 2) (1, 3 ∷ []))).entries ≡
+    Sent (end_h 2) 0 1 (3 ∷ []) ∷ Emit (end_h 2) (128 ∷ 129 ∷ 3 ∷ []) ∷ Lost (end_c 2) (249 ∷ 4 ∷ 0 ∷ []) Full ∷ []
+first_goes = refl

@@ -1,6 +1,5 @@
 pub mod Words
 pub mod Examples
-pub mod MoreExamples
 pub mod WrongLinks
 pub mod Leading
 pub mod Filters

@@ -1,22 +1,17 @@
 -- A creation whose asker loses its session: its notice stays unanswered, and holds off others until it is answered.
 use Rattle.std.proofs.Common.{◌≡◌, refl, [], ◌∷◌, ◌++◌}
-use Rattle.node_examples.specs.Openings.{host_begins, host_begins_told}
+use Rattle.node_examples.specs.Openings.{host_begins, host_begins_told, host_allows, host_allows_told}
 use Rattle.node_examples.specs.Told.{told_text, text, found_from, hosts_where, lowest_free, encode_with, decode_pairs, digits}
 
 forgotten : told_text (
     "swp 1 hci 01 02 03\nboot 00\nboot 01\nboot 02\nboot 03\n" ∷
-    host_begins "01" ++ host_begins "02" ++ host_begins "03" ++
-    "send 01h 01 01030203\ndeliver 01c\ndeliver 01h\ndeliver 01c\nsend 02h 01 10410141\ndeliver 02c\ndeliver 02h\ndeliver 02c\nreset 02h\ndeliver 02c\n" ∷
-    "deliver 02h\nsend 03h 01 10410141\ndeliver 03c\ndeliver 03h\ndeliver 03c\nsend 01h 01 010303\ndeliver 01c\ndeliver 01h 1\ndeliver 01h\ndeliver 01c\n" ∷
-    "deliver 01h\ndeliver 01c\nsend 03h 01 10410141\ndeliver 03c\ndeliver 01h\ndeliver 01c\ndeliver 03h\ndeliver 03c\ntables 00\ntables 01\n" ∷
+    host_begins "01" ++ host_begins "02" ++ host_begins "03" ++ host_allows "0203" ++
+    "send 02h 01 10410141\ndeliver 02c\ndeliver 02h\ndeliver 02c\nreset 02h\ndeliver 02c\ndeliver 02h\nsend 03h 01 10410141\ndeliver 03c\ndeliver 03h\n" ∷
+    "deliver 03c\nsend 01h 01 010303\ndeliver 01c\ndeliver 01h 1\ndeliver 01h\ndeliver 01c\ndeliver 01h\ndeliver 01c\nsend 03h 01 10410141\ndeliver 03c\n" ∷
+    "deliver 01h\ndeliver 01c\ndeliver 03h\ndeliver 03c\ntables 00\ntables 01\n" ∷
     []) ≡ text (
     "> swp 1 hci 01 02 03\n> boot 00\nbooted 00 0\n> boot 01\nbooted 01 0\n> boot 02\nbooted 02 0\n> boot 03\nbooted 03 0\n" ∷
-    host_begins_told "01" "2" ++ host_begins_told "02" "4" ++ host_begins_told "03" "6" ++
-    "> send 01h 01 01030203\nsent 01h 1 01 01030203\nemit 01h 898101030203\n" ∷
-    "> deliver 01c\ntook 01c 898101030203\ngot 01c 1 01 01030203\nturn 01c 01 01030203\ncommand 00 set 01 00 03 0203\nsent 01c 1 01 80\nok 00 7\n" ∷
-    "emit 01c C2\nemit 01c 8A8180\n" ∷
-    "> deliver 01h\ntook 01h C2\nacked 01h 1 2\ntook 01h 8A8180\ngot 01h 1 01 80\nturn 01h 01 80\nemit 01h C2\n" ∷
-    "> deliver 01c\ntook 01c C2\nacked 01c 1 2\n" ∷
+    host_begins_told "01" "2" ++ host_begins_told "02" "4" ++ host_begins_told "03" "6" ++ host_allows_told "0203" "7" ++
     "> send 02h 01 10410141\nsent 02h 1 01 10410141\nemit 02h 898110410141\n" ∷
     "> deliver 02c\ntook 02c 898110410141\ngot 02c 1 01 10410141\nturn 02c 01 10410141\nask 01 120241014102\nsent 01c 1 01 120241014102\n" ∷
     "emit 01c 9281120241014102\nemit 02c C2\n" ∷

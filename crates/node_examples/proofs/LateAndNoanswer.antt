@@ -1,33 +1,16 @@
 -- A notice is late in the very tick in which the session of its link ends: its asker is told that the host is not connected.
 use Rattle.std.proofs.Common.{◌≡◌, refl, [], ◌∷◌, ◌++◌}
-use Rattle.node_examples.specs.Openings.{host_begins, host_begins_told}
+use Rattle.node_examples.specs.Openings.{host_begins, host_begins_told, host_allows, host_allows_told, pipe_is_made, pipe_is_made_told}
 use Rattle.node_examples.specs.Told.{told_text, text, found_from, hosts_where, lowest_free, encode_with, decode_pairs, digits}
 
 late_and_noanswer : told_text (
     "swp 1 hci 01 02\nboot 00\nboot 01\nboot 02\n" ∷
-    host_begins "01" ++ host_begins "02" ++
-    "send 01h 01 010302\ndeliver 01c\ndeliver 01h\ndeliver 01c\nsend 02h 01 10410141\ndeliver 02c\ndeliver 01h\ndeliver 01c\ndeliver 02h\ndeliver 02c\n" ∷
-    "deliver 01h\nsend 02h 02 03\ndeliver 02c\ndeliver 02h\ndeliver 02c\nsend 02h 01 10420142\ndeliver 02c\ndeliver 02h\ndeliver 02c\ndeliver 01h\n" ∷
-    "deliver 01c 1\nlose 01c\ncut 01\ntick 40\nsend 02h 02 42AA\ndeliver 02c\ndeliver 02h\ntick 59\ntick 1\ndeliver 02h\ndeliver 02c\n" ∷
+    host_begins "01" ++ host_begins "02" ++ host_allows "02" ++ pipe_is_made ++
+    "send 02h 02 03\ndeliver 02c\ndeliver 02h\ndeliver 02c\nsend 02h 01 10420142\ndeliver 02c\ndeliver 02h\ndeliver 02c\ndeliver 01h\ndeliver 01c 1\n" ∷
+    "lose 01c\ncut 01\ntick 40\nsend 02h 02 42AA\ndeliver 02c\ndeliver 02h\ntick 59\ntick 1\ndeliver 02h\ndeliver 02c\n" ∷
     []) ≡ text (
     "> swp 1 hci 01 02\n> boot 00\nbooted 00 0\n> boot 01\nbooted 01 0\n> boot 02\nbooted 02 0\n" ∷
-    host_begins_told "01" "2" ++ host_begins_told "02" "4" ++
-    "> send 01h 01 010302\nsent 01h 1 01 010302\nemit 01h 8981010302\n" ∷
-    "> deliver 01c\ntook 01c 8981010302\ngot 01c 1 01 010302\nturn 01c 01 010302\ncommand 00 set 01 00 03 02\nsent 01c 1 01 80\nok 00 5\nemit 01c C2\n" ∷
-    "emit 01c 8A8180\n" ∷
-    "> deliver 01h\ntook 01h C2\nacked 01h 1 2\ntook 01h 8A8180\ngot 01h 1 01 80\nturn 01h 01 80\nemit 01h C2\n" ∷
-    "> deliver 01c\ntook 01c C2\nacked 01c 1 2\n" ∷
-    "> send 02h 01 10410141\nsent 02h 1 01 10410141\nemit 02h 898110410141\n" ∷
-    "> deliver 02c\ntook 02c 898110410141\ngot 02c 1 01 10410141\nturn 02c 01 10410141\nask 01 120241014102\nsent 01c 1 01 120241014102\n" ∷
-    "emit 01c 9281120241014102\nemit 02c C2\n" ∷
-    "> deliver 01h\ntook 01h 9281120241014102\ngot 01h 1 01 120241014102\nturn 01h 01 120241014102\ncommand 01 create 02 02 41 01 41\nsent 01h 1 01 80\n" ∷
-    "ok 01 1\nemit 01h C3\nemit 01h 938180\n" ∷
-    "> deliver 01c\ntook 01c C3\nacked 01c 1 3\ntook 01c 938180\ngot 01c 1 01 80\nturn 01c 01 80\ncommand 00 create 02 02 41 01 41\n" ∷
-    "sent 02c 1 01 800241014102\nok 00 6\nemit 01c C3\nemit 02c 8A81800241014102\n" ∷
-    "> deliver 02h\ntook 02h C2\nacked 02h 1 2\ntook 02h 8A81800241014102\ngot 02h 1 01 800241014102\nturn 02h 01 800241014102\n" ∷
-    "command 02 create 02 02 41 01 41\nemit 02h C2\n" ∷
-    "> deliver 02c\ntook 02c C2\nacked 02c 1 2\n" ∷
-    "> deliver 01h\ntook 01h C3\nacked 01h 1 3\n" ∷
+    host_begins_told "01" "2" ++ host_begins_told "02" "4" ++ host_allows_told "02" "5" ++ pipe_is_made_told "6" ++
     "> send 02h 02 03\nsent 02h 1 02 03\nemit 02h 928203\n" ∷
     "> deliver 02c\ntook 02c 928203\ngot 02c 1 02 03\nturn 02c 02 03\ncommand 00 opened 02 02 01\nsent 02c 1 02 8000\nok 00 7\nemit 02c C3\n" ∷
     "emit 02c 93828000\n" ∷

@@ -1,3 +1,4 @@
+mod Links
 mod Relays
 mod OrderAgain
 mod Clears
@@ -14,3 +15,7 @@ mod HostDrop
 mod RecError
 mod Off
 mod Refusals
+mod FirstPipe
+mod Cuts
+mod BetweenHosts
+mod UsersSession

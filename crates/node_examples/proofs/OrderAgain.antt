@@ -1,6 +1,6 @@
 -- The order of the tests of a creation, of reading and of closing; pipes to the loopback gate and to the identity gate.
 use Rattle.std.proofs.Common.{◌≡◌, refl, [], ◌∷◌, ◌++◌}
-use Rattle.node_examples.specs.Openings.{host_begins, host_begins_told}
+use Rattle.node_examples.specs.Openings.{host_begins, host_begins_told, host_allows, host_allows_told}
 use Rattle.node_examples.specs.Told.{told_text, text, found_from, hosts_where, lowest_free, encode_with, decode_pairs, digits}
 
 order_again : told_text (
@@ -8,15 +8,16 @@ order_again : told_text (
     host_begins "01" ++ host_begins "02" ++
     "send 02h 01 10410341\ndeliver 02c\ndeliver 02h\ndeliver 02c\nactivate 03 0003 01\ndeliver 03c\ndeliver 03h\ndeliver 03c\nreset 03c\ndeliver 03h\n" ∷
     "deliver 03c\nsend 02h 01 10410341\ndeliver 02c\ndeliver 02h\ndeliver 02c\nsend 03h 01 03\ndeliver 03c\ndeliver 03h\ndeliver 03c\nsend 02h 01 10410341\n" ∷
-    "deliver 02c\ndeliver 02h\ndeliver 02c\nsend 01h 01 010302\ndeliver 01c\ndeliver 01h\ndeliver 01c\nsend 02h 01 10410141\ndeliver 02c\ndeliver 02h\n" ∷
-    "send 03h 01 10410141\ndeliver 03c\ndeliver 03h\ndeliver 03c\nsend 02h 01 80\ndeliver 02c\nsend 03h 01 80\ndeliver 03c\ndeliver 03h\ndeliver 01h\n" ∷
-    "deliver 01c\ndeliver 02h\ndeliver 02c\ndeliver 01h\nsend 02h 02 04\ndeliver 02c\ndeliver 02h\ndeliver 02c\nsend 02h 02 03\ndeliver 02c\ndeliver 02h\n" ∷
-    "deliver 02c\nsend 02h 02 03\ndeliver 02c\ndeliver 02h\ndeliver 02c\nsend 02h 02 04\ndeliver 02c\ndeliver 02h\ndeliver 02c\nsend 03h 01 10200005\n" ∷
-    "deliver 03c\ndeliver 03h\ndeliver 03c\nsend 03h 01 10200004\ndeliver 03c\ndeliver 03h\ndeliver 03c\nsend 03h 01 10200006\ndeliver 03c\ndeliver 03h\n" ∷
-    "deliver 03c\nsend 03h 03 03\ndeliver 03c\ndeliver 03h\ndeliver 03c\nsend 03h 03 0204\ndeliver 03c\ndeliver 03h\ndeliver 03c\nsend 03h 03 0206\n" ∷
-    "deliver 03c\ndeliver 03h\ndeliver 03c\nsend 03h 03 0207\ndeliver 03c\ndeliver 03h\ndeliver 03c\nsend 03h 03 02\ndeliver 03c\ndeliver 03h\ndeliver 03c\n" ∷
-    "send 03h 03 010412\ndeliver 03c\ndeliver 03h\ndeliver 03c\nsend 03h 03 0107\ndeliver 03c\ndeliver 03h\ndeliver 03c\nsend 03h 04 0204\ndeliver 03c\n" ∷
-    "deliver 03h\ndeliver 03c\ntables 00\n" ∷
+    "deliver 02c\ndeliver 02h\ndeliver 02c\n" ∷
+    host_allows "02" ++
+    "send 02h 01 10410141\ndeliver 02c\ndeliver 02h\nsend 03h 01 10410141\ndeliver 03c\ndeliver 03h\ndeliver 03c\nsend 02h 01 80\ndeliver 02c\n" ∷
+    "send 03h 01 80\ndeliver 03c\ndeliver 03h\ndeliver 01h\ndeliver 01c\ndeliver 02h\ndeliver 02c\ndeliver 01h\nsend 02h 02 04\ndeliver 02c\ndeliver 02h\n" ∷
+    "deliver 02c\nsend 02h 02 03\ndeliver 02c\ndeliver 02h\ndeliver 02c\nsend 02h 02 03\ndeliver 02c\ndeliver 02h\ndeliver 02c\nsend 02h 02 04\ndeliver 02c\n" ∷
+    "deliver 02h\ndeliver 02c\nsend 03h 01 10200005\ndeliver 03c\ndeliver 03h\ndeliver 03c\nsend 03h 01 10200004\ndeliver 03c\ndeliver 03h\ndeliver 03c\n" ∷
+    "send 03h 01 10200006\ndeliver 03c\ndeliver 03h\ndeliver 03c\nsend 03h 03 03\ndeliver 03c\ndeliver 03h\ndeliver 03c\nsend 03h 03 0204\ndeliver 03c\n" ∷
+    "deliver 03h\ndeliver 03c\nsend 03h 03 0206\ndeliver 03c\ndeliver 03h\ndeliver 03c\nsend 03h 03 0207\ndeliver 03c\ndeliver 03h\ndeliver 03c\n" ∷
+    "send 03h 03 02\ndeliver 03c\ndeliver 03h\ndeliver 03c\nsend 03h 03 010412\ndeliver 03c\ndeliver 03h\ndeliver 03c\nsend 03h 03 0107\ndeliver 03c\n" ∷
+    "deliver 03h\ndeliver 03c\nsend 03h 04 0204\ndeliver 03c\ndeliver 03h\ndeliver 03c\ntables 00\n" ∷
     []) ≡ text (
     "> swp 1 hci 01 02 03\n> boot 00\nbooted 00 0\n> boot 01\nbooted 01 0\n> boot 02\nbooted 02 0\n> boot 03\nbooted 03 0\n" ∷
     host_begins_told "01" "2" ++ host_begins_told "02" "4" ++
@@ -44,11 +45,7 @@ order_again : told_text (
     "> deliver 02c\ntook 02c 9B8110410341\ngot 02c 1 01 10410341\nturn 02c 01 10410341\nsent 02c 1 01 8B\nemit 02c C4\nemit 02c 9C818B\n" ∷
     "> deliver 02h\ntook 02h C4\nacked 02h 1 4\ntook 02h 9C818B\ngot 02h 1 01 8B\nturn 02h 01 8B\nemit 02h C4\n" ∷
     "> deliver 02c\ntook 02c C4\nacked 02c 1 4\n" ∷
-    "> send 01h 01 010302\nsent 01h 1 01 010302\nemit 01h 8981010302\n" ∷
-    "> deliver 01c\ntook 01c 8981010302\ngot 01c 1 01 010302\nturn 01c 01 010302\ncommand 00 set 01 00 03 02\nsent 01c 1 01 80\nok 00 7\nemit 01c C2\n" ∷
-    "emit 01c 8A8180\n" ∷
-    "> deliver 01h\ntook 01h C2\nacked 01h 1 2\ntook 01h 8A8180\ngot 01h 1 01 80\nturn 01h 01 80\nemit 01h C2\n" ∷
-    "> deliver 01c\ntook 01c C2\nacked 01c 1 2\n" ∷
+    host_allows_told "02" "7" ++
     "> send 02h 01 10410141\nsent 02h 1 01 10410141\nemit 02h A48110410141\n" ∷
     "> deliver 02c\ntook 02c A48110410141\ngot 02c 1 01 10410141\nturn 02c 01 10410141\nask 01 120241014102\nsent 01c 1 01 120241014102\n" ∷
     "emit 01c 9281120241014102\nemit 02c C5\n" ∷

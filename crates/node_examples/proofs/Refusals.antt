@@ -61,3 +61,19 @@ refusals : told_text (
     [])
 unfolding found_from hosts_where lowest_free encode_with decode_pairs digits bits_of_byte
 refusals = refl
+
+-- the first ones of a world
+refusals_in_order : told_text (
+    "swp 1 hci 02\nsend 02h 01 03\nboot 00\nboot 02\nsend 02h 01 03\nreset 02h\ndeliver 02h\nboot 02\n" ∷
+    []) ≡ text (
+    "> swp 1 hci 02\n" ∷
+    "> send 02h 01 03\nno off\n" ∷
+    "> boot 00\nbooted 00 0\n" ∷
+    "> boot 02\nbooted 02 0\n" ∷
+    "> send 02h 01 03\nno not-up\n" ∷
+    "> reset 02h\nno inactive\n" ∷
+    "> deliver 02h\nno empty\n" ∷
+    "> boot 02\nno running\n" ∷
+    [])
+unfolding found_from hosts_where lowest_free encode_with decode_pairs digits
+refusals_in_order = refl

@@ -1,28 +1,22 @@
 -- A host is told of the deletion of a pipe that it does not know; gates that it takes; a command that waits, and is too long.
 use Rattle.std.proofs.Common.{◌≡◌, refl, [], ◌∷◌, ◌++◌}
 use Rattle.std.specs.Prelude.{replicate}
-use Rattle.node_examples.specs.Openings.{host_begins, host_begins_told}
+use Rattle.node_examples.specs.Openings.{host_begins, host_begins_told, host_allows, host_allows_told}
 use Rattle.node_examples.specs.Told.{told_text, text, found_from, hosts_where, lowest_free, encode_with, decode_pairs, digits}
 
 unknown_pipe : told_text (
     "swp 1 hci 01 02\nboot 00\nboot 01\nboot 02\n" ∷
-    host_begins "01" ++ host_begins "02" ++
-    "send 01h 01 010302\ndeliver 01c\ndeliver 01h\ndeliver 01c\nsend 02h 01 10410141\ndeliver 02c\ndeliver 01h\ndeliver 01c\nreset 02h\ndeliver 02c\n" ∷
-    "deliver 02h\ndeliver 01h\nsend 01h 01 1102\ndeliver 01c\ndeliver 02h\ndeliver 02c\ndeliver 01h\ndeliver 01c\ndeliver 02h\nsend 02h 01 1041010A\n" ∷
-    "deliver 02c\ndeliver 01h\ndeliver 01c\ndeliver 02h\ndeliver 02c\ndeliver 01h\nsend 02h 01 1041010F\ndeliver 02c\ndeliver 01h\ndeliver 01c\ndeliver 02h\n" ∷
-    "deliver 02c\ndeliver 01h\nsend 02h 01 10410110\ndeliver 02c\ndeliver 01h\ndeliver 01c\ndeliver 02h\ndeliver 02c\ndeliver 01h\nsend 02h 01 0201\n" ∷
-    "send 02h 01 14" ∷ replicate 4096 "00" ++
+    host_begins "01" ++ host_begins "02" ++ host_allows "02" ++
+    "send 02h 01 10410141\ndeliver 02c\ndeliver 01h\ndeliver 01c\nreset 02h\ndeliver 02c\ndeliver 02h\ndeliver 01h\nsend 01h 01 1102\ndeliver 01c\n" ∷
+    "deliver 02h\ndeliver 02c\ndeliver 01h\ndeliver 01c\ndeliver 02h\nsend 02h 01 1041010A\ndeliver 02c\ndeliver 01h\ndeliver 01c\ndeliver 02h\ndeliver 02c\n" ∷
+    "deliver 01h\nsend 02h 01 1041010F\ndeliver 02c\ndeliver 01h\ndeliver 01c\ndeliver 02h\ndeliver 02c\ndeliver 01h\nsend 02h 01 10410110\ndeliver 02c\n" ∷
+    "deliver 01h\ndeliver 01c\ndeliver 02h\ndeliver 02c\ndeliver 01h\nsend 02h 01 0201\nsend 02h 01 14" ∷ replicate 4096 "00" ++
     "\nsend 02h 01 40\nsend 02h 01 " ∷ replicate 4096 "02" ++
     "\ndeliver 02c\ndeliver 02h\nsend 02h 01 " ∷ replicate 4097 "02" ++
     "\ntables 00\ntables 01\ntables 02\n" ∷
     []) ≡ text (
     "> swp 1 hci 01 02\n> boot 00\nbooted 00 0\n> boot 01\nbooted 01 0\n> boot 02\nbooted 02 0\n" ∷
-    host_begins_told "01" "2" ++ host_begins_told "02" "4" ++
-    "> send 01h 01 010302\nsent 01h 1 01 010302\nemit 01h 8981010302\n" ∷
-    "> deliver 01c\ntook 01c 8981010302\ngot 01c 1 01 010302\nturn 01c 01 010302\ncommand 00 set 01 00 03 02\nsent 01c 1 01 80\nok 00 5\nemit 01c C2\n" ∷
-    "emit 01c 8A8180\n" ∷
-    "> deliver 01h\ntook 01h C2\nacked 01h 1 2\ntook 01h 8A8180\ngot 01h 1 01 80\nturn 01h 01 80\nemit 01h C2\n" ∷
-    "> deliver 01c\ntook 01c C2\nacked 01c 1 2\n" ∷
+    host_begins_told "01" "2" ++ host_begins_told "02" "4" ++ host_allows_told "02" "5" ++
     "> send 02h 01 10410141\nsent 02h 1 01 10410141\nemit 02h 898110410141\n" ∷
     "> deliver 02c\ntook 02c 898110410141\ngot 02c 1 01 10410141\nturn 02c 01 10410141\nask 01 120241014102\nsent 01c 1 01 120241014102\n" ∷
     "emit 01c 9281120241014102\nemit 02c C2\n" ∷
