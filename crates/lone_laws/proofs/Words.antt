@@ -66,7 +66,7 @@ pub use Rattle.lone_laws.specs.alone.Memories.{Counts, CountsAll, FindsAllButLas
 pub use Rattle.lone_laws.specs.alone.Memories.{IsTakenMemory, behind_boot, commands_of_entries}
 pub use Rattle.node_laws.proofs.Cases.{by_list, by_option, by_test}
 pub use Rattle.node_laws.proofs.Each.{all_changed, all_map}
-pub use Rattle.node_laws.proofs.answers.OneFact.{Fact, IsFirstThere, Unless, both_are, firsts_in_turn, is_fact, none_heard, none_hears, some_is}
+pub use Rattle.node_laws.proofs.answers.OneFact.{Fact, IsFirstThere, both_are, firsts_in_turn, is_fact}
 pub use Rattle.node_laws.proofs.answers.OneFact.Fact.{Ascending, Done, Due, Heard, Held, Held as HeldFact, InTurn, Replied, Short}
 pub use Rattle.node_laws.proofs.kept.Booting.{command_read, good_found}
 pub use Rattle.node_laws.proofs.kept.Commits.{IsLeftBetween, after-append, cut-append, says_either, some_other}

@@ -1,7 +1,3 @@
-pub mod Boots
-pub mod First
-pub mod Cuts
-pub mod Hosts
-pub mod User
+pub mod Schedules
 pub mod Readings
 pub mod Cases

@@ -1,86 +1,40 @@
 -- What one walk over a history of a node alone finds says whether a fact of its answers holds.
-use Rattle.std.proofs.Common.{true≢false}
-use Rattle.lone_laws.proofs.Words.{AllByRecursion, AnsweredAlone, AreInTurn, Ascending, AtEachLoneEvent, AtEachNoted, Bool, Core, Done, Due, Entry, Fact, Heard}
-use Rattle.lone_laws.proofs.Words.{HearsFirstAlone, Held, InTurn, IsDueAlone, IsFirstThere, IsHeldAlone, IsRepliedAlone, IsResetAlone, List, LoneEvent, Message}
-use Rattle.lone_laws.proofs.Words.{None, Option, Replied, Short, Some, TurnsAscendAlone, Unless, [], answerer, ap, append-nil, append_assoc, both_are}
-use Rattle.lone_laws.proofs.Words.{core_since, entries_of_events_alone, eqb-true, false, first_lack_since, hears, holds_in, is_asked_down, is_done_alone}
-use Rattle.lone_laws.proofs.Words.{is_fact, is_reset_alone, is_short_alone, lack_since, list_any, none_heard, none_hears, noted_since, oldest, option_map_or}
-use Rattle.lone_laws.proofs.Words.{reply_since, some_is, subst, sym, sync_due, true, unhandled_in, ℕ, ◌++◌, ◌==◌, ◌∷◌, ◌≡◌}
+use Rattle.lone_laws.proofs.Words.{AnsweredAlone, AreInTurn, Ascending, AtEachLoneEvent, AtEachNoted, Bool, Core, Done, Due, Entry, Fact, Heard}
+use Rattle.lone_laws.proofs.Words.{HearsFirstAlone, Held, InTurn, IsDueAlone, IsHeldAlone, IsRepliedAlone, IsResetAlone, List, LoneEvent, None, Option}
+use Rattle.lone_laws.proofs.Words.{Replied, Short, Some, TurnsAscendAlone, [], both_are, core_since, entries_of_events_alone, false, first_lack_since}
+use Rattle.lone_laws.proofs.Words.{holds_in, is_asked_down, is_done_alone, is_fact, is_reset_alone, is_short_alone, lack_since, list_any, noted_since}
+use Rattle.lone_laws.proofs.Words.{reply_since, sync_due, true, ℕ, ◌++◌, ◌≡◌}
 use Rattle.trace_model.specs.declared.entry.Entry.TheVariants as entry
 use Rattle.node_laws.proofs.answers.Walks.{answers_found, answers_wanted}
-use Rattle.node_laws.proofs.answers.Splits.{first_or, rest_of}
+use Rattle.node_laws.proofs.answers.Splits.{at_each, itself, same_at, same_behind}
 use Rattle.node_laws.proofs.answers.Rising.{turns_rise, rise_ascends}
+use Rattle.node_laws.proofs.answers.OneFact.{AllOthers, OnlyFails, all_others_hold, first_found, first_so, first_wanted, heard_so, none_behind}
 use Rattle.node_laws.proofs.answers.OneFact.Fact.{Reset}
 use Rattle.lone_laws.proofs.answered.Queued.{are_in_turn}
 
 -- ## Walks
 
-module _ {X : Type 0} where
-  -- what is found at each event, behind the entries before it
-  abbrev pub at_events : (List Entry → LoneEvent → X) → List Entry → List LoneEvent → List X
-  at_events f t [] = []
-  at_events f t (o ∷ events) = f t o ∷ at_events f (t ++ o.entries) events
+abbrev entries_of : LoneEvent → List Entry
+entries_of o = o.entries
 
-  same_at : (f g : List Entry → LoneEvent → X) (t : List Entry) (past back : List LoneEvent) (o : LoneEvent)
-      → at_events f t (past ++ (o ∷ back)) ≡ at_events g t (past ++ (o ∷ back)) → f (t ++ entries_of_events_alone past) o ≡ g
-      (t ++ entries_of_events_alone past) o
-  same_at f g t [] back o same = subst (λ l. f l o ≡ g l o) (sym (append-nil t)) (ap (first_or (f t o)) same)
-  same_at f g t (p ∷ past) back o same =
-      subst (λ l. f l o ≡ g l o) (append_assoc t p.entries (entries_of_events_alone past)) (same_at f g (t ++ p.entries) past back o (ap rest_of same))
+-- Two things agree at each event, behind the entries before it, or at each entry.
+abbrev AgreeAtEvents : {X : Type 0} → (List Entry → LoneEvent → X) → (List Entry → LoneEvent → X) → List LoneEvent → Type 0
+AgreeAtEvents f g events = at_each entries_of (λ t o back. f t o) [] events ≡ at_each entries_of (λ t o back. g t o) [] events
 
-  -- what is found at each entry of an event
-  abbrev pub at_entries : (List Entry → Entry → List Entry → X) → List Entry → List Entry → List X
-  at_entries f t [] = []
-  at_entries f t (x ∷ entries) = f t x entries ∷ at_entries f (t ++ x ∷ []) entries
+abbrev AgreeAtEntries : {X : Type 0} → (List Entry → Entry → List Entry → X) → (List Entry → Entry → List Entry → X) → List LoneEvent → Type 0
+AgreeAtEntries f g events = AgreeAtEvents (λ t o. at_each itself f t o.entries) (λ t o. at_each itself g t o.entries) events
 
-  same_in : (f g : List Entry → Entry → List Entry → X) (t front behind : List Entry) (x : Entry)
-      → at_entries f t (front ++ (x ∷ behind)) ≡ at_entries g t (front ++ (x ∷ behind)) → f (t ++ front) x behind ≡ g (t ++ front) x behind
-  same_in f g t [] behind x same = subst (λ l. f l x behind ≡ g l x behind) (sym (append-nil t)) (ap (first_or (f t x behind)) same)
-  same_in f g t (y ∷ front) behind x same =
-      subst (λ l. f l x behind ≡ g l x behind) (append_assoc t (y ∷ []) front) (same_in f g (t ++ y ∷ []) front behind x (ap rest_of same))
-
-  -- Two things agree at each event, or at each entry.
-  abbrev pub AgreeAtEvents : (List Entry → LoneEvent → X) → (List Entry → LoneEvent → X) → List LoneEvent → Type 0
-  AgreeAtEvents f g events = at_events f [] events ≡ at_events g [] events
-
-  agree_here : (f g : List Entry → LoneEvent → X) (events : List LoneEvent) → AgreeAtEvents f g events
-      → AtEachLoneEvent events (λ t o. f t o ≡ g t o)
-  agree_here f g events same past back o at = same_at f g [] past back o (subst (λ l. at_events f [] l ≡ at_events g [] l) at same)
-
-abbrev pub AgreeAtEntries : {X : Type 0} → (List Entry → Entry → List Entry → X) → (List Entry → Entry → List Entry → X) → List LoneEvent → Type 0
-AgreeAtEntries f g events = AgreeAtEvents (λ t o. at_entries f t o.entries) (λ t o. at_entries g t o.entries) events
+agree_here : {X : Type 0} (f g : List Entry → LoneEvent → X) (events : List LoneEvent) → AgreeAtEvents f g events
+    → AtEachLoneEvent events (λ t o. f t o ≡ g t o)
+agree_here f g events same past back o at = same_at entries_of (λ t o back. f t o) (λ t o back. g t o) [] events past back o same at
 
 agree_inside : {X : Type 0} (f g : List Entry → Entry → List Entry → X) (events : List LoneEvent) → AgreeAtEntries f g events
     → AtEachNoted events (λ t x behind. f t x behind ≡ g t x behind)
 agree_inside f g events same past back o front behind x at inside =
-    same_in f g (entries_of_events_alone past) front behind x
-    (subst (λ l. at_entries f (entries_of_events_alone past) l ≡ at_entries g (entries_of_events_alone past) l) inside
-    (agree_here (λ t o. at_entries f t o.entries) (λ t o. at_entries g t o.entries) events same past back o at))
+    same_behind f g (entries_of_events_alone past) o.entries front behind x
+    (agree_here (λ t o. at_each itself f t o.entries) (λ t o. at_each itself g t o.entries) events same past back o at) inside
 
 -- ## What is found, and what is wanted
-
--- at a turn the first message that came and had none
-abbrev first_found : List Entry → Entry → List Entry → Option (Option Message)
-first_found t (entry.Turn e pid message) behind = Some (oldest (unhandled_in t e))
-first_found t _ behind = None
-
-abbrev first_wanted : List Entry → Entry → List Entry → Option (Option Message)
-first_wanted t (entry.Turn e pid message) behind = Some (Some (pid, message))
-first_wanted t _ behind = None
-
-first_so : (t : List Entry) (x : Entry) (behind : List Entry) → first_found t x behind ≡ first_wanted t x behind → IsFirstThere t x
-first_so t (entry.Turn e pid message) behind same = some_is _ _ same
-first_so t _ behind same = tt
-
-abbrev heard_found : List Entry → Entry → List Entry → Bool
-heard_found t x behind = option_map_or (λ n. none_heard n behind) (answerer x) true
-
-heard_so : (t : List Entry) (x : Entry) (behind : List Entry) → heard_found t x behind ≡ true → HearsFirstAlone x behind
-heard_so t x behind found n answers = by (answerer x) found answers where
-  by : (o : Option ℕ) → option_map_or (λ n. none_heard n behind) o true ≡ true → option_map_or (λ k. k == n) o false ≡ true
-      → AllByRecursion (λ y. hears n y ≡ false) behind
-  by None q is = absurd (true≢false (sym is))
-  by (Some k) q is = none_hears n behind (subst (λ j. none_heard j behind ≡ true) (eqb-true k n is) q)
 
 module _ (core : Core) (h : ℕ) where
   -- at a turn what lacks, and the answers behind it
@@ -134,7 +88,7 @@ module _ (core : Core) (h : ℕ) where
       (λ t o. answers_wanted core.node o.entries (noted_since core h t (sync_due (core_since core t) h o.cause))) events
   IsFound Reset events = AgreeAtEvents (λ t o. list_any is_asked_down o.entries) (λ t o. is_reset_alone core h t o.cause) events
   IsFound Ascending events = AgreeAtEvents (λ t o. turns_rise o.entries) (λ t o. true) events
-  IsFound Heard events = AgreeAtEntries heard_found (λ t x behind. true) events
+  IsFound Heard events = AgreeAtEntries (λ t x behind. none_behind x behind) (λ t x behind. true) events
 
   found_holds : (g : Fact) (events : List LoneEvent) → IsFound g events → FactOf g events
   found_holds InTurn events q =
@@ -157,39 +111,14 @@ module _ (core : Core) (h : ℕ) where
       rise_ascends n o.entries (agree_here (λ t o. turns_rise o.entries) (λ t o. true) events q past back o at)
   found_holds Heard events q =
       λ past back o front behind x at inside.
-      heard_so (entries_of_events_alone past ++ front) x behind
-      (agree_inside heard_found (λ t x behind. true) events q past back o front behind x at inside)
-
-  -- ## One fact alone
+      heard_so x behind (agree_inside (λ t x behind. none_behind x behind) (λ t x behind. true) events q past back o front behind x at inside)
 
   -- this fact refuses a history, and each other one holds of it
   abbrev pub RefusedByOnly : Fact → List LoneEvent → Type 0
-  RefusedByOnly f events = (FactOf f events → ⊥) × ((g : Fact) → is_fact f g ≡ false → FactOf g events)
+  RefusedByOnly f events = OnlyFails (λ g. FactOf g events) f
 
-  abbrev One : Fact → Fact → List LoneEvent → Type 0
-  One f g events = Unless (is_fact f g) (IsFound g events)
-
-  abbrev pub Others : Fact → List LoneEvent → Type 0
-  Others f events =
-      One f InTurn events × One f Replied events × One f Held events × One f Done events × One f Short events × One f Due events × One f Reset events
-      × One f Ascending events × One f Heard events
-
-  one_holds : (f g : Fact) (events : List LoneEvent) → One f g events → is_fact f g ≡ false → FactOf g events
-  one_holds f g events one other = by (is_fact f g) other one where
-    by : (b : Bool) → b ≡ false → Unless b (IsFound g events) → FactOf g events
-    by true q x = absurd (true≢false q)
-    by false q x = found_holds g events x
-
-  pub others_hold : (f : Fact) (events : List LoneEvent) → Others f events → (g : Fact) → is_fact f g ≡ false → FactOf g events
-  others_hold f events all InTurn q = one_holds f InTurn events all.0 q
-  others_hold f events all Replied q = one_holds f Replied events all.1 q
-  others_hold f events all Held q = one_holds f Held events all.2 q
-  others_hold f events all Done q = one_holds f Done events all.3 q
-  others_hold f events all Short q = one_holds f Short events all.4 q
-  others_hold f events all Due q = one_holds f Due events all.5 q
-  others_hold f events all Reset q = one_holds f Reset events all.6 q
-  others_hold f events all Ascending q = one_holds f Ascending events all.7 q
-  others_hold f events all Heard q = one_holds f Heard events all.8 q
+  pub others_hold : (f : Fact) (events : List LoneEvent) → AllOthers (λ g. IsFound g events) f → (g : Fact) → is_fact f g ≡ false → FactOf g events
+  others_hold f events all = all_others_hold (λ g. FactOf g events) (λ g. IsFound g events) (λ g. found_holds g events) f all
 
   -- A history of which all facts are found is answered.
   pub all_found : (events : List LoneEvent) → ((g : Fact) → IsFound g events) → AnsweredAlone core h events

@@ -2,7 +2,7 @@
 use Rattle.std.proofs.Common.{true≢false}
 use Rattle.lone_laws.proofs.Words.{AnsweredAlone, Ascending, Bool, Core, Done, Dropped, Due, Entry, Fact, FrameIsRefused, Heard, HeldFact, InTurn, List}
 use Rattle.lone_laws.proofs.Words.{LoneEvent, None, Option, Replied, Sent, Short, Some, TickComes, [], ap, arith, end_c, false, formatted, is_some, no_tables}
-use Rattle.lone_laws.proofs.Words.{refl, replicate, sym, true, ℕ, ◌∷◌, ◌≡◌, ◌≤◌}
+use Rattle.lone_laws.proofs.Words.{refl, replicate, sym, true, ℕ, ◌++◌, ◌∷◌, ◌≡◌, ◌≤◌}
 use Rattle.swp_base.specs.declared.link_terms.Cause.TheVariants as cause
 use Rattle.swp_base.specs.declared.link_terms.FrameFault.TheVariants as fault
 use Rattle.trace_model.specs.declared.entry.Entry.TheVariants.{Up, Down, Got, Acked, Turn, Held}
@@ -138,11 +138,11 @@ reset_unasked = (
 abbrev long : List ℕ
 long = 66 ∷ replicate 4095 0
 
+abbrev both_come : List Entry
+both_come = Got (end_c 2) 1 2 long ∷ Got (end_c 2) 1 2 (66 ∷ []) ∷ Turn (end_c 2) 2 long ∷ Sent (end_c 2) 1 2 long ∷ []
+
 abbrev fills : LoneEvent
-fills =
-    ticks (
-    Got (end_c 2) 1 2 long ∷ Got (end_c 2) 1 2 (66 ∷ []) ∷ Turn (end_c 2) 2 long ∷ Sent (end_c 2) 1 2 long ∷ Held (end_c 2) 1 0 ∷ []
-    )
+fills = ticks (both_come ++ Held (end_c 2) 1 0 ∷ [])
 
 -- it is noted as held once more
 abbrev again : LoneEvent
@@ -162,17 +162,12 @@ blocks (Some x) = x.0
 
 -- it is noted as held for more than it lacks
 abbrev too_much : LoneEvent
-too_much =
-    ticks (
-    Got (end_c 2) 1 2 long ∷ Got (end_c 2) 1 2 (66 ∷ []) ∷ Turn (end_c 2) 2 long ∷ Sent (end_c 2) 1 2 long ∷ Held (end_c 2) 2 0 ∷ []
-    )
+too_much = ticks (both_come ++ Held (end_c 2) 2 0 ∷ [])
 
 held_for_more : RefusedByOnly core 2 HeldFact (begins ∷ too_much ∷ [])
 unfolding hosts_where lowest_free
 held_for_more = (
-  λ held. let same : 1 ≡ 2 = ap blocks (held (begins ∷ []) [] too_much
-      (Got (end_c 2) 1 2 long ∷ Got (end_c 2) 1 2 (66 ∷ []) ∷ Turn (end_c 2) 2 long ∷ Sent (end_c 2) 1 2 long ∷ []) [] (Held (end_c 2) 2 0) refl refl).1 in
-      omega (arith, same),
+  λ held. let same : 1 ≡ 2 = ap blocks (held (begins ∷ []) [] too_much both_come [] (Held (end_c 2) 2 0) refl refl).1 in omega (arith, same),
   others_hold core 2 HeldFact (begins ∷ too_much ∷ []) (refl, refl, tt, refl, refl, refl, refl, refl, refl),
 )
 

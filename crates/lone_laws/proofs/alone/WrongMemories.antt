@@ -1,8 +1,8 @@
 -- Small wrong memories don't keep the commands of a run: one for each fact of `FindsBehind`, of which the others hold.
-use Rattle.std.proofs.Common.{true≢false}
+use Rattle.std.proofs.Common.{leb, true≢false}
 use Rattle.lone_laws.proofs.Words.{Bool, Command, Counts, CountsAll, FindsBehind, FindsTables, HciTables, IsKeptIn, IsReadyMemory, List, None, [], ap, arith}
-use Rattle.lone_laws.proofs.Words.{close, false, inl, inr, journal, leb-true, length, records, refl, replicate, subst, sym, tables_of, true, ℕ, ◌++◌, ◌+◌, ◌∷◌}
-use Rattle.lone_laws.proofs.Words.{◌≡◌}
+use Rattle.lone_laws.proofs.Words.{close, false, inl, inr, journal, leb-true, length, records, refl, replicate, subst, sym, tables_of, true, ℕ, ◌++◌, ◌+◌}
+use Rattle.lone_laws.proofs.Words.{◌∷◌, ◌≡◌}
 use Rattle.hci_tables.specs.declared.command.Command.TheVariants as command
 use Rattle.journal_laws.specs.Records.{found_from}
 use Rattle.hci_store.specs.Image.{image_fault}
@@ -17,16 +17,23 @@ no_syncs t = none t.syncs where
   none [] = true
   none (x ∷ xs) = false
 
-blank_counts : CountsAll blank
-unfolding found_from
-blank_counts = leb-true (journal blank).head.snapshot ((journal blank).head.base + length (records blank)) refl
+-- the head of a bank: its version, how many commands came before it, and how many of its records are of its snapshot
+abbrev head : ℕ → ℕ → ℕ → List ℕ
+head version base snapshot = 90 ∷ version ∷ 0 ∷ 0 ∷ 0 ∷ 1 ∷ 0 ∷ 0 ∷ 0 ∷ base ∷ 0 ∷ snapshot ∷ []
+
+-- a bank with that alone
+abbrev bank : ℕ → ℕ → ℕ → List ℕ
+bank version base snapshot = head version base snapshot ++ replicate 65524 255
+
+counts_all : (m : List ℕ) → leb (journal m).head.snapshot ((journal m).head.base + length (records m)) ≡ true → CountsAll m
+counts_all m enough = leb-true (journal m).head.snapshot ((journal m).head.base + length (records m)) enough
 
 -- ## Other tables
 
 -- a bank with one record, of an identifier, which is said to be of its snapshot: so no command is counted
 abbrev other_record : List ℕ
 other_record =
-    90 ∷ 2 ∷ 0 ∷ 0 ∷ 0 ∷ 1 ∷ 0 ∷ 0 ∷ 0 ∷ 0 ∷ 0 ∷ 1 ∷ 90 ∷ 4 ∷ 0 ∷ 0 ∷ 6 ∷ 2 ∷ 0 ∷ 1 ∷ 255 ∷ replicate 65515 255
+    head 2 0 1 ++ 90 ∷ 4 ∷ 0 ∷ 0 ∷ 6 ∷ 2 ∷ 0 ∷ 1 ∷ 255 ∷ replicate 65515 255
 
 finds_another : IsKeptIn false blank [] other_record → ⊥
 unfolding found_from no_syncs
@@ -36,20 +43,17 @@ another_is_ready : IsReadyMemory other_record × Counts other_record 0
 unfolding found_from image_fault
 another_is_ready = (
   record { size = leb-true 65536 (length other_record) refl; sound = refl; version = refl },
-  record {
-    all = leb-true (journal other_record).head.snapshot ((journal other_record).head.base + length (records other_record)) refl;
-    count_is = refl;
-  },
+  record { all = counts_all other_record refl; count_is = refl },
 )
 
 -- ## Another count
 
 abbrev other_count : List ℕ
-other_count = 90 ∷ 2 ∷ 0 ∷ 0 ∷ 0 ∷ 1 ∷ 0 ∷ 0 ∷ 0 ∷ 5 ∷ 0 ∷ 0 ∷ replicate 65524 255
+other_count = bank 2 5 0
 
 counts_more : IsKeptIn false blank [] other_count → ⊥
 unfolding found_from
-counts_more k = let same : 5 ≡ 0 = (k.counts blank_counts).count_is in omega (arith, same)
+counts_more k = let same : 5 ≡ 0 = (k.counts (counts_all blank refl)).count_is in omega (arith, same)
 
 count_alone : FindsTables other_count (close (tables_of blank))
 unfolding found_from image_fault
@@ -58,7 +62,7 @@ count_alone = record { ready = record { size = leb-true 65536 (length other_coun
 -- ## Another version
 
 abbrev other_version : List ℕ
-other_version = 90 ∷ 1 ∷ 0 ∷ 0 ∷ 0 ∷ 1 ∷ 0 ∷ 0 ∷ 0 ∷ 0 ∷ 0 ∷ 0 ∷ replicate 65524 255
+other_version = bank 1 0 0
 
 is_of_version_01 : IsKeptIn false blank [] other_version → ⊥
 unfolding found_from
@@ -69,10 +73,7 @@ unfolding found_from image_fault
 version_alone = (
   refl,
   refl,
-  record {
-    all = leb-true (journal other_version).head.snapshot ((journal other_version).head.base + length (records other_version)) refl;
-    count_is = refl;
-  },
+  record { all = counts_all other_version refl; count_is = refl },
 )
 
 -- ## Power

@@ -5,7 +5,8 @@ use Rattle.trace_model.specs.declared.entry.Entry.TheVariants as entry
 use Rattle.journal_laws.specs.Records.{found_from}
 use Rattle.gate_admin.specs.View.{hosts_where}
 use Rattle.pipe_table.specs.PipeRows.{lowest_free}
-use Rattle.node_laws.proofs.answers.Walks.{answered, all_in_turn_still, history_of_lines}
+use Rattle.node_laws.proofs.answers.Walks.{all_in_turn_still, history_of_lines}
+use Rattle.node_laws.proofs.answers.OneFact.{answered}
 use Rattle.node_laws.proofs.answers.Schedules.{errors_lines}
 use Rattle.node_laws.proofs.answers.Otherwise.{of_note}
 

@@ -4,7 +4,8 @@ use Rattle.trace_model.specs.declared.entry.Entry.TheVariants as entry
 use Rattle.journal_laws.specs.Records.{found_from}
 use Rattle.gate_admin.specs.View.{hosts_where}
 use Rattle.pipe_table.specs.PipeRows.{lowest_free}
-use Rattle.node_laws.proofs.answers.Walks.{answered, all_in_turn, history_of_lines}
+use Rattle.node_laws.proofs.answers.Walks.{history_of_lines}
+use Rattle.node_laws.proofs.answers.OneFact.{lines_answered}
 use Rattle.node_laws.proofs.answers.Schedules.{held_lines}
 
 abbrev is_held_entry : Entry → Bool
@@ -17,4 +18,4 @@ held_is_told = refl
 
 held : Answered (history_of_lines (2 ∷ []) held_lines)
 unfolding found_from hosts_where lowest_free
-held = answered (history_of_lines (2 ∷ []) held_lines) (all_in_turn (2 ∷ []) held_lines refl (tt, tt) (refl, tt)) refl
+held = lines_answered (2 ∷ []) held_lines refl (tt, tt) (refl, tt) refl

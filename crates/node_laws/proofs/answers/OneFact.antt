@@ -1,36 +1,28 @@
--- What walks over a history find says of each fact of `Answered` whether it holds.
-use Rattle.node_laws.proofs.Words.{AllByRecursion, AreDone, AreDue, AreInTurn, AreLeftShort, AreReset, AtEachEntry, AtEachOccurrence, Bool, End, Entry}
-use Rattle.node_laws.proofs.Words.{IsHeldFor, IsReplied, List, Message, Moment, NodeHistory, NodesHearFirst, None, Occurrence, Option, Some, TurnsAscend, []}
-use Rattle.node_laws.proofs.Words.{and_parts, answerer, ap, append-nil, append_assoc, by_test, down_in, drop, due, ends_in, entries_in, eqb-true, false}
-use Rattle.node_laws.proofs.Words.{fold-append, hears, is_done, is_left_short, is_reset_down, is_reset_due, list_any, node_entries, node_of, not, not-true}
-use Rattle.node_laws.proofs.Words.{noted_of_deeds, occurrences_in, oldest, option_map_or, refl, same_end, subst, sym, through, true, true≢false}
-use Rattle.node_laws.proofs.Words.{unhandled_after, unhandled_in, ℕ, ◌&&◌, ◌++◌, ◌==◌, ◌∷◌, ◌≡◌}
+-- What walks over a history find says of each fact of `Answered` whether it holds, and one walk of all of them.
+use Rattle.node_laws.proofs.Words.{AllByRecursion, Answered, AreDifferent, AreDone, AreDue, AreInTurn, AreLeftShort, AreReset, AtEachEntry, AtEachOccurrence}
+use Rattle.node_laws.proofs.Words.{Bool, End, Entry, IsHeldFor, IsReplied, Line, List, Message, Moment, NodeHistory, NodesHearFirst, None, Occurrence, Option}
+use Rattle.node_laws.proofs.Words.{Some, TurnsAscend, [], and_parts, answerer, ap, append-nil, append_assoc, by_test, down_in, drop, due, ends_in, entries_in}
+use Rattle.node_laws.proofs.Words.{eqb-true, false, fold-append, hears, is_answer_of, is_done, is_left_short, is_reset_down, is_reset_due, list_any, map}
+use Rattle.node_laws.proofs.Words.{node_entries, node_of, not, not-true, noted_of_deeds, occurrences_in, oldest, option_map_or, refl, same_end, subst, sym}
+use Rattle.node_laws.proofs.Words.{through, true, true≢false, unhandled_after, unhandled_in, ℕ, ◌&&◌, ◌++◌, ◌==◌, ◌∙◌, ◌∷◌, ◌≡◌}
 use Rattle.trace_model.specs.declared.entry.Entry.TheVariants as entry
 use Rattle.node_laws.proofs.turns.Queues.{Becomes, Front, Goes, all_left, doing, front_goes}
-use Rattle.node_laws.specs.answers.Order.{HearsFirst}
 use Rattle.node_laws.proofs.answers.Rising.{rise_ascends}
-use Rattle.node_laws.proofs.answers.Splits.{same_at_each, at_events, same_at_events, at_entries, same_at_entries, first_or, rest_of}
-use Rattle.node_laws.proofs.answers.Walks.{answers_found, answers_wanted, found, held_found, held_wanted, turn_found, turn_wanted, wanted}
+use Rattle.node_laws.proofs.answers.Splits.{same_at_each, at_each, itself, mapped_at, same_behind}
+use Rattle.node_laws.proofs.answers.Walks.{Findings, IsOrderly, all_in_turn, answers_found, answers_wanted, at_entries, at_events, found, held_found}
+use Rattle.node_laws.proofs.answers.Walks.{held_wanted, history_of_lines, is_damage, turn_found, turn_wanted, wanted}
 use Rattle.node_laws.proofs.schedules.Ends.{ends_same}
 
 -- ## Messages have their turns in order
 
 -- at a turn the first message that came and had none
-abbrev first_found : List Entry → Entry → Option (Option Message)
-first_found t (entry.Turn e pid message) = Some (oldest (unhandled_in t e))
-first_found t _ = None
+abbrev pub first_found : List Entry → Entry → List Entry → Option (Option Message)
+first_found t (entry.Turn e pid message) behind = Some (oldest (unhandled_in t e))
+first_found t _ behind = None
 
-abbrev first_wanted : Entry → Option (Option Message)
-first_wanted (entry.Turn e pid message) = Some (Some (pid, message))
-first_wanted _ = None
-
-abbrev pub firsts_found : List Entry → List Entry → List (Option (Option Message))
-firsts_found before [] = []
-firsts_found before (x ∷ t) = first_found before x ∷ firsts_found (before ++ x ∷ []) t
-
-abbrev pub firsts_wanted : List Entry → List (Option (Option Message))
-firsts_wanted [] = []
-firsts_wanted (x ∷ t) = first_wanted x ∷ firsts_wanted t
+abbrev pub first_wanted : List Entry → Entry → List Entry → Option (Option Message)
+first_wanted t (entry.Turn e pid message) behind = Some (Some (pid, message))
+first_wanted t _ behind = None
 
 first_dropped : (ms : List Message) (m : Message) → oldest ms ≡ Some m → ms ≡ m ∷ drop 1 ms
 first_dropped [] m q = absurd (cc q)
@@ -78,36 +70,33 @@ firsts_in_turn t each front back e at =
     let f : Front e [] front = front_goes e front back [] (unhandled_in t e) (subst (λ l. Goes e [] l (unhandled_in t e)) at (goes_on e t [] each)) in
     (f.left, all_left e front [] [] f.left refl f.goes)
 
-first_so : (t : List Entry) (x : Entry) → first_found t x ≡ first_wanted x → IsFirstThere t x
-first_so t (entry.Turn e pid message) same = some_is (oldest (unhandled_in t e)) (Some (pid, message)) same
-first_so t _ same = tt
+pub first_so : (t : List Entry) (x : Entry) (behind : List Entry) → first_found t x behind ≡ first_wanted t x behind → IsFirstThere t x
+first_so t (entry.Turn e pid message) behind same = some_is (oldest (unhandled_in t e)) (Some (pid, message)) same
+first_so t _ behind same = tt
 
-first_at : (front back before : List Entry) (x : Entry) → firsts_found before (front ++ (x ∷ back)) ≡ firsts_wanted (front ++ (x ∷ back))
-    → IsFirstThere (before ++ front) x
-first_at [] back before x same = subst (λ l. IsFirstThere l x) (sym (append-nil before)) (first_so before x (ap (first_or None) same))
-first_at (y ∷ front) back before x same =
-    subst (λ l. IsFirstThere l x) (append_assoc before (y ∷ []) front) (first_at front back (before ++ y ∷ []) x (ap rest_of same))
+abbrev AreFoundInTurn : List Entry → Type 0
+AreFoundInTurn t = at_each itself first_found [] t ≡ at_each itself first_wanted [] t
 
-in_turn : (t : List Entry) → firsts_found [] t ≡ firsts_wanted t → AreInTurn t
-in_turn t same =
-    firsts_in_turn t (λ front back x at. first_at front back [] x (subst (λ l. firsts_found [] l ≡ firsts_wanted l) at same))
+in_turn : (t : List Entry) → AreFoundInTurn t → AreInTurn t
+in_turn t same = firsts_in_turn t (λ front back x at. first_so front x back (same_behind first_found first_wanted [] t front back x same at))
 
 -- ## Nothing comes behind an answer
 
-abbrev pub none_heard : ℕ → List Entry → Bool
+abbrev none_heard : ℕ → List Entry → Bool
 none_heard n [] = true
 none_heard n (x ∷ entries) = not (hears n x) && none_heard n entries
 
-abbrev pub heard_found : Moment → Entry → List Entry → Bool
-heard_found m x behind = option_map_or (λ n. none_heard n behind) (answerer x) true
+abbrev pub none_behind : Entry → List Entry → Bool
+none_behind x behind = option_map_or (λ n. none_heard n behind) (answerer x) true
 
-pub none_hears : (n : ℕ) (entries : List Entry) → none_heard n entries ≡ true → AllByRecursion (λ y. hears n y ≡ false) entries
+none_hears : (n : ℕ) (entries : List Entry) → none_heard n entries ≡ true → AllByRecursion (λ y. hears n y ≡ false) entries
 none_hears n [] q = tt
 none_hears n (x ∷ entries) q =
     let both = and_parts (not (hears n x)) (none_heard n entries) q in (not-true (hears n x) both.0, none_hears n entries both.1)
 
-heard_so : (m : Moment) (x : Entry) (behind : List Entry) → heard_found m x behind ≡ true → HearsFirst m x behind
-heard_so m x behind known n answers = by (answerer x) known answers where
+pub heard_so : (x : Entry) (behind : List Entry) → none_behind x behind ≡ true
+    → (n : ℕ) → is_answer_of n x ≡ true → AllByRecursion (λ y. hears n y ≡ false) behind
+heard_so x behind known n answers = by (answerer x) known answers where
   by : (o : Option ℕ) → option_map_or (λ n. none_heard n behind) o true ≡ true → option_map_or (λ k. k == n) o false ≡ true
       → AllByRecursion (λ y. hears n y ≡ false) behind
   by None q is = absurd (true≢false (sym is))
@@ -144,28 +133,64 @@ is_fact f g = number_of f == number_of g
 pub both_are : {X Y : Type 0} (p q : X × Y) → Some p ≡ Some q → (p.0 ≡ q.0) × (p.1 ≡ q.1)
 both_are {X} {Y} p q s = let same : p ≡ q = some_is p q s in (ap (λ (z : X × Y). z.0) same, ap (λ (z : X × Y). z.1) same)
 
-abbrev pub Unless : Bool → Type 0 → Type 0
+abbrev Unless : Bool → Type 0 → Type 0
 Unless true X = Unit {0}
 Unless false X = X
+
+-- ## One fact alone
+
+module _ (Found : Fact → Type 0) where
+  abbrev One : Fact → Fact → Type 0
+  One f g = Unless (is_fact f g) (Found g)
+
+  -- all other facts are found
+  abbrev pub AllOthers : Fact → Type 0
+  AllOthers f =
+      One f InTurn × One f Replied × One f Held × One f Done × One f Short × One f Due × One f Reset × One f Ascending × One f Heard
+
+module _ (Holds : Fact → Type 0) where
+  -- this fact doesn't hold, and each other one does
+  abbrev pub OnlyFails : Fact → Type 0
+  OnlyFails f = (Holds f → ⊥) × ((g : Fact) → is_fact f g ≡ false → Holds g)
+
+  module _ (Found : Fact → Type 0) (found_holds : (g : Fact) → Found g → Holds g) where
+    one_holds : (f g : Fact) → One Found f g → is_fact f g ≡ false → Holds g
+    one_holds f g one other = by (is_fact f g) other one where
+      by : (b : Bool) → b ≡ false → Unless b (Found g) → Holds g
+      by true q x = absurd (true≢false q)
+      by false q x = found_holds g x
+
+    pub all_others_hold : (f : Fact) → AllOthers Found f → (g : Fact) → is_fact f g ≡ false → Holds g
+    all_others_hold f all InTurn q = one_holds f InTurn all.0 q
+    all_others_hold f all Replied q = one_holds f Replied all.1 q
+    all_others_hold f all Held q = one_holds f Held all.2 q
+    all_others_hold f all Done q = one_holds f Done all.3 q
+    all_others_hold f all Short q = one_holds f Short all.4 q
+    all_others_hold f all Due q = one_holds f Due all.5 q
+    all_others_hold f all Reset q = one_holds f Reset all.6 q
+    all_others_hold f all Ascending q = one_holds f Ascending all.7 q
+    all_others_hold f all Heard q = one_holds f Heard all.8 q
+
+-- ## Of a history of nodes
 
 module _ (t : NodeHistory) where
   abbrev hosts : List ℕ
   hosts = t.header.hosts.items
 
   abbrev AgreeAtEvents : {X : Type 0} → (List Occurrence → Occurrence → X) → (List Occurrence → Occurrence → X) → Type 0
-  AgreeAtEvents f g = at_events f [] (occurrences_in t) ≡ at_events g [] (occurrences_in t)
+  AgreeAtEvents f g = at_events f (occurrences_in t) ≡ at_events g (occurrences_in t)
 
   abbrev AgreeAtEntries : {X : Type 0} → (Moment → Entry → List Entry → X) → (Moment → Entry → List Entry → X) → Type 0
-  AgreeAtEntries f g = AgreeAtEvents (λ past o. at_entries f past o.cause [] o.entries) (λ past o. at_entries g past o.cause [] o.entries)
+  AgreeAtEntries f g = AgreeAtEvents (at_entries f) (at_entries g)
 
   agree_here : {X : Type 0} (f g : List Occurrence → Occurrence → X) → AgreeAtEvents f g → AtEachOccurrence t (λ past o. f past o ≡ g past o)
-  agree_here f g same past back o at = same_at_events f g [] past back o (subst (λ l. at_events f [] l ≡ at_events g [] l) at same)
+  agree_here f g same past back o at = same_behind (λ past o back. f past o) (λ past o back. g past o) [] (occurrences_in t) past back o same at
 
   agree_inside : {X : Type 0} (f g : Moment → Entry → List Entry → X) → AgreeAtEntries f g → AtEachEntry t (λ m x behind. f m x behind ≡ g m x behind)
   agree_inside f g same past back o front behind x at inside =
-      same_at_entries f g past o.cause [] front behind x
-      (subst (λ l. at_entries f past o.cause [] l ≡ at_entries g past o.cause [] l) inside
-      (agree_here (λ past o. at_entries f past o.cause [] o.entries) (λ past o. at_entries g past o.cause [] o.entries) same past back o at))
+      let then : List Entry → Moment = λ l. record { past = past; cause = o.cause; so_far = l } in
+      same_behind (λ l y rest. f (then l) y rest) (λ l y rest. g (then l) y rest) [] o.entries front behind x
+      (agree_here (at_entries f) (at_entries g) same past back o at) inside
 
   turn_so : (m : Moment) (x : Entry) (behind : List Entry) → turn_found hosts m x behind ≡ turn_wanted hosts m x behind → IsReplied hosts m x behind
   turn_so m (entry.Turn e pid message) behind same = both_are _ _ same
@@ -188,7 +213,7 @@ module _ (t : NodeHistory) where
 
   -- what a walk finds of it is what is wanted
   abbrev pub IsFound : Fact → Type 0
-  IsFound InTurn = firsts_found [] (node_entries t) ≡ firsts_wanted (node_entries t)
+  IsFound InTurn = AreFoundInTurn (node_entries t)
   IsFound Replied = AgreeAtEntries (turn_found hosts) (turn_wanted hosts)
   IsFound Held = AgreeAtEntries (held_found hosts) (held_wanted hosts)
   IsFound Done = AgreeAtEvents (λ past o. (found hosts past o).done) (λ past o. (wanted hosts past o).done)
@@ -196,7 +221,7 @@ module _ (t : NodeHistory) where
   IsFound Due = AgreeAtEvents (λ past o. (found hosts past o).due) (λ past o. (wanted hosts past o).due)
   IsFound Reset = AgreeAtEvents (λ past o. (found hosts past o).reset) (λ past o. (wanted hosts past o).reset)
   IsFound Ascending = AgreeAtEvents (λ past o. (found hosts past o).rise) (λ past o. true)
-  IsFound Heard = AgreeAtEntries heard_found (λ m x behind. true)
+  IsFound Heard = AgreeAtEntries (λ m x behind. none_behind x behind) (λ m x behind. true)
 
   found_holds : (g : Fact) → IsFound g → FactOf g
   found_holds InTurn q = in_turn (node_entries t) q
@@ -230,36 +255,43 @@ module _ (t : NodeHistory) where
       rise_ascends n o.entries (agree_here (λ past o. (found hosts past o).rise) (λ past o. true) q past back o at)
   found_holds Heard q =
       λ past back o front behind x at inside.
-      heard_so (record { past = past; cause = o.cause; so_far = front }) x behind
-      (agree_inside heard_found (λ m x behind. true) q past back o front behind x at inside)
-
-  -- ## One fact alone
+      heard_so x behind (agree_inside (λ m x behind. none_behind x behind) (λ m x behind. true) q past back o front behind x at inside)
 
   -- this fact refuses the history, and each other one holds of it
   abbrev pub RefusedByOnly : Fact → Type 0
-  RefusedByOnly f = (FactOf f → ⊥) × ((g : Fact) → is_fact f g ≡ false → FactOf g)
+  RefusedByOnly f = OnlyFails FactOf f
 
-  abbrev One : Fact → Fact → Type 0
-  One f g = Unless (is_fact f g) (IsFound g)
+  pub others_hold : (f : Fact) → AllOthers IsFound f → (g : Fact) → is_fact f g ≡ false → FactOf g
+  others_hold f all = all_others_hold FactOf IsFound found_holds f all
 
-  -- the others are found
-  abbrev pub Others : Fact → Type 0
-  Others f =
-      One f InTurn × One f Replied × One f Held × One f Done × One f Short × One f Due × One f Reset × One f Ascending × One f Heard
+-- ## All at once
 
-  one_holds : (f g : Fact) → One f g → is_fact f g ≡ false → FactOf g
-  one_holds f g one other = by (is_fact f g) other one where
-    by : (b : Bool) → b ≡ false → Unless b (IsFound g) → FactOf g
-    by true q x = absurd (true≢false q)
-    by false q x = found_holds g x
+-- one walk finds what is wanted
+abbrev pub IsFoundAnswered : NodeHistory → Type 0
+IsFoundAnswered t = AgreeAtEvents t (found t.header.hosts.items) (wanted t.header.hosts.items)
 
-  pub others_hold : (f : Fact) → Others f → (g : Fact) → is_fact f g ≡ false → FactOf g
-  others_hold f all InTurn q = one_holds f InTurn all.0 q
-  others_hold f all Replied q = one_holds f Replied all.1 q
-  others_hold f all Held q = one_holds f Held all.2 q
-  others_hold f all Done q = one_holds f Done all.3 q
-  others_hold f all Short q = one_holds f Short all.4 q
-  others_hold f all Due q = one_holds f Due all.5 q
-  others_hold f all Reset q = one_holds f Reset all.6 q
-  others_hold f all Ascending q = one_holds f Ascending all.7 q
-  others_hold f all Heard q = one_holds f Heard all.8 q
+module _ (t : NodeHistory) (orderly : IsOrderly t) (same : IsFoundAnswered t) where
+  of_part : {X : Type 0} (part : Findings → X)
+      → AgreeAtEvents t (λ past o. part (found t.header.hosts.items past o)) (λ past o. part (wanted t.header.hosts.items past o))
+  of_part part =
+      sym (mapped_at itself part (λ past o back. found t.header.hosts.items past o) [] (occurrences_in t)) ∙ ap (map part) same
+      ∙ mapped_at itself part (λ past o back. wanted t.header.hosts.items past o) [] (occurrences_in t)
+
+  pub answered : Answered t
+  answered = record {
+    in_turn = orderly.turns;
+    done = found_holds t Done (of_part (λ (f : Findings). f.done));
+    replied = found_holds t Replied (of_part (λ (f : Findings). f.turns));
+    held = found_holds t Held (of_part (λ (f : Findings). f.held));
+    short = found_holds t Short (of_part (λ (f : Findings). f.short));
+    due = found_holds t Due (of_part (λ (f : Findings). f.due));
+    reset = found_holds t Reset (of_part (λ (f : Findings). f.reset));
+    ascending = found_holds t Ascending (of_part (λ (f : Findings). f.rise));
+    heard = orderly.heard;
+  }
+
+-- so a history of lines without damaged frames is answered where the walk finds it
+pub lines_answered : (hosts : List ℕ) (lines : List Line) → list_any is_damage lines ≡ false → AreDifferent hosts
+    → AllByRecursion (λ h. (h == 0) ≡ false) hosts → IsFoundAnswered (history_of_lines hosts lines) → Answered (history_of_lines hosts lines)
+lines_answered hosts lines none different some same =
+    answered (history_of_lines hosts lines) (all_in_turn hosts lines none different some) same

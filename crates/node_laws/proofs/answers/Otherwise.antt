@@ -6,7 +6,8 @@ use Rattle.trace_model.specs.declared.entry.Entry.TheVariants as entry
 use Rattle.journal_laws.specs.Records.{found_from}
 use Rattle.gate_admin.specs.View.{hosts_where}
 use Rattle.pipe_table.specs.PipeRows.{lowest_free}
-use Rattle.node_laws.proofs.answers.Walks.{answered, all_in_turn, history_of_lines}
+use Rattle.node_laws.proofs.answers.Walks.{history_of_lines}
+use Rattle.node_laws.proofs.answers.OneFact.{lines_answered}
 use Rattle.node_laws.proofs.answers.Schedules.{notice_late_lines, deletion_late_lines, forgotten_lines, asked_reset_lines, cut_while_asked_lines}
 use Rattle.node_laws.proofs.answers.Schedules.{host_held_lines}
 
@@ -36,9 +37,7 @@ notice_late_is = refl
 
 deletion_late : Answered (history_of_lines (1 ∷ 2 ∷ []) deletion_late_lines)
 unfolding found_from hosts_where lowest_free
-deletion_late =
-    answered (history_of_lines (1 ∷ 2 ∷ []) deletion_late_lines)
-    (all_in_turn (1 ∷ 2 ∷ []) deletion_late_lines refl ((refl, tt), (tt, tt)) (refl, (refl, tt))) refl
+deletion_late = lines_answered (1 ∷ 2 ∷ []) deletion_late_lines refl ((refl, tt), (tt, tt)) (refl, (refl, tt)) refl
 
 deletion_late_is : of_note (history_of_lines (1 ∷ 2 ∷ []) deletion_late_lines)
     ≡ entry.Down (end_c 1) cause.Asked ∷ []
@@ -47,9 +46,7 @@ deletion_late_is = refl
 
 forgotten : Answered (history_of_lines (1 ∷ 2 ∷ []) forgotten_lines)
 unfolding found_from hosts_where lowest_free
-forgotten =
-    answered (history_of_lines (1 ∷ 2 ∷ []) forgotten_lines)
-    (all_in_turn (1 ∷ 2 ∷ []) forgotten_lines refl ((refl, tt), (tt, tt)) (refl, (refl, tt))) refl
+forgotten = lines_answered (1 ∷ 2 ∷ []) forgotten_lines refl ((refl, tt), (tt, tt)) (refl, (refl, tt)) refl
 
 forgotten_is : of_note (history_of_lines (1 ∷ 2 ∷ []) forgotten_lines)
     ≡ entry.Down (end_c 2) cause.Asked ∷ []
@@ -58,9 +55,7 @@ forgotten_is = refl
 
 asked_reset : Answered (history_of_lines (1 ∷ 2 ∷ []) asked_reset_lines)
 unfolding found_from hosts_where lowest_free
-asked_reset =
-    answered (history_of_lines (1 ∷ 2 ∷ []) asked_reset_lines)
-    (all_in_turn (1 ∷ 2 ∷ []) asked_reset_lines refl ((refl, tt), (tt, tt)) (refl, (refl, tt))) refl
+asked_reset = lines_answered (1 ∷ 2 ∷ []) asked_reset_lines refl ((refl, tt), (tt, tt)) (refl, (refl, tt)) refl
 
 asked_reset_is : of_note (history_of_lines (1 ∷ 2 ∷ []) asked_reset_lines)
     ≡ entry.Down (end_c 1) cause.Asked ∷ entry.Sent (end_c 2) 1 1 (129 ∷ []) ∷ entry.Dropped (end_c 2) 9 ∷ []
@@ -69,15 +64,11 @@ asked_reset_is = refl
 
 cut_while_asked : Answered (history_of_lines (1 ∷ 2 ∷ []) cut_while_asked_lines)
 unfolding found_from hosts_where lowest_free
-cut_while_asked =
-    answered (history_of_lines (1 ∷ 2 ∷ []) cut_while_asked_lines)
-    (all_in_turn (1 ∷ 2 ∷ []) cut_while_asked_lines refl ((refl, tt), (tt, tt)) (refl, (refl, tt))) refl
+cut_while_asked = lines_answered (1 ∷ 2 ∷ []) cut_while_asked_lines refl ((refl, tt), (tt, tt)) (refl, (refl, tt)) refl
 
 host_held : Answered (history_of_lines (1 ∷ 2 ∷ []) host_held_lines)
 unfolding found_from hosts_where lowest_free
-host_held =
-    answered (history_of_lines (1 ∷ 2 ∷ []) host_held_lines)
-    (all_in_turn (1 ∷ 2 ∷ []) host_held_lines refl ((refl, tt), (tt, tt)) (refl, (refl, tt))) refl
+host_held = lines_answered (1 ∷ 2 ∷ []) host_held_lines refl ((refl, tt), (tt, tt)) (refl, (refl, tt)) refl
 
 host_held_is : of_note (history_of_lines (1 ∷ 2 ∷ []) host_held_lines)
     ≡ entry.Held (end_h 1) 1 0 ∷ entry.Down (end_c 1) cause.Asked ∷ entry.Dropped (end_c 1) 1 ∷ []

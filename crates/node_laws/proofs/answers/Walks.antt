@@ -1,20 +1,27 @@
 -- One walk over a history finds whether it is answered.
-use Rattle.node_laws.proofs.Words.{AllByRecursion, Answered, AreDifferent, AreInTurn, Bool, Entry, FollowsNodes, Header, IsHeldFor, IsReplied, Line, List}
-use Rattle.node_laws.proofs.Words.{Moment, NodeHistory, NodeWorld, NodesHearFirst, None, Occurrence, Option, Some, [], and_parts, ap, before_turn, down_in, due}
-use Rattle.node_laws.proofs.Words.{ends_in, entries_in, false, filter, holds_in, if◌then◌else◌, is_answer_of, is_cut_of, is_done, is_left_short, is_none}
-use Rattle.node_laws.proofs.Words.{is_reset_down, is_reset_due, lack_at, lack_of, line_step, list_any, map, new_world, node_entries, node_of, noted_of_deeds}
-use Rattle.node_laws.proofs.Words.{occurrences_in, refl, reply, steps_from, subst, sym, through, to_command, true, true≢false, until, ℕ, ◌&&◌, ◌++◌, ◌==◌, ◌∷◌}
-use Rattle.node_laws.proofs.Words.{◌≡◌}
+use Rattle.node_laws.proofs.Words.{AllByRecursion, AreDifferent, AreInTurn, Bool, Entry, FollowsNodes, Header, Line, List, Moment, NodeHistory, NodeWorld}
+use Rattle.node_laws.proofs.Words.{NodesHearFirst, None, Occurrence, Option, Some, [], and_parts, before_turn, down_in, due, ends_in, entries_in, false}
+use Rattle.node_laws.proofs.Words.{filter, holds_in, if◌then◌else◌, is_answer_of, is_cut_of, is_done, is_left_short, is_none, is_reset_down, is_reset_due}
+use Rattle.node_laws.proofs.Words.{lack_at, lack_of, line_step, list_any, map, new_world, node_entries, node_of, noted_of_deeds, refl, reply, steps_from, sym}
+use Rattle.node_laws.proofs.Words.{through, to_command, true, true≢false, until, ℕ, ◌&&◌, ◌++◌, ◌==◌, ◌∷◌, ◌≡◌}
 use Rattle.trace_model.specs.declared.entry.Entry.TheVariants as entry
 use Rattle.trace_model.specs.declared.line.Line.TheVariants as line
 use Rattle.node_machine.specs.world.Lines.{misread_in}
 use Rattle.node_machine.specs.world.NodeHistories.{NoneIsMisread}
 use Rattle.node_laws.proofs.turns.Lines.{in_turn}
-use Rattle.node_laws.proofs.answers.Rising.{turns_rise, rise_ascends}
+use Rattle.node_laws.proofs.answers.Rising.{turns_rise}
 use Rattle.node_laws.proofs.worlds.Orders.{hear_first}
-use Rattle.node_laws.proofs.answers.Splits.{same_at_each, at_events, same_at_events, at_entries, same_at_entries}
+use Rattle.node_laws.proofs.answers.Splits.{at_each, itself}
 
 -- ## What is found
+
+-- at each event of a history, behind those before it
+abbrev pub at_events : {X : Type 0} → (List Occurrence → Occurrence → X) → List Occurrence → List X
+at_events f events = at_each itself (λ past o back. f past o) [] events
+
+-- at each entry of an event
+abbrev pub at_entries : {X : Type 0} → (Moment → Entry → List Entry → X) → List Occurrence → Occurrence → List X
+at_entries f past o = at_each itself (λ front x behind. f (record { past = past; cause = o.cause; so_far = front }) x behind) [] o.entries
 
 -- the answers of a node until its next turn
 abbrev pub answers_found : ℕ → List Entry → List Entry
@@ -59,8 +66,8 @@ found hosts past o = record {
   short = map (λ e. is_left_short hosts past o e) (ends_in hosts);
   due = map (λ n. answers_found n o.entries) (0 ∷ hosts);
   reset = map (λ e. list_any (is_reset_down e) o.entries) (ends_in hosts);
-  turns = at_entries (turn_found hosts) past o.cause [] o.entries;
-  held = at_entries (held_found hosts) past o.cause [] o.entries;
+  turns = at_entries (turn_found hosts) past o;
+  held = at_entries (held_found hosts) past o;
   rise = turns_rise o.entries;
 }
 
@@ -70,83 +77,17 @@ wanted hosts past o = record {
   short = map (λ e. true) (ends_in hosts);
   due = map (λ n. answers_wanted n o.entries (noted_of_deeds (entries_in past ++ down_in o) n n (due hosts past o n))) (0 ∷ hosts);
   reset = map (λ e. is_reset_due past o e) (ends_in hosts);
-  turns = at_entries (turn_wanted hosts) past o.cause [] o.entries;
-  held = at_entries (held_wanted hosts) past o.cause [] o.entries;
+  turns = at_entries (turn_wanted hosts) past o;
+  held = at_entries (held_wanted hosts) past o;
   rise = true;
 }
 
--- ## What follows
-
--- what stands in it, where there is something
-abbrev lack_in : Option (Option (ℕ × ℕ) × List Entry) → Option (ℕ × ℕ)
-lack_in None = None
-lack_in (Some x) = x.0
-
-abbrev answers_in : Option (Option (ℕ × ℕ) × List Entry) → List Entry
-answers_in None = []
-answers_in (Some x) = x.1
-
-abbrev was_held : Option (Bool × Option (ℕ × ℕ)) → Bool
-was_held None = false
-was_held (Some x) = x.0
-
-abbrev held_lack : Option (Bool × Option (ℕ × ℕ)) → Option (ℕ × ℕ)
-held_lack None = None
-held_lack (Some x) = x.1
-
-replied : (hosts : List ℕ) (m : Moment) (x : Entry) (behind : List Entry) → turn_found hosts m x behind ≡ turn_wanted hosts m x behind
-    → IsReplied hosts m x behind
-replied hosts m (entry.Turn e pid message) behind same = (ap lack_in same, ap answers_in same)
-replied hosts m _ behind same = tt
-
-held_so : (hosts : List ℕ) (m : Moment) (x : Entry) (behind : List Entry) → held_found hosts m x behind ≡ held_wanted hosts m x behind
-    → IsHeldFor hosts m x behind
-held_so hosts m (entry.Held e need spare) behind same = (ap was_held same, ap held_lack same)
-held_so hosts m _ behind same = tt
+-- ## Histories of examples
 
 -- what is known of each history that follows a schedule
 pub record IsOrderly (t : NodeHistory) : Type 0 where
   pub turns : AreInTurn (node_entries t)
   pub heard : NodesHearFirst t
-
-module _ (t : NodeHistory) (orderly : IsOrderly t)
-    (same : at_events (found t.header.hosts.items) [] (occurrences_in t) ≡ at_events (wanted t.header.hosts.items) [] (occurrences_in t)) where
-  here : (past back : List Occurrence) (o : Occurrence) → occurrences_in t ≡ past ++ (o ∷ back)
-      → found t.header.hosts.items past o ≡ wanted t.header.hosts.items past o
-  here past back o at =
-      same_at_events (found t.header.hosts.items) (wanted t.header.hosts.items) [] past back o
-      (subst (λ l. at_events (found t.header.hosts.items) [] l ≡ at_events (wanted t.header.hosts.items) [] l) at same)
-
-  pub answered : Answered t
-  answered = record {
-    in_turn = orderly.turns;
-    done = λ past back o at.
-        same_at_each (λ e. is_done (through past o) e) (λ e. true) (ends_in t.header.hosts.items) (ap (λ (f : Findings). f.done) (here past back o at));
-    replied = λ past back o front behind x at inside.
-        replied t.header.hosts.items (record { past = past; cause = o.cause; so_far = front }) x behind
-        (same_at_entries (turn_found t.header.hosts.items) (turn_wanted t.header.hosts.items) past o.cause [] front behind x
-        (subst (λ l. at_entries (turn_found t.header.hosts.items) past o.cause [] l ≡ at_entries (turn_wanted t.header.hosts.items) past o.cause [] l)
-        inside (ap (λ (f : Findings). f.turns) (here past back o at))));
-    held = λ past back o front behind x at inside.
-        held_so t.header.hosts.items (record { past = past; cause = o.cause; so_far = front }) x behind
-        (same_at_entries (held_found t.header.hosts.items) (held_wanted t.header.hosts.items) past o.cause [] front behind x
-        (subst (λ l. at_entries (held_found t.header.hosts.items) past o.cause [] l ≡ at_entries (held_wanted t.header.hosts.items) past o.cause [] l)
-        inside (ap (λ (f : Findings). f.held) (here past back o at))));
-    short = λ past back o at.
-        same_at_each (λ e. is_left_short t.header.hosts.items past o e) (λ e. true) (ends_in t.header.hosts.items)
-        (ap (λ (f : Findings). f.short) (here past back o at));
-    due = λ past back o at.
-        same_at_each (λ n. answers_found n o.entries)
-        (λ n. answers_wanted n o.entries (noted_of_deeds (entries_in past ++ down_in o) n n (due t.header.hosts.items past o n)))
-        (0 ∷ t.header.hosts.items) (ap (λ (f : Findings). f.due) (here past back o at));
-    reset = λ past back o at.
-        same_at_each (λ e. list_any (is_reset_down e) o.entries) (λ e. is_reset_due past o e) (ends_in t.header.hosts.items)
-        (ap (λ (f : Findings). f.reset) (here past back o at));
-    ascending = λ past back o at n. rise_ascends n o.entries (ap (λ (f : Findings). f.rise) (here past back o at));
-    heard = orderly.heard;
-  }
-
--- ## Histories of examples
 
 abbrev pub is_damage : Line → Bool
 is_damage (line.Damage e places) = true

@@ -75,7 +75,7 @@ answer_before_command a =
     begins_with_sent (x ∷ xs) = is_sent x
 
 -- a message is held that didn't come
-held_without_message : Answered (told (begins ++ takes (Held (end_c 2) 2 1 ∷ []) ∷ [])) → ⊥
+pub held_without_message : Answered (told (begins ++ takes (Held (end_c 2) 2 1 ∷ []) ∷ [])) → ⊥
 unfolding found_from hosts_where lowest_free
 held_without_message a =
     true≢false (sym (ap is_some (a.held begins [] (takes (Held (end_c 2) 2 1 ∷ [])) [] [] (Held (end_c 2) 2 1) refl refl).1))
@@ -86,7 +86,7 @@ unfolding found_from hosts_where lowest_free
 held_with_room a = true≢false (sym ((a.short begins [] (takes (got ∷ Held (end_c 2) 2 1 ∷ [])) refl).0))
 
 -- a message is sent that nobody asked for
-sent_unasked : Answered (told (begins ++ ticks (Sent (end_c 2) 1 1 (129 ∷ []) ∷ []) ∷ [])) → ⊥
+pub sent_unasked : Answered (told (begins ++ ticks (Sent (end_c 2) 1 1 (129 ∷ []) ∷ []) ∷ [])) → ⊥
 unfolding found_from hosts_where lowest_free
 sent_unasked a = true≢false (sym (ap is_empty (a.due begins [] (ticks (Sent (end_c 2) 1 1 (129 ∷ []) ∷ [])) refl).0))
 
@@ -96,7 +96,7 @@ unfolding found_from hosts_where lowest_free
 sync_not_kept a = true≢false (ap is_empty (a.due begins [] (takes (Took (end_c 2) (97 ∷ 26 ∷ 43 ∷ []) ∷ [])) refl).0)
 
 -- an end is reset that has no late notice
-reset_untimely : Answered (told (begins ++ ticks (Down (end_c 2) cause.Asked ∷ []) ∷ [])) → ⊥
+pub reset_untimely : Answered (told (begins ++ ticks (Down (end_c 2) cause.Asked ∷ []) ∷ [])) → ⊥
 unfolding found_from hosts_where lowest_free
 reset_untimely a = true≢false ((a.reset begins [] (ticks (Down (end_c 2) cause.Asked ∷ [])) refl).0)
 

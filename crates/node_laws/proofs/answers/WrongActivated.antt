@@ -43,16 +43,15 @@ asks = record { cause = Resets (end_h 2) None; entries = [] }
 
 reset_and_not_up : LegalWorld (told (activated ++ asks ∷ [])) → ⊥
 unfolding found_from hosts_where lowest_free
-reset_and_not_up w = true≢false (sym (ap is_some (w.legal.complete.upheld activated asks [] [] (end_h 2) None refl upheld).up.host))
-  where
-    upheld : IsUpheld activated asks [] (end_h 2) None
-    upheld = record {
-      cause = refl;
-      active = refl;
-      free = refl;
-      powered = refl;
-      left = record { undisturbed = refl; unopened = refl; to_controller = refl; to_host = refl };
-    }
+reset_and_not_up w = true≢false (sym (ap is_some (w.legal.complete.upheld activated asks [] [] (end_h 2) None refl upheld).up.host)) where
+  upheld : IsUpheld activated asks [] (end_h 2) None
+  upheld = record {
+    cause = refl;
+    active = refl;
+    free = refl;
+    powered = refl;
+    left = record { undisturbed = refl; unopened = refl; to_controller = refl; to_host = refl };
+  }
 
 -- nor is it so where a frame of activation is lost behind that, and another one is on its way
 abbrev activation_goes_on : Occurrence
@@ -78,19 +77,18 @@ ends = record { cause = Ticks; entries = Down (end_c 2) Asked ∷ [] }
 
 reset_in_a_tick_and_not_up : LegalWorld (told (activated ++ ends ∷ [])) → ⊥
 unfolding found_from hosts_where lowest_free
-reset_in_a_tick_and_not_up w = true≢false (sym (ap is_some (w.legal.complete.upheld_in_ticks activated ends [] [] 2 refl upheld).up.host))
-  where
-    upheld : IsUpheldInTick activated ends [] 2
-    upheld = record {
-      cause = refl;
-      reset = refl;
-      active = refl;
-      free = refl;
-      powered = refl;
-      lossless = refl;
-      alone = refl;
-      left = record { undisturbed = refl; unopened = refl; to_controller = refl; to_host = refl };
-    }
+reset_in_a_tick_and_not_up w = true≢false (sym (ap is_some (w.legal.complete.upheld_in_ticks activated ends [] [] 2 refl upheld).up.host)) where
+  upheld : IsUpheldInTick activated ends [] 2
+  upheld = record {
+    cause = refl;
+    reset = refl;
+    active = refl;
+    free = refl;
+    powered = refl;
+    lossless = refl;
+    alone = refl;
+    left = record { undisturbed = refl; unopened = refl; to_controller = refl; to_host = refl };
+  }
 
 -- nor is it so where a frame was too old before that in its tick
 abbrev ends_behind_an_old_frame : Occurrence

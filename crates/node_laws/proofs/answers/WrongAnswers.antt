@@ -1,38 +1,16 @@
 -- Small wrong histories of nodes aren't answered: for each of five facts of `Answered` one that it alone refuses.
-use Rattle.node_laws.proofs.Words.{Dropped, Entry, Gives, Held, List, NodeHistory, None, Occurred, Occurrence, Takes, [], ap, arith, end_c, end_h, entries_in}
-use Rattle.node_laws.proofs.Words.{refl, replicate, sym, true≢false, ℕ, ◌++◌, ◌∷◌, ◌≤◌}
-use Rattle.trace_model.specs.declared.entry.Entry.TheVariants.{Acked, Got, Sent, Turn, Up}
-use Rattle.trace_model.specs.declared.line.Line.TheVariants as line
+use Rattle.node_laws.proofs.Words.{Gives, Held, List, NodeHistory, Occurrence, Takes, [], ap, arith, end_c, end_h, entries_in, refl, replicate, sym}
+use Rattle.node_laws.proofs.Words.{true≢false, ℕ, ◌++◌, ◌∷◌, ◌≤◌}
+use Rattle.trace_model.specs.declared.entry.Entry.TheVariants.{Acked, Got, Sent, Up}
 use Rattle.journal_laws.specs.Records.{found_from}
 use Rattle.gate_admin.specs.View.{hosts_where}
 use Rattle.pipe_table.specs.PipeRows.{lowest_free}
 use Rattle.node_laws.proofs.answers.OneFact.{RefusedByOnly, others_hold}
 use Rattle.node_laws.proofs.answers.OneFact.Fact.{InTurn, Done, Short, Ascending, Heard}
-use Rattle.node_laws.proofs.answers.Walks.{header_of_hosts}
-use Rattle.node_laws.proofs.answers.Wrong.{is_empty, told, boot, begins, takes}
-use Rattle.node_laws.proofs.answers.WrongWorlds.{boots_host, host_takes}
-
--- the end of host 02 comes up
-abbrev host_up : Occurrence
-host_up = record { cause = Takes (end_h 2); entries = Up (end_h 2) 1 ∷ [] }
-
--- ANY_OK, for which nobody waits: it comes from a host, has its turn, and is dropped
-abbrev ok : List ℕ
-ok = 128 ∷ 0 ∷ []
-
-abbrev got : ℕ → Entry
-got h = Got (end_c h) 1 1 ok
-
-abbrev turn : ℕ → Entry
-turn h = Turn (end_c h) 1 ok
-
-abbrev dropped : ℕ → Entry
-dropped h = Dropped (end_c h) 1
+use Rattle.node_laws.proofs.answers.Wrong.{is_empty, told, begins}
+use Rattle.node_laws.proofs.answers.WrongWorlds.{descends, got, host_alone, host_takes, ok, told_of_two, unheard}
 
 -- ## A message has its turn and didn't come
-
-abbrev unheard : List Occurrence
-unheard = begins ++ takes (turn 2 ∷ dropped 2 ∷ []) ∷ []
 
 only_in_turn : RefusedByOnly (told unheard) InTurn
 unfolding found_from hosts_where lowest_free
@@ -61,8 +39,8 @@ long = 65 ∷ replicate 4095 0
 
 abbrev holds : List Occurrence
 holds =
-    boot ∷ boots_host 2 ∷ host_up
-    ∷ record { cause = Gives (end_h 2) (1, long); entries = Sent (end_h 2) 1 1 long ∷ [] }
+    host_alone
+    ++ record { cause = Gives (end_h 2) (1, long); entries = Sent (end_h 2) 1 1 long ∷ [] }
     ∷ host_takes (Got (end_h 2) 1 0 (3 ∷ []) ∷ Held (end_h 2) 1 0 ∷ [])
     ∷ []
 
@@ -81,14 +59,8 @@ only_short = (
 abbrev both_up : List Occurrence
 both_up = begins ++ record { cause = Takes (end_c 3); entries = Up (end_c 3) 1 ∷ [] } ∷ []
 
-abbrev descends : Occurrence
-descends = takes (got 2 ∷ got 3 ∷ turn 3 ∷ dropped 3 ∷ turn 2 ∷ dropped 2 ∷ [])
-
 abbrev of_two_hosts : NodeHistory
-of_two_hosts = record {
-  header = header_of_hosts (2 ∷ 3 ∷ []);
-  steps = record { line = line.Tick None; outcome = Occurred (both_up ++ descends ∷ []) } ∷ [];
-}
+of_two_hosts = told_of_two (both_up ++ descends ∷ [])
 
 only_ascending : RefusedByOnly of_two_hosts Ascending
 unfolding found_from hosts_where lowest_free
@@ -99,15 +71,12 @@ only_ascending = (
 
 -- ## An end comes up behind what its node sends
 
-abbrev host_begins : List Occurrence
-host_begins = boot ∷ boots_host 2 ∷ host_up ∷ []
-
 abbrev late : Occurrence
 late = record { cause = Gives (end_h 2) (1, ok); entries = Sent (end_h 2) 1 1 ok ∷ Up (end_h 2) 1 ∷ [] }
 
-only_heard : RefusedByOnly (told (host_begins ++ late ∷ [])) Heard
+only_heard : RefusedByOnly (told (host_alone ++ late ∷ [])) Heard
 unfolding found_from hosts_where lowest_free
 only_heard = (
-  λ heard. true≢false (heard host_begins [] late [] (Up (end_h 2) 1 ∷ []) (Sent (end_h 2) 1 1 ok) refl refl 2 refl).0,
-  others_hold (told (host_begins ++ late ∷ [])) Heard (refl, refl, refl, refl, refl, refl, refl, refl, tt),
+  λ heard. true≢false (heard host_alone [] late [] (Up (end_h 2) 1 ∷ []) (Sent (end_h 2) 1 1 ok) refl refl 2 refl).0,
+  others_hold (told (host_alone ++ late ∷ [])) Heard (refl, refl, refl, refl, refl, refl, refl, refl, tt),
 )

@@ -1,7 +1,7 @@
 -- Small wrong histories of nodes aren't legal: one for each fact of `LegalWorld`. Where other facts refuse one too, that is said.
 use Rattle.node_laws.proofs.Words.{AnyOk, Booted, Boots, Dropped, Entry, FindsCommands, Gives, HciTables, Held, IsCut, IsStillInSession, LegalWorld, LineStep}
 use Rattle.node_laws.proofs.Words.{List, NodeHistory, None, Occurred, Occurrence, PipeRow, Takes, ToldTables, [], ap, arith, end_c, end_h, entries_in, false}
-use Rattle.node_laws.proofs.Words.{inl, inr, is_some, no_tables, refl, sym, true≢false, ℕ, ◌++◌, ◌∷◌, ◌≡◌, ◌≤◌}
+use Rattle.node_laws.proofs.Words.{inl, inr, no_tables, refl, sym, true≢false, ℕ, ◌++◌, ◌∷◌, ◌≡◌, ◌≤◌}
 use Rattle.swp_base.specs.declared.link_terms.Cause.TheVariants as cause
 use Rattle.trace_model.specs.declared.entry.Entry.TheVariants.{Acked, Command, Cut, Down, Emit, Got, Sent, Took, Turn, Up}
 use Rattle.trace_model.specs.declared.line.Line.TheVariants as line
@@ -10,7 +10,7 @@ use Rattle.journal_laws.specs.Records.{found_from}
 use Rattle.gate_admin.specs.View.{hosts_where}
 use Rattle.pipe_table.specs.PipeRows.{lowest_free}
 use Rattle.node_laws.proofs.answers.Walks.{header_of_hosts}
-use Rattle.node_laws.proofs.answers.Wrong.{is_empty, told, boot, comes_up, begins, takes, ticks}
+use Rattle.node_laws.proofs.answers.Wrong.{is_empty, told, boot, comes_up, begins, takes, ticks, held_without_message, sent_unasked, reset_untimely}
 
 -- a host boots, and its end comes up
 abbrev pub boots_host : ℕ → Occurrence
@@ -28,7 +28,7 @@ abbrev both_up : List Occurrence
 both_up = boot ∷ boots_host 2 ∷ comes_up ∷ host_up 2 ∷ []
 
 -- ANY_OK, for which nobody waits: it has its turn, and the controller drops it. A host sends it, and its frame is on its way.
-abbrev ok : List ℕ
+abbrev pub ok : List ℕ
 ok = 128 ∷ 0 ∷ []
 
 abbrev pub sent : ℕ → Entry
@@ -44,10 +44,10 @@ gives h entries = record { cause = Gives (end_h h) (1, ok); entries = entries }
 abbrev pub got : ℕ → Entry
 got h = Got (end_c h) 1 1 ok
 
-abbrev turn : ℕ → Entry
+abbrev pub turn : ℕ → Entry
 turn h = Turn (end_c h) 1 ok
 
-abbrev dropped : ℕ → Entry
+abbrev pub dropped : ℕ → Entry
 dropped h = Dropped (end_c h) 1
 
 -- ## In order
@@ -169,7 +169,7 @@ booted_from_a_blank_memory w = true≢false (sym (ap is_empty ((w.legal.kept.boo
 -- ## Turns, and cuts
 
 -- A message has its turn and didn't come: of legal nodes and of their answers the same fact refuses it, and no other one.
-abbrev unheard : List Occurrence
+abbrev pub unheard : List Occurrence
 unheard = begins ++ takes (turn 2 ∷ dropped 2 ∷ []) ∷ []
 
 turn_without_message_of_nodes : LegalWorld (told unheard) → ⊥
@@ -210,28 +210,16 @@ had_its_turn_and_no_reply w =
     true≢false (ap is_empty (w.answered.replied asked [] unanswered (Got (end_c 2) 1 1 opens ∷ []) [] (Turn (end_c 2) 1 opens) refl refl).1)
 
 -- no message is there that could be held
-abbrev holds : Occurrence
-holds = takes (Held (end_c 2) 2 1 ∷ [])
-
-held_and_never_came : LegalWorld (told (begins ++ holds ∷ [])) → ⊥
-unfolding found_from hosts_where lowest_free
-held_and_never_came w = true≢false (sym (ap is_some (w.answered.held begins [] holds [] [] (Held (end_c 2) 2 1) refl refl).1))
+held_and_never_came : LegalWorld (told (begins ++ takes (Held (end_c 2) 2 1 ∷ []) ∷ [])) → ⊥
+held_and_never_came w = held_without_message w.answered
 
 -- nobody asked for the message
-abbrev unasked : Occurrence
-unasked = ticks (Sent (end_c 2) 1 1 (129 ∷ []) ∷ [])
-
-sent_and_not_due : LegalWorld (told (begins ++ unasked ∷ [])) → ⊥
-unfolding found_from hosts_where lowest_free
-sent_and_not_due w = true≢false (sym (ap is_empty (w.answered.due begins [] unasked refl).0))
+sent_and_not_due : LegalWorld (told (begins ++ ticks (Sent (end_c 2) 1 1 (129 ∷ []) ∷ []) ∷ [])) → ⊥
+sent_and_not_due w = sent_unasked w.answered
 
 -- the end has no late notice
-abbrev untimely : Occurrence
-untimely = ticks (Down (end_c 2) cause.Asked ∷ [])
-
-reset_and_not_due : LegalWorld (told (begins ++ untimely ∷ [])) → ⊥
-unfolding found_from hosts_where lowest_free
-reset_and_not_due w = true≢false (w.answered.reset begins [] untimely refl).0
+reset_and_not_due : LegalWorld (told (begins ++ ticks (Down (end_c 2) cause.Asked ∷ []) ∷ [])) → ⊥
+reset_and_not_due w = reset_untimely w.answered
 
 -- a message of host 03 has its turn before one of host 02
 abbrev two_sent : List Occurrence
@@ -239,16 +227,16 @@ two_sent =
     both_up ++ boots_host 3 ∷ record { cause = Takes (end_c 3); entries = Up (end_c 3) 1 ∷ [] } ∷ host_up 3
     ∷ gives 2 (sent 2 ∷ emitted 2 ∷ []) ∷ gives 3 (sent 3 ∷ emitted 3 ∷ []) ∷ []
 
-abbrev descends : Occurrence
+abbrev pub descends : Occurrence
 descends = takes (got 2 ∷ got 3 ∷ turn 3 ∷ dropped 3 ∷ turn 2 ∷ dropped 2 ∷ [])
 
-abbrev of_two_hosts : NodeHistory
-of_two_hosts = record {
+abbrev pub told_of_two : List Occurrence → NodeHistory
+told_of_two events = record {
   header = header_of_hosts (2 ∷ 3 ∷ []);
-  steps = record { line = line.Tick None; outcome = Occurred (two_sent ++ descends ∷ []) } ∷ [];
+  steps = record { line = line.Tick None; outcome = Occurred events } ∷ [];
 }
 
-turn_before_that_of_an_earlier_end : LegalWorld of_two_hosts → ⊥
+turn_before_that_of_an_earlier_end : LegalWorld (told_of_two (two_sent ++ descends ∷ [])) → ⊥
 turn_before_that_of_an_earlier_end w =
     let low : 3 ≤ 2 = (w.answered.ascending two_sent [] descends refl 0).0.0 in omega (arith, low)
 

@@ -1,14 +1,14 @@
 -- REC_ERROR and views as they are read off the entries of small runs.
-use Rattle.node_laws.proofs.Words.{AnyOk, Booted, Entry, Line, LineOutcome, List, NodeWorld, None, Option, Some, [], end_c, end_h, entries_in, errors_in}
-use Rattle.node_laws.proofs.Words.{errors_of, line_step, map, new_world, node_at, occurrences_of, refl, true, view_at, ℕ, ◌++◌, ◌∷◌, ◌≡◌}
+use Rattle.node_laws.proofs.Words.{AnyOk, Booted, Entry, Line, LineOutcome, List, NodeWorld, Option, Some, [], end_c, end_h, entries_in, errors_in, errors_of}
+use Rattle.node_laws.proofs.Words.{line_step, map, new_world, node_at, occurrences_of, refl, replicate, true, view_at, ℕ, ◌++◌, ◌∷◌, ◌≡◌}
 use Rattle.trace_model.specs.declared.entry.Entry.TheVariants.{Ask, Command, Cut, Down, Lost, Sent, Turn, Up}
 use Rattle.swp_base.specs.declared.link_terms.Cause.TheVariants as cause
 use Rattle.trace_model.specs.declared.entry.LostCause.TheVariants as lost
-use Rattle.trace_model.specs.declared.line.Line.TheVariants as line
 use Rattle.journal_laws.specs.Records.{found_from}
 use Rattle.hci_tables.specs.declared.command.Command.TheVariants as command
 use Rattle.gate_admin.specs.View.{hosts_where}
 use Rattle.pipe_table.specs.PipeRows.{lowest_free}
+use Rattle.node_machine.proofs.world.Schedules.{one_host, asks, sends}
 
 -- ## Entries
 
@@ -76,24 +76,7 @@ forgotten_view = refl
 
 -- a link comes up, and the host sets REC_ERROR of the controller's end: in vain while pipe 00 is closed, and to 0102 once it is open
 abbrev is_set : List Line
-is_set =
-    line.Boot 0 ∷
-    line.Boot 2 ∷
-    line.Activate 2 6699 1 ∷
-    line.Deliver (end_c 2) None ∷
-    line.Deliver (end_h 2) None ∷
-    line.Deliver (end_c 2) None ∷
-    line.Reset (end_c 2) None ∷
-    line.Deliver (end_h 2) None ∷
-    line.Deliver (end_c 2) None ∷
-    line.Send (end_h 2) 0 (1 ∷ 1 ∷ 0 ∷ 9 ∷ []) ∷
-    line.Deliver (end_c 2) None ∷
-    line.Deliver (end_h 2) None ∷
-    line.Send (end_h 2) 0 (3 ∷ []) ∷
-    line.Deliver (end_c 2) None ∷
-    line.Deliver (end_h 2) None ∷
-    line.Send (end_h 2) 0 (1 ∷ 1 ∷ 1 ∷ 2 ∷ []) ∷
-    line.Deliver (end_c 2) None ∷ []
+is_set = one_host ++ asks 2 0 (1 ∷ 1 ∷ 0 ∷ 9 ∷ []) ++ asks 2 0 (3 ∷ []) ++ sends 2 0 (1 ∷ 1 ∷ 1 ∷ 2 ∷ [])
 
 -- as the controller keeps it, behind each line
 abbrev all_kept : NodeWorld → List Line → List (Option ℕ)
@@ -110,11 +93,10 @@ all_read w t (l ∷ lines) =
     errors_in now (end_c 2) ∷ all_read o.0 now lines
 
 kept : all_kept (new_world (2 ∷ [])) is_set
-    ≡ Some 0 ∷ Some 0 ∷ Some 0 ∷ Some 0 ∷ Some 0 ∷ Some 0 ∷ Some 0 ∷ Some 0 ∷ Some 0 ∷ Some 0 ∷ Some 0 ∷ Some 0 ∷ Some 0 ∷ Some 0 ∷ Some 0 ∷ Some 0
-    ∷ Some 258 ∷ []
+    ≡ replicate 16 (Some 0) ++ Some 258 ∷ []
 unfolding found_from hosts_where lowest_free
 kept = refl
 
-read : all_read (new_world (2 ∷ [])) [] is_set ≡ 0 ∷ 0 ∷ 0 ∷ 0 ∷ 0 ∷ 0 ∷ 0 ∷ 0 ∷ 0 ∷ 0 ∷ 0 ∷ 0 ∷ 0 ∷ 0 ∷ 0 ∷ 0 ∷ 258 ∷ []
+read : all_read (new_world (2 ∷ [])) [] is_set ≡ replicate 16 0 ++ 258 ∷ []
 unfolding found_from hosts_where lowest_free
 read = refl

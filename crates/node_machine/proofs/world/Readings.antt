@@ -13,11 +13,10 @@ use Rattle.node_machine.specs.Parts.{Desk, Running}
 use Rattle.node_machine.specs.world.World.{NodeWorld, Site, new_world, node_at, link_to, end_c, end_h}
 use Rattle.node_machine.specs.world.Lines.{LineOutcome, line_step}
 use Rattle.node_machine.specs.world.NodeHistories.{entries_in, occurrences_of}
-use Rattle.node_machine.proofs.world.First.{activation_and_first_pipe_lines, parameter_before_opening_lines}
-use Rattle.node_machine.proofs.world.Cuts.{cut_in_first_write_lines, cut_in_second_write_13_lines, cut_in_second_write_FF_lines, cut_in_second_write_5A_lines}
-use Rattle.node_machine.proofs.world.Cuts.{pipes_closed_by_a_cut_lines}
-use Rattle.node_machine.proofs.world.Hosts.{creation_between_hosts_lines, notice_never_answered_lines, relay_and_strangers_lines}
-use Rattle.node_machine.proofs.world.User.{users_session_over_a_cut_lines}
+use Rattle.node_machine.proofs.world.Schedules.{activation_and_first_pipe_lines, parameter_before_opening_lines, users_session_over_a_cut_lines}
+use Rattle.node_machine.proofs.world.Schedules.{cut_in_first_write_lines, cut_in_second_write_13_lines, cut_in_second_write_FF_lines}
+use Rattle.node_machine.proofs.world.Schedules.{cut_in_second_write_5A_lines, pipes_closed_by_a_cut_lines, creation_between_hosts_lines}
+use Rattle.node_machine.proofs.world.Schedules.{notice_never_answered_lines, relay_and_strangers_lines}
 use Rattle.node_machine.specs.world.NodeFilters.{commands_in, tables_in, spare_at, notice_in, order_in}
 
 -- what is known of a node that runs: its tables and how many commands it keeps, what its ends have to spare, which of its hosts
@@ -73,52 +72,50 @@ all_read w t (line ∷ lines) =
     let now : List Entry = t ++ entries_in (occurrences_of o.1) in
     map (λ n. read o.0 now n (node_at o.0 n)) (nodes_in o.0) ∷ all_read o.0 now lines
 
-activation_and_first_pipe : all_kept (new_world (2 ∷ [])) activation_and_first_pipe_lines ≡ all_read (new_world (2 ∷
-    [])) [] activation_and_first_pipe_lines
+-- so it is with these hosts, behind each of these lines
+abbrev AreKept : List ℕ → List Line → Type 0
+AreKept hosts lines = all_kept (new_world hosts) lines ≡ all_read (new_world hosts) [] lines
+
+activation_and_first_pipe : AreKept (2 ∷ []) activation_and_first_pipe_lines
 unfolding found_from hosts_where lowest_free
 activation_and_first_pipe = refl
 
-parameter_before_opening : all_kept (new_world (2 ∷ [])) parameter_before_opening_lines ≡ all_read (new_world (2 ∷
-    [])) [] parameter_before_opening_lines
+parameter_before_opening : AreKept (2 ∷ []) parameter_before_opening_lines
 unfolding found_from hosts_where lowest_free
 parameter_before_opening = refl
 
-cut_in_first_write : all_kept (new_world (2 ∷ [])) cut_in_first_write_lines ≡ all_read (new_world (2 ∷ [])) [] cut_in_first_write_lines
+cut_in_first_write : AreKept (2 ∷ []) cut_in_first_write_lines
 unfolding found_from hosts_where lowest_free
 cut_in_first_write = refl
 
-cut_in_second_write_13 : all_kept (new_world (2 ∷ [])) cut_in_second_write_13_lines ≡ all_read (new_world (2 ∷ [])) [] cut_in_second_write_13_lines
+cut_in_second_write_13 : AreKept (2 ∷ []) cut_in_second_write_13_lines
 unfolding found_from hosts_where lowest_free
 cut_in_second_write_13 = refl
 
-cut_in_second_write_FF : all_kept (new_world (2 ∷ [])) cut_in_second_write_FF_lines ≡ all_read (new_world (2 ∷ [])) [] cut_in_second_write_FF_lines
+cut_in_second_write_FF : AreKept (2 ∷ []) cut_in_second_write_FF_lines
 unfolding found_from hosts_where lowest_free
 cut_in_second_write_FF = refl
 
-cut_in_second_write_5A : all_kept (new_world (2 ∷ [])) cut_in_second_write_5A_lines ≡ all_read (new_world (2 ∷ [])) [] cut_in_second_write_5A_lines
+cut_in_second_write_5A : AreKept (2 ∷ []) cut_in_second_write_5A_lines
 unfolding found_from hosts_where lowest_free
 cut_in_second_write_5A = refl
 
-pipes_closed_by_a_cut : all_kept (new_world (2 ∷ [])) pipes_closed_by_a_cut_lines ≡ all_read (new_world (2 ∷ [])) [] pipes_closed_by_a_cut_lines
+pipes_closed_by_a_cut : AreKept (2 ∷ []) pipes_closed_by_a_cut_lines
 unfolding found_from hosts_where lowest_free
 pipes_closed_by_a_cut = refl
 
-creation_between_hosts : all_kept (new_world (1 ∷ 2 ∷ [])) creation_between_hosts_lines ≡ all_read (new_world (1 ∷ 2 ∷
-    [])) [] creation_between_hosts_lines
+creation_between_hosts : AreKept (1 ∷ 2 ∷ []) creation_between_hosts_lines
 unfolding found_from hosts_where lowest_free
 creation_between_hosts = refl
 
-notice_never_answered : all_kept (new_world (1 ∷ 2 ∷ [])) notice_never_answered_lines ≡ all_read (new_world (1 ∷ 2 ∷
-    [])) [] notice_never_answered_lines
+notice_never_answered : AreKept (1 ∷ 2 ∷ []) notice_never_answered_lines
 unfolding found_from hosts_where lowest_free
 notice_never_answered = refl
 
-relay_and_strangers : all_kept (new_world (1 ∷ 2 ∷ 3 ∷ [])) relay_and_strangers_lines ≡ all_read (new_world (1 ∷ 2 ∷ 3 ∷
-    [])) [] relay_and_strangers_lines
+relay_and_strangers : AreKept (1 ∷ 2 ∷ 3 ∷ []) relay_and_strangers_lines
 unfolding found_from hosts_where lowest_free
 relay_and_strangers = refl
 
-users_session_over_a_cut : all_kept (new_world (2 ∷ [])) users_session_over_a_cut_lines ≡ all_read (new_world (2 ∷
-    [])) [] users_session_over_a_cut_lines
+users_session_over_a_cut : AreKept (2 ∷ []) users_session_over_a_cut_lines
 unfolding found_from hosts_where lowest_free
 users_session_over_a_cut = refl
