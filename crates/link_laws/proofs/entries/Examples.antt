@@ -1,35 +1,10 @@
--- The definitions compute the worked examples, entry by entry.
-use Rattle.link_laws.proofs.Words.{Acked, Act, ActReady as Ready, Activate, Active, Asked, AsksReset, AtController, AtHost, Bare, ByAct, Clf, Control}
-use Rattle.link_laws.proofs.Words.{Controller, Cut, CutOff, Emit, EndEvent, Entry, GaveUp, Give, GoesOut, Got, Host, I, IsQuietSince, IsSettledSince, Link}
-use Rattle.link_laws.proofs.Words.{LinkEvent, List, Lose, Lost, Message, NextFrame, NoInput, Node, None, OnDemand, Peer, PowerMode, Restarted, Rr, Rset, S}
-use Rattle.link_laws.proofs.Words.{Sent, Some, Step, SyncId, Ticks, TooOld, Took, Ua, Uicc, [], acked_noted, after_link_events, disturbs, drop, entries, false}
-use Rattle.link_laws.proofs.Words.{got_noted, list_any, new_clf, new_link, new_uicc, refl, sent_noted, session_in, since, suc, trace, true, withholds, zero, ℕ}
-use Rattle.link_laws.proofs.Words.{◌++◌, ◌∷◌, ◌≡◌}
+-- The definitions compute worked examples, entry by entry. Further ones are computed from text to text, in `node_examples`.
+use Rattle.link_laws.proofs.Words.{Act, ActReady as Ready, Active, Asked, AtController, AtHost, ByAct, Control, Controller, Cut, CutOff, Emit, Entry, GaveUp}
+use Rattle.link_laws.proofs.Words.{Give, Got, Host, I, IsQuietSince, IsSettledSince, LinkEvent, List, Lose, Lost, NextFrame, None, OnDemand, Peer, PowerMode}
+use Rattle.link_laws.proofs.Words.{Restarted, Rset, Sent, Some, Step, SyncId, TooOld, Took, Ua, [], acked_noted, after_link_events, disturbs, drop, entries}
+use Rattle.link_laws.proofs.Words.{false, got_noted, list_any, refl, sent_noted, session_in, since, trace, true, withholds, ◌++◌, ◌∷◌, ◌≡◌}
 use Rattle.link_laws.specs.entries.Entries.Entry.{Up, Down, Tick}
-
--- ## What may happen
-
-abbrev bare : Link
-bare = new_link Bare Bare
-
-abbrev line : Link
-line = new_link (Clf new_clf) (Uicc new_uicc)
-
-abbrev takes : EndEvent
-takes = Step NextFrame [] GoesOut
-
-abbrev resets : EndEvent
-resets = Step (AsksReset None) [] GoesOut
-
-abbrev gives : Message → EndEvent
-gives m = Step NoInput (Give m ∷ []) GoesOut
-
-abbrev idle : Node
-idle = record { turns = []; ending = GoesOut }
-
-abbrev ticks : ℕ → List LinkEvent
-ticks zero = []
-ticks (suc n) = Ticks idle [] idle ∷ ticks n
+use Rattle.link_laws.proofs.messages.Examples.{bare, line, takes, resets, gives, ticks, activates, active, up, one}
 
 -- what is noted, but for the ticks
 abbrev shown : List Entry → List Entry
@@ -39,49 +14,6 @@ shown (e ∷ t) = e ∷ shown t
 
 abbrev rset : Control
 rset = Rset 4 0
-
--- ## Resets
-
--- both ends are reset before either takes the other's RSET
-crossed_resets : trace bare (AtController resets ∷ AtHost resets ∷ AtController takes ∷ AtHost takes ∷ AtHost takes ∷ AtController takes ∷ [])
-    ≡ Up Controller 0 ∷ Up Host 0
-    ∷ Down Controller Asked ∷ Emit Controller rset
-    ∷ Down Host Asked ∷ Emit Host rset
-    ∷ Took Controller rset ∷ Emit Controller Ua
-    ∷ Took Host rset ∷ Emit Host Ua ∷ Took Host Ua ∷ Up Host 2
-    ∷ Took Controller Ua ∷ Up Controller 2 ∷ []
-crossed_resets = refl
-
--- the same, and one of them is lost
-crossed_resets_one_lost : shown (entries bare (AtController resets ∷ AtHost resets ∷ AtController (Lose OnDemand) ∷ AtHost takes ∷ AtController takes
-    ∷ ticks 10 ++ (AtController takes ∷ AtHost takes ∷ [])))
-    ≡ Down Controller Asked ∷ Emit Controller rset
-    ∷ Down Host Asked ∷ Emit Host rset
-    ∷ Lost Controller rset OnDemand
-    ∷ Took Host rset ∷ Emit Host Ua
-    ∷ Took Controller Ua ∷ Up Controller 1
-    ∷ Emit Host rset
-    ∷ Took Controller rset ∷ Down Controller Peer ∷ Up Controller 3 ∷ Emit Controller Ua
-    ∷ Took Host Ua ∷ Up Host 3 ∷ []
-crossed_resets_one_lost = refl
-
-reset_and_its_resend : shown (entries bare (AtHost resets ∷ AtController (Lose OnDemand) ∷ ticks 10 ++ (AtController takes ∷ AtHost takes ∷ [])))
-    ≡ Down Host Asked ∷ Emit Host rset
-    ∷ Lost Controller rset OnDemand
-    ∷ Emit Host rset
-    ∷ Took Controller rset ∷ Down Controller Peer ∷ Up Controller 2 ∷ Emit Controller Ua
-    ∷ Took Host Ua ∷ Up Host 2 ∷ []
-reset_and_its_resend = refl
-
-reset_gives_up : shown (entries bare (AtHost resets ∷ ticks 50 ++ (AtHost (gives (1, 3 ∷ [])) ∷ AtHost resets ∷ [])))
-    ≡ Down Host Asked ∷ Emit Host rset
-    ∷ Lost Controller rset TooOld ∷ Emit Host rset
-    ∷ Lost Controller rset TooOld ∷ Emit Host rset
-    ∷ Lost Controller rset TooOld ∷ Emit Host rset
-    ∷ Lost Controller rset TooOld ∷ Emit Host rset
-    ∷ Lost Controller rset TooOld ∷ GaveUp Host 5
-    ∷ Emit Host rset ∷ []
-reset_gives_up = refl
 
 -- the fifth RSET is taken as late as may be: its UA is lost before the end that waits for it gives up
 late_answer_is_lost : shown (entries bare (AtHost resets ∷ ticks 44 ++ (AtController takes ∷ ticks 6)))
@@ -95,12 +27,6 @@ late_answer_is_lost : shown (entries bare (AtHost resets ∷ ticks 44 ++ (AtCont
 late_answer_is_lost = refl
 
 -- ## Activation and cuts
-
-abbrev activates : LinkEvent
-activates = Activate 1 idle 6699 idle
-
-abbrev up : List LinkEvent
-up = activates ∷ AtController takes ∷ AtHost takes ∷ AtController takes ∷ AtController resets ∷ AtHost takes ∷ AtController takes ∷ []
 
 activation : entries line up
     ≡ Restarted Controller ∷ Restarted Host ∷ Emit Host (Act (SyncId 6699) false)
@@ -136,16 +62,7 @@ again : drop 16 (entries line (up ++ (AtHost (gives (1, 3 ∷ [])) ∷ activates
 again = refl
 
 -- a message is acknowledged whole
-abbrev acknowledged : List LinkEvent
-acknowledged = AtHost (gives (1, 3 ∷ [])) ∷ AtController takes ∷ AtHost takes ∷ []
-
-acknowledged_shown : entries bare acknowledged
-    ≡ Sent Host 0 (1, 3 ∷ []) ∷ Emit Host (I 0 0 (129 ∷ 3 ∷ []))
-    ∷ Took Controller (I 0 0 (129 ∷ 3 ∷ [])) ∷ Got Controller 0 (1, 3 ∷ []) ∷ Emit Controller (S Rr 1)
-    ∷ Took Host (S Rr 1) ∷ Acked Host 0 1 ∷ []
-acknowledged_shown = refl
-
-acknowledged_counts : acked_noted (trace bare acknowledged) Host 0 ≡ 1
+acknowledged_counts : acked_noted (trace bare one) Host 0 ≡ 1
 acknowledged_counts = refl
 
 -- the second ACT_READY stands behind an RSET: ACT_POWER_MODE was sent twice
@@ -174,7 +91,7 @@ ready_behind_a_reset = refl
 abbrev quiet : List LinkEvent
 quiet =
     activates ∷ AtController takes ∷ ticks 10 ++ (AtController takes ∷ AtHost takes ∷ AtHost takes ∷ AtController takes ∷ AtController takes
-    ∷ AtController resets ∷ AtHost takes ∷ AtController takes ∷ AtHost (gives (1, 3 ∷ [])) ∷ AtController takes ∷ AtHost takes ∷ [])
+    ∷ AtController resets ∷ AtHost takes ∷ AtController takes ∷ one)
 
 quiet_is_quiet : IsQuietSince (trace line quiet) (after_link_events line quiet)
 quiet_is_quiet = record { controller = refl; host = refl; undisturbed = refl; to_controller = refl; to_host = refl }
@@ -193,7 +110,7 @@ cut_goes_on : session_in (trace line cut) Host ≡ Some 1
 cut_goes_on = refl
 
 -- a reset at the controller's end, once both ends are active
-settled : IsSettledSince (trace line up) (after_link_events line (activates ∷ AtController takes ∷ AtHost takes ∷ AtController takes ∷ []))
+settled : IsSettledSince (trace line up) (after_link_events line active)
     (AtController resets)
     (AtHost takes ∷ AtController takes ∷ [])
 settled =

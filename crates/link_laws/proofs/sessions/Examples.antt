@@ -1,16 +1,14 @@
--- The two machines, the wires and the numbers compute the worked examples with losses and resets.
-use Rattle.link_laws.proofs.Words.{Control, CoreAtController as AtController, CoreAtHost as AtHost, CoreDeliver as Deliver, CoreLose as Lose}
-use Rattle.link_laws.proofs.Words.{CoreReset as Reset, CoreStop as Stop, Down, I, Ignore, IsShdlcQuiet, IsShdlcSettled, List, Offer, OnWire, Rej, Rnr, Rr, Rset}
-use Rattle.link_laws.proofs.Words.{S, SetReady, ShdlcLinkEvent, Some, Tick, Turns, Up, Waiting, [], core_after as shdlc_after, false, losses_after, map}
-use Rattle.link_laws.proofs.Words.{no_losses, refl, shdlc_number_of, start, start_down, suc, sure_after, true, zero, ℕ, ◌++◌, ◌∷◌, ◌≡◌}
+-- The two machines, the wires and the numbers compute worked examples with losses and resets. What is noted of lost frames, of resets that cross
+-- and of those whose RSET is lost is computed from text to text, in `node_examples`.
+use Rattle.link_laws.proofs.Words.{CoreAtController as AtController, CoreAtHost as AtHost, CoreDeliver as Deliver, CoreLose as Lose, CoreReset as Reset}
+use Rattle.link_laws.proofs.Words.{CoreStop as Stop, Down, Ignore, IsShdlcQuiet, IsShdlcSettled, List, Offer, ShdlcLinkEvent, Some, Tick, Turns, Up, Waiting}
+use Rattle.link_laws.proofs.Words.{[], core_after as shdlc_after, false, losses_after, no_losses, refl, shdlc_number_of, start, start_down, suc, sure_after}
+use Rattle.link_laws.proofs.Words.{true, zero, ℕ, ◌++◌, ◌∷◌, ◌≡◌}
 use Rattle.link_laws.specs.sessions.Sessions.ShdlcEndEvent.{Cut}
 
 abbrev ticks : ℕ → List ShdlcLinkEvent
 ticks zero = []
 ticks (suc n) = Tick (Some []) [] (Some []) ∷ ticks n
-
-abbrev frames : List OnWire → List Control
-frames wire = map (λ x. x.frame) wire
 
 -- the one packet of the message 03 on pipe 01
 abbrev packet : List ℕ
@@ -18,50 +16,6 @@ packet = 129 ∷ 3 ∷ []
 
 abbrev send : ShdlcLinkEvent
 send = AtHost (Turns (Offer (packet ∷ []) ∷ []))
-
--- a lost frame is rejected and sent again
-abbrev rejected : List ShdlcLinkEvent
-rejected = send ∷ send ∷ send ∷ AtController (Deliver []) ∷ AtController Lose ∷ AtController (Deliver []) ∷ []
-
-rejected_answers : frames (shdlc_after start rejected).to_host ≡ S Rr 1 ∷ S Rej 1 ∷ []
-rejected_answers = refl
-
-abbrev gap : List ShdlcLinkEvent
-gap = rejected ++ (AtHost (Deliver []) ∷ AtHost (Deliver []) ∷ [])
-
-gap_sends_again : frames (shdlc_after start gap).to_controller ≡ I 1 0 packet ∷ I 2 0 packet ∷ []
-gap_sends_again = refl
-
-gap_accepts_all : (shdlc_after start (gap ++ (AtController (Deliver []) ∷ AtController (Deliver []) ∷ []))).controller.side.session.acc
-    ≡ packet ∷ packet ∷ packet ∷ []
-gap_accepts_all = refl
-
--- a lost acknowledgement is answered again
-abbrev lost_ack : List ShdlcLinkEvent
-lost_ack = send ∷ AtController (Deliver []) ∷ AtHost Lose ∷ ticks 10
-
-lost_ack_sends_again : frames (shdlc_after start lost_ack).to_controller ≡ I 0 0 packet ∷ []
-lost_ack_sends_again = refl
-
-abbrev acked_again : List ShdlcLinkEvent
-acked_again = lost_ack ++ (AtController (Deliver []) ∷ AtHost (Deliver []) ∷ [])
-
-acked_again_accepts_once : (shdlc_after start acked_again).controller.side.session.acc ≡ packet ∷ []
-acked_again_accepts_once = refl
-
-acked_again_is_acknowledged : (shdlc_after start acked_again).host.side.session.acked ≡ 1
-acked_again_is_acknowledged = refl
-
--- busy, then ready
-abbrev busy : List ShdlcLinkEvent
-busy =
-    AtController (Turns (SetReady false ∷ [])) ∷ send ∷ AtController (Deliver []) ∷ AtController (Turns (SetReady true ∷ [])) ∷ []
-
-busy_answers : frames (shdlc_after start busy).to_host ≡ S Rnr 0 ∷ S Rr 0 ∷ []
-busy_answers = refl
-
-busy_sends_again : frames (shdlc_after start (busy ++ (AtHost (Deliver []) ∷ AtHost (Deliver []) ∷ []))).to_controller ≡ I 0 0 packet ∷ []
-busy_sends_again = refl
 
 -- nobody delivers: each frame is lost by its age, and the sixtieth tick ends the session
 abbrev nobody : ℕ → List ShdlcLinkEvent
@@ -72,9 +26,6 @@ nobody_goes_on = refl
 
 nobody_ends : (shdlc_after start (nobody 60)).host.side.phase ≡ Waiting
 nobody_ends = refl
-
-nobody_resets : frames (shdlc_after start (nobody 60)).to_controller ≡ Rset 4 0 ∷ []
-nobody_resets = refl
 
 -- what was lost in that session isn't counted in the next one
 abbrev next_session : List ShdlcLinkEvent
@@ -90,41 +41,10 @@ next_session_lost = refl
 abbrev resent : List ShdlcLinkEvent
 resent = AtHost (Reset 4 []) ∷ AtController Lose ∷ ticks 10 ++ (AtController (Deliver []) ∷ AtHost (Deliver []) ∷ [])
 
-resent_controller : shdlc_number_of (shdlc_after start resent).controller ≡ 2
-resent_controller = refl
-
-resent_host : shdlc_number_of (shdlc_after start resent).host ≡ 2
-resent_host = refl
-
-resent_is_up : (shdlc_after start resent).host.side.phase ≡ Up
-resent_is_up = refl
-
 -- two resets that cross
 abbrev crossed : List ShdlcLinkEvent
 crossed =
     AtController (Reset 4 []) ∷ AtHost (Reset 4 []) ∷ AtController (Deliver []) ∷ AtHost (Deliver []) ∷ AtHost (Deliver []) ∷ AtController (Deliver []) ∷ []
-
-crossed_controller : shdlc_number_of (shdlc_after start crossed).controller ≡ 2
-crossed_controller = refl
-
-crossed_host : shdlc_number_of (shdlc_after start crossed).host ≡ 2
-crossed_host = refl
-
-crossed_is_up : (shdlc_after start crossed).controller.side.phase ≡ Up
-crossed_is_up = refl
-
--- two that cross, of which one is lost: one end comes up alone, and both after the next RSET
-abbrev one_lost : List ShdlcLinkEvent
-one_lost = AtController (Reset 4 []) ∷ AtHost (Reset 4 []) ∷ AtController Lose ∷ AtHost (Deliver []) ∷ AtController (Deliver []) ∷ []
-
-one_lost_controller : shdlc_number_of (shdlc_after start one_lost).controller ≡ 1
-one_lost_controller = refl
-
-one_lost_host : (shdlc_after start one_lost).host.side.phase ≡ Waiting
-one_lost_host = refl
-
-one_lost_later : shdlc_number_of (shdlc_after start (one_lost ++ ticks 10 ++ (AtController (Deliver []) ∷ AtHost (Deliver []) ∷ []))).host ≡ 3
-one_lost_later = refl
 
 -- a cut of the controller, while the host goes on; then an activation, and a reset
 abbrev cut : List ShdlcLinkEvent
