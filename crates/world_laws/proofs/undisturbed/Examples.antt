@@ -1,9 +1,9 @@
 -- A worked example of a link of nodes that settles and holds no message meanwhile, computed from the definitions.
-use Rattle.world_laws.proofs.Words.{Activates, AnyOk, ArePoweredNotes, AreUnheldNotes, AreUpWith, Booted, Boots, Emit, Entry, Gives, Happening, List, NodeWorld}
-use Rattle.world_laws.proofs.Words.{None, Occurrence, Resets, Sent, Takes, Took, [], all_happen, end_c, end_h, entries_in, fragments_noted, new_world, refl}
-use Rattle.world_laws.proofs.Words.{true, world_settling, ◌∷◌, ◌≡◌}
+use Rattle.world_laws.proofs.Words.{Activates, AnyOk, ArePoweredNotes, AreUnheldNotes, AreUpWith, Boots, Emit, Entry, Gives, Happening, List, NodeWorld, None}
+use Rattle.world_laws.proofs.Words.{Occurrence, Resets, Sent, Takes, Took, [], all_happen, end_c, end_h, entries_in, fragments_noted, new_world, refl, true}
+use Rattle.world_laws.proofs.Words.{world_settling, ◌∷◌, ◌≡◌}
 use Rattle.hci_tables.specs.declared.command.Command.TheVariants as command
-use Rattle.trace_model.specs.declared.entry.Entry.TheVariants.{Acked, Active, Command, Got, Turn, Up}
+use Rattle.trace_model.specs.declared.entry.Entry.TheVariants.{Acked, Command, Got, Turn}
 use Rattle.journal_laws.specs.Records.{found_from}
 use Rattle.gate_admin.specs.View.{hosts_where}
 use Rattle.pipe_table.specs.PipeRows.{lowest_free}
@@ -28,27 +28,7 @@ abbrev begun : NodeWorld × List Occurrence
 begun = all_happen (new_world (2 ∷ [])) causes
 
 abbrev before : List Entry
-before =
-    Booted 0 0
-    ∷ Booted 2 0
-    ∷ Emit (end_h 2) (97 ∷ 26 ∷ 43 ∷ [])
-    ∷ Took (end_c 2) (97 ∷ 26 ∷ 43 ∷ [])
-    ∷ Command 0 (command.Sync 2 6699)
-    ∷ Emit (end_c 2) (98 ∷ 1 ∷ [])
-    ∷ Took (end_h 2) (98 ∷ 1 ∷ [])
-    ∷ Active (end_h 2)
-    ∷ Emit (end_h 2) (96 ∷ [])
-    ∷ Took (end_c 2) (96 ∷ [])
-    ∷ Active (end_c 2)
-    ∷ Emit (end_c 2) (249 ∷ 4 ∷ 0 ∷ [])
-    ∷ Took (end_h 2) (249 ∷ 4 ∷ 0 ∷ [])
-    ∷ Up (end_h 2) 1
-    ∷ Emit (end_h 2) (230 ∷ [])
-    ∷ Took (end_c 2) (230 ∷ [])
-    ∷ Up (end_c 2) 1
-    ∷ Sent (end_h 2) 1 1 (3 ∷ [])
-    ∷ Emit (end_h 2) (128 ∷ 129 ∷ 3 ∷ [])
-    ∷ []
+before = entries_in begun.1
 
 -- what two rounds note, which bring the command, its response and the acknowledgements of both
 abbrev later : List Entry
@@ -71,10 +51,6 @@ later =
     ∷ Acked (end_c 2) 1 1
     ∷ []
 
-is_noted_before : entries_in begun.1 ≡ before
-unfolding found_from hosts_where lowest_free
-is_noted_before = refl
-
 -- what a line that has the links settle with 48 rounds at most does behind them
 is_noted_later : entries_in (world_settling 48 begun.0).1 ≡ later
 unfolding found_from hosts_where lowest_free
@@ -82,13 +58,16 @@ is_noted_later = refl
 
 -- Each message has its turn at once, and all else that the law asks for is noted too: with one fragment it asks for 48 rounds.
 none_is_held : AreUnheldNotes before later 2
+unfolding found_from hosts_where lowest_free
 none_is_held = record { controller = refl; host = refl; none_held = refl }
 
 nothing_disturbs : ArePoweredNotes later 2
 nothing_disturbs = record { undisturbed = record { lasting = refl; lossless = refl }; powered = refl }
 
 both_are_up : AreUpWith before 2 1
+unfolding found_from hosts_where lowest_free
 both_are_up = record { controller = refl; host = refl }
 
 one_fragment : fragments_noted before 2 1 ≡ 1
+unfolding found_from hosts_where lowest_free
 one_fragment = refl
