@@ -1,4 +1,5 @@
 -- Schedules of nodes as bytes, computed: their transcripts, and where they stop.
+use Prim.Native.String.{String}
 use Rattle.std.proofs.Common.{◌≡◌, refl, ℕ, List, [], ◌∷◌, ◌++◌, codes, Option, Some, None}
 use Rattle.std.specs.List.{flat_map}
 use Rattle.trace_model.specs.declared.line.Header.{Header}
@@ -14,152 +15,60 @@ use Rattle.lines_told.specs.lines.Plays.{schedule_told}
 use Rattle.swp_tool.specs.Schedules.{Schedule, AtFault, AtMisread, schedule_in}
 use Rattle.swp_tool.specs.Transcripts.{done_line}
 
--- lines, each with its end
-abbrev ended : List (List ℕ) → List ℕ
-ended lines = flat_map (λ (line : List ℕ). line ++ 10 ∷ []) lines
+-- a text that is written in parts
+abbrev text : List String → List ℕ
+text parts = flat_map codes parts
 
 -- the text of a replay that is done, below a header of nodes
-abbrev text_of : Schedule → List ℕ
-text_of s = by s.header where
+abbrev told : Schedule → List ℕ
+told s = by s.header where
   by : Option Header → List ℕ
   by None = []
   by (Some header) = entry_lines (schedule_told header s.lines) ++ done_line s.count
 
-abbrev boot_cut_at_first_write_lines : List (List ℕ)
-boot_cut_at_first_write_lines =
-    codes "swp 1 hci 02" ∷
-    codes "arm 00 1 13" ∷
-    codes "boot 00" ∷
-    codes "boot 00" ∷
-    []
-
-boot_cut_at_first_write : text_of (schedule_in (ended boot_cut_at_first_write_lines)) ≡ ended (
-    codes "> swp 1 hci 02" ∷
-    codes "> arm 00 1 13" ∷
-    codes "> boot 00" ∷
-    codes "cut 00" ∷
-    codes "> boot 00" ∷
-    codes "booted 00 0" ∷
-    codes "done 4" ∷
+boot_cut_at_first_write : told (schedule_in (codes "swp 1 hci 02\narm 00 1 13\nboot 00\nboot 00\n")) ≡ text (
+    "> swp 1 hci 02\n" ∷
+    "> arm 00 1 13\n" ∷
+    "> boot 00\ncut 00\n" ∷
+    "> boot 00\nbooted 00 0\ndone 4\n" ∷
     [])
 unfolding found_from hosts_where lowest_free decode_pairs encode_with digits
 boot_cut_at_first_write = refl
 
-abbrev activation_and_first_pipe_lines : List (List ℕ)
-activation_and_first_pipe_lines =
-    codes "swp 1 hci 02" ∷
-    codes "boot 00" ∷
-    codes "boot 02" ∷
-    codes "activate 02 1A2B 01" ∷
-    codes "deliver 02c" ∷
-    codes "deliver 02h" ∷
-    codes "deliver 02c" ∷
-    codes "reset 02c" ∷
-    codes "deliver 02h" ∷
-    codes "deliver 02c" ∷
-    codes "send 02h 01 03" ∷
-    codes "deliver 02c" ∷
-    codes "deliver 02h" ∷
-    codes "send 02h 01 0201" ∷
-    codes "deliver 02c" ∷
-    []
-
-activation_and_first_pipe : text_of (schedule_in (ended activation_and_first_pipe_lines)) ≡ ended (
-    codes "> swp 1 hci 02" ∷
-    codes "> boot 00" ∷
-    codes "booted 00 0" ∷
-    codes "> boot 02" ∷
-    codes "booted 02 0" ∷
-    codes "> activate 02 1A2B 01" ∷
-    codes "emit 02h 611A2B" ∷
-    codes "> deliver 02c" ∷
-    codes "took 02c 611A2B" ∷
-    codes "command 00 sync 02 1A2B" ∷
-    codes "emit 02c 6201" ∷
-    codes "> deliver 02h" ∷
-    codes "took 02h 6201" ∷
-    codes "active 02h" ∷
-    codes "emit 02h 60" ∷
-    codes "> deliver 02c" ∷
-    codes "took 02c 60" ∷
-    codes "active 02c" ∷
-    codes "> reset 02c" ∷
-    codes "emit 02c F90400" ∷
-    codes "> deliver 02h" ∷
-    codes "took 02h F90400" ∷
-    codes "up 02h 1" ∷
-    codes "emit 02h E6" ∷
-    codes "> deliver 02c" ∷
-    codes "took 02c E6" ∷
-    codes "up 02c 1" ∷
-    codes "> send 02h 01 03" ∷
-    codes "sent 02h 1 01 03" ∷
-    codes "emit 02h 808103" ∷
-    codes "> deliver 02c" ∷
-    codes "took 02c 808103" ∷
-    codes "got 02c 1 01 03" ∷
-    codes "turn 02c 01 03" ∷
-    codes "command 00 opened 02 01 01" ∷
-    codes "sent 02c 1 01 8000" ∷
-    codes "ok 00 2" ∷
-    codes "emit 02c C1" ∷
-    codes "emit 02c 81818000" ∷
-    codes "> deliver 02h" ∷
-    codes "took 02h C1" ∷
-    codes "acked 02h 1 1" ∷
-    codes "took 02h 81818000" ∷
-    codes "got 02h 1 01 8000" ∷
-    codes "turn 02h 01 8000" ∷
-    codes "emit 02h C1" ∷
-    codes "> send 02h 01 0201" ∷
-    codes "sent 02h 1 01 0201" ∷
-    codes "emit 02h 89810201" ∷
-    codes "> deliver 02c" ∷
-    codes "took 02c C1" ∷
-    codes "acked 02c 1 1" ∷
-    codes "took 02c 89810201" ∷
-    codes "got 02c 1 01 0201" ∷
-    codes "turn 02c 01 0201" ∷
-    codes "sent 02c 1 01 80FFFFFFFFFFFFFFFF" ∷
-    codes "emit 02c C2" ∷
-    codes "emit 02c 8A8180FFFFFFFFFFFFFFFF" ∷
-    codes "done 15" ∷
+activation_and_first_pipe : told (schedule_in (text (
+    "swp 1 hci 02\nboot 00\nboot 02\nactivate 02 1A2B 01\ndeliver 02c\ndeliver 02h\ndeliver 02c\nreset 02c\ndeliver 02h\ndeliver 02c\n" ∷
+    "send 02h 01 03\ndeliver 02c\ndeliver 02h\nsend 02h 01 0201\ndeliver 02c\n" ∷
+    []))) ≡ text (
+    "> swp 1 hci 02\n" ∷
+    "> boot 00\nbooted 00 0\n" ∷
+    "> boot 02\nbooted 02 0\n" ∷
+    "> activate 02 1A2B 01\nemit 02h 611A2B\n" ∷
+    "> deliver 02c\ntook 02c 611A2B\ncommand 00 sync 02 1A2B\nemit 02c 6201\n" ∷
+    "> deliver 02h\ntook 02h 6201\nactive 02h\nemit 02h 60\n" ∷
+    "> deliver 02c\ntook 02c 60\nactive 02c\n" ∷
+    "> reset 02c\nemit 02c F90400\n" ∷
+    "> deliver 02h\ntook 02h F90400\nup 02h 1\nemit 02h E6\n" ∷
+    "> deliver 02c\ntook 02c E6\nup 02c 1\n" ∷
+    "> send 02h 01 03\nsent 02h 1 01 03\nemit 02h 808103\n" ∷
+    "> deliver 02c\ntook 02c 808103\ngot 02c 1 01 03\nturn 02c 01 03\ncommand 00 opened 02 01 01\nsent 02c 1 01 8000\nok 00 2\nemit 02c C1\n" ∷
+    "emit 02c 81818000\n" ∷
+    "> deliver 02h\ntook 02h C1\nacked 02h 1 1\ntook 02h 81818000\ngot 02h 1 01 8000\nturn 02h 01 8000\nemit 02h C1\n" ∷
+    "> send 02h 01 0201\nsent 02h 1 01 0201\nemit 02h 89810201\n" ∷
+    "> deliver 02c\ntook 02c C1\nacked 02c 1 1\ntook 02c 89810201\ngot 02c 1 01 0201\nturn 02c 01 0201\nsent 02c 1 01 80FFFFFFFFFFFFFFFF\n" ∷
+    "emit 02c C2\nemit 02c 8A8180FFFFFFFFFFFFFFFF\ndone 15\n" ∷
     [])
 unfolding found_from hosts_where lowest_free decode_pairs encode_with digits
 activation_and_first_pipe = refl
 
 -- a link settles as soon as its power is on
-abbrev activation_settles_lines : List (List ℕ)
-activation_settles_lines =
-    codes "swp 1 hci 02" ∷
-    codes "settle 5" ∷
-    codes "boot 00" ∷
-    codes "boot 02" ∷
-    codes "activate 02 1A2B 01" ∷
-    codes "settle 9" ∷
-    []
-
-activation_settles : text_of (schedule_in (ended activation_settles_lines)) ≡ ended (
-    codes "> swp 1 hci 02" ∷
-    codes "> settle 5" ∷
-    codes "settled 0" ∷
-    codes "> boot 00" ∷
-    codes "booted 00 0" ∷
-    codes "> boot 02" ∷
-    codes "booted 02 0" ∷
-    codes "> activate 02 1A2B 01" ∷
-    codes "emit 02h 611A2B" ∷
-    codes "> settle 9" ∷
-    codes "took 02c 611A2B" ∷
-    codes "command 00 sync 02 1A2B" ∷
-    codes "emit 02c 6201" ∷
-    codes "took 02h 6201" ∷
-    codes "active 02h" ∷
-    codes "emit 02h 60" ∷
-    codes "took 02c 60" ∷
-    codes "active 02c" ∷
-    codes "settled 2" ∷
-    codes "done 6" ∷
+activation_settles : told (schedule_in (codes "swp 1 hci 02\nsettle 5\nboot 00\nboot 02\nactivate 02 1A2B 01\nsettle 9\n")) ≡ text (
+    "> swp 1 hci 02\n" ∷
+    "> settle 5\nsettled 0\n" ∷
+    "> boot 00\nbooted 00 0\n" ∷
+    "> boot 02\nbooted 02 0\n" ∷
+    "> activate 02 1A2B 01\nemit 02h 611A2B\n" ∷
+    "> settle 9\ntook 02c 611A2B\ncommand 00 sync 02 1A2B\nemit 02c 6201\ntook 02h 6201\nactive 02h\nemit 02h 60\ntook 02c 60\nactive 02c\n" ∷
+    "settled 2\ndone 6\n" ∷
     [])
 unfolding found_from hosts_where lowest_free decode_pairs encode_with digits
 activation_settles = refl
@@ -167,25 +76,18 @@ activation_settles = refl
 -- ## Where a schedule of nodes stops
 
 -- a line of links alone is out of order
-busy_stops : (schedule_in (ended (codes "swp 1 hci 02" ∷ codes "busy 02c" ∷ []))).stop ≡ Some (AtFault fault.Order)
+busy_stops : (schedule_in (codes "swp 1 hci 02\nbusy 02c\n")).stop ≡ Some (AtFault fault.Order)
 unfolding decode_pairs
 busy_stops = refl
 
 -- four damaged bits make another frame of the first one, with the same check
-abbrev misread_lines : List (List ℕ)
-misread_lines =
-    codes "swp 1 hci 02" ∷
-    codes "boot 00" ∷
-    codes "boot 02" ∷
-    codes "activate 02 1A2B 01" ∷
-    codes "damage 02c 8 12 19 24" ∷
-    codes "tick" ∷
-    []
+abbrev misread : List ℕ
+misread = codes "swp 1 hci 02\nboot 00\nboot 02\nactivate 02 1A2B 01\ndamage 02c 8 12 19 24\ntick\n"
 
-misread_stops : (schedule_in (ended misread_lines)).stop ≡ Some AtMisread
+misread_stops : (schedule_in misread).stop ≡ Some AtMisread
 unfolding found_from hosts_where lowest_free decode_pairs bits_of_byte
 misread_stops = refl
 
-misread_line : (schedule_in (ended misread_lines)).count ≡ 5
+misread_line : (schedule_in misread).count ≡ 5
 unfolding found_from hosts_where lowest_free decode_pairs bits_of_byte
 misread_line = refl
