@@ -104,22 +104,20 @@ older pool s t is =
       ended = λ q g. g.ended;
     }))
 
-pub begun : (pool : PoolState) (s t : Seat) → t ≡ record s { late = false; ended = false }
-    → SeatBecomes pool pool s t (λ p. record p { late = false; ended = false; turns = [] })
-begun pool s t is =
-    let P : Seat → Type 0 = λ x. SeatBecomes pool pool s x (λ p. record p { late = false; ended = false; turns = [] }) in
-    subst P (sym is) (sets (record {
-      side = refl;
-      waiting = refl;
-      acked = refl;
-      aside = refl;
-      host = refl;
-      same_side = λ q. refl;
-      desk = λ q g. g.desk;
-      sound = λ was. was;
-      late = λ q g. refl;
-      ended = λ q g. refl;
-    }))
+pub begun : (pool : PoolState) (s : Seat)
+    → SeatBecomes pool pool s (record s { late = false; ended = false }) (λ p. record p { late = false; ended = false; turns = [] })
+begun pool s = sets (record {
+  side = refl;
+  waiting = refl;
+  acked = refl;
+  aside = refl;
+  host = refl;
+  same_side = λ q. refl;
+  desk = λ q g. g.desk;
+  sound = λ was. was;
+  late = λ q g. refl;
+  ended = λ q g. refl;
+})
 
 pub notice_dropped : (pool : PoolState) (s t : Seat)
     → t ≡ record s { desk = record s.desk { notice = kept_notice (s.ended || s.late) s.desk.notice } } → SeatBecomes pool pool s t without_notice

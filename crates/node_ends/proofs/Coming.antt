@@ -1,11 +1,13 @@
 -- What comes to an end and brings no message leaves the one that waits there.
 use Rattle.std.proofs.Common.{◌≡◌, ℕ, true, refl, [], ◌++◌, sym, ap, ◌∙◌, subst, append-nil}
-use Rattle.std.specs.Prelude.{Option, None, Some, ◌-◌, is_some}
+use Rattle.std.specs.Prelude.{Option, None, Some, ◌-◌, is_some, Result}
 use Rattle.block_pool.specs.Pool.{PoolState}
 use Rattle.link_laws.specs.machine.Machine.{LinkEnd as Machine, LinkInput, Refused, after_input, got_by, report, whole_acked, reset_refusal, ended_by}
 use Rattle.link_laws.specs.machine.Machine.LinkInput.{Tick, Reset, Start, Stop}
 use Rattle.link_end.specs.Reports.{report_told, reset_told}
 use Rattle.link_end.specs.declared.«end».End.{End}
+use Rattle.link_end.specs.declared.report.LinkReport.{LinkReport}
+use Rattle.link_end.specs.declared.report.ResetRefused.{ResetRefused}
 use Rattle.link_end.specs.Ends.{EndStandsFor, EndLeavesOthers}
 use Rattle.node_ends.specs.declared.seat.Waiting.{Waiting}
 use Rattle.node_ends.specs.Holding.{HoldsEnd, without_got, ends_by}
@@ -49,6 +51,10 @@ reset_told_apart m window = by (reset_refusal m) refl
     by : (o : Option Refused) → reset_refusal m ≡ o → reset_told (without_got m) window ≡ reset_told m window
     by None q = rw q refl
     by (Some why) q = rw q refl
+
+pub reset_so : {pool : PoolState} {k : End} {waiting : Option Waiting} {r : Result LinkReport ResetRefused} (window : Option ℕ)
+    → ((m : Machine) → EndStandsFor k pool m → r ≡ reset_told m window) → (m : Machine) → HoldsEnd pool k waiting m → r ≡ reset_told m window
+reset_so window told m h = told (without_got m) h.stands ∙ reset_told_apart m window
 
 -- a reset that is told ends the session where the definition says so
 pub reset_ends : (m : Machine) (window : Option ℕ) → ends_by (reset_told m window) ≡ is_some (ended_by m (Reset window))

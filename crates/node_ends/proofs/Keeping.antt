@@ -1,12 +1,14 @@
 -- What comes to an end from outside: what is kept of the end stands for its state behind that.
-use Rattle.std.proofs.Common.{◌≡◌, ℕ, true, List, refl, sym, ap, ◌∙◌, subst}
+use Rattle.std.proofs.Common.{◌≡◌, ℕ, true, List, [], refl, sym, ap, ◌∙◌, subst}
 use Rattle.std.specs.Prelude.{Some, None, Option, option_map, is_some, Result, Ok, Err, OnOk}
 use Rattle.swp_base.specs.declared.control_frames.Control.{Control}
 use Rattle.swp_lpdu.specs.declared.LpduFault.{LpduFault}
 use Rattle.swp_lpdu.specs.Controls.{control_of}
 use Rattle.block_pool.specs.Pool.{PoolState}
-use Rattle.link_laws.specs.machine.Machine.{LinkEnd as Machine, LinkInput, Refused, after_input, lpdu_input, report, reset_refusal}
+use Rattle.link_laws.specs.machine.Machine.{LinkEnd as Machine, LinkInput, Refused, after_input, got_by, lpdu_input, report, reset_refusal}
 use Rattle.link_laws.specs.machine.Machine.LinkInput.{Reset}
+use Rattle.link_end.specs.declared.«end».End.{End}
+use Rattle.link_end.specs.Ends.{EndLeavesOthers, EndStandsFor}
 use Rattle.link_end.specs.declared.report.LinkReport.{LinkReport}
 use Rattle.link_end.specs.declared.report.ResetRefused.{ResetRefused}
 use Rattle.link_end.specs.Reports.{report_told, reset_told, reset_refused}
@@ -17,12 +19,13 @@ use Rattle.node_deeds.specs.Shown.{desk_shown}
 use Rattle.node_ends.specs.declared.inputs.LinkInput.{LinkInput as ToEnd}
 use Rattle.node_ends.specs.declared.inputs.LinkInput.TheVariants as comes
 use Rattle.node_ends.specs.declared.seat.Seat.{Seat}
-use Rattle.node_ends.specs.Holding.{HoldsSeat, Moves, acked_since, ends_by}
+use Rattle.node_ends.specs.Holding.{HoldsSeat, Moves, acked_since, ends_by, without_got}
 use Rattle.node_ends.specs.Ends.{SeatStandsFor, SeatBecomes}
 use Rattle.node_ends.specs.Inputs.{frame_said, refusal_at}
 use Rattle.node_ends.proofs.Apart.{is_outside}
 use Rattle.node_ends.proofs.Blocks.{outside_aside}
-use Rattle.node_ends.proofs.Coming.{reset_ends}
+use Rattle.node_ends.proofs.Coming.{reset_ends, still_holds}
+use Rattle.node_ends.proofs.Moving.{call_moves}
 use Rattle.node_ends.proofs.Counting.{acked_so, outside_acked, reached_outside, reset_so_far, reset_acked}
 
 -- a call on an end that took an input
@@ -32,13 +35,20 @@ pub record Takes (old new : PoolState) (s t : Seat) (i : LinkInput) : Type 0 whe
   pub moves : Moves old new s.side t.side
   pub rest : t ≡ record s { side = t.side; waiting = t.waiting }
 
+-- what comes to the end alone and brings no message
+pub side_takes : {old new : PoolState} {s : Seat} (side : End) (i : LinkInput) → is_outside i ≡ true → ((m : Machine) → got_by m i ≡ [])
+    → (m : Machine) × HoldsSeat old s m → EndLeavesOthers old new s.side side
+    → ((m : Machine) → EndStandsFor s.side old m → EndStandsFor side new (after_input m i)) → Takes old new s (record s { side = side }) i
+side_takes {old} {new} {s} side i outside none now leaves stands = record {
+  outside = outside;
+  stands = λ m h. still_holds old new s.side side s.waiting m i h (none m) outside leaves (stands (without_got m) h.stands);
+  moves = call_moves old new s.side side (without_got now.0) now.1.stands leaves;
+  rest = refl;
+}
+
 -- this is told of it
 abbrev pub Tells : PoolState → Seat → LinkInput → LinkReport → Type 0
 Tells old s i told = (p : Port) → SeatStandsFor old s p → told ≡ report_told (report p.side i)
-
--- where the end itself alone was changed, no more was
-pub side_alone : (s t : Seat) → t ≡ record s { side = t.side } → t ≡ record s { side = t.side; waiting = t.waiting }
-side_alone s t is = is ∙ ap (λ w. record s { side = t.side; waiting = w }) (sym (ap (λ (x : Seat). x.waiting) is))
 
 -- then what was told is counted
 pub takes : {old new : PoolState} {s t u : Seat} {i : LinkInput} {told kept : LinkReport} → Takes old new s t i → Tells old s i told → kept ≡ told
@@ -89,6 +99,15 @@ not_refused m window r is = by (reset_refusal m) refl
     by : (o : Option Refused) → reset_refusal m ≡ o → option_map reset_refused (reset_refusal m) ≡ None
     by None q = rw q refl
     by (Some why) q = absurd (let z : Ok r ≡ Err (reset_refused why) = rw q at is in cc)
+
+-- one that is refused is refused for this
+pub why_refused : (m : Machine) (window : Option ℕ) (why : ResetRefused) → Err why ≡ reset_told m window
+    → option_map reset_refused (reset_refusal m) ≡ Some why
+why_refused m window why is = by (reset_refusal m) refl
+  where
+    by : (o : Option Refused) → reset_refusal m ≡ o → option_map reset_refused (reset_refusal m) ≡ Some why
+    by None q = absurd (let z = rw q at is in cc)
+    by (Some x) q = rw q (let z : Err why ≡ Err (reset_refused x) = rw q at is in cc)
 
 -- nothing is refused where there is no end
 pub none_refused : (what : ToEnd) → refusal_at what None ≡ None

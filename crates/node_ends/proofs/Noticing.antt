@@ -11,9 +11,9 @@ use Rattle.node_deeds.specs.declared.desks.About.{About}
 use Rattle.node_deeds.specs.declared.desks.About.TheVariants.{Waits, Forgotten, Removed}
 use Rattle.node_deeds.specs.declared.desks.Desk.{Desk}
 use Rattle.node_deeds.specs.declared.desks.Unanswered.{Unanswered}
-use Rattle.node_deeds.specs.Shown.{desk_shown, notice_shown, row_noticed}
+use Rattle.node_deeds.specs.Shown.{awaited_row, creation_of_row, desk_shown, notice_shown, row_noticed}
 use Rattle.node_deeds.specs.Cores.{IsSoundRow}
-use Rattle.node_ends.specs.Desks.{asker_of, asker_at, as_forgotten, forgotten_at, grown_older, kept_notice, IsYoung, has_hundred_ticks}
+use Rattle.node_ends.specs.Desks.{asker_at, as_forgotten, forgotten_at, grown_older, kept_notice, IsYoung, has_hundred_ticks}
 
 older_notice_is : (x : DeskOf) (o : Option Unanswered) → x.notice ≡ option_map notice_shown o → (p : Port) → p.desk ≡ x
     → record x { notice = option_map notice_shown (grown_older o) } ≡ (with_older p).desk
@@ -80,16 +80,21 @@ not_late p q = rw q refl
 pub now_late : (p : Port) → is_late p ≡ true → record p { side = after_input p.side (Reset None); late = true } ≡ reset_late p
 now_late p q = rw q refl
 
-asks : (o : Option Unanswered) → asker_of o ≡ option_map (λ (c : Creation). c.asker) (creation_in (option_map notice_shown o))
+-- who asked for a pipe
+abbrev pub asker : Creation → ℕ
+asker c = c.asker
+
+asks : (o : Option Unanswered) → option_map asker (option_map creation_of_row (row_noticed o)) ≡ option_map asker (creation_in (option_map notice_shown o))
 asks None = refl
 asks (Some n) = by n.about refl
   where
-    by : (a : About) → n.about ≡ a → asker_of (Some n) ≡ option_map (λ (c : Creation). c.asker) (creation_in (option_map notice_shown (Some n)))
+    by : (a : About) → n.about ≡ a
+        → option_map asker (option_map creation_of_row (row_noticed (Some n))) ≡ option_map asker (creation_in (option_map notice_shown (Some n)))
     by (Waits row) q = rw q refl
     by Forgotten q = rw q refl
     by Removed q = rw q refl
 
-pub asker_is : (d : Desk) (p : Port) → desk_shown d ≡ p.desk → asker_of d.notice ≡ asker_at (Some p)
+pub asker_is : (d : Desk) (p : Port) → desk_shown d ≡ p.desk → option_map asker (option_map creation_of_row (awaited_row d)) ≡ asker_at (Some p)
 asker_is d p is = asks d.notice ∙ ap (λ (x : DeskOf). option_map (λ (c : Creation). c.asker) (creation_in x.notice)) is
 
 forgotten_notice : (x : DeskOf) (o : Option Unanswered) → x.notice ≡ option_map notice_shown o → (p : Port) → p.desk ≡ x
@@ -120,6 +125,6 @@ forgets_by ports p h b some over = by (asked_at p) refl
         let is : is_forgotten ports (asked_at p) ≡ b = ap (is_forgotten ports) q ∙ (ap (is_over_at ports) same ∙ over) in
         ap (λ (y : Bool). if y then forgotten_at p else p) is
 
-pub none_at_all : (o : Option ℕ) → ((i : ℕ) → o ≡ Some i → ⊥) → o ≡ None
+pub none_at_all : {A : Type 0} (o : Option A) → ((x : A) → o ≡ Some x → ⊥) → o ≡ None
 none_at_all None none = refl
-none_at_all (Some i) none = absurd (none i refl)
+none_at_all (Some x) none = absurd (none x refl)

@@ -5,8 +5,7 @@ use Rattle.std.specs.Option.{option_map_or}
 use Rattle.node_machine.specs.Parts.{Port, Creation, Notice}
 use Rattle.node_machine.specs.Parts.About.{Forgotten as IsForgotten}
 use Rattle.node_machine.specs.Controller.{asked_at}
-use Rattle.node_deeds.specs.declared.desks.About.{About}
-use Rattle.node_deeds.specs.declared.desks.About.TheVariants.{Waits, Forgotten, Removed}
+use Rattle.node_deeds.specs.declared.desks.About.TheVariants.{Forgotten}
 use Rattle.node_deeds.specs.declared.desks.Unanswered.{Unanswered}
 
 -- a notice waits for its answer at some end
@@ -36,16 +35,7 @@ abbrev pub has_hundred_ticks : Option Unanswered → Bool
 has_hundred_ticks None = false
 has_hundred_ticks (Some n) = nat_le 100 n.age
 
--- the asker of a creation that waits
-abbrev pub asker_of : Option Unanswered → Option ℕ
-asker_of None = None
-asker_of (Some n) = by_about n.about where
-  by_about : About → Option ℕ
-  by_about (Waits row) = Some row.creator
-  by_about Forgotten = None
-  by_about Removed = None
-
--- the same, where there is an end
+-- the asker of a creation that waits at an end, where there is one
 abbrev pub asker_at : Option Port → Option ℕ
 asker_at None = None
 asker_at (Some p) = option_map (λ (c : Creation). c.asker) (asked_at p)

@@ -36,17 +36,15 @@ impl Model for Ends {
 
 impl Ends {
     ghost use Rattle.node_ends.specs.Making.{AreAllDifferent, new_port};
-    ghost use Rattle.std.specs.Prelude.{IfErr, IfOk, OnErr, OnOk, MatchResult, None, map};
-    ghost use Rattle.link_laws.specs.machine.Machine.{whole_acked};
-    ghost use Rattle.node_machine.specs.Node.{with_older, without_notice, reset_late, is_over_at, forgets};
+    ghost use Rattle.std.specs.Prelude.{◌≡◌, ◌≤◌, ◌+◌, IfErr, IfOk, OnErr, OnOk, MatchResult, None, map, min, [], List, Some, IfSome, IsTrue, Ok, false};
+    ghost use Rattle.std.specs.Prelude.{length, option_map, slice_get};
+    ghost use Rattle.link_laws.specs.machine.Machine.{whole_acked, next_frame, report};
+    ghost use Rattle.node_machine.specs.Node.{with_older, without_notice, reset_late, is_over_at, forgets, has_come};
     ghost use Rattle.node_ends.specs.Holding.{kept_number};
     ghost use Rattle.node_ends.specs.Desks.{IsYoung};
-    ghost use Rattle.std.specs.Prelude.{◌≡◌, ◌≤◌, ◌+◌, min, [], List, Some, IfSome, IsTrue, Ok, false, length, option_map, slice_get};
     ghost use Rattle.swp_lpdu.specs.Controls.{lpdu_of, control_of};
-    ghost use Rattle.link_laws.specs.machine.Machine.{next_frame, report};
     ghost use Rattle.link_laws.specs.machine.Machine.LinkInput.{Tick};
     ghost use Rattle.link_end.specs.Reports.{report_told};
-    ghost use Rattle.node_machine.specs.Node.{has_come};
     ghost use Rattle.hcp_packet.specs.Packets.{IsSendable};
     ghost use Rattle.link_laws.specs.machine.Machine.Turn.{Give, Hold, SetAside, Release, FetchMessage};
     ghost use Rattle.node_deeds.specs.Shown.{notice_shown, row_noticed};
@@ -55,9 +53,9 @@ impl Ends {
     ghost use Rattle.std.specs.Option.{option_map_or};
     ghost use Rattle.node_machine.specs.Controller.{has_link};
     ghost use Rattle.node_machine.specs.Carrying.{port_at, with_port, after_turn};
-    ghost use Rattle.node_ends.specs.Ends.{EndsStandFor, FewAreDue, IsHeldWhileOneWaits, held_at, given_at, TellsLengthOf, at_place, late_told};
+    ghost use Rattle.node_ends.specs.Ends.{EndsStandFor, FewAreDue, IsHeldWhileOneWaits, held_at, given_at, TellsLengthOf, at_place, late_told, has_sent};
+    ghost use Rattle.node_ends.specs.Ends.{frame_at, HasNoneDue};
     ghost use Rattle.node_ends.specs.Inputs.{input_of_end, refusal_at, MayComeAt};
-    ghost use Rattle.node_ends.specs.Ends.{has_sent, frame_at, HasNoneDue};
 
     /// New ends of the links with these hosts, at most seven, in a pool with 128 blocks of each end for what it sends, and 512 for what
     /// comes there.
@@ -91,7 +89,7 @@ impl Ends {
             return Err(SendRefused::NotUp);
         };
         let seat = &mut self.seats[i];
-        seat.send(&mut self.pool, pipe, message)
+        seat.side.send(&mut self.pool, pipe, message)
     }
 
     /// A block is set aside at the end of the link with this host, where one is spare.
@@ -143,7 +141,7 @@ impl Ends {
     {
         if let Some(i) = place_of(self.seats.as_slice(), host) {
             let seat = &mut self.seats[i];
-            seat.hold(held);
+            seat.side.hold(held);
         }
     }
 
@@ -251,7 +249,8 @@ impl Ends {
     {
         if i < self.seats.len() {
             let seat = &mut self.seats[i];
-            seat.begin_step();
+            seat.late = false;
+            seat.ended = false;
         }
     }
 
@@ -342,10 +341,10 @@ impl Ends {
             return;
         }
         let seat = &self.seats[i];
-        let Some(asker) = seat.asker() else {
+        let Some(row) = seat.desk.awaited() else {
             return;
         };
-        if self.is_over(asker) {
+        if self.is_over(row.creator) {
             let seat = &mut self.seats[i];
             seat.forget();
         }
@@ -370,7 +369,7 @@ impl Ends {
             return false;
         };
         let seat = &self.seats[i];
-        seat.is_held()
+        seat.side.is_held()
     }
 
     /// Whether the first message that waits at the end of the link with this host was noted as held.

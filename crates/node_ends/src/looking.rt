@@ -29,17 +29,13 @@ pub struct Seen {
 use node_deeds::Desk;
 
 impl Ends {
-    ghost use Rattle.std.specs.Prelude.{◌≡◌, ◌≤◌, List, IfSome, length, option_map, slice_get};
+    ghost use Rattle.std.specs.Prelude.{◌≡◌, ◌≤◌, List, IfSome, length, option_map, slice_get, false};
     ghost use Rattle.node_machine.specs.Parts.{Port};
     ghost use Rattle.node_machine.specs.Carrying.{with_port};
-    ghost use Rattle.node_deeds.specs.Shown.{desk_shown};
+    ghost use Rattle.node_deeds.specs.Shown.{desk_shown, AreSeen};
     ghost use Rattle.node_ends.specs.Desks.{have_notices};
     ghost use Rattle.node_ends.specs.Ends.{EndsStandFor, AreOfHosts, got_at, message_read, rests, are_idle, are_at_rest};
-    ghost use Rattle.std.specs.Prelude.{ℕ, false};
     ghost use Rattle.std.specs.Option.{option_map_or};
-    ghost use Rattle.gate_admin.specs.View.{has};
-    ghost use Rattle.node_machine.specs.Controller.{has_link};
-    ghost use Rattle.node_deeds.specs.Shown.{AreSeen};
     ghost use Rattle.node_deeds.specs.Cores.{AreSoundDesks};
     ghost use Rattle.node_deeds.specs.Room.{AreSpares};
     ghost use Rattle.std.specs.List.{AllByRecursion};
@@ -66,26 +62,18 @@ impl Ends {
         ensures few { length result.desks.items ≤ 7 }
         ensures sound { AreSoundDesks result.desks.items }
     {
-        let up = self.up();
-        Seen {
-            desks: desks_of(self.seats.as_slice()),
-            up,
-        }
-    }
-
-    // The links that are up.
-    #[inline(always)]
-    fn up(&self) -> u8
-        ensures { (ports : List Port) → EndsStandFor self.now ports → (h : ℕ) → 1 ≤ h → h ≤ 7 → has result h ≡ has_link ports h }
-    {
         let links = links_of(self.seats.as_slice());
-        2 * bit(links[1])
+        let up = 2 * bit(links[1])
             + 4 * bit(links[2])
             + 8 * bit(links[3])
             + 16 * bit(links[4])
             + 32 * bit(links[5])
             + 64 * bit(links[6])
-            + 128 * bit(links[7])
+            + 128 * bit(links[7]);
+        Seen {
+            desks: desks_of(self.seats.as_slice()),
+            up,
+        }
     }
 
     /// How many blocks for messages are spare at the end of the link with each host, 0 to 7, by its number. No host is above 7.
@@ -176,7 +164,7 @@ fn all_at_rest(seats: &[Seat]) -> bool
     ensures { (pool : PoolState) (ports : List Port) → AreEnds pool seats.now ports → result ≡ are_at_rest ports }
 {
     for seat in seats {
-        if !seat.is_at_rest() {
+        if !seat.side.is_at_rest() {
             return false;
         }
     }

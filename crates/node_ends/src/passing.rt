@@ -12,7 +12,7 @@ use crate::seat::{Seat, Waiting};
 use block_pool::Pool;
 
 impl Ends {
-    ghost use Rattle.std.specs.Prelude.{◌≡◌, List, ◌∷◌, []};
+    ghost use Rattle.std.specs.Prelude.{◌≡◌, ◌∷◌, List, []};
     ghost use Rattle.link_laws.specs.machine.Machine.{Message};
     ghost use Rattle.link_laws.specs.machine.Machine.Turn.{Give, FetchMessage};
     ghost use Rattle.node_machine.specs.Parts.{Port};

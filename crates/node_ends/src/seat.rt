@@ -33,56 +33,23 @@ pub struct Seat {
 }
 
 impl Seat {
-    ghost use Rattle.std.specs.Prelude.{◌≡◌, ◌||◌, ◌&&◌, not, true, false, ◌≤◌, ◌<◌, ◌∷◌, [], ℕ, List, None, is_some, length, take, IfSome, IfNone};
+    ghost use Rattle.std.specs.Prelude.{◌≡◌, ◌||◌, ◌&&◌, ◌≤◌, ◌<◌, ◌∷◌, ◌==◌, not, true, false, [], ℕ, List, None, is_some, length, take, IfSome, IfNone};
+    ghost use Rattle.std.specs.Prelude.{Some, Ok, MatchResult, OnOk};
     ghost use Rattle.block_pool.specs.Pool.{PoolState};
-    ghost use Rattle.hcp_packet.specs.Packets.{IsSendable};
-    ghost use Rattle.link_laws.specs.machine.Machine.{LinkEnd as Machine, turn, is_held, after_input, lpdu_input, report};
+    ghost use Rattle.link_laws.specs.machine.Machine.{LinkEnd as Machine, is_held, after_input, lpdu_input, report};
     ghost use Rattle.swp_lpdu.specs.Controls.{control_of};
-    ghost use Rattle.link_end.specs.Reports.{report_told};
+    ghost use Rattle.link_end.specs.Reports.{report_told, reset_told};
     ghost use Rattle.link_laws.specs.sessions.Sessions.{is_up};
-    ghost use Rattle.link_laws.specs.machine.Machine.Turn.{Give, Hold, SetAside, Release, FetchMessage};
+    ghost use Rattle.link_laws.specs.machine.Machine.Turn.{SetAside, Release, FetchMessage};
     ghost use Rattle.link_laws.specs.machine.Machine.LinkInput.{Tick, Reset, Start, Stop};
-    ghost use Rattle.link_laws.specs.machine.AtRest.{end_rests};
-    ghost use Rattle.std.specs.Prelude.{◌==◌, Some, Ok, MatchResult, OnErr, OnOk};
-    ghost use Rattle.link_end.specs.Roles.{MayStart};
-    ghost use Rattle.link_end.specs.Reports.{give_told, reset_told};
-    ghost use Rattle.swp_act.specs.declared.ActEvent.TheVariants.{Start as ActStart};
-    ghost use Rattle.link_end.specs.Ends.{EndStandsFor, Accounts, controls_in};
-    ghost use Rattle.node_ends.specs.Desks.{grown_older, kept_notice, has_hundred_ticks, asker_of, as_forgotten};
+    ghost use Rattle.link_end.specs.Ends.{controls_in};
+    ghost use Rattle.node_ends.specs.Desks.{grown_older, kept_notice, has_hundred_ticks, as_forgotten};
     ghost use Rattle.node_machine.specs.Parts.{Port};
     ghost use Rattle.node_machine.specs.Carrying.{after_turn};
     ghost use Rattle.node_machine.specs.Node.{has_come, reset_late};
     ghost use Rattle.node_ends.specs.Ends.{SeatStandsFor, SeatBecomes, FewAreDue, IsHeldWhileOneWaits, late_told};
     ghost use Rattle.node_ends.specs.Inputs.{input_of_end, refusal_at, MayComeAt};
-    ghost use Rattle.node_ends.specs.Holding.{HoldsSeat, Moves, WaitsHeld, acked_since, acked_by_reset, ends_by, where_done};
-
-    /// A message, which isn't empty, is given to the end to send on a pipe that isn't reserved.
-    ///
-    /// # Errors
-    ///
-    /// Why the end refuses it, as the end of the link tells. Nothing changes then.
-    pub(crate) fn send(
-        &mut self,
-        pool: &mut Pool,
-        pipe: u8,
-        message: &[u8],
-    ) -> Result<(), SendRefused>
-        requires stands { (m : Machine) × HoldsSeat pool.old self.old m }
-        requires sendable { IsSendable (pipe, message.now) }
-        ensures becomes { SeatBecomes pool.old pool.new self.old self.new (after_turn (Give (pipe, message.now))) }
-        ensures answer { (m : Machine) → HoldsSeat pool.old self.old m → result ≡ give_told m (pipe, message.now) }
-        ensures unchanged { OnErr result ((pool.new ≡ pool.old) × (self.new ≡ self.old)) }
-    {
-        self.side.send(pool, pipe, message)
-    }
-
-    /// The end is held, so that it takes no fragments, or let go.
-    pub(crate) fn hold(&mut self, held: bool)
-        requires room { controls_in self.old.side ≤ 6 }
-        ensures { (pool : PoolState) → SeatBecomes pool pool self.old self.new (after_turn (Hold held)) }
-    {
-        self.side.hold(held);
-    }
+    ghost use Rattle.node_ends.specs.Holding.{HoldsSeat, Moves, WaitsHeld, acked_since, acked_by_reset, where_done};
 
     /// A block of the end's owner for what goes out, which has this number, is set aside, where one is spare.
     pub(crate) fn set_aside(&mut self, pool: &mut Pool, owner: u8)
@@ -161,7 +128,7 @@ impl Seat {
                 let report = told.insert(self.take(pool, read));
                 self.count(report);
             }
-            LinkInput::Reset(window) => match self.reset(pool, window) {
+            LinkInput::Reset(window) => match self.side.reset(pool, window) {
                 Ok(report) => {
                     let report = told.insert(report);
                     self.count(report);
@@ -172,11 +139,11 @@ impl Seat {
                 }
             },
             LinkInput::Start(value) => {
-                let report = told.insert(self.activate(pool, value));
+                let report = told.insert(self.side.activate(pool, value));
                 self.count(report);
             }
             LinkInput::Stop => {
-                let report = told.insert(self.deactivate(pool));
+                let report = told.insert(self.side.deactivate(pool));
                 self.count(report);
             }
         }
@@ -200,20 +167,9 @@ impl Seat {
     {
         let report = self.side.take_read(pool, read);
         if report.got {
-            self.fetch();
+            self.waiting = as_waiting(self.side.next_message());
         }
         report
-    }
-
-    /// Fetches the message that came, where one did: it waits from now on.
-    fn fetch(&mut self)
-        ensures holds { (pool : PoolState) (m : Machine) → EndStandsFor self.old.side pool m → Accounts self.old.side pool None
-            → HoldsSeat pool self.new m }
-        ensures owners { (self.new.side.outbox.owner ≡ self.old.side.outbox.owner)
-            × (self.new.side.inbox.joiner.owner ≡ self.old.side.inbox.joiner.owner) }
-        ensures rest { self.new ≡ record self.old { side = self.new.side; waiting = self.new.waiting } }
-    {
-        self.waiting = as_waiting(self.side.next_message());
     }
 
     /// One tick of time, and what it did to the session is kept. At most six control frames wait to be sent. What is told of it is put into
@@ -233,49 +189,6 @@ impl Seat {
         self.count(report);
     }
 
-    // A reset of the link is asked for, with this window, which is 1 to 4, or with the end's own one. At most six control frames wait
-    // to be sent.
-    //
-    // # Errors
-    //
-    // `Inactive` where activation isn't done, and `Waiting` where the end waits already. Nothing changes then.
-    fn reset(&mut self, pool: &mut Pool, window: Option<u8>) -> Result<LinkReport, ResetRefused>
-        requires stands { (m : Machine) × HoldsSeat pool.old self.old m }
-        requires window { IfSome window (λ w. (1 ≤ w) × (w ≤ 4)) }
-        requires room { controls_in self.old.side ≤ 6 }
-        ensures stands { (m : Machine) → HoldsSeat pool.old self.old m → HoldsSeat pool.new self.new (after_input m (Reset window)) }
-        ensures answer { (m : Machine) → HoldsSeat pool.old self.old m → result ≡ reset_told m window }
-        ensures moves { Moves pool.old pool.new self.old.side self.new.side }
-        ensures rest { self.new ≡ record self.old { side = self.new.side } }
-    {
-        self.side.reset(pool, window)
-    }
-
-    // Activation begins, with the sync identifier of a UICC or the power code of a CLF, which is 00 or 01. At most six control frames
-    // wait to be sent.
-    fn activate(&mut self, pool: &mut Pool, value: u16) -> LinkReport
-        requires stands { (m : Machine) × HoldsSeat pool.old self.old m × MayStart m.role (ActStart value) }
-        requires room { controls_in self.old.side ≤ 6 }
-        ensures stands { (m : Machine) → HoldsSeat pool.old self.old m → HoldsSeat pool.new self.new (after_input m (Start value)) }
-        ensures answer { (m : Machine) → HoldsSeat pool.old self.old m → result ≡ report_told (report m (Start value)) }
-        ensures moves { Moves pool.old pool.new self.old.side self.new.side }
-        ensures rest { self.new ≡ record self.old { side = self.new.side } }
-    {
-        self.side.activate(pool, value)
-    }
-
-    // Activation ends, and the link with it. At most six control frames wait to be sent.
-    fn deactivate(&mut self, pool: &mut Pool) -> LinkReport
-        requires stands { (m : Machine) × HoldsSeat pool.old self.old m }
-        requires room { controls_in self.old.side ≤ 6 }
-        ensures stands { (m : Machine) → HoldsSeat pool.old self.old m → HoldsSeat pool.new self.new (after_input m Stop) }
-        ensures answer { (m : Machine) → HoldsSeat pool.old self.old m → result ≡ report_told (report m Stop) }
-        ensures moves { Moves pool.old pool.new self.old.side self.new.side }
-        ensures rest { self.new ≡ record self.old { side = self.new.side } }
-    {
-        self.side.deactivate(pool)
-    }
-
     /// What an input did to the session is kept.
     pub(crate) fn count(&mut self, report: &LinkReport)
         ensures { self.new ≡ record self.old { ended = is_some report.now.ended; acked = acked_since self.old.acked report.now } }
@@ -285,16 +198,6 @@ impl Seat {
             self.acked = 0;
         }
         self.acked = self.acked.saturating_add(u32::from(report.acked));
-    }
-
-    /// What the asking for a reset did to the session is kept.
-    pub(crate) fn count_reset(&mut self, told: &Result<LinkReport, ResetRefused>)
-        ensures { self.new ≡ record self.old { ended = ends_by told.now; acked = acked_by_reset self.old.acked told.now } }
-    {
-        match told {
-            Ok(report) => self.count(report),
-            Err(_why) => self.ended = false,
-        }
     }
 
     /// The notice that isn't answered is a tick older.
@@ -326,14 +229,6 @@ impl Seat {
         }
     }
 
-    /// A new step begins.
-    pub(crate) fn begin_step(&mut self)
-        ensures { self.new ≡ record self.old { late = false; ended = false } }
-    {
-        self.late = false;
-        self.ended = false;
-    }
-
     // The hundredth tick of the notice comes, and the session hasn't ended.
     fn is_late(&self) -> bool
         ensures { result ≡ (has_hundred_ticks self.now.desk.notice && not self.now.ended) }
@@ -342,16 +237,6 @@ impl Seat {
             Some(Unanswered { about: _, age }) => age >= 100 && !self.ended,
             None => false,
         }
-    }
-
-    /// What the reset of a late notice did is kept.
-    fn count_late(&mut self, told: &Result<LinkReport, ResetRefused>)
-        ensures { self.new ≡ record self.old { late = true; acked = acked_by_reset self.old.acked told.now } }
-    {
-        let ended = self.ended;
-        self.count_reset(told);
-        self.ended = ended;
-        self.late = true;
     }
 
     /// The link is reset, where its notice is late. At most six control frames wait to be sent. What is told of it; `None` where it isn't
@@ -381,35 +266,15 @@ impl Seat {
         ensures moves { Moves pool.old pool.new self.old.side self.new.side }
         ensures rest { self.new ≡ record self.old { side = self.new.side; late = true; acked = self.new.acked } }
     {
-        let told = self.reset(pool, None);
-        self.count_late(&told);
-        done(told)
-    }
-
-    /// The asker of the creation that waits.
-    pub(crate) fn asker(&self) -> Option<u8>
-        ensures { result ≡ asker_of self.now.desk.notice }
-    {
-        match &self.desk.notice {
-            Some(
-                Unanswered {
-                    about: About::Waits(row),
-                    age: _,
-                },
-            ) => Some(row.creator),
-            Some(
-                Unanswered {
-                    about: About::Forgotten,
-                    age: _,
-                },
-            ) => None,
-            Some(
-                Unanswered {
-                    about: About::Removed,
-                    age: _,
-                },
-            ) => None,
-            None => None,
+        self.late = true;
+        match self.side.reset(pool, None) {
+            Ok(report) => {
+                let ended = self.ended;
+                self.count(&report);
+                self.ended = ended;
+                Some(report)
+            }
+            Err(_why) => None,
         }
     }
 
@@ -429,7 +294,7 @@ impl Seat {
     pub(crate) fn rests(&self) -> bool
         ensures { (pool : PoolState) (m : Machine) → HoldsSeat pool self.now m → result ≡ ((length m.got == 0) && not (is_held m)) }
     {
-        self.waiting.is_none() && !self.is_held()
+        self.waiting.is_none() && !self.side.is_held()
     }
 
     /// Whether nothing is left to do at the end behind what came in a step: its session hasn't ended, and it rests.
@@ -438,21 +303,6 @@ impl Seat {
             → result ≡ (not (self.now.ended || self.now.late) && ((length m.got == 0) && not (is_held m))) }
     {
         !self.is_over() && self.rests()
-    }
-
-    /// Whether the end is at rest: it doesn't wait for the acceptance of a reset, and where it is Up all messages that were sent in its
-    /// session are acknowledged.
-    pub(crate) fn is_at_rest(&self) -> bool
-        ensures { (pool : PoolState) (m : Machine) → HoldsSeat pool self.now m → result ≡ end_rests m }
-    {
-        self.side.is_at_rest()
-    }
-
-    /// Whether the end is held.
-    pub(crate) fn is_held(&self) -> bool
-        ensures { (pool : PoolState) (m : Machine) → HoldsSeat pool self.now m → result ≡ is_held m }
-    {
-        self.side.is_held()
     }
 
     /// Whether the link is up.
@@ -464,16 +314,6 @@ impl Seat {
             LinkState::Waiting => false,
             LinkState::Down => false,
         }
-    }
-}
-
-// What is told of a reset that is done.
-fn done(told: Result<LinkReport, ResetRefused>) -> Option<LinkReport>
-    ensures { result ≡ where_done told }
-{
-    match told {
-        Ok(report) => Some(report),
-        Err(_why) => None,
     }
 }
 

@@ -2,7 +2,7 @@ use Rattle.std.proofs.Common.{refl, sym, ◌∙◌, subst, arith}
 use Rattle.link_laws.specs.machine.AtRest.{end_rests}
 use Rattle.node_machine.specs.Parts.{Port}
 use Rattle.node_ends.specs.declared.seat.Seat.{Seat}
-use Rattle.node_ends.specs.Holding.{HoldsSeat}
+use Rattle.node_ends.specs.Holding.{HoldsSeat, without_got}
 use Rattle.node_ends.proofs.Seated.{reads_here, as_many}
 use Rattle.node_ends.proofs.AtRest.{one_is_not, one_is, none_is_left}
 use Rattle.node_ends.proofs.looking.all_at_rest.Goals as goal
@@ -15,7 +15,7 @@ returns-then-not-is_at_rest c pool ports e =
     let i = c.loop-seat.seat-index in
     let r = reads_here i c.seat-item.result c.loop-seat-test.true e in
     let P : Seat → Type 0 = λ s. HoldsSeat pool s r.port.side in
-    let rests = c.is_at_rest.ensures pool r.port.side (subst P (sym c.seat-item.is) r.stands.holds) in
+    let rests = c.is_at_rest.ensures pool (without_got r.port.side) (subst P (sym c.seat-item.is) r.stands.holds).stands in
     sym (one_is_not (λ (p : Port). end_rests p.side) i ports r.port r.port_is
     (sym rests ∙ c.if-not-is_at_rest.true)) ∙ c.loop-seat.invariant.so_far pool ports e
 
@@ -25,7 +25,7 @@ loop-seat-preserved c = record {
       let i = c.loop-seat.seat-index in
       let r = reads_here i c.seat-item.result c.loop-seat-test.true e in
       let P : Seat → Type 0 = λ s. HoldsSeat pool s r.port.side in
-      let rests = c.is_at_rest.ensures pool r.port.side (subst P (sym c.seat-item.is) r.stands.holds) in
+      let rests = c.is_at_rest.ensures pool (without_got r.port.side) (subst P (sym c.seat-item.is) r.stands.holds).stands in
       one_is (λ (p : Port). end_rests p.side) i ports r.port r.port_is (sym rests ∙ c.if-not-is_at_rest.false) ∙ c.loop-seat.invariant.so_far pool ports e;
 }
 

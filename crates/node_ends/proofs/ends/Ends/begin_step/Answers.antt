@@ -12,14 +12,14 @@ returns-else-i-len c ports stands =
 
 pub returns-then-i-len : goal.returns-then-i-len
 returns-then-i-len c ports stands =
-    becomes_here ports c.args.i c.index_mut-seat.result.now c.begin_step.new.self (let n = c.len.ensures in let t = c.if-i-len.true in omega (arith, n, t))
-    c.index_mut-seat.ensures.value (begun c.self.inside.pool c.index_mut-seat.result.now c.begin_step.new.self c.begin_step.ensures)
+    becomes_here ports c.args.i c.index_mut-seat.result.now _ (let n = c.len.ensures in let t = c.if-i-len.true in omega (arith, n, t))
+    c.index_mut-seat.ensures.value (begun c.self.inside.pool c.index_mut-seat.result.now)
     (opened c.self.view_is stands)
 
 pub invariant_of-self : goal.invariant_of-self
 invariant_of-self c =
     let i = c.self.invariant in (
       _,
-      becomes_here i.0 c.args.i c.index_mut-seat.result.now c.begin_step.new.self (let n = c.len.ensures in let t = c.if-i-len.true in omega (arith, n, t))
-          c.index_mut-seat.ensures.value (begun c.self.inside.pool c.index_mut-seat.result.now c.begin_step.new.self c.begin_step.ensures) i.1,
+      becomes_here i.0 c.args.i c.index_mut-seat.result.now _ (let n = c.len.ensures in let t = c.if-i-len.true in omega (arith, n, t))
+          c.index_mut-seat.ensures.value (begun c.self.inside.pool c.index_mut-seat.result.now) i.1,
     )

@@ -1,11 +1,35 @@
-use Rattle.std.proofs.Common.{ap, ◌∙◌, subst}
+use Rattle.std.proofs.Common.{◌≡◌, Bool, ap, ◌∙◌, subst, refl}
+use Rattle.block_pool.specs.Pool.{PoolState}
+use Rattle.link_laws.specs.machine.Machine.{LinkEnd as Machine, after_input, turn}
+use Rattle.link_laws.specs.machine.Machine.LinkInput.{FromNode}
 use Rattle.link_laws.specs.machine.Machine.Turn.{Hold}
+use Rattle.link_end.specs.declared.«end».End.{End}
+use Rattle.link_end.specs.Ends.{EndStandsFor}
+use Rattle.node_ends.specs.declared.seat.Seat.{Seat}
+use Rattle.node_ends.specs.Holding.{without_got}
 use Rattle.node_machine.specs.Carrying.{after_turn}
-use Rattle.node_ends.specs.Ends.{place_in, FewAreDue}
+use Rattle.node_ends.specs.Ends.{SeatBecomes, place_in, FewAreDue}
 use Rattle.node_ends.proofs.Opening.{opened}
-use Rattle.node_ends.proofs.Changing.{lent_at, becomes_at, still_nowhere}
-use Rattle.node_ends.proofs.Moving.{few_controls}
+use Rattle.node_ends.proofs.Changing.{lent_at, becomes_at, still_nowhere, turned}
+use Rattle.node_ends.proofs.Moving.{boxes_hold, few_controls, stays_beside}
 use Rattle.node_ends.proofs.ends.Ends.hold.Goals as goal
+
+-- an end that is held or let go
+held : {pool : PoolState} {s : Seat} (side : End) (is : Bool)
+    → ((p : PoolState) (m : Machine) → EndStandsFor s.side p m → EndStandsFor side p (after_input m (FromNode (Hold is))))
+    → (side.outbox ≡ s.side.outbox) × (side.inbox ≡ s.side.inbox) → SeatBecomes pool pool s (record s { side = side }) (after_turn (Hold is))
+held {pool} {s} side is stands boxes = turned {x = Hold is} (record {
+  sendable = tt;
+  moves = stays_beside pool s.side side boxes.0 boxes.1;
+  desk = refl;
+  late = refl;
+  ended = refl;
+  acked = refl;
+  stands = λ m h same. (
+    boxes_hold pool s.side side s.waiting m (turn m (Hold is)) h boxes.1 (stands pool (without_got m) h.stands) refl,
+    same,
+  );
+})
 
 pub hold-requires : goal.hold-requires
 hold-requires c =
@@ -22,12 +46,12 @@ returns-in_default c ports stands =
 pub returns-in-Some : goal.returns-in-Some
 returns-in-Some c ports stands =
     becomes_at ports c.args.host c.in-Some.i c.index_mut-seat.result.now _ (c.in-Some.ensures.place ∙ ap (place_in c.args.host) c.as_slice.ensures.value)
-    c.index_mut-seat.ensures.value (c.hold.ensures c.self.inside.pool) (opened c.self.view_is stands)
+    c.index_mut-seat.ensures.value (held c.hold.new.self c.args.held c.hold.ensures.stands c.hold.ensures.boxes) (opened c.self.view_is stands)
 
 pub invariant_of-self : goal.invariant_of-self
 invariant_of-self c =
     let i = c.self.invariant in (
       _,
       becomes_at i.0 c.args.host c.in-Some.i c.index_mut-seat.result.now _ (c.in-Some.ensures.place ∙ ap (place_in c.args.host) c.as_slice.ensures.value)
-          c.index_mut-seat.ensures.value (c.hold.ensures c.self.inside.pool) i.1,
+          c.index_mut-seat.ensures.value (held c.hold.new.self c.args.held c.hold.ensures.stands c.hold.ensures.boxes) i.1,
     )

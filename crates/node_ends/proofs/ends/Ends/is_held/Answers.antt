@@ -4,9 +4,9 @@ use Rattle.std.specs.Option.{option_map_or}
 use Rattle.link_laws.specs.machine.Machine.{is_held}
 use Rattle.node_machine.specs.Parts.{Port}
 use Rattle.node_ends.specs.Ends.{place_in}
-use Rattle.node_ends.proofs.Changing.{nowhere}
+use Rattle.node_ends.specs.Holding.{without_got}
 use Rattle.node_ends.proofs.Opening.{opened}
-use Rattle.node_ends.proofs.Changing.{lent_at}
+use Rattle.node_ends.proofs.Changing.{lent_at, nowhere}
 use Rattle.node_ends.proofs.ends.Ends.is_held.Goals as goal
 
 pub returns-in_default : goal.returns-in_default
@@ -21,5 +21,5 @@ returns c ports stands =
     let e = opened c.self.view_is stands in
     let l = lent_at c.args.host c.in-Some.i c.index-seat.result.now
     (c.in-Some.ensures.place ∙ ap (place_in c.args.host) c.as_slice.ensures.value) c.index-seat.ensures e in
-    c.is_held.ensures c.self.inside.pool l.port.side l.stands.holds
+    c.is_held.ensures c.self.inside.pool (without_got l.port.side) l.stands.holds.stands
     ∙ ap (λ (o : Option Port). option_map_or (λ (p : Port). is_held p.side) o false) (sym l.port_is)

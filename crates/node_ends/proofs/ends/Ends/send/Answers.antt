@@ -1,11 +1,39 @@
-use Rattle.std.proofs.Common.{refl, sym, ap, ◌∙◌}
+use Rattle.std.proofs.Common.{refl, sym, ap, ◌∙◌, subst}
+use Rattle.block_pool.specs.Pool.{PoolState}
+use Rattle.hcp_packet.specs.Packets.{IsSendable}
+use Rattle.link_laws.specs.machine.Machine.{LinkEnd as Machine, Message, after_input, turn}
+use Rattle.link_laws.specs.machine.Machine.LinkInput.{FromNode}
 use Rattle.link_laws.specs.machine.Machine.Turn.{Give}
+use Rattle.link_end.specs.declared.«end».End.{End}
+use Rattle.link_end.specs.Ends.{EndLeavesOthers, EndStandsFor}
+use Rattle.node_ends.specs.declared.seat.Seat.{Seat}
+use Rattle.node_ends.specs.Holding.{HoldsSeat, without_got}
 use Rattle.node_machine.specs.Carrying.{after_turn}
-use Rattle.node_ends.specs.Ends.{given_at, place_in}
-use Rattle.node_ends.proofs.Changing.{nowhere, lent_at, becomes_at, still_nowhere}
+use Rattle.node_ends.specs.Ends.{SeatBecomes, given_at, place_in}
+use Rattle.node_ends.proofs.Changing.{nowhere, lent_at, becomes_at, still_nowhere, turned}
 use Rattle.node_ends.proofs.Opening.{opened}
-use Rattle.node_ends.proofs.Turning.{told_length, where_refused, none_written}
+use Rattle.node_ends.proofs.Turning.{give_got, give_without, told_length, where_refused, none_written}
+use Rattle.node_ends.proofs.Moving.{call_holds, call_moves}
+use Rattle.node_ends.proofs.Blocks.{give_aside}
 use Rattle.node_ends.proofs.ends.Ends.send.Goals as goal
+
+-- an end to which a message was given
+given : {old new : PoolState} {s : Seat} (side : End) (x : Message) (m : Machine) → HoldsSeat old s m → IsSendable x
+    → EndLeavesOthers old new s.side side → ((m : Machine) → EndStandsFor s.side old m → EndStandsFor side new (after_input m (FromNode (Give x))))
+    → SeatBecomes old new s (record s { side = side }) (after_turn (Give x))
+given {old} {new} {s} side x now holds sendable leaves stands = turned {x = Give x} (record {
+  sendable = (sendable, tt);
+  moves = call_moves old new s.side side (without_got now) holds.stands leaves;
+  desk = refl;
+  late = refl;
+  ended = refl;
+  acked = refl;
+  stands = λ m h same. (
+    call_holds old new s.side side s.waiting m (turn m (Give x)) h leaves
+        (subst (λ n. EndStandsFor side new n) (give_without m x) (stands (without_got m) h.stands)) (give_got m x),
+    same ∙ sym (give_aside m x),
+  );
+})
 
 pub returns-in_default-clause-stands : goal.returns-in_default-clause-stands
 returns-in_default-clause-stands c ports stands =
@@ -27,37 +55,43 @@ pub send-requires-clause-stands : goal.send-requires-clause-stands
 send-requires-clause-stands c =
     let l = lent_at c.args.host c.in-Some.i c.index_mut-seat.result.now (c.in-Some.ensures.place ∙ ap (place_in c.args.host) c.as_slice.ensures.value)
     c.index_mut-seat.ensures.value c.self.invariant.1 in
-    (l.port.side, l.stands.holds)
+    (without_got l.port.side, l.stands.holds.stands)
 
 pub returns-clause-answer : goal.returns-clause-answer
 returns-clause-answer c ports stands =
     let l = lent_at c.args.host c.in-Some.i c.index_mut-seat.result.now (c.in-Some.ensures.place ∙ ap (place_in c.args.host) c.as_slice.ensures.value)
     c.index_mut-seat.ensures.value (opened c.self.view_is stands) in
-    c.send.ensures.answer l.port.side l.stands.holds ∙ ap (given_at (c.args.pipe, c.args.message.now)) (sym l.port_is)
+    c.send.ensures.answer (without_got l.port.side) l.stands.holds.stands ∙ ap (given_at (c.args.pipe, c.args.message.now)) (sym l.port_is)
 
 pub returns-clause-long : goal.returns-clause-long
 returns-clause-long c =
     let l = lent_at c.args.host c.in-Some.i c.index_mut-seat.result.now (c.in-Some.ensures.place ∙ ap (place_in c.args.host) c.as_slice.ensures.value)
     c.index_mut-seat.ensures.value c.self.invariant.1 in
-    told_length l.port.side (c.args.pipe, c.args.message.now) (c.send.ensures.answer l.port.side l.stands.holds)
+    told_length l.port.side (c.args.pipe, c.args.message.now) (c.send.ensures.answer (without_got l.port.side) l.stands.holds.stands)
 
 pub returns-clause-unchanged : goal.returns-clause-unchanged
 returns-clause-unchanged c =
     where_refused c.send.result
-    (λ e. none_written c.in-Some.i c.index_mut-seat.result.now c.send.new.self c.index_mut-seat.ensures.value e.0 e.1 c.self.view_is)
-    c.send.ensures.unchanged
+    (λ e. none_written c.in-Some.i c.index_mut-seat.result.now _ c.index_mut-seat.ensures.value e.0
+    (ap (λ (k : End). record c.index_mut-seat.result.now { side = k }) e.1) c.self.view_is) c.send.ensures.refused
 
 pub returns-clause-stands : goal.returns-clause-stands
 returns-clause-stands c ports stands =
-    becomes_at ports c.args.host c.in-Some.i c.index_mut-seat.result.now c.send.new.self
+    let l = lent_at c.args.host c.in-Some.i c.index_mut-seat.result.now (c.in-Some.ensures.place ∙ ap (place_in c.args.host) c.as_slice.ensures.value)
+    c.index_mut-seat.ensures.value c.self.invariant.1 in
+    becomes_at ports c.args.host c.in-Some.i c.index_mut-seat.result.now _
     (c.in-Some.ensures.place ∙ ap (place_in c.args.host) c.as_slice.ensures.value)
-    c.index_mut-seat.ensures.value c.send.ensures.becomes (opened c.self.view_is stands)
+    c.index_mut-seat.ensures.value (given c.send.new.self (c.args.pipe, c.args.message.now) l.port.side l.stands.holds c.requires.sendable
+    c.send.ensures.elsewhere c.send.ensures.stands) (opened c.self.view_is stands)
 
 pub invariant_of-self : goal.invariant_of-self
 invariant_of-self c =
-    let i = c.self.invariant in (
+    let i = c.self.invariant in
+    let l = lent_at c.args.host c.in-Some.i c.index_mut-seat.result.now (c.in-Some.ensures.place ∙ ap (place_in c.args.host) c.as_slice.ensures.value)
+    c.index_mut-seat.ensures.value i.1 in (
       _,
-      becomes_at i.0 c.args.host c.in-Some.i c.index_mut-seat.result.now c.send.new.self
+      becomes_at i.0 c.args.host c.in-Some.i c.index_mut-seat.result.now _
           (c.in-Some.ensures.place ∙ ap (place_in c.args.host) c.as_slice.ensures.value)
-          c.index_mut-seat.ensures.value c.send.ensures.becomes i.1,
+          c.index_mut-seat.ensures.value (given c.send.new.self (c.args.pipe, c.args.message.now) l.port.side l.stands.holds c.requires.sendable
+          c.send.ensures.elsewhere c.send.ensures.stands) i.1,
     )

@@ -1,6 +1,7 @@
 use Rattle.std.proofs.Common.{◌≡◌, sym, ap, ◌∙◌, subst}
 use Rattle.std.specs.Prelude.{Option, None, is_some}
 use Rattle.link_laws.specs.machine.Machine.{LinkEnd as Machine, after_input, lpdu_input, got_by, oldest}
+use Rattle.link_end.specs.declared.«end».End.{End}
 use Rattle.link_end.specs.Ends.{EndStandsFor}
 use Rattle.link_end.specs.declared.report.LinkReport.{LinkReport}
 use Rattle.link_end.proofs.AccountLemmas.{account_kept}
@@ -8,7 +9,7 @@ use Rattle.node_ends.specs.declared.seat.Waiting.{Waiting}
 use Rattle.node_ends.specs.Holding.{HoldsEnd, without_got}
 use Rattle.node_ends.proofs.Coming.{still_holds}
 use Rattle.node_ends.proofs.Moving.{call_moves}
-use Rattle.node_ends.proofs.Fetching.{may_take, none_got, none_came, none_waited, lpdu_told_apart, lpdu_is_outside, moves_on}
+use Rattle.node_ends.proofs.Fetching.{fetches, may_take, none_got, none_came, none_waited, lpdu_told_apart, lpdu_is_outside, moves_on}
 use Rattle.node_ends.proofs.seat.Seat.take.Goals as goal
 
 pub take_read-report-requires-clause-ready : goal.take_read-report-requires-clause-ready
@@ -27,8 +28,16 @@ returns-then-report-clause-stands c m lpdu h is =
     let h2 = subst P none h in
     let M : Machine → Type 0 = λ n. EndStandsFor t.new.self t.new.pool (after_input n (lpdu_input lpdu)) in
     let stands = subst M (none_got c.args.pool.now k m h2) (t.ensures.stands (without_got m) lpdu h.stands is) in
-    c.fetch.ensures.holds t.new.pool (after_input m (lpdu_input lpdu)) stands
-    (account_kept c.args.pool.now t.new.pool k t.new.self (without_got m) None h2.stands t.ensures.elsewhere h2.accounts)
+    let accounts = account_kept c.args.pool.now t.new.pool k t.new.self (without_got m) None h2.stands t.ensures.elsewhere h2.accounts in
+    let f = c.next_message.ensures in
+    let n : Machine = after_input m (lpdu_input lpdu) in
+    let F : Option Waiting → Type 0 = λ o. HoldsEnd t.new.pool c.next_message.new.self o n in
+    subst F (sym c.as_waiting-self.ensures) (fetches (record {
+      stands = stands;
+      next = f.stands t.new.pool n stands;
+      accounts = f.accounts t.new.pool n stands accounts;
+      answer = f.answer t.new.pool n stands;
+    }))
 
 pub returns-then-report-clause-answer : goal.returns-then-report-clause-answer
 returns-then-report-clause-answer c m lpdu h is = c.take_read-report.ensures.answer (without_got m) lpdu h.stands is ∙ lpdu_told_apart m lpdu
@@ -37,8 +46,10 @@ pub returns-then-report-clause-moves : goal.returns-then-report-clause-moves
 returns-then-report-clause-moves c =
     let t = c.take_read-report in
     let r = c.requires.stands in
-    moves_on c.args.pool.now t.new.pool c.args.self.now.side t.new.self c.fetch.new.self.side
-    (call_moves c.args.pool.now t.new.pool c.args.self.now.side t.new.self (without_got r.0) r.1.stands t.ensures.elsewhere) c.fetch.ensures.owners
+    let f = c.next_message.ensures in
+    moves_on c.args.pool.now t.new.pool c.args.self.now.side t.new.self c.next_message.new.self
+    (call_moves c.args.pool.now t.new.pool c.args.self.now.side t.new.self (without_got r.0) r.1.stands t.ensures.elsewhere)
+    (ap (λ (e : End). e.outbox.owner) f.rest, ap (λ (e : End). e.inbox.joiner.owner) f.rest)
 
 pub returns-else-report-clause-stands : goal.returns-else-report-clause-stands
 returns-else-report-clause-stands c m lpdu h is =

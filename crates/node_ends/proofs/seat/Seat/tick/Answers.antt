@@ -5,25 +5,20 @@ use Rattle.link_laws.specs.machine.Machine.LinkInput.{Tick}
 use Rattle.link_end.specs.declared.report.LinkReport.{LinkReport}
 use Rattle.node_ends.specs.declared.seat.Seat.{Seat}
 use Rattle.node_ends.specs.Holding.{HoldsEnd, without_got, kept_number}
-use Rattle.node_ends.proofs.Moving.{call_moves, stays_beside}
-use Rattle.node_ends.proofs.Coming.{still_holds, same_apart, tick_told_apart}
+use Rattle.node_ends.proofs.Moving.{stays_beside}
+use Rattle.node_ends.proofs.Coming.{same_apart, tick_told_apart}
 use Rattle.node_ends.proofs.Counting.{reached_outside}
 use Rattle.node_ends.proofs.Blocks.{outside_aside}
-use Rattle.node_ends.proofs.Keeping.{takes}
+use Rattle.node_ends.proofs.Keeping.{takes, side_takes}
 use Rattle.node_ends.proofs.seat.Seat.tick.Goals as goal
 
 pub returns-clause-becomes : goal.returns-clause-becomes
 returns-clause-becomes c =
-    let s : Seat = c.args.self.now in
     let r = c.requires.may in
     let t = c.tick in
-    takes {t = record s { side = t.new.self }} {i = Tick} {told = t.result} {kept = c.insert-report.result.now} (record {
-      outside = refl;
-      stands = λ m h. still_holds c.args.pool.now t.new.pool s.side t.new.self s.waiting m Tick h refl refl t.ensures.elsewhere
-          (t.ensures.stands (without_got m) h.stands);
-      moves = call_moves c.args.pool.now t.new.pool s.side t.new.self (without_got r.0.side) r.1.holds.stands t.ensures.elsewhere;
-      rest = refl;
-    }) (λ p g. t.ensures.answer (without_got p.side) g.holds.stands ∙ tick_told_apart p.side) c.insert-report.ensures.value c.count.ensures
+    takes {i = Tick} {told = t.result} {kept = c.insert-report.result.now}
+    (side_takes t.new.self Tick refl (λ m. refl) (r.0.side, r.1.holds) t.ensures.elsewhere t.ensures.stands)
+    (λ p g. t.ensures.answer (without_got p.side) g.holds.stands ∙ tick_told_apart p.side) c.insert-report.ensures.value c.count.ensures
 
 pub returns-clause-told : goal.returns-clause-told
 returns-clause-told c p g =
