@@ -8,3 +8,4 @@ pub mod Regardless
 pub mod NodesRun
 pub mod NodesBoot
 pub mod HostsGive
+pub mod Losses

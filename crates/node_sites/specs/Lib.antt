@@ -3,6 +3,7 @@ pub mod LinksKept
 pub mod Arrivals
 pub mod WorldNodes
 pub mod WorldBoots
+pub mod Asking
 pub mod FramesOut
 pub mod Powers
 pub mod Places

@@ -3,7 +3,8 @@ use Rattle.std.specs.Prelude.{◌≡◌, ℕ, Bool, true, false, map, Option, So
 use Rattle.std.specs.List.{AllByRecursion}
 use Rattle.swp_base.specs.InMemory.{Memory}
 use Rattle.link_laws.specs.machine.Machine.{next_frame}
-use Rattle.link_laws.specs.messages.Links.{NumberedEnd}
+use Rattle.link_laws.specs.messages.Links.{Loss, NumberedEnd}
+use Rattle.link_laws.specs.messages.Links.Loss.{Broken}
 use Rattle.node_machine.specs.Parts.{Desk, Running}
 use Rattle.node_machine.specs.world.World.{port_for}
 use Rattle.node_core.specs.declared.node.Node.{Node}
@@ -33,3 +34,8 @@ memory_kept (Off kept) = kept
 abbrev pub is_on : Power → Bool
 is_on (On n) = true
 is_on (Off kept) = false
+
+-- a frame was refused for what damage had done to it
+abbrev pub is_broken : Loss → Bool
+is_broken (Broken fault) = true
+is_broken _ = false

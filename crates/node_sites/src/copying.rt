@@ -88,29 +88,7 @@ fn add_with_message(
     true
 }
 
-// A copy of an entry of a session. `None` for any other form.
-fn copied_of_session(sessions: &Sessions, entry: &Entry) -> Option<Entry>
-    ensures { (bytes : List ℕ) → IfSome result (λ copy. copy ≡ with_swapped_number (session_at sessions.now) (with_body bytes entry.now)) }
-{
-    match entry {
-        Entry::Up { at, session } => Some(Entry::Up {
-            at: *at,
-            session: session_noted(sessions, *at, *session),
-        }),
-        Entry::Down { at, cause } => Some(Entry::Down {
-            at: *at,
-            cause: *cause,
-        }),
-        Entry::Active { at } => Some(Entry::Active { at: *at }),
-        Entry::GaveUp { at, tries } => Some(Entry::GaveUp {
-            at: *at,
-            tries: *tries,
-        }),
-        _ => None,
-    }
-}
-
-// A copy of an entry of a turn or of a command. `None` for any other form.
+// A copy of an entry of a turn, of a command or of an init. `None` for any other form.
 fn copied_of_turn(entry: &Entry) -> Option<Entry>
     ensures { (bytes : List ℕ) (session : ℕ → ℕ) → IfSome result (λ copy. copy ≡ with_swapped_number session (with_body bytes entry.now)) }
 {
@@ -128,16 +106,6 @@ fn copied_of_turn(entry: &Entry) -> Option<Entry>
             node: *node,
             count: *count,
         }),
-        Entry::Cut { node } => Some(Entry::Cut { node: *node }),
-        _ => None,
-    }
-}
-
-// A copy of an entry of an init. `None` for any other form.
-fn copied_of_init(entry: &Entry) -> Option<Entry>
-    ensures { (bytes : List ℕ) (session : ℕ → ℕ) → IfSome result (λ copy. copy ≡ with_swapped_number session (with_body bytes entry.now)) }
-{
-    match entry {
         Entry::InitSame { at } => Some(Entry::InitSame { at: *at }),
         Entry::InitMade { at, count } => Some(Entry::InitMade {
             at: *at,
@@ -157,12 +125,20 @@ fn copied_of_few(sessions: &Sessions, entry: &Entry) -> Option<Entry>
     ensures { (bytes : List ℕ) → IfSome result (λ copy. copy ≡ with_swapped_number (session_at sessions.now) (with_body bytes entry.now)) }
 {
     match entry {
-        Entry::Up { .. } | Entry::Down { .. } | Entry::Active { .. } | Entry::GaveUp { .. } => {
-            copied_of_session(sessions, entry)
-        }
-        Entry::InitSame { .. } | Entry::InitMade { .. } | Entry::InitFailed { .. } => {
-            copied_of_init(entry)
-        }
+        Entry::Up { at, session } => Some(Entry::Up {
+            at: *at,
+            session: session_noted(sessions, *at, *session),
+        }),
+        Entry::Down { at, cause } => Some(Entry::Down {
+            at: *at,
+            cause: *cause,
+        }),
+        Entry::Active { at } => Some(Entry::Active { at: *at }),
+        Entry::GaveUp { at, tries } => Some(Entry::GaveUp {
+            at: *at,
+            tries: *tries,
+        }),
+        Entry::Cut { node } => Some(Entry::Cut { node: *node }),
         _ => copied_of_turn(entry),
     }
 }

@@ -1,18 +1,14 @@
 //! What a node of a world does, controller or host: a step, whatever begins it, and what a host does by itself. Its memory keeps its bytes
 //! over a cut.
-ghost use Rattle.std.specs.Prelude.{◌≡◌, ◌≤◌, ◌==◌, ◌&&◌, ℕ, true, List, [], ◌∷◌, length, is_some, Some, IfOk, MatchResult, None, OnErr, OnOk};
+ghost use Rattle.std.specs.Prelude.{◌≡◌, ◌≤◌, ℕ, true, List, Some, IfOk, MatchResult, None, OnErr, OnOk};
 ghost use Rattle.trace_model.specs.declared.entry.Entry.{Entry as Told};
-ghost use Rattle.hcp_packet.specs.Packets.{IsSendable};
-ghost use Rattle.link_laws.specs.machine.Machine.{give_refusal};
 ghost use Rattle.node_machine.specs.Parts.{Core, Port, Work};
 ghost use Rattle.node_machine.specs.Carrying.{port_at};
-ghost use Rattle.node_machine.specs.Controller.{is_command_message};
 ghost use Rattle.node_machine.specs.Node.{steps, begins_with};
-ghost use Rattle.node_machine.specs.world.World.{sending, beginning};
-ghost use Rattle.node_machine.specs.world.Lines.{if_waiting};
 ghost use Rattle.node_core.specs.Giving.{refused_as};
 ghost use Rattle.node_core.specs.Inputs.{input_of_node, refusal_by, MayComeToNode};
 ghost use Rattle.node_core.specs.Running.{RunsAs, IsAllSent};
+ghost use Rattle.node_sites.specs.Asking.{MayBeAsked, deeds_asked, message_asked, message_refused};
 ghost use Rattle.node_sites.specs.Powers.{node_memory};
 ghost use Rattle.node_sites.specs.WorldNodes.{BeginsOver, HasGone, IsNotedSo};
 
@@ -48,54 +44,39 @@ pub fn step(
     }
 }
 
-/// A host sends a message, which isn't empty, on a pipe that isn't reserved.
+/// What a host is asked to do by itself.
+#[derive(Clone, Copy)]
+pub enum Asked<'a> {
+    /// It sends a message, which isn't empty, on a pipe that isn't reserved.
+    Send(u8, &'a [u8]),
+    /// An init begins, with the identity that it is to set and at most eight pipes that it is to make: its first command is sent.
+    Init(&'a [u8; 8], &'a [[u8; 3]]),
+}
+
+/// A host does what it is asked to.
 ///
 /// # Errors
 ///
 /// The link isn't up, an earlier command isn't answered, or the message is too long or needs more blocks than are spare: the first of
 /// these that applies. Nothing changed then.
-pub fn send(
+pub fn give(
     node: &mut RunningNode<MemNv>,
-    pipe: u8,
-    message: &[u8],
+    asked: Asked<'_>,
     noted: &mut Noted,
 ) -> Result<(), HostRefused>
     requires host { 1 ≤ node.old.number }
     requires runs { (core : Core) × (ports : List Port) × RunsAs node.old core ports }
-    requires sendable { IsSendable (pipe, message.now) }
+    requires may { MayBeAsked asked }
     ensures refusal { (core : Core) (ports : List Port) (p : Port) → RunsAs node.old core ports → port_at ports node.old.number ≡ Some p
-        → refused_as result ≡ if_waiting (pipe == 1 && is_command_message message.now && is_some core.command) (give_refusal p.side (pipe, message.now)) }
+        → refused_as result ≡ message_refused (message_asked asked.entry) core p }
     ensures given { (w : Work) → BeginsOver node.old w
-        → OnOk result (HasGone node.old node.new (begins_with node.old.number (sending node.old.number (pipe, message.now)) w) true) }
+        → OnOk result (HasGone node.old node.new (begins_with node.old.number (deeds_asked asked.entry node.old.number) w) true) }
     ensures noted { (sessions : List ℕ) (start : List Told) (w : Work) → BeginsOver node.old w → IsNotedSo noted.old sessions start w.entries
-        → OnOk result (IsNotedSo noted.new sessions start (begins_with node.old.number (sending node.old.number (pipe, message.now)) w).entries) }
+        → OnOk result (IsNotedSo noted.new sessions start (begins_with node.old.number (deeds_asked asked.entry node.old.number) w).entries) }
     ensures unchanged { OnErr result ((node.new ≡ node.old) × (noted.new ≡ noted.old)) }
 {
-    node.send(pipe, message, noted)
-}
-
-/// An init begins at a host, with the identity that it is to set and at most eight pipes that it is to make: its first command is sent.
-///
-/// # Errors
-///
-/// The link isn't up, an earlier command isn't answered, or the block of the command isn't spare: the first of these that applies.
-/// Nothing changed then.
-pub fn init(
-    node: &mut RunningNode<MemNv>,
-    identity: &[u8; 8],
-    pipes: &[[u8; 3]],
-    noted: &mut Noted,
-) -> Result<(), HostRefused>
-    requires host { 1 ≤ node.old.number }
-    requires runs { (core : Core) × (ports : List Port) × RunsAs node.old core ports }
-    requires few { length pipes.now ≤ 8 }
-    ensures refusal { (core : Core) (ports : List Port) (p : Port) → RunsAs node.old core ports → port_at ports node.old.number ≡ Some p
-        → refused_as result ≡ if_waiting (is_some core.command) (give_refusal p.side (1, 3 ∷ [])) }
-    ensures begun { (w : Work) → BeginsOver node.old w
-        → OnOk result (HasGone node.old node.new (begins_with node.old.number (beginning identity.now pipes.now) w) true) }
-    ensures noted { (sessions : List ℕ) (start : List Told) (w : Work) → BeginsOver node.old w → IsNotedSo noted.old sessions start w.entries
-        → OnOk result (IsNotedSo noted.new sessions start (begins_with node.old.number (beginning identity.now pipes.now) w).entries) }
-    ensures unchanged { OnErr result ((node.new ≡ node.old) × (noted.new ≡ noted.old)) }
-{
-    node.init(identity, pipes, noted)
+    match asked {
+        Asked::Send(pipe, message) => node.send(pipe, message, noted),
+        Asked::Init(identity, pipes) => node.init(identity, pipes, noted),
+    }
 }

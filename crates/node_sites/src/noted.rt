@@ -95,6 +95,21 @@ impl Watch for Noted {
     }
 }
 
+/// This is noted behind the others.
+///
+/// # Errors
+///
+/// No memory is left.
+pub fn note_last(noted: &mut Noted, entry: Entry) -> Result<(), NoMemory>
+    ensures items { OnOk result (noted.new.entries.items ≡ noted.old.entries.items ++ entry ∷ []) }
+    ensures short { noted.new.short ≡ noted.old.short }
+{
+    match noted.entries.push(entry) {
+        Ok(()) => Ok(()),
+        Err(_) => Err(NoMemory),
+    }
+}
+
 /// A line is refused for this cause, which is noted.
 ///
 /// # Errors
@@ -104,8 +119,5 @@ pub fn refuse(noted: &mut Noted, cause: NoCause) -> Result<(), NoMemory>
     ensures noted { OnOk result (noted.new.entries.items ≡ noted.old.entries.items ++ note.No cause ∷ []) }
     ensures short { noted.new.short ≡ noted.old.short }
 {
-    match noted.entries.push(Entry::No { cause }) {
-        Ok(()) => Ok(()),
-        Err(_) => Err(NoMemory),
-    }
+    note_last(noted, Entry::No { cause })
 }

@@ -1,13 +1,15 @@
 //! The power of a node of the world, controller or host: its boot, and what its memory keeps.
 ghost use Rattle.std.specs.Prelude.{◌≡◌, ◌≤◌, ℕ, ◌<◌, length, Option, Some, OnErr, OnOk};
 ghost use Rattle.swp_base.specs.InMemory.{Memory};
-ghost use Rattle.link_laws.specs.messages.Links.{NumberedEnd};
+ghost use Rattle.link_laws.specs.messages.Links.{Loss, NumberedEnd};
+ghost use Rattle.history.specs.Steps.{lost_as};
 ghost use Rattle.node_machine.specs.Parts.{Running};
+ghost use Rattle.node_machine.specs.world.World.{counts};
 ghost use Rattle.node_core.specs.Booting.{hosts_linked};
 ghost use Rattle.node_sites.specs.Memories.{IsSoundMemory};
 ghost use Rattle.node_sites.specs.WorldBoots.{EndsBoot};
 ghost use Rattle.node_sites.specs.declared.power.Power.TheVariants.{Off};
-ghost use Rattle.node_sites.specs.Powers.{IsNodePlace, memory_kept, is_on};
+ghost use Rattle.node_sites.specs.Powers.{IsNodePlace, memory_kept, is_broken, is_on};
 
 use crate::memory::NodeMemory;
 use arrayvec::ArrayVec;
@@ -15,6 +17,7 @@ use core::mem::replace_with;
 use node_core::{BootFault, BootRefused, RunningNode};
 use std::alloc::Global;
 use swp_base::{MemNv, NoMemory};
+use trace_model::LostCause;
 
 /// A node of the world while that runs, or the memory that it left.
 #[derive(Drop)]
@@ -47,6 +50,16 @@ fn lost(power: Power, _nothing: ()) -> (Power, ())
     ensures { result.0 ≡ Off (memory_kept power) }
 {
     (Power::Off(power.into_memory()), ())
+}
+
+// Whether a frame was refused for what damage had done to it.
+fn is_refusal(cause: LostCause) -> bool
+    ensures { (why : Loss) → cause ≡ lost_as why → result ≡ is_broken why }
+{
+    match cause {
+        LostCause::Length | LostCause::Alignment | LostCause::Crc | LostCause::Broken => true,
+        LostCause::Asked | LostCause::Age | LostCause::Full | LostCause::Nothing => false,
+    }
 }
 
 impl Power {
@@ -105,6 +118,21 @@ impl Power {
         match self {
             Power::On(node) => node.arm(nth, fill),
             Power::Off(memory) => memory.arm(nth, fill),
+        }
+    }
+
+    /// A frame on its way to the node's end of the link with this host is lost for this cause. One that was refused counts for REC_ERROR of
+    /// that end, while the node runs.
+    pub fn loses_frame(&mut self, host: u8, cause: LostCause)
+        requires state { (m : Memory) × (node : Option Running) × (near : ℕ → NumberedEnd) × IsNodePlace self.old m node near }
+        ensures { (m : Memory) (node : Option Running) (near : ℕ → NumberedEnd) (why : Loss) → IsNodePlace self.old m node near → cause ≡ lost_as why
+            → IsNodePlace self.new m (counts why host node) near }
+    {
+        if !is_refusal(cause) {
+            return;
+        }
+        if let Power::On(node) = self {
+            node.refused(host);
         }
     }
 }

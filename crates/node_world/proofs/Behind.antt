@@ -11,7 +11,7 @@ use Rattle.node_machine.specs.world.World.{NodeWorld}
 use Rattle.node_laws.specs.telling.Telling.{hosts_in}
 use Rattle.node_laws.proofs.telling.Keeping.{steps_keep}
 use Rattle.node_laws.proofs.telling.Events.{site_map}
-use Rattle.node_world.proofs.EndsGo.{EndGoes, controller_ends}
+use Rattle.node_world.proofs.EndsGo.{EndGoes}
 
 -- ## One link
 
@@ -136,17 +136,3 @@ module _ (w : NodeWorld) (r : Running) (k : ℕ) (comes : Comes) (i : LinkInput)
       first : (desks : List Desk) → hosts_of_ends (map (λ (d : Desk). port_for (near d.host) d) desks) ≡ map (λ (d : Desk). d.host) desks
       first [] = refl
       first (d ∷ desks) = ap (λ hs. d.host ∷ hs) (first desks)
-
-  -- each end of the controller has sent all as the next step begins
-  pub sides_behind : After.cut ≡ false
-      → AllByRecursion (λ (p : Port). (link_to sites_after p.desk.host).controller.side ≡ sent_all p.side) After.ports
-  sides_behind on =
-      all_sides After w.sites (link_after_controller k comes After) (λ x. refl) hosts_kept orderly.different
-      (λ s found. let g : EndGoes s.host s.link (comes_to k comes s.host) After = controller_ends w r k comes i s.host s orderly node found input in
-      let ending : ending_of After ≡ GoesOut = ap (λ (b : Bool). cond b CutOff GoesOut) on in
-      let happens : Ending → Link = λ e. happens_at_controller s.link (Step (comes_to k comes s.host) (turns_at After s.host) e) in
-      record {
-        port = g.port;
-        here = g.here;
-        side = ap (λ e. (happens e).controller.side) ending ∙ ap (λ (l : Link). l.controller.side) g.goes.out;
-      })

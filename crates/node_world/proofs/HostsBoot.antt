@@ -80,3 +80,15 @@ lost_power k new s left wires before {now} off is booted empty noted =
       };
       noted = noted ∙ ap (λ h. before ++ note.Cut h ∷ []) is.host;
     })
+
+-- its power was cut
+pub was_cut_off : (k new : HostSite) (s : Site) → SiteIs k s → new.host ≡ k.host → new.power ≡ Off (memory_kept k.power)
+    → WiresStandFor new.wires (with_bare_wires s.link) → SiteIs new (host_cut s)
+was_cut_off k new s is host off empty =
+    let N : Power → Type 0 = λ a. IsNodePlace a s.memory None (λ h. (host_cut s).link.host) in
+    let g = goes_on (exchanged s.link) NoInput None [] refl tt in
+    record {
+      host = host ∙ is.host;
+      wires = same_stand (same_exchanged (cut_same g)) empty;
+      place = subst N (sym off) (kept_is k.power s.memory s.node (λ h. s.link.host) is.place);
+    }

@@ -1,15 +1,13 @@
 -- What a host does in a step, as the world keeps it: proved once for whatever begins the step.
 use Rattle.std.proofs.Common.{◌≡◌, ℕ, Bool, true, false, cond, not, List, [], ◌∷◌, ◌++◌, refl, ap, sym, subst, ◌∙◌, append-nil, append_assoc}
-use Rattle.std.specs.Prelude.{Some, None, Result, Ok, Err, OnOk}
+use Rattle.std.specs.Prelude.{Some, None}
 use Rattle.std.specs.Option.{option_map_or}
-use Rattle.node_world.proofs.Words.{CutOff, Ending, Entry, GoesOut, HasBecome, Host, HostSite, IsOnly, IsToSend, Link, Port, Site, Turn, WiresStandFor, Work}
-use Rattle.node_world.proofs.Words.{ending_of, entries_for, exchanged, frames_noted, frames_out, host_behind, hosts_of_ends, next_frame, port_at, puts_entries}
+use Rattle.node_world.proofs.Words.{CutOff, Ending, Entry, GoesOut, HasBecome, Host, HostSite, IsOnly, IsToSend, Link, Port, Site, Turn, Work}
+use Rattle.node_world.proofs.Words.{ending_of, entries_for, frames_noted, frames_out, host_behind, hosts_of_ends, next_frame, port_at, puts_entries}
 use Rattle.node_world.proofs.Words.{sent_all}
-use Rattle.swp_base.specs.declared.outside.NoMemory.{NoMemory}
 use Rattle.link_laws.specs.entries.Entries.{ending_entries}
-use Rattle.node_sites.specs.Places.{IsFinishing, RunsOn, WentOff}
 use Rattle.node_sites.proofs.FramesGoOut.{at_found}
-use Rattle.node_world.proofs.HostsGo.{one_port, host_runs_on, host_went_off}
+use Rattle.node_world.proofs.HostsGo.{RunsOn, WentOff, one_port, host_runs_on, host_went_off}
 use Rattle.node_core.proofs.Between.{all_one_by_one}
 use Rattle.node_core.specs.Running.{SendsOneByOne}
 
@@ -31,19 +29,11 @@ frames_off h l k p off here =
 
 module _ (mid : HostSite) (live : Bool) (noted : List Entry) (short : Bool) (before : List Entry) (s : Site) (step : List Turn → Ending → Link) (l : Link)
     (w : Work) (is : IsToSend mid live noted short before s step l w) where
-  -- as its frames are to go out on the wires of a link
-  pub finishing : (m : Link) → WiresStandFor mid.wires (exchanged m) → IsFinishing mid is.node live w is.here.port m
-  finishing m wires =
-      record {
-        on = is.on;
-        runs = is.runs;
-        here = ap (port_at w.ports) is.host ∙ is.here.here;
-        only = let Q : ℕ → Type 0 = λ h. IsOnly h is.here.port w.ports in subst Q (sym is.host) (only_one s.host is.here.port w.ports is.ends is.here.here);
-        wires = wires;
-      }
+  pub only_here : IsOnly mid.host is.here.port w.ports
+  only_here = let Q : ℕ → Type 0 = λ h. IsOnly h is.here.port w.ports in subst Q (sym is.host) (only_one s.host is.here.port w.ports is.ends is.here.here)
 
   -- They went out: on the wires of the link that the law goes on with, and on those of the one of which they are noted.
-  has_run_on : (new : HostSite) (now : List Entry) → live ≡ true → new.host ≡ mid.host
+  pub has_run_on : (new : HostSite) (now : List Entry) → live ≡ true → new.host ≡ mid.host
       → RunsOn mid new is.node w is.here.port is.here.link before now → RunsOn mid new is.node w is.here.port is.bare before now
       → HasBecome new before now (host_behind s step w, w.entries ++ frames_noted Host s.host l w)
   has_run_on new now up same r notes =
@@ -61,7 +51,7 @@ module _ (mid : HostSite) (live : Bool) (noted : List Entry) (short : Bool) (bef
       }
 
   -- it has lost its power
-  has_gone_off : (new : HostSite) (now : List Entry) → live ≡ false → new.host ≡ mid.host → WentOff new is.node w is.here.link before now
+  pub has_gone_off : (new : HostSite) (now : List Entry) → live ≡ false → new.host ≡ mid.host → WentOff new is.node w is.here.link before now
       → HasBecome new before now (host_behind s step w, w.entries ++ frames_noted Host s.host l w)
   has_gone_off new now down same r =
       let power : w.cut ≡ true = is.power ∙ ap not down in
@@ -71,15 +61,3 @@ module _ (mid : HostSite) (live : Bool) (noted : List Entry) (short : Bool) (bef
             ∙ ap (λ es. before ++ es)
             (sym (append-nil w.entries) ∙ ap (λ es. w.entries ++ es) (sym (frames_off s.host l w is.here.port power is.here.here)));
       }
-
-  pub has_finished : (result : Result (Unit {0}) NoMemory) (new : HostSite) (now : List Entry) → new.host ≡ mid.host
-      → (live ≡ true → OnOk result (RunsOn mid new is.node w is.here.port is.here.link before now))
-      → (live ≡ true → OnOk result (RunsOn mid new is.node w is.here.port is.bare before now))
-      → (live ≡ false → OnOk result (WentOff new is.node w is.here.link before now))
-      → OnOk result (HasBecome new before now (host_behind s step w, w.entries ++ frames_noted Host s.host l w))
-  has_finished (Err why) new now same goes notes off = tt
-  has_finished (Ok done) new now same goes notes off = go live refl
-    where
-      go : (b : Bool) → live ≡ b → HasBecome new before now (host_behind s step w, w.entries ++ frames_noted Host s.host l w)
-      go true q = has_run_on new now q same (goes q) (notes q)
-      go false q = has_gone_off new now q same (off q)

@@ -1,16 +1,32 @@
 -- A host of the world behind a step of it: what is kept stands for the host as the definition leaves it.
-use Rattle.std.proofs.Common.{◌≡◌, ℕ, ◌==◌, Bool, true, false, cond, List, [], ◌∷◌, map, refl, ap, sym, subst, ◌∙◌}
+use Rattle.std.proofs.Common.{◌≡◌, ℕ, ◌==◌, Bool, true, false, cond, List, [], ◌∷◌, ◌++◌, map, refl, ap, sym, subst, ◌∙◌}
 use Rattle.std.specs.Prelude.{Option, Some, None}
 use Rattle.std.specs.List.{AllByRecursion}
-use Rattle.node_world.proofs.Words.{CutOff, Desk, Ending, Entry, GoesOut, HostSite, IsNodePlace, Link, LinkEnd, Memory, Node, NumberedEnd, Off, On, Port, Power}
-use Rattle.node_world.proofs.Words.{Running, RunsAs, SameWires, Site, SiteIs, Turn, Work, after_planned, between, changed_if, exchanged, host_behind}
+use Rattle.node_world.proofs.Words.{CutOff, Desk, Ending, Entry, GoesOut, Host, HostSite, IsNodePlace, Link, LinkEnd, Memory, Node, NumberedEnd, Off}
+use Rattle.node_world.proofs.Words.{On, Port, Power}
+use Rattle.node_world.proofs.Words.{Running, RunsAs, SameWires, Site, SiteIs, Turn, WiresStandFor, Work, after_planned, between, changed_if, entries_for}
+use Rattle.node_world.proofs.Words.{exchanged, frames_out, host_behind, put_all, puts_entries}
 use Rattle.node_world.proofs.Words.{hosts_of_ends, kept_alike, new_link_end, next_frame, node_memory, port_at, port_for, renewed, same_number, sent_all}
 use Rattle.node_world.proofs.Words.{sent_port, turns_at, with_bare_wires, with_controller, with_port}
 use Rattle.link_laws.specs.messages.Links.{becomes}
 use Rattle.node_laws.proofs.telling.Accounts.{at_host}
-use Rattle.node_sites.specs.Places.{RunsOn, WentOff}
 use Rattle.node_world.specs.HostSteps.{EndDoes}
 use Rattle.node_world.proofs.GoingOn.{same_stand, same_exchanged, silent_same}
+
+-- Its frames went out at its one end p on the wires of the link l as it sees it, and it runs on.
+pub record RunsOn (old new : HostSite) (n : Node Memory) (w : Work) (p : Port) (l : Link) (before now : List Entry) : Type 0 where
+  pub node : Node Memory
+  pub on : new.power ≡ On node
+  pub runs : RunsAs node w.core (with_port old.host sent_port w.ports)
+  pub memory : node_memory node ≡ node_memory n
+  pub wires : WiresStandFor new.wires (exchanged (put_all l (frames_out p.side)))
+  pub noted : now ≡ (before ++ w.entries) ++ entries_for old.host (puts_entries Host l (frames_out p.side))
+
+-- it has lost its power: both wires are empty
+pub record WentOff (new : HostSite) (n : Node Memory) (w : Work) (l : Link) (before now : List Entry) : Type 0 where
+  pub off : new.power ≡ Off (node_memory n)
+  pub wires : WiresStandFor new.wires (exchanged (with_bare_wires l))
+  pub noted : now ≡ before ++ w.entries
 
 -- ## Its one end
 

@@ -11,7 +11,6 @@ pub mod HostsRefuse
 pub mod HostsLose
 pub mod HostsBoot
 pub mod HostsGoOn
-pub mod Plainly
 pub mod HostsBegin
 pub mod Comings
 pub mod HostsAre

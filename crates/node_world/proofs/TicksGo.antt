@@ -5,8 +5,8 @@ use Rattle.std.specs.List.{AllByRecursion}
 use Rattle.std.specs.Option.{option_map_or}
 use Rattle.node_world.proofs.Words.{Controller, CutOff, Desk, Ending, GoesOut, HasEnds, Host, IsOrderly, Link, LinkEnd, NoInput, Port, Reset, Running}
 use Rattle.node_world.proofs.Words.{SameWires, Site, Tick, Turn, Work, after_input, cut, ended_by, exchanged, has_input, host_opened, host_tick, is_late_at}
-use Rattle.node_world.proofs.Words.{is_waiting, near_tick, new_link_end, number_of, port_at, renewed, sent_all, site_at, ticked_so, turned, turns_at}
-use Rattle.node_world.proofs.Words.{with_bare_wires, with_controller, with_ended}
+use Rattle.node_world.proofs.Words.{is_waiting, near_tick, number_of, port_at, sent_all, site_at, ticked_so, turned, turns_at}
+use Rattle.node_world.proofs.Words.{with_controller, with_ended}
 use Rattle.shdlc_core.specs.declared.answers.LinkState.TheVariants.{Up}
 use Rattle.link_laws.specs.messages.Links.{becomes}
 use Rattle.link_laws.specs.entries.Entries.{End as Side}
@@ -15,7 +15,7 @@ use Rattle.node_machine.specs.world.World.{NodeWorld}
 use Rattle.node_laws.specs.telling.Telling.{hosts_in, IfDue, is_due}
 use Rattle.node_laws.proofs.telling.Ticks.{older, not_late, IfLate, Ticked, ticked}
 use Rattle.node_laws.proofs.telling.WorldTicks.{opened, up_late, young_ports}
-use Rattle.node_world.proofs.GoingOn.{ended_same, ended_far, silent_same, emptied_same, same_twice}
+use Rattle.node_world.proofs.GoingOn.{ended_same, ended_far}
 
 -- an end after its tick, or after its reset in place of it
 abbrev pub after_ticking : Bool → LinkEnd → LinkEnd
@@ -41,15 +41,6 @@ ticks_on l true turns ready =
 ticks_on l false turns ready =
     let b : Bool = is_some (ended_by l.controller.side Tick) in
     record { link = with_ended l b; wires = ended_same l b; out = refl; cut = refl; far = ended_far l b }
-
-pub tick_cut_same : {l : Link} {late : Bool} {turns : List Turn} {e : LinkEnd} (g : TicksOn l late turns e)
-    → SameWires (with_bare_wires l) (ticked_so l late turns CutOff)
-tick_cut_same {l} {late} {turns} {e} g =
-    let m : Link = with_controller g.link (sent_all e) in
-    let P : Link → Type 0 = λ k. SameWires (with_bare_wires l) k in
-    let same : SameWires g.link m = record { to_controller = refl; to_host = refl; resets = refl; controller = (refl, refl); host = (refl, refl) } in
-    subst P (sym g.cut)
-    (same_twice (emptied_same (same_twice g.wires same)) (silent_same m (new_link_end (renewed m.controller.side.role))))
 
 -- a node's end of the link l with the host h behind its tick
 pub record EndTicks (h : ℕ) (l : Link) (late : Bool) (v : Work) : Type 0 where

@@ -16,7 +16,7 @@ use Rattle.node_machine.specs.Parts.{Desk, Running, Port, Work}
 use Rattle.node_machine.specs.Carrying.{port_at, with_port}
 use Rattle.node_machine.specs.Node.{NodeInput}
 use Rattle.node_machine.specs.Node.NodeInput.{AtEnd}
-use Rattle.node_machine.specs.world.World.{Site, NodeWorld, site_at, link_to, port_for, input_of, comes_to, near_end_in, all_aged}
+use Rattle.node_machine.specs.world.World.{Site, NodeWorld, site_at, link_to, port_for, input_of, comes_to, all_aged}
 use Rattle.node_machine.specs.world.World.{controller_ticks}
 use Rattle.node_laws.specs.kept.Hosts.{AreDifferent}
 use Rattle.node_laws.specs.telling.Telling.{hosts_in, IsOrderly, IsTimely}
@@ -68,10 +68,6 @@ IsThere h w = (s : Site) × site_at w.sites h ≡ Some s
 -- time may pass
 abbrev pub AreTimely : NodeWorld → Type 0
 AreTimely w = (h : ℕ) (s : Site) → site_at w.sites h ≡ Some s → IsTimely w h s
-
--- the number of the session of the controller's end of the link with this host, as something comes to that of the link with the host h
-abbrev pub session_as_it_comes : ℕ → Comes → List Site → ℕ → ℕ
-session_as_it_comes h comes sites k = number_of (near_end_in (link_to sites k) (comes_to h comes k))
 
 -- the numbers of the sessions of the controller's ends of all links, by their hosts
 abbrev pub AreSessions : List ℕ → List Site → Type 0

@@ -18,7 +18,6 @@ use Rattle.link_end.specs.Reports.{reset_refused}
 use Rattle.link_end.specs.declared.report.ResetRefused.{ResetRefused}
 use Rattle.link_end.specs.declared.report.ResetRefused.TheVariants.{Inactive, Waiting}
 use Rattle.link_laws.specs.messages.Links.Comes.{AsksReset}
-use Rattle.link_laws.specs.messages.Links.Loss.{Broken}
 use Rattle.link_laws.specs.messages.Links.Ending.{GoesOut, CutOff}
 use Rattle.link_laws.specs.messages.Links.EndEvent.{Lose}
 use Rattle.link_laws.specs.entries.Entries.{aged_entries, puts_entries}
@@ -80,11 +79,6 @@ site_loses e why s = record s {
   link = happens s.link (at e (Lose why));
   node = if e.at_host then counts why s.host s.node else s.node;
 }
-
--- a frame was refused for what damage had done to it
-abbrev pub is_broken : Loss → Bool
-is_broken (Broken fault) = true
-is_broken _ = false
 
 -- the frames on both wires of its link grow older
 abbrev pub site_ages : Site → Site × List Entry

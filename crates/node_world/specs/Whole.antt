@@ -1,8 +1,9 @@
 -- A world of nodes as a whole: what is kept of it as something happens, and what is asked then.
-use Rattle.std.specs.Prelude.{◌≡◌, ◌≢◌, ℕ, ◌+◌, ◌<◌, ◌≤◌, ◌^◌, ◌==◌, Bool, true, false, List, [], ◌++◌, replicate, unwrap_or, Option, Some, None}
+use Rattle.std.specs.Prelude.{◌≡◌, ℕ, ◌+◌, ◌<◌, ◌≤◌, ◌^◌, Bool, true, false, List, [], ◌++◌, replicate, unwrap_or, Option, Some, None}
 use Rattle.std.specs.List.{AllByRecursion}
 use Rattle.trace_model.specs.Lines.{IsNodeHeader, IsNodeOf}
 use Rattle.trace_model.specs.declared.entry.Entry.{Entry}
+use Rattle.trace_model.specs.declared.line.End.{End}
 use Rattle.trace_model.specs.declared.line.Header.{Header}
 use Rattle.trace_model.specs.declared.line.Line.{Line}
 use Rattle.trace_model.specs.declared.line.Line.TheVariants as line
@@ -11,11 +12,13 @@ use Rattle.link_wires.specs.Damages.{first_lpdu}
 use Rattle.node_machine.specs.world.World.{NodeWorld, Site, node_at, memory_at}
 use Rattle.node_machine.specs.world.World.Happening.{Ticks}
 use Rattle.node_machine.specs.world.Lines.{LineOutcome, all_happen, frames_at, misread_in, noted_below}
-use Rattle.node_laws.specs.telling.Telling.{hosts_in, IsOrderly}
+use Rattle.node_laws.specs.telling.Telling.{hosts_in}
 use Rattle.lines_told.specs.lines.Below.{IsPlayedLine, entries_below}
+use Rattle.node_sites.specs.declared.nodes.Asked.{Asked}
+use Rattle.node_sites.specs.declared.nodes.Asked.TheVariants.{Send, Init}
 use Rattle.node_sites.specs.declared.places.HostSite.{HostSite}
 use Rattle.node_world.specs.Bounds.{FewBehind}
-use Rattle.node_world.specs.Controllers.{SitesAre, WorldIs, MayGoOn, AreTimely, IsThere}
+use Rattle.node_world.specs.Controllers.{SitesAre, WorldIs, MayGoOn, AreTimely}
 use Rattle.node_world.specs.HostSteps.{IsHostOf, MayTick}
 use Rattle.node_sites.specs.Memories.{IsSoundMemory}
 use Rattle.node_sites.specs.declared.power.Power.{Power}
@@ -51,19 +54,6 @@ abbrev pub if_accepted : {Why : Type 0} → Option Why → NodeWorld → NodeWor
 if_accepted None w after = after
 if_accepted (Some cause) w after = (w, [])
 
--- a node that doesn't run may boot: its ends are new, and its memory is one from which it may
-pub record MayBootAt (n : ℕ) (w : NodeWorld) : Type 0 where
-  pub goes_on : MayGoOn w
-  pub timely : AreTimely w
-  pub off : node_at w n ≡ None
-  pub there : (n == 0) ≡ false → IsThere n w
-  pub memory : IsSoundMemory (memory_at w n)
-
--- a node that runs
-pub record MayStop (n : ℕ) (w : NodeWorld) : Type 0 where
-  pub orderly : IsOrderly w
-  pub on : node_at w n ≢ None
-
 -- ## A line
 
 -- the world behind so many ticks
@@ -94,6 +84,11 @@ pub record LinePlayed (k : Power) (ks : List HostSite) (noted : List Entry) (aft
 pub record HostsPlayed (ks : List HostSite) (noted : List Entry) (after : NodeWorld × LineOutcome) : Type 0 where
   pub sites : SitesAre ks after.0.sites
   pub told : noted ≡ entries_below (noted_below after.1)
+
+-- the line that asks this of a host
+abbrev pub line_asked : End → Asked → Line
+line_asked e (Send pipe message) = line.Send e pipe message.now
+line_asked e (Init identity pipes) = line.Init e identity.now (record { items = pipes.now })
 
 -- a line that damages a frame
 abbrev pub is_damaging : Line → Bool

@@ -11,7 +11,6 @@ ghost use Rattle.node_laws.specs.telling.Telling.{hosts_in};
 ghost use Rattle.node_world.specs.Controllers.{SitesAre, HaveRoom, SendsTo, sent_to, has_frames, frames_emitted, with_bare_link};
 ghost use Rattle.node_world.specs.Controllers.{IsPlaceOf, AreSessions};
 
-use crate::host_losses::age_host;
 use node_core::RunningNode;
 use node_sites::noted::{Noted, Sessions};
 use node_sites::places::HostSite;
@@ -71,23 +70,16 @@ fn searched_place(sites: &[HostSite], host: u8) -> Option<usize>
     None
 }
 
-// It is looked for at this place first.
-fn place_near(sites: &[HostSite], near: usize, host: u8) -> Option<usize>
-    ensures range { IfSome result (λ i. i < length sites.now) }
-    ensures place { (hosts : List Site) → SitesAre sites.now hosts → IsPlaceOf result host hosts }
-{
-    if near < sites.len() && sites[near].host == host {
-        return Some(near);
-    }
-    searched_place(sites, host)
-}
-
 /// The place of the host with this number: where all from 01 on are there, as in most worlds, it is one below that.
 pub(crate) fn place_of(sites: &[HostSite], host: u8) -> Option<usize>
     ensures range { IfSome result (λ i. i < length sites.now) }
     ensures place { (hosts : List Site) → SitesAre sites.now hosts → IsPlaceOf result host hosts }
 {
-    place_near(sites, usize::from(host.saturating_sub(1)), host)
+    let near = usize::from(host.saturating_sub(1));
+    if near < sites.len() && sites[near].host == host {
+        return Some(near);
+    }
+    searched_place(sites, host)
 }
 
 /// The numbers of the sessions of the controller's ends of all links.
@@ -117,7 +109,8 @@ pub(crate) fn age_all(sites: &mut [HostSite], noted: &mut Noted) -> Result<(), N
     ensures short { noted.new.short ≡ noted.old.short }
 {
     for i in 0..sites.len() {
-        age_host(&mut sites[i], noted)?;
+        let site = &mut sites[i];
+        site.wires.grow_older(site.host, &mut noted.entries)?;
     }
     Ok(())
 }

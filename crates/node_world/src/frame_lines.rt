@@ -2,12 +2,15 @@
 ghost use Rattle.std.specs.Prelude.{◌≡◌, [], false, None, IfOk, OnErr, OnOk};
 ghost use Rattle.trace_model.specs.declared.line.Header.{Header};
 ghost use Rattle.trace_model.specs.declared.line.Line.TheVariants as line;
-ghost use Rattle.node_machine.specs.world.World.{NodeWorld};
+ghost use Rattle.history.specs.Steps.{lost_as};
+ghost use Rattle.link_laws.specs.messages.Links.{Loss};
+ghost use Rattle.node_machine.specs.world.World.{NodeWorld, world_step};
+ghost use Rattle.node_machine.specs.world.World.Happening.{Loses};
 ghost use Rattle.node_machine.specs.world.Lines.{line_step, misread_in};
-ghost use Rattle.node_world.specs.Controllers.{WorldIs, MayGoOn};
-ghost use Rattle.node_world.specs.Whole.{IsMisreadIn, LinePlayed, MayPlay};
+ghost use Rattle.node_world.specs.Controllers.{WorldIs, WorldBecomes, MayGoOn, IsThere};
+ghost use Rattle.node_world.specs.Whole.{IsMisreadIn, IsWithinBounds, LinePlayed, MayPlay};
 
-use crate::happening::lose_frame;
+use crate::controller_sites::place_of;
 use crate::looking::{damaged_at, no_frame, node_of, on_the_way, runs};
 use crate::steps::{comes_to, tick_world};
 use arrayvec::ArrayVec;
@@ -48,6 +51,33 @@ pub(crate) fn deliver_line(
             return Ok(());
         }
         comes_to(controller, sites, at, Incoming::NextFrame, noted)?;
+    }
+    Ok(())
+}
+
+// The first frame on the way to an end is lost for this cause. A frame that was refused on its way counts for REC_ERROR of that end, while
+// its node runs.
+fn lose_frame(
+    controller: &mut Power,
+    sites: &mut [HostSite],
+    at: End,
+    cause: LostCause,
+    noted: &mut Noted,
+) -> Result<(), NoMemory>
+    requires state { (w : NodeWorld) × WorldIs controller.old sites.old w × IsWithinBounds w × IsThere at.link w }
+    ensures stands { (w : NodeWorld) (why : Loss) → WorldIs controller.old sites.old w → IsWithinBounds w → IsThere at.link w → cause ≡ lost_as why
+        → OnOk result (WorldBecomes controller.new sites.new noted.old.entries.items noted.new.entries.items (world_step w (Loses at why))) }
+    ensures short { noted.new.short ≡ noted.old.short }
+{
+    let Some(place) = place_of(sites, at.link) else {
+        return Ok(());
+    };
+    let site = &mut sites[place];
+    site.wires.lose(at, cause, &mut noted.entries)?;
+    if at.at_host {
+        site.power.loses_frame(at.link, cause);
+    } else {
+        controller.loses_frame(at.link, cause);
     }
     Ok(())
 }

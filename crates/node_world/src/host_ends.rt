@@ -9,8 +9,11 @@ ghost use Rattle.node_machine.specs.world.World.{Site, frames_noted};
 ghost use Rattle.node_world.specs.HostSteps.{host_behind, IsToSend, HasBecome};
 
 use node_sites::noted::Noted;
-use node_sites::places::{HostSite, finish_step};
+use node_sites::places::{HostSite, lose_power};
+use node_sites::power::Power;
+use node_sites::sending::send_frames;
 use swp_base::NoMemory;
+use trace_model::End;
 
 /// A host's node has done its work: its frames go out, unless it has lost its power.
 ///
@@ -30,5 +33,19 @@ pub(crate) fn finish_host(
         → OnOk result (HasBecome site.new before noted.new.entries.items (host_behind s step w, w.entries ++ frames_noted Host s.host l w)) }
     ensures memory { OnOk result (noted.new.short ≡ false) }
 {
-    finish_step(site, live, noted)
+    if noted.short {
+        return Err(NoMemory);
+    }
+    if !live {
+        lose_power(site);
+        return Ok(());
+    }
+    let at = End {
+        link: site.host,
+        at_host: true,
+    };
+    if let Power::On(node) = &mut site.power {
+        send_frames(node, at, &mut site.wires, &mut noted.entries)?;
+    }
+    Ok(())
 }

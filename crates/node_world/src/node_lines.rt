@@ -13,16 +13,18 @@ ghost use Rattle.node_world.specs.Controllers.{WorldIs, MayGoOn};
 ghost use Rattle.node_world.specs.HostSteps.{reset_noted};
 ghost use Rattle.node_world.specs.Whole.{LinePlayed, MayPlay};
 
+use crate::controller::lose_controller;
+use crate::controller_power::boot_controller;
 use crate::controller_sites::place_of;
-use crate::happening::{activate_link, arm_node, boot_node, cut_node};
+use crate::host_boots::boot_host;
 use crate::looking::{node_of, runs};
 use crate::steps::comes_to;
 use arrayvec::ArrayVec;
 use hci_tables::Tables;
 use link_end::ResetRefused;
 use node_sites::incoming::Incoming;
-use node_sites::noted::{Noted, refuse};
-use node_sites::places::HostSite;
+use node_sites::noted::{Noted, note_last, refuse};
+use node_sites::places::{HostSite, lose_power};
 use node_sites::power::Power;
 use std::alloc::Global;
 use swp_base::NoMemory;
@@ -53,7 +55,13 @@ pub(crate) fn boot_line(
     if runs(controller, sites, node) {
         return refuse(noted, NoCause::Running);
     }
-    boot_node(alloc, controller, sites, node, mask, noted)
+    if node == 0 {
+        return boot_controller(alloc, controller, sites, mask, noted);
+    }
+    match place_of(sites, node) {
+        Some(place) => boot_host(alloc, &mut sites[place], noted),
+        None => Ok(()),
+    }
 }
 
 /// A line `cut`: the power of the node is cut, or the line is refused where it doesn't run.
@@ -76,10 +84,21 @@ pub(crate) fn cut_line(
     if !runs(controller, sites, node) {
         return refuse(noted, NoCause::Off);
     }
-    cut_node(controller, sites, node, noted)
+    if node == 0 {
+        lose_controller(controller, sites);
+        return note_last(noted, Entry::Cut { node });
+    }
+    match place_of(sites, node) {
+        Some(place) => {
+            lose_power(&mut sites[place]);
+            note_last(noted, Entry::Cut { node })
+        }
+        None => Ok(()),
+    }
 }
 
-/// A line `activate`: activation begins on the link of the host, or the line is refused where the controller or the host doesn't run.
+/// A line `activate`: activation begins on the link of the host, first at the controller's end, with this power mode, and then at the host's,
+/// with this sync identifier; or the line is refused where the controller or the host doesn't run.
 ///
 /// # Errors
 ///
@@ -105,7 +124,18 @@ pub(crate) fn activate_line(
     if !runs(controller, sites, host) {
         return refuse(noted, NoCause::Off);
     }
-    activate_link(controller, sites, host, sync, power, noted)
+    let near = End {
+        link: host,
+        at_host: false,
+    };
+    let start = Incoming::Start(power as u16);
+    comes_to(controller, sites, near, start, noted)?;
+    let far = End {
+        link: host,
+        at_host: true,
+    };
+    comes_to(controller, sites, far, Incoming::Start(sync), noted)?;
+    Ok(())
 }
 
 /// A line `arm`: a write to the memory of the node is to fail.
@@ -126,7 +156,14 @@ pub(crate) fn arm_line(
     ensures stands { (header : Header) (w : NodeWorld) → WorldIs controller.old sites.old w → MayPlay header (line.Arm node nth fill.now) w
         → OnOk result (LinePlayed controller.new sites.new noted.now.entries.items (line_step w (line.Arm node nth fill.now))) }
 {
-    arm_node(controller, sites, node, nth, fill.clone()?);
+    let fill = fill.clone()?;
+    if node == 0 {
+        controller.arm(nth, fill);
+        return Ok(());
+    }
+    if let Some(place) = place_of(sites, node) {
+        sites[place].power.arm(nth, fill);
+    }
     Ok(())
 }
 
@@ -219,8 +256,5 @@ pub(crate) fn tables_line(
         return refuse(noted, NoCause::Off);
     };
     let tables = NodeTables::new(alloc, tables)?;
-    match noted.entries.push(Entry::Tables { node, tables }) {
-        Ok(()) => Ok(()),
-        Err(_) => Err(NoMemory),
-    }
+    note_last(noted, Entry::Tables { node, tables })
 }

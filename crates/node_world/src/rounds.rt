@@ -1,10 +1,9 @@
 //! Rounds: each end takes all that stands on its wire, and time passes once.
 ghost use Rattle.std.specs.Prelude.{◌≡◌, false, OnOk};
 ghost use Rattle.node_machine.specs.world.World.{NodeWorld};
-ghost use Rattle.node_machine.specs.world.Rounds.{end_takes_all, ends_in_order, ends_take_all, world_round};
+ghost use Rattle.node_machine.specs.world.Rounds.{end_takes_all, world_round};
 ghost use Rattle.node_world.specs.Controllers.{WorldIs};
-ghost use Rattle.node_world.specs.Rounds.{MayGoRound, MayTakeAll, MayTakeInOrder, WorldHasGone};
-ghost use Rattle.node_world.specs.Whole.{IsWithinBounds};
+ghost use Rattle.node_world.specs.Rounds.{MayGoRound, MayTakeAll, WorldHasGone};
 
 use crate::looking::{node_of, on_the_way, runs};
 use crate::steps::{comes_to, tick_world};
@@ -39,37 +38,8 @@ fn take_all(
     Ok(())
 }
 
-// All ends do, the controller's end of a link before the host's, and the links ascending.
-fn take_in_order(
-    controller: &mut Power,
-    sites: &mut [HostSite],
-    noted: &mut Noted,
-) -> Result<(), NoMemory>
-    requires state { (w : NodeWorld) × WorldIs controller.old sites.old w × MayTakeInOrder w }
-    requires memory { noted.old.short ≡ false }
-    ensures stands { (w : NodeWorld) → WorldIs controller.old sites.old w → MayTakeInOrder w
-        → OnOk result (WorldHasGone controller.new sites.new noted.old.entries.items noted.new.entries.items (ends_take_all w (ends_in_order w))) }
-    ensures within { (w : NodeWorld) → WorldIs controller.old sites.old w → MayTakeInOrder w
-        → OnOk result (IsWithinBounds (ends_take_all w (ends_in_order w)).0) }
-    ensures memory { OnOk result (noted.new.short ≡ false) }
-{
-    for i in 0..sites.len() {
-        let link = sites[i].host;
-        let near = End {
-            link,
-            at_host: false,
-        };
-        let far = End {
-            link,
-            at_host: true,
-        };
-        take_all(controller, sites, near, noted)?;
-        take_all(controller, sites, far, noted)?;
-    }
-    Ok(())
-}
-
-/// A round: all ends take what stands on their wires then, and time passes once.
+/// A round: all ends take what stands on their wires then, the controller's end of a link before the host's and the links ascending, and time
+/// passes once.
 ///
 /// # Errors
 ///
@@ -85,6 +55,18 @@ pub(crate) fn go_round(
         → OnOk result (WorldHasGone controller.new sites.new noted.old.entries.items noted.new.entries.items (world_round w)) }
     ensures memory { OnOk result (noted.new.short ≡ false) }
 {
-    take_in_order(controller, sites, noted)?;
+    for i in 0..sites.len() {
+        let link = sites[i].host;
+        let near = End {
+            link,
+            at_host: false,
+        };
+        let far = End {
+            link,
+            at_host: true,
+        };
+        take_all(controller, sites, near, noted)?;
+        take_all(controller, sites, far, noted)?;
+    }
     tick_world(controller, sites, noted)
 }

@@ -186,37 +186,6 @@ fn tick_controller(
     finish_controller(controller, sites, stepped.unwrap(), noted)
 }
 
-// A tick passes for the frames on all wires, which grow older, and then for the controller.
-fn begin_tick(
-    controller: &mut Power,
-    sites: &mut [HostSite],
-    noted: &mut Noted,
-) -> Result<(), NoMemory>
-    requires state { (w : NodeWorld) × WorldIs controller.old sites.old w × MayGoOn w × AreTimely w }
-    requires room { HaveRoom sites.old }
-    requires memory { noted.old.short ≡ false }
-    ensures stands { (w : NodeWorld) → WorldIs controller.old sites.old w → MayGoOn w → AreTimely w → FewAreCounted TimePasses w
-        → OnOk result (WorldBecomes controller.new sites.new noted.old.entries.items noted.new.entries.items (near_ticks w)) }
-    ensures memory { OnOk result (noted.new.short ≡ false) }
-{
-    age_all(sites, noted)?;
-    tick_controller(controller, sites, noted)
-}
-
-// All hosts have their ticks, one after another.
-fn tick_hosts(sites: &mut [HostSite], noted: &mut Noted) -> Result<(), NoMemory>
-    requires state { (w : NodeWorld) × SitesAre sites.old w.sites × AreToTick w.sites }
-    requires memory { noted.old.short ≡ false }
-    ensures stands { (w : NodeWorld) → SitesAre sites.old w.sites → AreToTick w.sites
-        → OnOk result (SitesTick sites.new noted.old.entries.items noted.new.entries.items (hosts_tick w.sites)) }
-    ensures memory { OnOk result (noted.new.short ≡ false) }
-{
-    for i in 0..sites.len() {
-        tick_host(&mut sites[i], noted)?;
-    }
-    Ok(())
-}
-
 /// A tick of the world: frames grow older, then the nodes have their ticks, ascending.
 ///
 /// # Errors
@@ -233,6 +202,10 @@ pub(crate) fn tick_world(
         → OnOk result (WorldBecomes controller.new sites.new noted.old.entries.items noted.new.entries.items (world_ticks w)) }
     ensures memory { OnOk result (noted.new.short ≡ false) }
 {
-    begin_tick(controller, sites, noted)?;
-    tick_hosts(sites, noted)
+    age_all(sites, noted)?;
+    tick_controller(controller, sites, noted)?;
+    for i in 0..sites.len() {
+        tick_host(&mut sites[i], noted)?;
+    }
+    Ok(())
 }

@@ -12,6 +12,7 @@ ghost use Rattle.lines_told.specs.lines.Plays.{Play, IsPlayFor, lines_played, li
 ghost use Rattle.lines_told.specs.lines.Plays.Play.{Said, Round};
 
 use crate::controller_sites::place_of;
+use crate::frame_lines::damage_line;
 use crate::looking::{on_the_way, runs};
 use crate::making::{make_sites, mask_of};
 use crate::playing::play_line;
@@ -90,14 +91,19 @@ impl NodeWorld {
     {
         self.stepped += 1;
         self.noted.forget();
+        let sites = self.sites.as_mut_slice();
+        if let Line::Damage { at, places } = line {
+            return damage_line(&mut self.controller, sites, *at, places, &mut self.noted);
+        }
         play_line(
             alloc,
             &mut self.controller,
-            self.sites.as_mut_slice(),
+            sites,
             self.mask,
             line,
             &mut self.noted,
-        )
+        )?;
+        Ok(None)
     }
 
     /// Goes through a round: each end takes all that stands on its wire then, the controller's end of a link before the host's and the links

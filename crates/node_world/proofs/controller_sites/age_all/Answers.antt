@@ -1,6 +1,7 @@
-use Rattle.std.proofs.Common.{ℕ, ◌<◌, ◌≤◌, List, length, refl, ap, arith, ◌∙◌}
+use Rattle.std.proofs.Common.{ℕ, ◌<◌, ◌≤◌, ◌++◌, List, length, refl, ap, arith, ◌∙◌}
 use Rattle.std.specs.Prelude.{slice_index_or}
-use Rattle.node_world.proofs.Words.{Entry, Site}
+use Rattle.node_world.proofs.Words.{Controller, Entry, Host, Site, entries_for}
+use Rattle.link_laws.specs.entries.Entries.{aged_entries}
 use Rattle.node_world.specs.HostSteps.{site_ages}
 use Rattle.node_world.proofs.SitesKept.{walk_begins, walk_next, walk_ends}
 use Rattle.node_world.proofs.controller_sites.age_all.Goals as goal
@@ -26,9 +27,12 @@ loop-i-preserved c =
       goes = λ hosts a.
           let n = walk_next older told now hosts c.args.noted.now.entries.items c.loop-i.noted.entries.items i
           (slice_index_or now i c.index-sites-i.result) (c.loop-i.invariant.goes hosts a) lt (ap (slice_index_or now i) c.index-sites-i.is) in
-          let r = c.in_ok-age_host.ensures.stands n.site n.here in
-          (n.goes c.age_host.new.site c.age_host.new.noted.entries.items r.site r.noted).walked;
-      short = c.age_host.ensures.short ∙ c.loop-i.invariant.short;
+          let k = slice_index_or now i c.index-sites-i.result in
+          let r = c.in_ok-grow_older.ensures n.site.link n.here.wires in
+          let E : ℕ → List Entry = λ h. entries_for h (aged_entries Controller n.site.link.to_controller ++ aged_entries Host n.site.link.to_host) in
+          (n.goes (record k { wires = c.grow_older.new.self }) c.grow_older.new.entries.items
+          (record { host = n.here.host; wires = r.0; place = n.here.place }) (r.1 ∙ ap (λ h. c.loop-i.noted.entries.items ++ E h) n.here.host)).walked;
+      short = c.loop-i.invariant.short;
     }
 
 pub returns-clause-stands : goal.returns-clause-stands

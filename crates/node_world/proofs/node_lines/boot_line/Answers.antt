@@ -1,26 +1,59 @@
-use Rattle.std.proofs.Common.{◌≡◌, true, false, refl, sym, ◌∙◌}
+use Rattle.std.proofs.Common.{rules, ◌≡◌, ◌==◌, ℕ, Bool, true, false, List, length, refl, sym, subst, ◌∙◌}
+use Rattle.std.specs.Prelude.{Option, None}
+use Rattle.std.proofs.lemmas.Bool.{ne_eqb}
 use Rattle.std.proofs.lemmas.Result.{on_ok_weaker}
 use Rattle.trace_model.specs.declared.entry.NoCause.TheVariants as no
 use Rattle.trace_model.specs.declared.line.Line.TheVariants as line
-use Rattle.node_world.proofs.Words.{Boots, is_running, node_at}
+use Rattle.node_world.proofs.Words.{Boots, Entry, HostSite, IfOff, IsSoundMemory, Running, Site, SiteIs, StandsAt, Uicc, WorldBecomes, after_planned}
+use Rattle.node_world.proofs.Words.{boot_writes, boots, fails_within, host_boots, host_cut, is_running, memory_at, new_link_end, new_uicc, node_at}
+use Rattle.node_world.proofs.AtHosts.{is_host, nowhere, reads, site_stands}
+use Rattle.node_world.proofs.HostsBoot.{boot_goes, boot_stops}
+use Rattle.node_world.proofs.HostsInWorlds.{boots_in_world}
+use Rattle.node_world.proofs.HostsPower.{memory_there, node_there}
 use Rattle.node_world.proofs.LinesEnd.{line_goes, line_refused, node_known, stands_not, runs_refused, boots_free}
+use Rattle.node_world.proofs.NearKept.{LeavesNear, cut_leaves, found_becomes}
 use Rattle.node_world.proofs.node_lines.boot_line.Goals as goal
 
-pub boot_node-requires : goal.boot_node-requires
-boot_node-requires c =
+-- a boot leaves the controller's end of the link as it is
+boot_leaves : (s : Site) → LeavesNear s (host_boots s).0
+boot_leaves s = go (fails_within (length (boot_writes s.memory.content)) s.memory.plan) refl
+  where
+    go : (b : Bool) → fails_within (length (boot_writes s.memory.content)) s.memory.plan ≡ b → LeavesNear s (host_boots s).0
+    go true q =
+        let written : Site = record s { memory = after_planned (boot_writes s.memory.content) s.memory } in
+        let cut : LeavesNear written (host_cut written) = cut_leaves written in
+        subst (λ p. LeavesNear s p.0) (sym (boot_stops s q)) (record { host = cut.host; near = cut.near })
+    go false q = subst (λ p. LeavesNear s p.0) (sym (boot_goes s q)) (record { host = refl; near = refl })
+
+pub boot_controller-requires : goal.boot_controller-requires
+boot_controller-requires c =
+    let w = c.requires.state.1 in
+    let may = c.requires.state.3 in
+    let zero : c.args.node ≡ 0 = c.if-node-eq0.true in
+    let none = stands_not (node_at w c.args.node) (sym (c.runs.ensures w c.requires.state.2 may.goes_on) ∙ c.if-runs.false) in
+    let O : ℕ → Type 0 = λ n. node_at w n ≡ None in
+    let M : ℕ → Type 0 = λ n. IsSoundMemory (memory_at w n) in
+    record { state = (w, c.requires.state.2, subst O zero none, subst M zero (may.boots c.args.node may.is_line.may_follow.1 none)) }
+
+pub boot_host-requires : goal.boot_host-requires
+boot_host-requires c =
+    let n = c.args.node in
+    let w = c.requires.state.1 in
+    let all = c.requires.state.2.sites in
+    let may = c.requires.state.3 in
+    let none = stands_not (node_at w n) (sym (c.runs.ensures w c.requires.state.2 may.goes_on) ∙ c.if-runs.false) in
+    let off : (n == 0) ≡ false = search (rules, ne_eqb) in
+    let a : StandsAt c.in-Some.place n w.sites = c.in-Some.ensures.place w.sites all in
+    let S : HostSite → Type 0 = λ k. SiteIs k a.site in
+    let is = reads c.args.sites.now w c.in-Some.place n a c.index-sites-place.result all c.index-sites-place.is in
+    let found = site_stands w c.in-Some.place n a may.goes_on.orderly in
     record {
       state = (
-        c.requires.state.1,
-        c.requires.state.2,
-        record {
-          goes_on = c.requires.state.3.goes_on;
-          timely = c.requires.state.3.timely;
-          off = stands_not (node_at c.requires.state.1 c.args.node) (sym (c.runs.ensures c.requires.state.1 c.requires.state.2
-              c.requires.state.3.goes_on) ∙ c.if-runs.false);
-          there = node_known c.requires.state.1 _ c.args.node c.requires.state.3.hosts_are c.requires.state.3.is_line.may_follow.1;
-          memory = c.requires.state.3.boots c.args.node c.requires.state.3.is_line.may_follow.1 (stands_not (node_at c.requires.state.1 c.args.node)
-              (sym (c.runs.ensures c.requires.state.1 c.requires.state.2 c.requires.state.3.goes_on) ∙ c.if-runs.false));
-        },
+        a.site,
+        subst S c.index-sites-place.is is,
+        is_host w c.in-Some.place n a may.goes_on,
+        sym (node_there w n off a.site found) ∙ none,
+        subst IsSoundMemory (memory_there w n off a.site found) (may.boots n may.is_line.may_follow.1 none),
       );
     }
 
@@ -32,17 +65,41 @@ returns-then-runs-clause-stands c header w world may mask_is =
     (runs_refused w c.args.node e) world)
     c.refuse.ensures.noted
 
-pub returns-clause-stands : goal.returns-clause-stands
-returns-clause-stands c header w world may mask_is =
+pub returns-then-node-eq0-clause-stands : goal.returns-then-node-eq0-clause-stands
+returns-then-node-eq0-clause-stands c header w world may mask_is =
     let e : is_running w c.args.node ≡ false = sym (c.runs.ensures w world may.goes_on) ∙ c.if-runs.false in
-    on_ok_weaker c.boot_node.result (line_goes w (line.Boot c.args.node)
-    c.boot_node.new.controller c.boot_node.new.sites c.args.noted.now.entries.items c.boot_node.new.noted.entries.items c.requires.nothing
-    (Boots c.args.node) refl (boots_free w c.args.node e))
-    (c.boot_node.ensures.stands w world (record {
-      goes_on = may.goes_on;
-      timely = may.timely;
-      off = stands_not (node_at w c.args.node) (sym (c.runs.ensures w world may.goes_on) ∙ c.if-runs.false);
-      there = node_known w _ c.args.node may.hosts_are may.is_line.may_follow.1;
-      memory = may.boots c.args.node may.is_line.may_follow.1 (stands_not (node_at w c.args.node) (sym (c.runs.ensures w world may.goes_on) ∙
-          c.if-runs.false));
-    }) (mask_is ∙ sym may.hosts_are))
+    let zero : c.args.node ≡ 0 = c.if-node-eq0.true in
+    let before : List Entry = c.args.noted.now.entries.items in
+    let now : List Entry = c.boot_controller.new.noted.entries.items in
+    let O : ℕ → Type 0 = λ n. node_at w n ≡ None in
+    let W : ℕ → Type 0 = λ n. WorldBecomes c.boot_controller.new.controller c.boot_controller.new.sites before now (boots w n) in
+    on_ok_weaker c.boot_controller.result
+    (λ b. line_goes w (line.Boot c.args.node) c.boot_controller.new.controller c.boot_controller.new.sites before now c.requires.nothing
+    (Boots c.args.node) refl (boots_free w c.args.node e) (subst W (sym zero) b))
+    (c.boot_controller.ensures.stands w world may.goes_on may.timely (subst O zero (stands_not (node_at w c.args.node) e)) (mask_is ∙ sym may.hosts_are))
+
+pub returns-in-Some-clause-stands : goal.returns-in-Some-clause-stands
+returns-in-Some-clause-stands c header w world may mask_is =
+    let n = c.args.node in
+    let e : is_running w n ≡ false = sym (c.runs.ensures w world may.goes_on) ∙ c.if-runs.false in
+    let o = may.goes_on.orderly in
+    let off : (n == 0) ≡ false = search (rules, ne_eqb) in
+    let a : StandsAt c.in-Some.place n w.sites = c.in-Some.ensures.place w.sites world.sites in
+    let S : HostSite → Type 0 = λ k. SiteIs k a.site in
+    let is = reads c.args.sites.now w c.in-Some.place n a c.index-sites-place.result world.sites c.index-sites-place.is in
+    let found = site_stands w c.in-Some.place n a o in
+    let none = sym (node_there w n off a.site found) ∙ stands_not (node_at w n) e in
+    let N : Option Running → Type 0 = λ x. IfOff x (new_link_end (Uicc new_uicc)) a.site.link.host.side in
+    let before : List Entry = c.args.noted.now.entries.items in
+    let now : List Entry = c.boot_host.new.noted.entries.items in
+    on_ok_weaker c.boot_host.result
+    (λ b. line_goes w (line.Boot n) _ _ before now c.requires.nothing (Boots n) refl (boots_free w n e)
+    (found_becomes w c.in-Some.place n a o (host_boots a.site) (boots w n) (boots_in_world w n a.site found off) (boot_leaves a.site) c.args.controller.now
+    c.args.sites.now c.boot_host.new.site before now world b))
+    (c.boot_host.ensures.stands a.site (subst S c.index-sites-place.is is) (is_host w c.in-Some.place n a may.goes_on) none
+    (subst N none (may.timely n a.site found).host))
+
+pub returns-in-None-clause-stands : goal.returns-in-None-clause-stands
+returns-in-None-clause-stands c header w world may mask_is =
+    let off : (c.args.node == 0) ≡ false = search (rules, ne_eqb) in
+    nowhere w.sites c.args.node (node_known w _ c.args.node may.hosts_are may.is_line.may_follow.1 off) (c.in-None.ensures.place w.sites world.sites)

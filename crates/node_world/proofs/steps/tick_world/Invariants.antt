@@ -2,7 +2,7 @@ use Rattle.std.proofs.Common.{◌≡◌, List, false}
 use Rattle.node_world.proofs.Words.{AreToTick, Site, SitesAre}
 use Rattle.node_world.proofs.SitesKept.{Walked}
 use Rattle.node_world.proofs.WorldsTick.{tick_of, tick_told}
-use Rattle.node_world.proofs.steps.tick_hosts.Given as goal
+use Rattle.node_world.proofs.steps.tick_world.Given as goal
 
 -- so many hosts have had their ticks
 abbrev pub invariant-loop-i : goal.invariant-loop-i

@@ -3,7 +3,7 @@ use Rattle.node_machine.specs.world.World.{NodeWorld}
 use Rattle.node_world.proofs.Words.{WorldIs}
 use Rattle.node_world.specs.Rounds.{MayTakeInOrder}
 use Rattle.node_world.proofs.RoundsGo.{HaveTakenSo}
-use Rattle.node_world.proofs.rounds.take_in_order.Given as goal
+use Rattle.node_world.proofs.rounds.go_round.Given as goal
 
 -- the ends of the first links have taken what stood on their wires
 abbrev pub invariant-loop-i : goal.invariant-loop-i

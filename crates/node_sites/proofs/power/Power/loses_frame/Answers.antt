@@ -1,0 +1,42 @@
+use Rattle.std.proofs.Common.{ℕ, ap, map, sym, subst, ◌∙◌}
+use Rattle.std.specs.Prelude.{Option, Some, None}
+use Rattle.swp_base.specs.InMemory.{Memory}
+use Rattle.link_laws.specs.messages.Links.{NumberedEnd}
+use Rattle.node_machine.specs.Parts.{Desk, Running}
+use Rattle.node_machine.specs.world.World.{port_for}
+use Rattle.node_core.specs.declared.node.Node.{Node}
+use Rattle.node_core.specs.Running.{RunsAs}
+use Rattle.node_sites.specs.declared.power.Power.{Power}
+use Rattle.node_sites.specs.declared.power.Power.TheVariants.{On}
+use Rattle.node_sites.specs.Powers.{IsNodePlace}
+use Rattle.node_sites.proofs.Losses.{counted, plain, while_off}
+use Rattle.node_sites.proofs.power.Power.loses_frame.Goals as goal
+
+-- a node that runs
+record Runs (n : Node Memory) (near : ℕ → NumberedEnd) : Type 0 where
+  r : Running
+  runs : RunsAs n r.core (map (λ (d : Desk). port_for (near d.host) d) r.desks)
+
+runs_here : (n : Node Memory) (m : Memory) (node : Option Running) (near : ℕ → NumberedEnd) → IsNodePlace (On n) m node near → Runs n near
+runs_here n m (Some r) near place = record { r = r; runs = place.1 }
+runs_here n m None near place = absurd place
+
+pub refused-requires : goal.refused-requires
+refused-requires c =
+    let q = c.requires.state in
+    let P : Power → Type 0 = λ k. IsNodePlace k q.0 q.1 q.2 in
+    let here = runs_here c.in-On.node q.0 q.1 q.2 (subst P c.in-On.is q.3) in
+    record { runs = (here.r.core, _, here.runs) }
+
+pub returns-then-not-is_refusal : goal.returns-then-not-is_refusal
+returns-then-not-is_refusal c m node near why place cause =
+    plain m near c.args.host why c.args.self.now node (sym (c.is_refusal.ensures why cause) ∙ c.if-not-is_refusal.true) place
+
+pub returns-in-On : goal.returns-in-On
+returns-in-On c m node near why place cause =
+    let P : Power → Type 0 = λ k. IsNodePlace k m node near in
+    counted m near c.args.host why c.in-On.node c.refused.new.self node (sym (c.is_refusal.ensures why cause) ∙ c.if-not-is_refusal.false)
+    (ap (λ s. s.journal.nv) c.refused.ensures.store) c.refused.ensures.runs (subst P c.in-On.is place)
+
+pub returns-in_default : goal.returns-in_default
+returns-in_default c m node near why place cause = while_off m near c.args.host why c.args.self.now node c.in_default.not-On place
