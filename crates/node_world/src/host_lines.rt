@@ -8,7 +8,7 @@ ghost use Rattle.node_world.specs.Controllers.{SitesAre, IsThere};
 ghost use Rattle.node_world.specs.Whole.{HostsPlayed, IsWithinBounds, line_asked};
 
 use crate::controller_sites::place_of;
-use crate::host_ends::finish_host;
+use crate::hosts::finish_host;
 use node_core::HostRefused;
 use node_sites::nodes::{Asked, give};
 use node_sites::noted::{Noted, refuse};

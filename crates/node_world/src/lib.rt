@@ -4,12 +4,10 @@
 #![tactic(auto)]
 
 mod controller;
-mod controller_power;
 mod controller_sites;
 mod frame_lines;
-mod host_boots;
-mod host_ends;
 mod host_lines;
+mod hosts;
 mod looking;
 mod making;
 mod node_lines;

@@ -13,10 +13,9 @@ ghost use Rattle.node_world.specs.Controllers.{WorldIs, MayGoOn};
 ghost use Rattle.node_world.specs.HostSteps.{reset_noted};
 ghost use Rattle.node_world.specs.Whole.{LinePlayed, MayPlay};
 
-use crate::controller::lose_controller;
-use crate::controller_power::boot_controller;
+use crate::controller::{boot_controller, lose_controller};
 use crate::controller_sites::place_of;
-use crate::host_boots::boot_host;
+use crate::hosts::boot_host;
 use crate::looking::{node_of, runs};
 use crate::steps::comes_to;
 use arrayvec::ArrayVec;

@@ -13,7 +13,7 @@ ghost use Rattle.node_world.specs.Whole.{IsWithinBounds, SitesTick, AreToTick, i
 
 use crate::controller::finish_controller;
 use crate::controller_sites::{age_all, place_of, sessions_of};
-use crate::host_ends::finish_host;
+use crate::hosts::finish_host;
 use link_end::ResetRefused;
 use node_core::NodeInput;
 use node_sites::incoming::Incoming;

@@ -2,7 +2,7 @@ use Rattle.std.proofs.Common.{◌≡◌, ◌++◌, true, ap, sym, subst, ◌∙�
 use Rattle.node_world.proofs.Words.{Host, Off, On, RunsAs, entries_for, exchanged, frames_out, memory_kept, node_memory, port_at, puts_entries}
 use Rattle.node_sites.specs.FramesOut.{SendsFrom}
 use Rattle.node_world.proofs.HostsDo.{has_gone_off, has_run_on, only_here}
-use Rattle.node_world.proofs.host_ends.finish_host.Goals as goal
+use Rattle.node_world.proofs.hosts.finish_host.Goals as goal
 
 pub send_frames-requires-clause-state : goal.send_frames-requires-clause-state
 send_frames-requires-clause-state c =
