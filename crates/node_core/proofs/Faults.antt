@@ -34,7 +34,7 @@ pub faults_rose : {N : Type 0} (faults : N → ℕ) {s t : Stored N} → faults 
 faults_rose faults count rose = record { count = count; rose = λ dead. rose }
 
 -- how it ran tells whether there is power
-so_too : (a b : Bool) → ran_so a ≡ ran_so b → a ≡ b
+pub so_too : (a b : Bool) → ran_so a ≡ ran_so b → a ≡ b
 so_too true true is = refl
 so_too false false is = refl
 so_too true false is = (let z : Done ≡ Stopped = is in cc)

@@ -41,4 +41,4 @@ mod Becoming
 pub mod Beginning
 pub mod Faults
 mod Masks
-mod SeenAsNode
+pub mod SeenAsNode

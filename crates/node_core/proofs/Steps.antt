@@ -5,9 +5,10 @@ use Rattle.std.specs.Prelude.{slice_index_or}
 use Rattle.std.proofs.lemmas.List.{drop_all}
 use Rattle.std.specs.Prelude.{Option, Some, None}
 use Rattle.std.specs.Option.{option_map_or}
-use Rattle.node_core.proofs.Words.{AreDoableInTurn, Brings, Core, EndsStandFor, Entry, Foretells, Handling, IsDoableNow, IsInStep, KeptEnds, Node, Plan, Port}
+use Rattle.node_core.proofs.Words.{AreDoableInTurn, Brings, Core, End, EndsStandFor, Entry, FetchMessage, Foretells, Handling, IsDoableNow, IsInStep, KeptEnds, Node, Plan, Port}
 use Rattle.node_core.proofs.Words.{Stored, Turn, WereMade, Work, after_turn, all_done, deed_shown, done, noted_of, noting, plan_left, port_at, turn_at}
-use Rattle.node_core.proofs.Words.{unnumbered, with_desk, with_port}
+use Rattle.node_core.proofs.Words.{end_of_node, has_turn, unnumbered, with_desk, with_port}
+use Rattle.trace_model.specs.declared.entry.Entry.TheVariants as entry
 use Rattle.node_machine.specs.Parts.{Desk as DeskOf}
 use Rattle.node_machine.specs.Parts.{Deed as DeedOf}
 use Rattle.node_deeds.specs.declared.deeds.Deed.{Deed}
@@ -61,6 +62,21 @@ desk_changed h f u stands = record {
   noted_are = u.noted_are;
   power = u.power;
 }
+
+-- a message has its turn: that is noted, its blocks are given back, and it isn't held
+pub turn_begun : {N : Type 0} {n : Node N} {given ends : KeptEnds} {noted now start : List Entry} {was short : Bool} {w : Work} {e : End} (h pipe : ℕ)
+    (message : List ℕ) → IsInStep n noted was start w → e ≡ end_of_node w.core h → (was ≡ true → short ≡ true)
+    → (short ≡ false → now ≡ noted ++ entry.Turn e pipe message ∷ [])
+    → ((ports : List Port) → EndsStandFor n.ends ports → EndsStandFor given (with_port h (after_turn FetchMessage) ports))
+    → ((ports : List Port) → EndsStandFor given ports → EndsStandFor ends (with_port h (λ p. record p { desk = record p.desk { holds = false } }) ports))
+    → IsInStep (record n { ends = ends }) now short start (has_turn h (pipe, message) w)
+turn_begun {given = given} {ends = ends} {noted = noted} {w = w} h pipe message u at stays more give_back set_holds =
+    let turn : Entry = entry.Turn (end_of_node w.core h) pipe message in
+    let first : Work = noting (turn ∷ []) w in
+    let begun = plain_noted turn refl u stays (λ kept. more kept ∙ ap (λ (x : End). noted ++ entry.Turn x pipe message ∷ []) at) in
+    let fetched = silent_turn {ends = given} h FetchMessage (λ p. refl) begun (give_back first.ports begun.ends) in
+    let second : Work = turn_at h FetchMessage first in
+    desk_changed {ends = ends} h (λ d. record d { holds = false }) fetched (set_holds second.ports fetched.ends)
 
 -- a deed without a write
 pub plainly : {N : Type 0} (writes : N → ℕ → List ℕ → Bool → N → Type 0) {n n2 : Node N} {noted now start : List Entry} {was short : Bool} {w : Work}

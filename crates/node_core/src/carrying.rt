@@ -1,7 +1,7 @@
 //! How a node carries out one deed.
 
 use crate::node::Node;
-use crate::noting::note;
+use crate::reporting::note;
 use crate::running::Ran;
 use hci_tables::Command;
 use link_end::SendRefused;
@@ -12,14 +12,14 @@ use trace_model::{End, Entry, Octets, Watch};
 
 impl<N: Nv + Drop> Node<N> {
     ghost use Rattle.node_core.specs.Running.{ran_so};
-    ghost use Rattle.std.specs.Prelude.{◌≡◌, ◌<◌, ℕ, true, false, List, ◌∷◌, [], map, length, IsTrue, IfErr, OnErr};
+    ghost use Rattle.std.specs.Prelude.{◌≡◌, ◌<◌, ◌∷◌, ℕ, true, false, List, [], map, length, IsTrue, IfErr, OnErr};
     ghost use Rattle.hcp_packet.specs.Packets.{IsSendable};
     ghost use Rattle.hci_tables.specs.Commands.{IsCommand};
     ghost use Rattle.gate_admin.specs.Decide.{ends_of};
-    ghost use Rattle.link_laws.specs.machine.Machine.Turn.{Give, Release};
+    ghost use Rattle.link_laws.specs.machine.Machine.Turn.{Give};
     ghost use Rattle.node_machine.specs.Parts.{Core, Port};
-    ghost use Rattle.node_machine.specs.Parts.Deed.{Asks, SaysOk, Drops};
-    ghost use Rattle.node_deeds.specs.Shown.{about_shown, creation_of_row};
+    ghost use Rattle.node_machine.specs.Parts.Deed.{Asks, SaysOk, Drops, Orders, Hears, Ends};
+    ghost use Rattle.node_deeds.specs.Shown.{about_shown, creation_of_row, goes_on_with, end_shown};
     ghost use Rattle.node_deeds.specs.Replies.{IsSoundAbout};
     ghost use Rattle.hci_tables.specs.declared.command.Command.TheVariants.{Create};
     ghost use Rattle.node_ends.specs.Ends.{EndsStandFor, FewAreDue, TellsLengthOf, given_at};
@@ -30,8 +30,6 @@ impl<N: Nv + Drop> Node<N> {
     ghost use Rattle.node_core.specs.Handling.{has_turn, is_noted_held};
     ghost use Rattle.history.specs.Steps.{end_of};
     ghost use Rattle.link_laws.specs.entries.Entries.End.{Host};
-    ghost use Rattle.node_machine.specs.Parts.Deed.{Orders, Hears, Ends};
-    ghost use Rattle.node_deeds.specs.Shown.{goes_on_with, end_shown};
     ghost use Rattle.node_deeds.specs.Hosts.{init_running};
     ghost use Rattle.node_core.specs.Deeds.{handling, deed_of, IsDoableNow, AreDoableInTurn};
 
@@ -50,7 +48,7 @@ impl<N: Nv + Drop> Node<N> {
     // # Errors
     //
     // Why the end of the link refuses it. Nothing changes then.
-    pub(crate) fn try_send<W: Watch>(
+    pub(crate) fn send<W: Watch>(
         &mut self,
         host: u8,
         pipe: u8,
@@ -79,17 +77,6 @@ impl<N: Nv + Drop> Node<N> {
             }
             Err(why) => Err(why),
         }
-    }
-
-    // The same, where it doesn't matter whether the end of the link takes it.
-    pub(crate) fn send<W: Watch>(&mut self, host: u8, pipe: u8, message: &[u8], watch: &mut W)
-        requires sendable { IsSendable (pipe, message.now) }
-        ensures carried { Carries W.noted W.is_short (self.old, watch.old) (self.new, watch.new) (turn_at host (Give (pipe, message.now))) }
-        ensures store { self.new.store ≡ self.old.store }
-        ensures number { self.new.number ≡ self.old.number }
-        ensures tasks { self.new.tasks ≡ self.old.tasks }
-    {
-        let _ = self.try_send(host, pipe, message, watch);
     }
 
     // A command for which there is room is committed: it is noted, and then written.
@@ -129,7 +116,7 @@ impl<N: Nv + Drop> Node<N> {
         ensures number { self.new.number ≡ self.old.number }
         ensures tasks { self.new.tasks ≡ self.old.tasks }
     {
-        self.send(host, 1, message, watch);
+        let _ = self.send(host, 1, message, watch);
         self.ends
             .set_notice(host, Some(Unanswered { about, age: 0 }));
     }
@@ -158,16 +145,6 @@ impl<N: Nv + Drop> Node<N> {
         };
         note(watch, asked, &notice);
         self.notify(row.dest, About::Waits(row), &notice, watch);
-    }
-
-    // The block that was set aside for an asker, where one was, is free.
-    pub(crate) fn release<W: Watch>(&mut self, asker: u8, watch: &mut W)
-        ensures carried { Carries W.noted W.is_short (self.old, watch.old) (self.new, watch.new) (turn_at asker Release) }
-        ensures store { self.new.store ≡ self.old.store }
-        ensures number { self.new.number ≡ self.old.number }
-        ensures tasks { self.new.tasks ≡ self.old.tasks }
-    {
-        self.ends.release(asker);
     }
 
     // ANY_OK was sent for the command that was committed last.
@@ -204,16 +181,7 @@ impl<N: Nv + Drop> Node<N> {
         ensures number { self.new.number ≡ self.old.number }
     {
         self.tasks.command = Some(ordered_by(message));
-        self.send(host, 1, message, watch);
-    }
-
-    // The last command of a host on pipe 01 is answered.
-    fn hear(&mut self)
-        ensures carried { (host : ℕ) → CarriesUnseen self.old self.new (done host Hears) }
-        ensures store { self.new.store ≡ self.old.store }
-        ensures number { self.new.number ≡ self.old.number }
-    {
-        self.tasks.command = None;
+        let _ = self.send(host, 1, message, watch);
     }
 
     // The init that runs has had so many answers. Where none runs, nothing more comes of an answer than that it was heard.
@@ -270,7 +238,7 @@ impl<N: Nv + Drop> Node<N> {
         match deed {
             Deed::Commits(command) => self.commit(command, watch),
             Deed::PassesOn { host: to } => {
-                self.send(*to, pipe, message, watch);
+                let _ = self.send(*to, pipe, message, watch);
                 Ran::Done
             }
             Deed::Sends {
@@ -278,7 +246,7 @@ impl<N: Nv + Drop> Node<N> {
                 pipe: on,
                 message: answer,
             } => {
-                self.send(*to, *on, answer.as_slice(), watch);
+                let _ = self.send(*to, *on, answer.as_slice(), watch);
                 Ran::Done
             }
             Deed::SaysOk => {
@@ -290,7 +258,7 @@ impl<N: Nv + Drop> Node<N> {
                 Ran::Done
             }
             Deed::Releases { asker } => {
-                self.release(*asker, watch);
+                self.ends.release(*asker);
                 Ran::Done
             }
             Deed::Tells {
@@ -317,7 +285,7 @@ impl<N: Nv + Drop> Node<N> {
                 Ran::Done
             }
             Deed::Hears => {
-                self.hear();
+                self.tasks.command = None;
                 Ran::Done
             }
             Deed::GoesOn { answered } => {
@@ -360,23 +328,6 @@ impl<N: Nv + Drop> Node<N> {
         Ran::Done
     }
 
-    // The message has its turn: that is noted, and its blocks are given back.
-    fn begin_turn<W: Watch>(&mut self, host: u8, pipe: u8, message: &[u8], watch: &mut W)
-        ensures carried { Carries W.noted W.is_short (self.old, watch.old) (self.new, watch.new) (has_turn host (pipe, message.now)) }
-        ensures store { self.new.store ≡ self.old.store }
-        ensures number { self.new.number ≡ self.old.number }
-        ensures tasks { self.new.tasks ≡ self.old.tasks }
-    {
-        let turn = Entry::Turn {
-            at: self.end_at(host),
-            pid: pipe,
-            message: Octets::new(self.alloc),
-        };
-        note(watch, turn, message);
-        self.ends.give_back(host);
-        self.ends.set_holds(host, false);
-    }
-
     /// The message that waits at the end of the link with this host is handled: it is the node's from now on, and these deeds are done.
     #[tactic(auto, using(crate::proofs::Faults::faults_stay, crate::proofs::Faults::faults_then))]
     pub(crate) fn handle<W: Watch>(
@@ -398,7 +349,14 @@ impl<N: Nv + Drop> Node<N> {
         ensures number { self.new.number ≡ self.old.number }
         ensures usable { IsUsable self.new.store }
     {
-        self.begin_turn(host, pipe, message, watch);
+        let turn = Entry::Turn {
+            at: self.end_at(host),
+            pid: pipe,
+            message: Octets::new(self.alloc),
+        };
+        note(watch, turn, message);
+        self.ends.give_back(host);
+        self.ends.set_holds(host, false);
         self.carry_all(host, deeds, pipe, message, watch)
     }
 

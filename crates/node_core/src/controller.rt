@@ -32,10 +32,9 @@ impl<N: Nv + Drop> Model for Controller<N> {
 }
 
 impl<N: Nv + Drop> Controller<N> {
-    ghost use Rattle.std.specs.Prelude.{◌≡◌, ◌≢◌, ◌≤◌, ℕ, true, List, map, None, Some, IfOk, IfErr, IfSome, OnOk, OnErr, IsTrue, MatchResult, Ok, Err};
+    ghost use Rattle.std.specs.Prelude.{◌≡◌, ◌≢◌, ◌≤◌, true, List, map, None, Some, IfOk, IfErr, IfSome, OnOk, OnErr, IsTrue, MatchResult, Ok, Err};
     ghost use Rattle.swp_base.specs.Outside.{Rose};
     ghost use Rattle.swp_base.specs.declared.link_terms.Role.TheVariants.{Clf};
-    ghost use Rattle.trace_model.specs.declared.entry.Entry.{Entry as Noted};
     ghost use Rattle.journal_laws.specs.Journal.{journal};
     ghost use Rattle.hci_store.specs.Image.{image_fault};
     ghost use Rattle.hci_store.specs.Starting.{ready_writes, HasWritten};
@@ -43,16 +42,14 @@ impl<N: Nv + Drop> Controller<N> {
     ghost use Rattle.swp_lpdu.specs.Controls.{lpdu_of, control_of};
     ghost use Rattle.link_laws.specs.machine.Machine.{lpdu_input, next_frame};
     ghost use Rattle.link_laws.specs.machine.Machine.LinkInput.{Reset, Start, Stop};
-    ghost use Rattle.node_machine.specs.Parts.{Core, Port, Work};
+    ghost use Rattle.node_machine.specs.Parts.{Core, Port};
     ghost use Rattle.node_machine.specs.Carrying.{port_at, with_port};
     ghost use Rattle.node_machine.specs.Node.{steps};
     ghost use Rattle.node_machine.specs.Node.NodeInput.{AtEnd, TimePasses};
     ghost use Rattle.node_ends.specs.Ends.{has_sent, frame_at, are_at_rest};
     ghost use Rattle.node_ends.specs.Making.{new_port};
     ghost use Rattle.node_core.specs.Booting.{found_in_memory, IsBootRefused};
-    ghost use Rattle.node_core.specs.Bringing.{Brings};
-    ghost use Rattle.node_core.specs.Running.{RunsAs, BeginsStep, HasStepped, MayStep, ran_so, one_more_error, core_kept};
-    ghost use Rattle.node_core.specs.Running.{reset_refusal_at, becomes_active_by, TakesStep};
+    ghost use Rattle.node_core.specs.Running.{RunsAs, MayStep, ran_so, one_more_error, core_kept, reset_refusal_at, TakesStep};
 
     /// A controller boots from a memory of 65,536 bytes, with links to the hosts of this mask, in which bit h stands for host h. It takes
     /// all its memory here. A memory that says nothing is formatted; one of version 01 is written anew as a snapshot of version 02

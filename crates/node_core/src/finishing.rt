@@ -7,7 +7,7 @@ use swp_base::Nv;
 use trace_model::Watch;
 
 impl<N: Nv + Drop> Node<N> {
-    ghost use Rattle.std.specs.Prelude.{◌≡◌, ◌≤◌, List, None, Some, IfSome, IfOk, OnOk, OnErr, MatchResult, IsTrue};
+    ghost use Rattle.std.specs.Prelude.{◌≡◌, ◌≤◌, List, None, Some, IfSome, IfOk, OnErr, MatchResult, IsTrue};
     ghost use Rattle.node_machine.specs.Parts.{Work};
     ghost use Rattle.node_machine.specs.Node.{all_come, times_out};
     ghost use Rattle.trace_model.specs.declared.entry.Entry.{Entry as Noted};

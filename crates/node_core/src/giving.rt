@@ -28,14 +28,7 @@ pub enum HostRefused {
 fn is_order(pipe: u8, message: &[u8]) -> bool
     ensures { result ≡ (pipe == 1 && is_command_message message.now) }
 {
-    pipe == 1 && is_command(message)
-}
-
-// Whether a message is a command.
-fn is_command(message: &[u8]) -> bool
-    ensures { result ≡ is_command_message message.now }
-{
-    matches!(read_header(message), Ok((MessageKind::Command, _)))
+    pipe == 1 && matches!(read_header(message), Ok((MessageKind::Command, _)))
 }
 
 // Why a host doesn't send a message that the end of its link refuses.
@@ -60,10 +53,10 @@ fn pipes_of(pipes: &[[u8; 3]]) -> ArrayVec<[u8; 3], 8>
 }
 
 impl<N: Nv + Drop> Node<N> {
-    ghost use Rattle.std.specs.Prelude.{◌≡◌, ◌≤◌, ◌==◌, ◌&&◌, ℕ, Bool, true, false, List, ◌∷◌, [], length, is_some, Some, IsTrue, OnOk, OnErr, IfErr};
+    ghost use Rattle.std.specs.Prelude.{◌≡◌, ◌≤◌, ◌==◌, ◌&&◌, ℕ, Bool, List, length, is_some, Some, IsTrue, OnOk, OnErr, IfErr};
     ghost use Rattle.trace_model.specs.declared.entry.Entry.{Entry as Noted};
     ghost use Rattle.hcp_packet.specs.Packets.{IsSendable};
-    ghost use Rattle.link_laws.specs.machine.Machine.{Message, give_refusal};
+    ghost use Rattle.link_laws.specs.machine.Machine.{give_refusal};
     ghost use Rattle.node_machine.specs.Parts.{Port, Work};
     ghost use Rattle.node_machine.specs.Parts.Deed.{GoesOn};
     ghost use Rattle.node_machine.specs.Carrying.{port_at, done};
@@ -72,66 +65,13 @@ impl<N: Nv + Drop> Node<N> {
     ghost use Rattle.node_machine.specs.world.World.{sending};
     ghost use Rattle.node_machine.specs.world.Lines.{if_waiting};
     ghost use Rattle.node_core.specs.Nodes.{IsInStep, Carries, CarriesUnseen};
-    ghost use Rattle.node_ends.specs.Ends.{EndsStandFor};
-    ghost use Rattle.node_core.specs.Giving.{refusal_noted, refused_as, ordered_if, TellsLength};
+    ghost use Rattle.node_core.specs.Giving.{refused_as, TellsLength};
 
     // Whether one that has to wait for the last command on pipe 01 does so.
     fn has_to_wait(&self, waits: bool) -> bool
         ensures { result ≡ (waits && is_some self.now.tasks.command) }
     {
         waits && self.tasks.command.is_some()
-    }
-
-    // Why a command that has to wait for another one isn't sent: where the end isn't up, that comes first.
-    fn why_waiting(&self) -> HostRefused
-        ensures why { (ports : List Port) (p : Port) (m : Message) → EndsStandFor self.now.ends ports → port_at ports self.now.number ≡ Some p
-            → Some (refusal_noted result) ≡ if_waiting true (give_refusal p.side m) }
-        ensures long { (len : ℕ) → TellsLength len (Some result) }
-    {
-        if self.ends.has_link(self.number) {
-            HostRefused::Waiting
-        } else {
-            HostRefused::NotUp
-        }
-    }
-
-    // A message was sent: where it is a command on pipe 01, it waits for the answer.
-    fn wait_for(&mut self, is_order: bool, message: &[u8])
-        ensures waits { CarriesUnseen self.old self.new (ordered_if is_order message.now) }
-        ensures store { self.new.store ≡ self.old.store }
-        ensures number { self.new.number ≡ self.old.number }
-    {
-        if is_order {
-            self.tasks.command = Some(ordered_by(message));
-        }
-    }
-
-    // A host sends a message, which isn't empty, as a command on pipe 01 or as any other one.
-    fn give<W: Watch>(
-        &mut self,
-        is_order: bool,
-        pipe: u8,
-        message: &[u8],
-        watch: &mut W,
-    ) -> Result<(), HostRefused>
-        requires order { is_order ≡ (pipe == 1 && is_command_message message.now) }
-        requires sendable { IsSendable (pipe, message.now) }
-        ensures refusal { (ports : List Port) (p : Port) → EndsStandFor self.old.ends ports → port_at ports self.old.number ≡ Some p
-            → refused_as result ≡ if_waiting false (give_refusal p.side (pipe, message.now)) }
-        ensures long { IfErr result (λ why. TellsLength (length message.now) (Some why)) }
-        ensures given { OnOk result (Carries W.noted W.is_short (self.old, watch.old) (self.new, watch.new)
-            (begins_with self.old.number (sending self.old.number (pipe, message.now)))) }
-        ensures unchanged { OnErr result ((self.new ≡ self.old) × (watch.new ≡ watch.old)) }
-        ensures store { self.new.store ≡ self.old.store }
-        ensures number { self.new.number ≡ self.old.number }
-    {
-        match self.try_send(self.number, pipe, message, watch) {
-            Ok(()) => {
-                self.wait_for(is_order, message);
-                Ok(())
-            }
-            Err(why) => Err(refused_by(why)),
-        }
     }
 
     /// A host sends a message, which isn't empty, on a pipe that isn't reserved (ETSI TS 102 622, section 5).
@@ -161,9 +101,19 @@ impl<N: Nv + Drop> Node<N> {
     {
         let is_order = is_order(pipe, message);
         if self.has_to_wait(is_order) {
-            return Err(self.why_waiting());
+            if self.ends.has_link(self.number) {
+                return Err(HostRefused::Waiting);
+            }
+            return Err(HostRefused::NotUp);
         }
-        self.give(is_order, pipe, message, watch)
+        if let Err(why) = self.send(self.number, pipe, message, watch) {
+            return Err(refused_by(why));
+        }
+        if !is_order {
+            return Ok(());
+        }
+        self.tasks.command = Some(ordered_by(message));
+        Ok(())
     }
 
     // An init begins to run, with at most eight pipes.

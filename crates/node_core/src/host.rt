@@ -32,8 +32,7 @@ impl<N: Nv + Drop> Model for Host<N> {
 }
 
 impl<N: Nv + Drop> Host<N> {
-    ghost use Rattle.std.specs.Prelude.{◌≡◌, ◌≢◌, ◌≤◌, ◌==◌, ◌&&◌, ℕ, List, map, [], ◌∷◌, length, is_some, None, Some, IfOk};
-    ghost use Rattle.std.specs.Prelude.{IfErr, IfSome, OnOk, OnErr, IsTrue};
+    ghost use Rattle.std.specs.Prelude.{◌≡◌, ◌≢◌, ◌≤◌, ◌==◌, ◌&&◌, ◌∷◌, List, map, [], length, is_some, None, Some, IfOk, IfErr, IfSome, OnOk, OnErr, IsTrue};
     ghost use Rattle.std.specs.Prelude.{MatchResult, Ok, true};
     ghost use Rattle.swp_base.specs.Outside.{Rose};
     ghost use Rattle.swp_base.specs.declared.link_terms.Role.TheVariants.{Uicc};
@@ -55,7 +54,6 @@ impl<N: Nv + Drop> Host<N> {
     ghost use Rattle.node_ends.specs.Ends.{has_sent, frame_at, are_at_rest};
     ghost use Rattle.node_ends.specs.Making.{new_port};
     ghost use Rattle.node_core.specs.Booting.{found_in_memory, IsBootRefused};
-    ghost use Rattle.node_core.specs.Bringing.{Brings};
     ghost use Rattle.node_core.specs.Giving.{refused_as, TellsLength, IsAsked};
     ghost use Rattle.node_core.specs.Running.{RunsAs, BeginsStep, HasStepped, MayStep, ran_so, one_more_error, core_kept, reset_refusal_at, TakesStep};
     ghost use Rattle.node_ends.specs.Inputs.{input_of_end, refusal_at};

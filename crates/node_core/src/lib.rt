@@ -13,14 +13,9 @@ mod host;
 mod hosts;
 mod inputs;
 mod node;
-mod noting;
-mod owing;
-mod relaying;
 mod reporting;
 mod running;
 mod running_node;
-mod syncing;
-mod timeouts;
 mod turns;
 
 pub use booting::{BootFault, BootRefused, a_boot_of_version_02_is_that_of_a_world};

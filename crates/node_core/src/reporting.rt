@@ -1,14 +1,24 @@
-//! What came to an end is noted.
-ghost use Rattle.std.specs.Prelude.{◌≡◌, ℕ, map, option_to_list};
+//! Entries are noted, and what came to an end.
+ghost use Rattle.std.specs.Prelude.{◌≡◌, ◌++◌, ◌∷◌, [], true, false, ℕ, map, option_to_list};
+ghost use Rattle.trace_model.specs.Notes.{IsNote, with_body};
 ghost use Rattle.link_laws.specs.entries.Entries.{End as Side, if_so, told};
 ghost use Rattle.link_laws.specs.entries.Entries.Entry.{Up, Down, Active, GaveUp, Acked};
 ghost use Rattle.history.specs.Steps.{end_of, entries_for};
 ghost use Rattle.node_core.specs.Noting.{AreNotes, tells_nothing, without_message};
 
-use crate::noting::note;
 use link_end::LinkReport;
 use swp_base::Cause;
 use trace_model::{End, Entry, Watch};
+
+/// Notes an entry, whose message is empty, with these bytes as its message where its form has one.
+#[inline(always)]
+pub(crate) fn note<W: Watch>(watch: &mut W, entry: Entry, body: &[u8])
+    requires { IsNote entry body.now }
+    ensures noted { W.is_short watch.new ≡ false → W.noted watch.new ≡ W.noted watch.old ++ with_body body.now entry ∷ [] }
+    ensures stays { W.is_short watch.old ≡ true → W.is_short watch.new ≡ true }
+{
+    watch.note(&entry, body);
+}
 
 /// Whether nothing of what an input did is noted.
 pub(crate) fn tells_nothing(report: &LinkReport) -> bool

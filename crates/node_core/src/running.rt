@@ -11,9 +11,7 @@ ghost use Rattle.node_core.specs.declared.node.Node.{Node as Kept};
 ghost use Rattle.node_core.specs.Running.{RunsAs, BeginsStep, SendsOneByOne, between, one_more_error};
 
 use crate::node::Node;
-use arrayvec::ArrayVec;
-use hci_store::Store;
-use swp_base::{Lpdu, MemNv, Nv};
+use swp_base::Nv;
 
 /// How a step of a node ends.
 #[derive(Clone, Copy, Debug, PartialEq, Eq)]
@@ -48,13 +46,10 @@ impl Ran {
 }
 
 impl<N: Nv + Drop> Node<N> {
-    ghost use Rattle.std.specs.Prelude.{◌≡◌, List, map, Some, None, IfSome, IsTrue, Ok};
-    ghost use Rattle.swp_lpdu.specs.Controls.{lpdu_of, control_of};
-    ghost use Rattle.link_laws.specs.machine.Machine.{next_frame};
-    ghost use Rattle.node_machine.specs.Parts.{Core, Port};
-    ghost use Rattle.node_machine.specs.Carrying.{port_at, with_port};
-    ghost use Rattle.node_ends.specs.Ends.{EndsStandFor, has_sent, frame_at, are_at_rest, HasNoneDue};
-    ghost use Rattle.node_core.specs.Running.{RunsAs, between, one_more_error};
+    ghost use Rattle.std.specs.Prelude.{◌≡◌, List, map};
+    ghost use Rattle.node_machine.specs.Parts.{Port};
+    ghost use Rattle.node_ends.specs.Ends.{EndsStandFor};
+    ghost use Rattle.node_core.specs.Running.{between};
 
     /// A step ends: what was done to the ends in it isn't kept.
     pub fn end_step(&mut self)

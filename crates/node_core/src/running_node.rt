@@ -44,8 +44,8 @@ fn role_of(number: u8) -> Role
 }
 
 impl<N: Nv + Drop> RunningNode<N> {
-    ghost use Rattle.std.specs.Prelude.{◌≡◌, ◌≢◌, ◌≤◌, ◌==◌, ◌&&◌, ℕ, true, List, map, [], ◌∷◌, length, is_some, None, Some, IfOk, IfErr, IfSome};
-    ghost use Rattle.std.specs.Prelude.{OnOk, OnErr, IsTrue, MatchResult, Ok};
+    ghost use Rattle.std.specs.Prelude.{◌≡◌, ◌≢◌, ◌≤◌, ◌==◌, ◌&&◌, ◌∷◌, true, List, map, [], length, is_some, None, Some, IfOk, IfErr, IfSome, OnOk, OnErr};
+    ghost use Rattle.std.specs.Prelude.{IsTrue, MatchResult, Ok};
     ghost use Rattle.trace_model.specs.declared.entry.Entry.{Entry as Noted};
     ghost use Rattle.journal_laws.specs.Journal.{journal};
     ghost use Rattle.hci_store.specs.Image.{image_fault};

@@ -1,32 +1,45 @@
 //! How a message has its turn.
+ghost use Rattle.std.specs.Prelude.{◌≡◌, ◌∷◌, [], IfSome};
+ghost use Rattle.node_deeds.specs.declared.deeds.Deed.TheVariants.{PassesOn};
 
 use crate::node::{InBuffer, MESSAGE, Node};
+use crate::reporting::note;
 use crate::running::Ran;
 use node_deeds::{Deed, Deeds, Shortfall, lack, put_controller_deeds, put_host_deeds};
 use swp_base::Nv;
-use trace_model::Watch;
+use trace_model::{Entry, Octets, Watch};
+
+// The host to which a message is relayed, with its blocks, where these deeds are all that is done with it.
+fn relayed_to(deeds: &[Deed]) -> Option<u8>
+    ensures { IfSome result (λ to. deeds.now ≡ PassesOn to ∷ []) }
+{
+    match deeds {
+        [Deed::PassesOn { host }] => Some(*host),
+        _ => None,
+    }
+}
 
 impl<N: Nv + Drop> Node<N> {
     ghost use Rattle.node_core.specs.Running.{ran_so};
-    ghost use Rattle.std.specs.Prelude.{◌≡◌, ◌≤◌, Bool, List, ◌∷◌, [], length, IsTrue, IfSome};
+    ghost use Rattle.std.specs.Prelude.{◌≡◌, ◌≢◌, ◌≤◌, ◌∷◌, Bool, List, [], length, IsTrue, IfSome};
     ghost use Rattle.trace_model.specs.declared.entry.Entry.{Entry as Noted};
     ghost use Rattle.node_machine.specs.Parts.{Port, Work};
-    ghost use Rattle.node_machine.specs.Carrying.{port_at};
-    ghost use Rattle.node_machine.specs.Turns.{lets_go, have_turns, passes};
+    ghost use Rattle.node_machine.specs.Parts.Deed.{Sends};
+    ghost use Rattle.node_machine.specs.Carrying.{done, port_at};
+    ghost use Rattle.node_machine.specs.Turns.{deeds_of, lets_go, have_turns, passes};
     ghost use Rattle.hcp_packet.specs.Packets.{IsSendable};
-    ghost use Rattle.std.specs.Prelude.{◌≢◌};
-    ghost use Rattle.node_machine.specs.Turns.{deeds_of};
     ghost use Rattle.node_deeds.specs.Shown.{deeds_shown};
     ghost use Rattle.node_deeds.specs.Cores.{AreDoable};
     ghost use Rattle.node_core.specs.Deeds.{handling};
+    ghost use Rattle.node_core.specs.Handling.{has_turn};
     ghost use Rattle.node_ends.specs.Ends.{EndsStandFor, FewAreDue, held_at, got_at, message_read};
-    ghost use Rattle.node_core.specs.Nodes.{IsInStep, IsUsable, LiesInBuffer, IsInSomeStep, CarriesOutWhere};
+    ghost use Rattle.node_core.specs.Nodes.{IsInStep, IsUsable, LiesInBuffer, IsInSomeStep, CarriesWhere, CarriesOutWhere};
     ghost use Rattle.node_core.specs.Bringing.{Brings};
     ghost use Rattle.node_core.specs.Faults.{CountsFaults};
     ghost use Rattle.node_core.specs.Turning.{IsDecided, IsNodeInOrder, AreFewDue};
 
     // No message is held at an end: it takes fragments again, if it was held.
-    pub(crate) fn let_go(&mut self, host: u8, held: bool)
+    fn let_go(&mut self, host: u8, held: bool)
         requires few { (ports : List Port) × EndsStandFor self.old.ends ports × FewAreDue (port_at ports host) }
         ensures carried { (noted : List Noted) (short : Bool) (start : List Noted) (w : Work) → IsInStep self.old noted short start w
             → held ≡ held_at w.ports host → IsInStep self.new noted short start (lets_go host w) }
@@ -38,10 +51,37 @@ impl<N: Nv + Drop> Node<N> {
         }
     }
 
+    // The message that waits at the end of the link with this host has its turn: it goes on to another host, with its blocks.
+    fn relay<W: Watch>(&mut self, host: u8, to: u8, pipe: u8, message: &[u8], watch: &mut W)
+        requires waits { IsInSomeStep W.noted W.is_short (self.old, watch.old) (λ w. got_at w.ports host ≡ (pipe, message.now) ∷ []) }
+        ensures carried { CarriesWhere (λ w. got_at w.ports host ≡ (pipe, message.now) ∷ []) W.noted W.is_short (self.old, watch.old) (self.new, watch.new)
+            (λ w. done host (Sends to (pipe, message.now)) (has_turn host (pipe, message.now) w)) }
+        ensures store { self.new.store ≡ self.old.store }
+        ensures number { self.new.number ≡ self.old.number }
+        ensures tasks { self.new.tasks ≡ self.old.tasks }
+    {
+        let turn = Entry::Turn {
+            at: self.end_at(host),
+            pid: pipe,
+            message: Octets::new(self.alloc),
+        };
+        note(watch, turn, message);
+        self.ends.set_holds(host, false);
+        if self.ends.pass_on(host, to) {
+            let sent = Entry::Sent {
+                at: self.end_at(to),
+                session: 0,
+                pid: pipe,
+                message: Octets::new(self.alloc),
+            };
+            note(watch, sent, message);
+        }
+    }
+
     // The message that waits at the end of the link with this host has its turn, as it was decided: it is held back where these deeds
-    // lack room, and handled otherwise.
+    // lack room, goes on with its blocks where it is only relayed, and is handled otherwise.
     #[tactic(auto, using(crate::proofs::Faults::faults_stay, crate::proofs::Faults::faults_then))]
-    pub(crate) fn take_turn<W: Watch>(
+    fn turn_decided<W: Watch>(
         &mut self,
         host: u8,
         deeds: &[Deed],
@@ -54,9 +94,10 @@ impl<N: Nv + Drop> Node<N> {
         requires usable { IsUsable self.old.store }
         requires live { IsTrue self.old.store.journal.live }
         requires decided { IsInSomeStep W.noted W.is_short (self.old, watch.old)
-            (λ w. IsDecided host (handling self.old (pipe, message.now)) deeds.now short held w) }
-        ensures carried { CarriesOutWhere N.writes (λ w. IsDecided host (handling self.old (pipe, message.now)) deeds.now short held w) W.noted W.is_short
-            (self.old, watch.old) (self.new, watch.new) (have_turns host ((pipe, message.now) ∷ [])) }
+            (λ w. IsDecided host (handling self.old (pipe, message.now)) deeds.now short held w × (got_at w.ports host ≡ (pipe, message.now) ∷ [])) }
+        ensures carried { CarriesOutWhere N.writes (λ w. IsDecided host (handling self.old (pipe, message.now)) deeds.now short held w
+            × (got_at w.ports host ≡ (pipe, message.now) ∷ [])) W.noted W.is_short (self.old, watch.old) (self.new, watch.new)
+            (have_turns host ((pipe, message.now) ∷ [])) }
         ensures ran { result ≡ ran_so self.new.store.journal.live }
         ensures faults { CountsFaults N.faults self.old.store self.new.store }
         ensures number { self.new.number ≡ self.old.number }
@@ -64,6 +105,11 @@ impl<N: Nv + Drop> Node<N> {
     {
         if let Some(Shortfall { need, spare }) = short {
             self.hold_back(host, need, spare, watch);
+            return Ran::Done;
+        }
+        if let Some(to) = relayed_to(deeds) {
+            self.relay(host, to, pipe, message, watch);
+            self.let_go(host, held);
             return Ran::Done;
         }
         if !self.handle(host, deeds, pipe, message, watch).is_done() {
@@ -99,36 +145,6 @@ impl<N: Nv + Drop> Node<N> {
         );
     }
 
-    // What a host does with this message, which waits at its end, the one of the link with its own number, is put into a list, which is
-    // empty.
-    fn deeds_of_host(&mut self, pipe: u8, message: &[u8], deeds: &mut Deeds)
-        requires usable { IsUsable self.old.store }
-        requires live { IsTrue self.old.store.journal.live }
-        requires host { self.old.number ≢ 0 }
-        requires sendable { IsSendable (pipe, message.now) }
-        requires may { (noted : List Noted) × (full : Bool) × (start : List Noted) × (w : Work) × IsInStep self.old noted full start w
-            × IsNodeInOrder w.core w.ports }
-        requires none { deeds.old.items ≡ [] }
-        ensures deeds { (noted : List Noted) (full : Bool) (start : List Noted) (w : Work) → IsInStep self.old noted full start w → IsNodeInOrder w.core w.ports
-            → deeds_of w.core w.ports self.old.number (pipe, message.now) ≡ deeds_shown (handling self.old (pipe, message.now)) deeds.new.items }
-        ensures doable { AreDoable deeds.new.items }
-        ensures same { self.new ≡ self.old }
-    {
-        let Some(desk) = self.ends.desk(0) else {
-            return;
-        };
-        let is_up = self.ends.has_link(desk.host);
-        put_host_deeds(
-            deeds,
-            &mut self.store,
-            &desk,
-            is_up,
-            &self.tasks,
-            pipe,
-            message,
-        );
-    }
-
     // What a node does with this message, which waits at its end with this host, is put into a list, which is empty. The link of a host
     // is the one with its own number.
     #[inline(always)]
@@ -149,10 +165,22 @@ impl<N: Nv + Drop> Node<N> {
         ensures same { self.new ≡ self.old }
     {
         if self.number == 0 {
-            self.deeds_of_controller(host, pipe, message, deeds)
-        } else {
-            self.deeds_of_host(pipe, message, deeds)
+            self.deeds_of_controller(host, pipe, message, deeds);
+            return;
         }
+        let Some(desk) = self.ends.desk(0) else {
+            return;
+        };
+        let is_up = self.ends.has_link(desk.host);
+        put_host_deeds(
+            deeds,
+            &mut self.store,
+            &desk,
+            is_up,
+            &self.tasks,
+            pipe,
+            message,
+        );
     }
 
     // This message, which waits at the end with this host, has its turn: what is done with it is decided, and done where there is room.

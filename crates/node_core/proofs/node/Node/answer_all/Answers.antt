@@ -24,9 +24,9 @@ loop-asker-preserved g c =
     let a : ℕ = get_or askers i 0 in
     let split : drop i askers ≡ a ∷ drop (i + 1) askers = drop-cons askers i 0 c.loop-asker-test.true ∙ ap (λ n. a ∷ drop n askers) (sym (add-one i)) in
     record {
-      live = ap (λ (s : Stored g.row.N.Denot). s.journal.live) (t.ensures.store ∙ c.release.ensures.store) ∙ c.loop-asker.invariant.live;
-      store = t.ensures.store ∙ (c.release.ensures.store ∙ c.loop-asker.invariant.store);
-      number = t.ensures.number ∙ (c.release.ensures.number ∙ c.loop-asker.invariant.number);
+      live = ap (λ (s : Stored g.row.N.Denot). s.journal.live) t.ensures.store ∙ c.loop-asker.invariant.live;
+      store = t.ensures.store ∙ c.loop-asker.invariant.store;
+      number = t.ensures.number ∙ c.loop-asker.invariant.number;
       goes = λ start w u.
           let P : List ℕ → Type 0 = λ l. DoesOn c.loop-asker.self (g.W.Watch.noted c.loop-asker.watch) (g.W.Watch.is_short c.loop-asker.watch)
           start (flat_map (answers_owed r) l) (flat_map (answers_owed r) askers) w in
@@ -34,11 +34,12 @@ loop-asker-preserved g c =
           start l (flat_map (answers_owed r) askers) w in
           let k : Q (Releases a ∷ Sends a (1, answer_of r []) ∷ flat_map (answers_owed r) (drop (i + 1) askers)) =
           subst Q (flat_map-cons (answers_owed r) a (drop (i + 1) askers)) (subst P split (c.loop-asker.invariant.goes start w u)) in
-          let freed = one_done k c.loop-asker.invariant.live refl (c.release.ensures.carried start k.now k.under) in
-          let on = ap (λ (s : Stored g.row.N.Denot). s.journal.live) c.release.ensures.store ∙ c.loop-asker.invariant.live in
+          let freed = one_done k c.loop-asker.invariant.live refl
+          (silent_turn {ends = c.release.new.self} a Release (λ p. refl) k.under (c.release.ensures k.now.ports k.under.ends)) in
           let S : List ℕ → Type 0 = λ bytes. IsInStep t.new.self (g.W.Watch.noted t.new.watch) (g.W.Watch.is_short t.new.watch) start
           (turn_at a (Give (1, bytes)) freed.now) in
-          one_done freed on refl (subst S (c.as_slice.ensures.value ∙ c.refused.ensures) (t.ensures.carried start freed.now freed.under));
+          one_done freed c.loop-asker.invariant.live refl
+          (subst S (c.as_slice.ensures.value ∙ c.refused.ensures) (t.ensures.carried start freed.now freed.under));
     }
 
 pub returns-clause-carried : goal.returns-clause-carried

@@ -2,13 +2,13 @@ use Rattle.std.proofs.Common.{ℕ, List, ◌∷◌, refl, ap, subst}
 use Rattle.std.specs.Prelude.{None}
 use Rattle.gate_admin.specs.Decide.{ends_of}
 use Rattle.node_core.proofs.Words.{Asks, Drops, Ends, Give, Hears, Host, IsAnswered, IsInStep, Node, Orders, Releases, SaysOk, Sends, SetsErrors, Tells, done}
-use Rattle.node_core.proofs.Words.{end_of, end_shown, goes_on_with, handling, init_running, turn_at}
+use Rattle.node_core.proofs.Words.{Release, end_of, end_shown, goes_on_with, handling, init_running, turn_at}
 use Rattle.node_machine.specs.Parts.About.{Removed}
 use Rattle.node_machine.specs.Carrying.{notified}
 use Rattle.node_deeds.specs.Shown.{creation_of_row}
 use Rattle.node_deeds.specs.declared.deeds.Deed.TheVariants as kept
-use Rattle.node_core.proofs.Steps.{plainly, desk_changed, of_deed}
-use Rattle.node_core.proofs.Tasks.{going_cut, going_writes, going_anyway}
+use Rattle.node_core.proofs.Steps.{plainly, desk_changed, of_deed, silent_turn}
+use Rattle.node_core.proofs.Tasks.{command_changed, going_cut, going_writes, going_anyway}
 use Rattle.node_core.proofs.node.Node.carry_out.Goals as goal
 
 pub returns-in-PassesOn-clause-carried : goal.returns-in-PassesOn-clause-carried
@@ -43,8 +43,8 @@ returns-in-Asks-clause-carried g c start w u =
 pub returns-in-Releases-clause-carried : goal.returns-in-Releases-clause-carried
 returns-in-Releases-clause-carried g c start w u =
     of_deed c.args.host (handling c.args.self.now (c.args.pipe, c.args.message.now)) c.args.deed.now (kept.Releases c.in-Releases.asker) c.in-Releases.is
-    (plainly g.N.Nv.writes (done c.args.host (Releases c.in-Releases.asker)) u c.requires.live c.release.ensures.store
-    (c.release.ensures.carried start w u) refl refl (λ plan. refl))
+    (plainly g.N.Nv.writes (done c.args.host (Releases c.in-Releases.asker)) u c.requires.live refl
+    (silent_turn c.in-Releases.asker Release (λ p. refl) u (c.release.ensures w.ports u.ends)) refl refl (λ plan. refl))
 
 pub returns-in-Tells-clause-carried : goal.returns-in-Tells-clause-carried
 returns-in-Tells-clause-carried g c start w u =
@@ -85,8 +85,7 @@ returns-in-Orders-clause-carried g c start w u =
 pub returns-in-Hears-clause-carried : goal.returns-in-Hears-clause-carried
 returns-in-Hears-clause-carried g c start w u =
     of_deed c.args.host (handling c.args.self.now (c.args.pipe, c.args.message.now)) c.args.deed.now kept.Hears c.in-Hears.is
-    (plainly g.N.Nv.writes (done c.args.host Hears) u c.requires.live c.hear.ensures.store
-    (c.hear.ensures.carried c.args.host (g.W.Watch.noted c.args.watch.now) (g.W.Watch.is_short c.args.watch.now) start w u) refl refl (λ plan. refl))
+    (plainly g.N.Nv.writes (done c.args.host Hears) u c.requires.live refl (command_changed _ None u refl refl) refl refl (λ plan. refl))
 
 pub returns-in-GoesOn-clause-carried : goal.returns-in-GoesOn-clause-carried
 returns-in-GoesOn-clause-carried g c start w u =

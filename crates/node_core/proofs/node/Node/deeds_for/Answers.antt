@@ -1,9 +1,40 @@
-use Rattle.std.proofs.Common.{◌≡◌, ℕ, sym, subst}
-use Rattle.node_core.proofs.Words.{Message, deeds_of, deeds_shown, handling}
+use Rattle.std.proofs.Common.{◌≡◌, ℕ, sym, ap, ◌∙◌, subst}
+use Rattle.std.specs.Prelude.{option_map}
+use Rattle.node_core.proofs.Words.{Desk, Handling, Message, Stored, deeds_of, deeds_shown, end_view, handling, host_deeds, init_running, own_view}
+use Rattle.node_deeds.specs.Shown.{desk_shown}
+use Rattle.node_core.proofs.HavingTurns.{no_some, at_host}
+use Rattle.node_core.proofs.Deciders.{looks_at, some_desk, own_number}
 use Rattle.node_core.proofs.node.Node.deeds_for.Goals as goal
 
-pub returns-else-self-eq0-clause-deeds : goal.returns-else-self-eq0-clause-deeds
-returns-else-self-eq0-clause-deeds g c noted full start w u order =
+pub returns-in_default-clause-deeds : goal.returns-in_default-clause-deeds
+returns-in_default-clause-deeds g c noted full start w u order =
+    let none = no_some c.desk.result c.in_default.not-Some in
+    absurd (some_desk u c.if-self-eq0.false order (ap (option_map (λ (d : Desk). desk_shown d)) (sym none) ∙ c.desk.ensures w.ports u.ends))
+
+pub put_host_deeds-requires-clause-some : goal.put_host_deeds-requires-clause-some
+put_host_deeds-requires-clause-some g c =
+    let r = c.requires.may in
+    (own_number c.in-Some.desk r.3.ports r.5.hosts
+    (ap (option_map (λ (d : Desk). desk_shown d)) (sym c.in-Some.is) ∙ c.desk.ensures r.3.ports r.4.ends)).0
+
+pub put_host_deeds-requires-clause-host : goal.put_host_deeds-requires-clause-host
+put_host_deeds-requires-clause-host g c =
+    let r = c.requires.may in
+    (own_number c.in-Some.desk r.3.ports r.5.hosts
+    (ap (option_map (λ (d : Desk). desk_shown d)) (sym c.in-Some.is) ∙ c.desk.ensures r.3.ports r.4.ends)).1
+
+pub returns-clause-deeds : goal.returns-clause-deeds
+returns-clause-deeds g c noted full start w u order =
     let m : Message = (c.args.pipe, c.args.message.now) in
-    let P : ℕ → Type 0 = λ h. deeds_of w.core w.ports h m ≡ deeds_shown (handling c.args.self.now m) c.deeds_of_host.new.deeds.items in
-    subst P (sym (c.requires.own c.if-self-eq0.false)) (c.deeds_of_host.ensures.deeds noted full start w u order)
+    let t = c.put_host_deeds in
+    let node = c.args.self.now in
+    let l = looks_at c.in-Some.desk c.has_link-is_up.result u c.requires.live c.if-self-eq0.false order
+    (ap (option_map (λ (d : Desk). desk_shown d)) (sym c.in-Some.is) ∙ c.desk.ensures w.ports u.ends) (c.has_link-is_up.ensures w.ports u.ends) in
+    let H : ℕ → Handling = λ n. record { node = n; init = init_running node.tasks.init; message = m } in
+    let A : ℕ → Type 0 = λ n. deeds_shown (H n) t.new.deeds.items ≡ host_deeds (own_view w.core) (end_view l.port) m in
+    let P : ℕ → Type 0 = λ h. deeds_of w.core w.ports h m ≡ deeds_shown (handling node m) t.new.deeds.items in
+    subst P (sym (c.requires.own c.if-self-eq0.false)) (at_host w.core w.ports node.number m l.port (λ none. c.if-self-eq0.false (sym u.node ∙ none)) l.at
+    ∙ sym (subst A l.host (t.ensures.deeds w.core l.port l.is)))
+
+pub returns-clause-same : goal.returns-clause-same
+returns-clause-same g c = ap (λ (s : Stored g.row.N.Denot). record c.args.self.now { store = s }) c.put_host_deeds.ensures.unchanged

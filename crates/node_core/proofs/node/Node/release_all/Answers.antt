@@ -1,7 +1,8 @@
 use Rattle.std.proofs.Common.{◌≡◌, ℕ, ◌+◌, List, [], ◌∷◌, get_or, drop, map, refl, sym, ap, ◌∙◌, subst, add-one, drop-cons}
 use Rattle.std.proofs.lemmas.List.{drop_all}
-use Rattle.node_core.proofs.Words.{IsInStep, Releases, Stored, Work, all_done}
+use Rattle.node_core.proofs.Words.{IsInStep, Release, Releases, Work, all_done}
 use Rattle.node_core.proofs.Freeing.{DoesOn, one_done}
+use Rattle.node_core.proofs.Steps.{silent_turn}
 use Rattle.node_core.proofs.node.Node.release_all.Goals as goal
 
 pub loop-asker-init : goal.loop-asker-init
@@ -9,32 +10,32 @@ loop-asker-init g c = record {
   live = c.requires.live;
   store = refl;
   number = refl;
-  goes = λ start w u. record { now = w; under = u; onto = refl };
+  goes = λ noted short start w u. record { now = w; under = u; onto = refl };
 }
 
 pub loop-asker-preserved : goal.loop-asker-preserved
 loop-asker-preserved g c =
-    let t = c.release in
     let askers = c.args.askers.now in
     let i = c.loop-asker.asker-index in
     let a : ℕ = get_or askers i 0 in
     let split : drop i askers ≡ a ∷ drop (i + 1) askers = drop-cons askers i 0 c.loop-asker-test.true ∙ ap (λ n. a ∷ drop n askers) (sym (add-one i)) in
     record {
-      live = ap (λ (s : Stored g.row.N.Denot). s.journal.live) t.ensures.store ∙ c.loop-asker.invariant.live;
-      store = t.ensures.store ∙ c.loop-asker.invariant.store;
-      number = t.ensures.number ∙ c.loop-asker.invariant.number;
-      goes = λ start w u.
-          let P : List ℕ → Type 0 = λ l. DoesOn c.loop-asker.self (g.W.Watch.noted c.loop-asker.watch) (g.W.Watch.is_short c.loop-asker.watch)
+      live = c.loop-asker.invariant.live;
+      store = c.loop-asker.invariant.store;
+      number = c.loop-asker.invariant.number;
+      goes = λ noted short start w u.
+          let P : List ℕ → Type 0 = λ l. DoesOn c.loop-asker.self noted short
           start (map Releases l) (map Releases askers) w in
-          let k : P (a ∷ drop (i + 1) askers) = subst P split (c.loop-asker.invariant.goes start w u) in
-          one_done k c.loop-asker.invariant.live refl (t.ensures.carried start k.now k.under);
+          let k : P (a ∷ drop (i + 1) askers) = subst P split (c.loop-asker.invariant.goes noted short start w u) in
+          one_done k c.loop-asker.invariant.live refl
+          (silent_turn {ends = c.release.new.self} a Release (λ p. refl) k.under (c.release.ensures k.now.ports k.under.ends));
     }
 
 pub returns-clause-carried : goal.returns-clause-carried
-returns-clause-carried g c start w u =
+returns-clause-carried g c noted short start w u =
     let askers = c.args.askers.now in
     let i = c.loop-asker.asker-index in
-    let k = c.loop-asker.invariant.goes start w u in
+    let k = c.loop-asker.invariant.goes noted short start w u in
     let none : drop i askers ≡ [] = drop_all i askers c.loop-asker-test.false in
-    let P : Work → Type 0 = λ v. IsInStep c.loop-asker.self (g.W.Watch.noted c.loop-asker.watch) (g.W.Watch.is_short c.loop-asker.watch) start v in
+    let P : Work → Type 0 = λ v. IsInStep c.loop-asker.self noted short start v in
     subst P (ap (λ (l : List ℕ). all_done 0 (map Releases l) k.now) (sym none) ∙ k.onto) k.under

@@ -1,4 +1,4 @@
-use Rattle.std.proofs.Common.{◌≡◌, true, List, map, drop}
+use Rattle.std.proofs.Common.{◌≡◌, Bool, true, List, map, drop}
 use Rattle.node_core.proofs.Words.{Entry, IsInStep, Releases, Work}
 use Rattle.node_core.proofs.Freeing.{DoesOn}
 use Rattle.node_core.proofs.node.Node.release_all.Given as goal
@@ -6,12 +6,10 @@ use Rattle.node_core.proofs.node.Node.release_all.Given as goal
 -- the blocks of the askers so far are free
 abbrev pub invariant-loop-asker : goal.invariant-loop-asker
 invariant-loop-asker g l =
-    let noted = g.W.Watch.noted in
-    let short = g.W.Watch.is_short in
     record {
       live : l.self.store.journal.live ≡ true;
       store : l.self.store ≡ l.fn.self.store;
       number : l.self.number ≡ l.fn.self.number;
-      goes : (start : List Entry) (w : Work) → IsInStep l.fn.self (noted l.fn.watch) (short l.fn.watch) start w
-          → DoesOn l.self (noted l.watch) (short l.watch) start (map Releases (drop l.asker-index l.askers)) (map Releases l.askers) w;
+      goes : (noted : List Entry) (short : Bool) (start : List Entry) (w : Work) → IsInStep l.fn.self noted short start w
+          → DoesOn l.self noted short start (map Releases (drop l.asker-index l.askers)) (map Releases l.askers) w;
     }

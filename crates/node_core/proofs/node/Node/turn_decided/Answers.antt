@@ -1,19 +1,34 @@
-use Rattle.std.proofs.Common.{◌≡◌, true, not, List, [], ◌∷◌, sym, ap, ◌∙◌}
+use Rattle.std.proofs.Common.{◌≡◌, ℕ, true, not, List, [], ◌∷◌, sym, ap, ◌∙◌}
 use Rattle.std.specs.Prelude.{option_map}
-use Rattle.node_core.proofs.Words.{Handling, Message, Sends, Stored, deeds_shown, handling, lack, lack_shown, lets_go, needs}
+use Rattle.node_core.proofs.Words.{Brings, Handling, IsInStep, Message, Sends, Stored, deeds_shown, handles, handling, holds_back, lack, lack_shown, lets_go}
+use Rattle.node_core.proofs.Words.{needs}
 use Rattle.node_machine.specs.Parts.{Deed as DeedOf}
 use Rattle.node_core.proofs.Joining.{brings_then}
 use Rattle.node_core.proofs.Steps.{plainly}
 use Rattle.node_core.proofs.Quiet.{few_kept, held_kept}
-use Rattle.node_core.proofs.HavingTurns.{has_room, let_cut, let_writes, let_anyway, brings_same, quiet_after}
+use Rattle.node_core.proofs.HavingTurns.{no_some, has_room, has_none, held_cut, held_writes, held_anyway, let_cut, let_writes, let_anyway}
+use Rattle.node_core.proofs.HavingTurns.{brings_same, quiet_after}
 use Rattle.node_core.proofs.Relays.{relay_handles}
+use Rattle.node_core.proofs.Faults.{ran_is}
 use Rattle.node_core.proofs.node.Node.turn_decided.Goals as goal
 
-pub take_turn-requires-clause-decided : goal.take_turn-requires-clause-decided
-take_turn-requires-clause-decided g c = let r = c.requires.decided in (r.0, r.1, r.2, r.3.0)
+pub returns-in-Some-clause-carried : goal.returns-in-Some-clause-carried
+returns-in-Some-clause-carried g c start w u may =
+    let d = may.0 in
+    let h = c.args.host in
+    let m : Message = (c.args.pipe, c.args.message.now) in
+    let short : ℕ × ℕ = (c.in-Some.field-0.need, c.in-Some.field-0.spare) in
+    let none = d.lacks ∙ ap (option_map lack_shown) c.in-Some.is in
+    brings_same
+    (plainly g.N.Nv.writes {n2 = c.hold_back.new.self} (holds_back h short) u c.requires.live c.hold_back.ensures.store (c.hold_back.ensures.carried start w u)
+    (held_cut h short w) (held_writes h short w) (held_anyway h short w))
+    (λ plan. has_none h m (deeds_shown (handling c.args.self.now m) c.args.deeds.now) short w d.deeds_are none plan)
 
-pub returns-in_default-clause-carried : goal.returns-in_default-clause-carried
-returns-in_default-clause-carried g c start w u may = c.take_turn.ensures.carried start w u may.0
+pub hold_back-requires : goal.hold_back-requires
+hold_back-requires g c = let r = c.requires.decided in record { few = (r.0, r.1, r.2, r.3.0.few) }
+
+pub handle-requires-clause-doable : goal.handle-requires-clause-doable
+handle-requires-clause-doable g c = let r = c.requires.decided in (r.0, r.1, r.2, r.3.0.doable)
 
 pub relay-requires : goal.relay-requires
 relay-requires g c = let r = c.requires.decided in record { waits = (r.0, r.1, r.2, r.3.1) }
@@ -25,20 +40,20 @@ let_go-requires g c =
     let m : Message = (c.args.pipe, c.args.message.now) in
     let on : c.relay.new.self.store.journal.live ≡ true =
     ap (λ (s : Stored g.row.N.Denot). s.journal.live) c.relay.ensures.store ∙ c.requires.live in
-    let b = relay_handles g.N.Nv.writes {n2 = c.relay.new.self} h c.in-Some.to m r.2 c.requires.live c.relay.ensures.store
+    let b = relay_handles g.N.Nv.writes {n2 = c.relay.new.self} h c.in-Some-relayed_to.to m r.2 c.requires.live c.relay.ensures.store
     (c.relay.ensures.carried r.0 r.1 r.2 r.3.1) in record {
       few = (
         b.after.ports,
         b.stands.ends,
-        few_kept r.1.ports b.after.ports h (sym (quiet_after h m (Sends c.in-Some.to m ∷ []) b (b.stands.power ∙ ap not on))) r.3.0.few,
+        few_kept r.1.ports b.after.ports h (sym (quiet_after h m (Sends c.in-Some-relayed_to.to m ∷ []) b (b.stands.power ∙ ap not on))) r.3.0.few,
       );
     }
 
-pub returns-clause-carried : goal.returns-clause-carried
-returns-clause-carried g c start w u may =
+pub returns-in-Some-relayed_to-clause-carried : goal.returns-in-Some-relayed_to-clause-carried
+returns-in-Some-relayed_to-clause-carried g c start w u may =
     let d = may.0 in
     let h = c.args.host in
-    let to = c.in-Some.to in
+    let to = c.in-Some-relayed_to.to in
     let m : Message = (c.args.pipe, c.args.message.now) in
     let a : Handling = handling c.args.self.now m in
     let only : List DeedOf = Sends to m ∷ [] in
@@ -50,7 +65,42 @@ returns-clause-carried g c start w u may =
     let held = d.held_is ∙ sym (held_kept b.after.ports w.ports h (quiet_after h m only b power)) in
     let later = plainly g.N.Nv.writes {n2 = c.let_go.new.self} (lets_go h) b.stands on c.let_go.ensures.store
     (c.let_go.ensures.carried _ _ start b.after b.stands held) (let_cut h b.after) (let_writes h b.after) (let_anyway h b.after) in
-    let told = c.in-Some.ensures in
-    let is = d.deeds_are ∙ ap (deeds_shown a) told.0 in
-    let room = sym (ap (λ ds. lack w.ports (needs h (deeds_shown a ds))) told.0) ∙ (d.lacks ∙ ap (option_map lack_shown) told.1) in
-    brings_same (brings_then g.N.Nv.writes b power later) (λ plan. has_room h m only w is room plan)
+    let told = c.in-Some-relayed_to.ensures in
+    let room = d.lacks ∙ ap (option_map lack_shown) (no_some c.args.short c.in_default.not-Some) in
+    let is = d.deeds_are ∙ ap (deeds_shown a) told in
+    let free = sym (ap (λ ds. lack w.ports (needs h (deeds_shown a ds))) told) ∙ room in
+    brings_same (brings_then g.N.Nv.writes b power later) (λ plan. has_room h m only w is free plan)
+
+pub let_go-requires-2 : goal.let_go-requires-2
+let_go-requires-2 g c =
+    let r = c.requires.decided in
+    let h = c.args.host in
+    let m : Message = (c.args.pipe, c.args.message.now) in
+    let b : Brings g.N.Nv.writes c.args.self.now.store.journal.nv c.handle.new.self.store.journal.nv
+    (IsInStep c.handle.new.self (g.W.Watch.noted c.handle.new.watch) (g.W.Watch.is_short c.handle.new.watch) r.0)
+    (handles h m (deeds_shown (handling c.args.self.now m) c.args.deeds.now)) r.1 = c.handle.ensures.carried r.0 r.1 r.2 in
+    let on : c.handle.new.self.store.journal.live ≡ true = ran_is c.handle.ensures.ran c.is_done.ensures ∙ c.if-not-is_done.false in record {
+      few = (
+        b.after.ports,
+        b.stands.ends,
+        few_kept r.1.ports b.after.ports h
+            (sym (quiet_after h m (deeds_shown (handling c.args.self.now m) c.args.deeds.now) b (b.stands.power ∙ ap not on))) r.3.0.few,
+      );
+    }
+
+pub returns-clause-carried : goal.returns-clause-carried
+returns-clause-carried g c start w u may =
+    let d = may.0 in
+    let h = c.args.host in
+    let m : Message = (c.args.pipe, c.args.message.now) in
+    let deeds = deeds_shown (handling c.args.self.now m) c.args.deeds.now in
+    let b : Brings g.N.Nv.writes c.args.self.now.store.journal.nv c.handle.new.self.store.journal.nv
+    (IsInStep c.handle.new.self (g.W.Watch.noted c.handle.new.watch) (g.W.Watch.is_short c.handle.new.watch) start)
+    (handles h m deeds) w = c.handle.ensures.carried start w u in
+    let on : c.handle.new.self.store.journal.live ≡ true = ran_is c.handle.ensures.ran c.is_done.ensures ∙ c.if-not-is_done.false in
+    let power = b.stands.power ∙ ap not on in
+    let held = d.held_is ∙ sym (held_kept b.after.ports w.ports h (quiet_after h m deeds b power)) in
+    let later = plainly g.N.Nv.writes {n2 = c.let_go-2.new.self} (lets_go h) b.stands on c.let_go-2.ensures.store
+    (c.let_go-2.ensures.carried _ _ start b.after b.stands held) (let_cut h b.after) (let_writes h b.after) (let_anyway h b.after) in
+    let room = d.lacks ∙ ap (option_map lack_shown) (no_some c.args.short c.in_default.not-Some) in
+    brings_same (brings_then g.N.Nv.writes b power later) (λ plan. has_room h m deeds w d.deeds_are room plan)

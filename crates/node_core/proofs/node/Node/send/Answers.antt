@@ -3,7 +3,7 @@ use Rattle.std.specs.Prelude.{length}
 use Rattle.node_core.proofs.Words.{KeptEnds, Message, TellsLengthOf, port_at}
 use Rattle.node_core.proofs.Doing.{sent_under_way, refused_under_way, told_taken, told_refused}
 use Rattle.node_core.proofs.Sendings.{where_err, of_err}
-use Rattle.node_core.proofs.node.Node.try_send.Goals as goal
+use Rattle.node_core.proofs.node.Node.send.Goals as goal
 
 pub returns-in-Ok-clause-carried : goal.returns-in-Ok-clause-carried
 returns-in-Ok-clause-carried g c start w u =
