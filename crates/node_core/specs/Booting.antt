@@ -1,5 +1,5 @@
 -- A boot of a node: what it finds in its memory, whatever stands there, and what a boot that is refused leaves.
-use Rattle.std.specs.Prelude.{◌≡◌, ◌≢◌, ◌==◌, ◌⊎◌, ℕ, Bool, List, [], ◌∷◌, map, if◌then◌else◌, false, Some, None, IsTrue}
+use Rattle.std.specs.Prelude.{◌≡◌, ◌≢◌, ◌==◌, ◌⊎◌, ℕ, Bool, List, [], ◌∷◌, if◌then◌else◌, false, Some, IsTrue}
 use Rattle.swp_base.specs.Outside.{Rose}
 use Rattle.swp_base.specs.declared.link_terms.Role.{Role as Named}
 use Rattle.swp_base.specs.declared.link_terms.Role.TheVariants.{Clf, Uicc}
@@ -14,9 +14,6 @@ use Rattle.hci_store.specs.Starting.{ready_state, ready_writes, HasWritten}
 use Rattle.gate_admin.specs.View.{has, hosts_where}
 use Rattle.node_machine.specs.Parts.{Running}
 use Rattle.node_machine.specs.Node.{found}
-use Rattle.node_ends.specs.Ends.{EndsStandFor}
-use Rattle.node_ends.specs.Making.{new_port}
-use Rattle.node_core.specs.declared.node.Node.{Node}
 use Rattle.node_core.specs.declared.booting.BootFault.{BootFault}
 use Rattle.node_core.specs.declared.booting.BootFault.TheVariants.{NoMemory, Journal}
 

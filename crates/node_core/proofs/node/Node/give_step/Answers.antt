@@ -1,5 +1,5 @@
 use Rattle.std.proofs.Common.{◌≡◌, Bool, true, false, ◌&&◌, length, refl, sym, ap, ◌∙◌, subst}
-use Rattle.std.specs.Prelude.{Some, Ok, Err, is_some, ◌==◌}
+use Rattle.std.specs.Prelude.{Some, Err, is_some, ◌==◌}
 use Rattle.node_core.proofs.Words.{Give, HostRefused, IsInStep, Message, Ordered, TellsLengthOf, Work, give_refusal, if_waiting, is_command_message, port_at}
 use Rattle.node_core.proofs.Words.{refused_as, turn_at}
 use Rattle.node_core.specs.Giving.{TellsLength, ordered_if}

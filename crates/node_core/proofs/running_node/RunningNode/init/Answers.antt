@@ -1,4 +1,4 @@
-use Rattle.std.proofs.Common.{◌≡◌, ℕ, [], ◌∷◌, not, ◌∙◌, ap, sym, subst}
+use Rattle.std.proofs.Common.{◌≡◌, [], ◌∷◌, not, ◌∙◌, ap, sym, subst}
 use Rattle.std.specs.Prelude.{Some, None, Result, Ok, Err, option_map, is_some}
 use Rattle.node_core.proofs.Words.{HasStepped, HostRefused, Init, IsAsked, IsInStep, Node, RunsAs, Work, all_done, between, give_refusal, if_waiting, port_at}
 use Rattle.node_core.proofs.Words.{refused_as, sending}

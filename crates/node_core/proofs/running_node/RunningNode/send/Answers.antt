@@ -1,6 +1,6 @@
 use Rattle.std.proofs.Common.{◌≡◌, ◌&&◌, ◌∙◌, ap, sym, subst}
 use Rattle.std.specs.Prelude.{Some, None, Result, Ok, Err, option_map, is_some, ◌==◌}
-use Rattle.node_core.proofs.Words.{HasStepped, HostRefused, IsAsked, IsInStep, Node, Port, RunsAs, Work, all_done, between, give_refusal, if_waiting}
+use Rattle.node_core.proofs.Words.{HasStepped, HostRefused, IsAsked, Node, Port, RunsAs, all_done, between, give_refusal, if_waiting}
 use Rattle.node_core.proofs.Words.{is_command_message, port_at, refused_as, sending}
 use Rattle.node_core.proofs.Between.{at_rest, rests_in_step, kept_at}
 use Rattle.node_core.proofs.Asking.{not_zero, asked_in_step, has_sent_so}
