@@ -1,16 +1,23 @@
 -- The world below a bare header: what it stands for, what is told of a line there, and what can be asked of it.
-use Rattle.std.proofs.Common.{◌≡◌, false, List, sym, ap, ◌∙◌, subst}
-use Rattle.world.proofs.Words.{BareWorld, Below, End, Header, History, IsFaultThere, Line, Link, Play, StandsBelow, WorldStandsFor, bare_link_behind, frames_to}
-use Rattle.world.proofs.Words.{host_of, lines_lead, lines_played, link_at, misread, noted, outcome_of, told_below}
+use Rattle.std.proofs.Common.{◌≡◌, ℕ, ◌+◌, ◌-◌, ◌<◌, false, List, [], ◌∷◌, ◌++◌, sym, ap, ◌∙◌, subst}
+use Rattle.std.specs.Prelude.{None, Result, OnOk, IfErr}
+use Rattle.std.proofs.lemmas.Result.{on_ok_weaker, IfErr-weaker}
+use Rattle.std.specs.List.{AllByRecursion}
+use Rattle.node_world.specs.Worlds.{AreFewWithParts, IsNodeWorldBehind}
+use Rattle.node_world.specs.declared.worlds.NodeWorld.{NodeWorld}
+use Rattle.world.proofs.Words.{BareWorld, Below, End, Header, History, IsFaultThere, IsLineOf, IsPlayFor, Line, Link, Play, Said, StandsBelow, WorldStandsFor, bare_link_behind}
+use Rattle.world.proofs.Words.{Round, frames_to, host_of, lines_lead, lines_played, link_at, misread, noted, outcome_of, round_behind, told_below}
 use Rattle.link_laws.specs.messages.Rest.{link_rests}
-use Rattle.lines_told.specs.lines.Below.{misread_below}
-use Rattle.lines_told.specs.lines.Plays.{rests_behind}
+use Rattle.lines_told.specs.lines.Below.{IsPlayedLine, misread_below}
+use Rattle.lines_told.specs.lines.Plays.{lines_said, rests_behind, rounds_played, told_of_play}
 use Rattle.lines_told.proofs.lines.Resting.{bare_rests}
 use Rattle.world.specs.declared.fault.WorldFault.{WorldFault}
 use Rattle.world.specs.declared.fault.WorldFault.TheVariants as fault
-use Rattle.world.specs.declared.world_steps.Below.TheVariants.{Bare}
+use Rattle.world.specs.declared.world_steps.Below.TheVariants.{Bare, Nodes}
 use Rattle.world.specs.Lines.{damaged_by}
-use Rattle.world.specs.BareWorlds.{IsFaultOf, bare_header}
+use Rattle.world.proofs.BareWorlds.{bare_line}
+use Rattle.history.specs.Follows.{with_step}
+use Rattle.world.specs.BareWorlds.{HasBareRoom, HasBareRoomToSettle, IsFaultOf, bare_entries, bare_header, with_steps}
 use Rattle.lines_told.specs.lines.Below.{frames_below}
 use Rattle.world.specs.Worlds.{damaged_below}
 
@@ -61,7 +68,93 @@ pub stands_bare : (b : Below) (w : BareWorld) (header : Header) (plays : List Pl
     → (t : History) × WorldStandsFor w header plays t
 stands_bare b w header plays is h = let P : Below → Type 0 = λ x. StandsBelow x header plays in subst P is h
 
+pub stands_nodes : (b : Below) (w : NodeWorld) (header : Header) (plays : List Play) → b ≡ Nodes w → StandsBelow b header plays
+    → IsNodeWorldBehind w header plays
+stands_nodes b w header plays is h = let P : Below → Type 0 = λ x. StandsBelow x header plays in subst P is h
+
 -- a bare world stands so for the header that it was made of
 pub of_its_header : (w : BareWorld) (header : Header) (plays : List Play) (t : History) → WorldStandsFor w header plays t
     → WorldStandsFor w (bare_header w) plays t
 of_its_header w header plays t h = let P : Header → Type 0 = λ x. WorldStandsFor w x plays t in subst P (sym h.header_is) h
+
+-- ## A bare world plays a line
+
+module _ (b : Below) (w : BareWorld) (is : b ≡ Bare w) (header : Header) (plays : List Play) (at : StandsBelow b header plays) where
+  abbrev history : History
+  history = (stands_bare b w header plays is at).0
+
+  stood : WorldStandsFor w header plays history
+  stood = (stands_bare b w header plays is at).1
+
+  own : WorldStandsFor w (bare_header w) plays history
+  own = of_its_header w header plays history stood
+
+  pub bare_room : lines_said plays < 320000 → HasBareRoom w
+  bare_room few = record { plays = plays; history = history; stands = own; few = few }
+
+  pub bare_room_to_settle : rounds_played plays < 400000000 → HasBareRoomToSettle w
+  bare_room_to_settle few = record { plays = plays; history = history; stands = own; few = few }
+
+  pub bare_may : (said : Line) → IsPlayedLine header said → IsLineOf (bare_header w) said
+  bare_may said may = let P : Header → Type 0 = λ x. IsLineOf x said in subst P (sym stood.header_is) (bare_line header said stood.is_header.bare may)
+
+  -- so many of its lines count as so many rounds
+  pub bare_counts : (next : BareWorld) (others : List Play) (lines rounds : ℕ)
+      → ((ps os : List Play) (t : History) → WorldStandsFor w (bare_header w) ps t → lines_played (bare_header w) ps ≡ lines_played (bare_header w) os
+      → AllByRecursion (IsPlayFor (bare_header w)) os → AreFewWithParts os → lines_said os ≡ lines_said ps - lines
+      → rounds_played os ≡ rounds_played ps + rounds → WorldStandsFor next (bare_header w) os t)
+      → lines_played header plays ≡ lines_played header others → AllByRecursion (IsPlayFor header) others → AreFewWithParts others
+      → lines_said others ≡ lines_said plays - lines → rounds_played others ≡ rounds_played plays + rounds → StandsBelow (Bare next) header others
+  bare_counts next others lines rounds counts same are few said played =
+      let its : header ≡ bare_header w = sym stood.header_is in
+      let P : Header → Type 0 = λ x. WorldStandsFor next x others history in
+      let S : Header → Type 0 = λ x. lines_played x plays ≡ lines_played x others in
+      let A : Header → Type 0 = λ x. AllByRecursion (IsPlayFor x) others in
+      (history, subst P stood.header_is (counts plays others history own (subst S its same) (subst A its are) few said played))
+
+  module _ {T : Type 0} (next : BareWorld) (said : Line) (r : Result T WorldFault) where
+    pub bare_stands : ((ps : List Play) (t : History) → WorldStandsFor w (bare_header w) ps t
+        → OnOk r (WorldStandsFor next (bare_header w) (ps ++ Said said ∷ []) (with_step t said)))
+        → OnOk r (StandsBelow (Bare next) header (plays ++ Said said ∷ []))
+    bare_stands steps =
+        let P : Header → Type 0 = λ x. WorldStandsFor next x (plays ++ Said said ∷ []) (with_step history said) in
+        on_ok_weaker r (λ (s : P (bare_header w)). (with_step history said, subst P stood.header_is s)) (steps plays history own)
+
+    pub bare_tells : ((ps : List Play) (t : History) → WorldStandsFor w (bare_header w) ps t
+        → OnOk r (bare_entries next ≡ noted (outcome_of (host_of (bare_header w)) (link_at t) said)))
+        → OnOk r (bare_entries next ≡ told_below header (lines_played header plays) said)
+    bare_tells tells =
+        on_ok_weaker r
+        (λ (e : bare_entries next ≡ noted (outcome_of (host_of (bare_header w)) (link_at history) said)).
+        e ∙ ap (λ x. noted (outcome_of (host_of x) (link_at history) said)) stood.header_is ∙ sym (told_bare w header plays history stood said))
+        (tells plays history own)
+
+  module _ {T E : Type 0} (next : BareWorld) (r : Result T E) where
+    pub bare_goes : ((ps : List Play) (t : History) → WorldStandsFor w (bare_header w) ps t
+        → OnOk r (WorldStandsFor next (bare_header w) (ps ++ Round ∷ []) (with_steps t (round_behind (bare_header w) (lines_played (bare_header w) ps)))))
+        → OnOk r (StandsBelow (Bare next) header (plays ++ Round ∷ []))
+    bare_goes goes =
+        let P : Header → Type 0 = λ x. WorldStandsFor next x (plays ++ Round ∷ []) (with_steps history (round_behind x (lines_played x plays))) in
+        on_ok_weaker r (λ (s : P (bare_header w)). (with_steps history (round_behind header (lines_played header plays)), subst P stood.header_is s))
+        (goes plays history own)
+
+    pub bare_told : ((ps : List Play) (t : History) → WorldStandsFor w (bare_header w) ps t
+        → OnOk r (bare_entries next ≡ told_of_play (bare_header w) (lines_played (bare_header w) ps) Round))
+        → OnOk r (bare_entries next ≡ told_of_play header (lines_played header plays) Round)
+    bare_told tells =
+        on_ok_weaker r
+        (λ (e : bare_entries next ≡ told_of_play (bare_header w) (lines_played (bare_header w) plays) Round).
+        e ∙ ap (λ x. told_of_play x (lines_played x plays) Round) stood.header_is)
+        (tells plays history own)
+
+  module _ {T : Type 0} (said : Line) (r : Result T WorldFault) where
+    pub bare_faults : ((ps : List Play) (t : History) → WorldStandsFor w (bare_header w) ps t → IfErr r (IsFaultOf (link_at t) said))
+        → IfErr r (IsFaultThere header (lines_played header plays) said)
+    bare_faults faults =
+        IfErr-weaker r (IsFaultOf (link_at history) said) (IsFaultThere header (lines_played header plays) said)
+        (fault_bare w header plays history stood said) (faults plays history own)
+
+    pub bare_sure : ((ps : List Play) (t : History) → WorldStandsFor w (bare_header w) ps t → OnOk r (misread (link_at t) said ≡ None))
+        → OnOk r (misread_below header (lines_played header plays) said ≡ None)
+    bare_sure sure =
+        on_ok_weaker r (λ (e : misread (link_at history) said ≡ None). misread_bare w header plays history stood said ∙ e) (sure plays history own)

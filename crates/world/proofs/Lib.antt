@@ -16,5 +16,4 @@ pub mod BareWorlds
 pub mod PlaysOnLinks
 pub mod Below
 pub mod Playing
-pub mod RoundParts
 pub mod Histories

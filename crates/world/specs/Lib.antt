@@ -4,4 +4,3 @@ pub mod Sides
 pub mod Lines
 pub mod BareWorlds
 pub mod Worlds
-pub mod RoundParts

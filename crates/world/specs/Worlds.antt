@@ -122,21 +122,6 @@ abbrev pub MayCountBelow : Below → ℕ → ℕ → Type 0
 MayCountBelow (Bare w) lines rounds = MayCountBare w lines rounds
 MayCountBelow (Nodes w) lines rounds = MayCountAsRounds w lines rounds
 
--- what is below a header has room for a line: fewer than 320,000 lines were stepped, and this one may follow them
-pub record HasRoomBelow (b : Below) (said : Line) : Type 0 where
-  pub header : Header
-  pub plays : List Play
-  pub stands : StandsBelow b header plays
-  pub few : lines_said plays < 320000
-  pub may : IsPlayedLine header said
-
--- and for a round
-pub record HasRoomForRoundBelow (b : Below) : Type 0 where
-  pub header : Header
-  pub plays : List Play
-  pub stands : StandsBelow b header plays
-  pub few : rounds_played plays < 400000000
-
 -- ## Faults
 
 -- the first frame on its way to the end that a line behind these speaks of, where the line damages it

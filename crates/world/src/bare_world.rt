@@ -149,11 +149,6 @@ impl BareWorld {
         Ok(())
     }
 
-    /// Where it takes its memory.
-    pub(crate) fn allocator(&self) -> Global {
-        *self.entries.allocator()
-    }
-
     /// From now on so many of the lines that were stepped count as so many rounds, whose lines they were.
     pub(crate) fn count_as_rounds(&mut self, lines: u32, rounds: u32)
         requires { MayCountBare self.old lines rounds }

@@ -41,14 +41,8 @@ pub(crate) fn damage_line(
             entries.push(Entry::No { cause })?;
             Ok(())
         }
-        Damaged::Same => {
-            take_frame(spare, at, near, far, resets, entries)?;
-            Ok(())
-        }
-        Damaged::Lost(cause) => {
-            lose_first(at, cause, &mut near.wire, entries)?;
-            Ok(())
-        }
+        Damaged::Same => take_frame(spare, at, near, far, resets, entries),
+        Damaged::Lost(cause) => lose_first(at, cause, &mut near.wire, entries),
         Damaged::Undetected(misread) => {
             *other = Some(misread);
             Ok(())

@@ -58,37 +58,18 @@ pub(crate) fn play_line(
     ensures grows { resets.new ≤ resets.old + 2400 }
 {
     match line {
-        Line::Send { pid, message, .. } => {
-            send_line(at, near, far, resets, *pid, message, spare, entries)?;
-            Ok(())
-        }
-        Line::Deliver { count, .. } => {
-            deliver_line(spare, at, *count, near, far, resets, entries)?;
-            Ok(())
-        }
-        Line::Lose { .. } => {
-            lose_line(at, near, far, *resets, entries)?;
-            Ok(())
-        }
+        Line::Send { pid, message, .. } => send_line(
+            at, near, far, resets, *pid, message, spare, entries,
+        ),
+        Line::Deliver { count, .. } => deliver_line(spare, at, *count, near, far, resets, entries),
+        Line::Lose { .. } => lose_line(at, near, far, *resets, entries),
         Line::Damage { places, .. } => {
             damage_line(spare, at, places, near, far, resets, entries, other)
         }
-        Line::Tick { times } => {
-            tick_line(at, *times, near, far, resets, entries)?;
-            Ok(())
-        }
-        Line::Reset { window, .. } => {
-            reset_line(at, near, far, resets, *window, entries)?;
-            Ok(())
-        }
-        Line::Busy { .. } => {
-            set_ready(at, near, far, resets, false, entries)?;
-            Ok(())
-        }
-        Line::Ready { .. } => {
-            set_ready(at, near, far, resets, true, entries)?;
-            Ok(())
-        }
+        Line::Tick { times } => tick_line(at, *times, near, far, resets, entries),
+        Line::Reset { window, .. } => reset_line(at, near, far, resets, *window, entries),
+        Line::Busy { .. } => set_ready(at, near, far, resets, false, entries),
+        Line::Ready { .. } => set_ready(at, near, far, resets, true, entries),
         Line::Boot { .. } => Ok(()),
         Line::Cut { .. } => Ok(()),
         Line::Activate { .. } => Ok(()),

@@ -1,14 +1,12 @@
 //! The node of a bare end: the end, the blocks of memory of its messages, and what is noted of the end.
-ghost use Rattle.std.specs.Prelude.{◌≡◌, ◌++◌, OnOk, IfOk, map, option_to_list};
-ghost use Rattle.trace_model.specs.declared.entry.Entry.{Entry};
-ghost use Rattle.link_laws.specs.entries.Entries.{if_so};
-ghost use Rattle.block_pool.specs.Pool.{PoolState, IsLive, chain_bytes};
+ghost use Rattle.std.specs.Prelude.{◌≡◌, IfOk};
+ghost use Rattle.block_pool.specs.Pool.{IsLive, chain_bytes};
 
 use crate::forgetting::left_over;
 use block_pool::{Chain, Pool};
 use link_end::{LinkReport, ResetRefused, SendRefused};
 use std::alloc::{AllocError, Global};
-use swp_base::{Cause, Control, Lpdu, NoMemory, Role};
+use swp_base::{Control, Lpdu, NoMemory, Role};
 use swp_lpdu::LpduFault;
 use trace_model::{End, Entry, NoCause, Octets};
 
@@ -85,11 +83,24 @@ impl Node {
             self.acked = 0;
         }
         self.acked = self.acked.saturating_add(u32::from(report.acked));
-        note_down(place.at, report.ended, entries)?;
-        note_up(place, report.began, entries)?;
-        note_active(place.at, report.became_active, entries)?;
-        note_gave_up(place.at, report.gave_up, entries)?;
-        note_acked(place, report.acked > 0, self.acked, entries)
+        let Place { at, session } = place;
+        if let Some(cause) = report.ended {
+            entries.push(Entry::Down { at, cause })?;
+        }
+        if report.began {
+            entries.push(Entry::Up { at, session })?;
+        }
+        if report.became_active {
+            entries.push(Entry::Active { at })?;
+        }
+        if let Some(tries) = report.gave_up {
+            entries.push(Entry::GaveUp { at, tries })?;
+        }
+        if report.acked > 0 {
+            let count = self.acked;
+            entries.push(Entry::Acked { at, session, count })?;
+        }
+        Ok(())
     }
 
     // The message that came, where one did, is noted, and its blocks are given back.
@@ -224,64 +235,6 @@ impl Node {
     {
         self.end.is_at_rest()
     }
-}
-
-// A session that ended, where one did, is noted.
-fn note_down(at: End, ended: Option<Cause>, entries: &mut Vec<Entry>) -> Result<(), AllocError>
-    ensures { OnOk result (entries.new.items ≡ entries.old.items ++ map (Entry.Down at) (option_to_list ended)) }
-{
-    if let Some(cause) = ended {
-        entries.push(Entry::Down { at, cause })?;
-    }
-    Ok(())
-}
-
-// A session that began, where one did, is noted.
-fn note_up(place: Place, began: bool, entries: &mut Vec<Entry>) -> Result<(), AllocError>
-    ensures { OnOk result (entries.new.items ≡ entries.old.items ++ if_so began (Entry.Up place.at place.session)) }
-{
-    if began {
-        let Place { at, session } = place;
-        entries.push(Entry::Up { at, session })?;
-    }
-    Ok(())
-}
-
-// That the end is activated, where it is now, is noted.
-fn note_active(at: End, active: bool, entries: &mut Vec<Entry>) -> Result<(), AllocError>
-    ensures { OnOk result (entries.new.items ≡ entries.old.items ++ if_so active (Entry.Active at)) }
-{
-    if active {
-        entries.push(Entry::Active { at })?;
-    }
-    Ok(())
-}
-
-// That the end gave up after so many tries, where it did, is noted.
-fn note_gave_up(at: End, gave_up: Option<u8>, entries: &mut Vec<Entry>) -> Result<(), AllocError>
-    ensures { OnOk result (entries.new.items ≡ entries.old.items ++ map (Entry.GaveUp at) (option_to_list gave_up)) }
-{
-    if let Some(tries) = gave_up {
-        entries.push(Entry::GaveUp { at, tries })?;
-    }
-    Ok(())
-}
-
-// How many messages of the session are acknowledged is noted, where there are more of them.
-#[inline(always)]
-fn note_acked(
-    place: Place,
-    more: bool,
-    count: u32,
-    entries: &mut Vec<Entry>,
-) -> Result<(), AllocError>
-    ensures { OnOk result (entries.new.items ≡ entries.old.items ++ if_so more (Entry.Acked place.at place.session count)) }
-{
-    if more {
-        let Place { at, session } = place;
-        entries.push(Entry::Acked { at, session, count })?;
-    }
-    Ok(())
 }
 
 // The bytes of a chain, in memory that is left over.

@@ -3,13 +3,12 @@ ghost use Rattle.std.specs.Prelude.{◌≡◌, ◌-◌, ◌+◌, ℕ, [], ◌∷
 ghost use Rattle.std.specs.List.{AllByRecursion};
 ghost use Rattle.trace_model.specs.Lines.{IsNodeOf, MayBegin};
 ghost use Rattle.trace_model.specs.declared.entry.Entry.TheVariants.{Echo, Settled};
-ghost use Rattle.trace_model.specs.declared.line.Header.{Header as Named};
 ghost use Rattle.trace_model.specs.declared.line.Line.{Line as Spoken};
 ghost use Rattle.trace_model.specs.declared.line.Line.TheVariants as line;
 ghost use Rattle.lines_told.specs.lines.Below.{IsPlayedLine, memory_behind, nodes_behind, opening_told, told_below, misread_below};
-ghost use Rattle.lines_told.specs.lines.Plays.{IsPlayFor, Play, lines_played, lines_said, rests_behind, rounds_played, told_of_play};
+ghost use Rattle.lines_told.specs.lines.Plays.{Play, lines_played, rests_behind, told_of_play};
 ghost use Rattle.lines_told.specs.lines.Plays.Play.{Said, Round};
-ghost use Rattle.node_world.specs.Worlds.{AreFewWithParts, IsPeekedSo};
+ghost use Rattle.node_world.specs.Worlds.{IsPeekedSo};
 ghost use Rattle.world.specs.declared.fault.WorldFault.TheVariants as fault;
 ghost use Rattle.world.specs.Worlds.{StandsBelow, last_noted};
 
@@ -26,82 +25,6 @@ use trace_model::{End, Entry, Header, Line};
 pub(crate) enum Below {
     Bare(BareWorld),
     Nodes(NodeWorld),
-}
-
-impl Below {
-    ghost use Rattle.world.specs.Worlds.{HasRoomBelow, HasRoomForRoundBelow, MayCountBelow, IsFaultThere};
-
-    /// Does what a line asks for, or refuses it.
-    ///
-    /// # Errors
-    ///
-    /// As those of [`World::step`].
-    #[inline(always)]
-    pub(crate) fn step(&mut self, alloc: Global, line: &Line) -> Result<(), WorldFault>
-        requires { HasRoomBelow self.old line.now }
-        ensures stands { (header : Named) (plays : List Play) → StandsBelow self.old header plays → IsPlayedLine header line.now
-            → OnOk result (StandsBelow self.new header (plays ++ Said line.now ∷ [])) }
-        ensures entries { (header : Named) (plays : List Play) → StandsBelow self.old header plays → IsPlayedLine header line.now
-            → OnOk result (last_noted self.new ≡ told_below header (lines_played header plays) line.now) }
-        ensures fault { (header : Named) (plays : List Play) → StandsBelow self.old header plays → IsPlayedLine header line.now
-            → IfErr result (IsFaultThere header (lines_played header plays) line.now) }
-        ensures told { (header : Named) (plays : List Play) → StandsBelow self.old header plays → IsPlayedLine header line.now
-            → OnOk result (misread_below header (lines_played header plays) line.now ≡ None) }
-    {
-        match self {
-            Below::Bare(world) => world.step(line),
-            Below::Nodes(world) => match world.step(alloc, line) {
-                Ok(None) => Ok(()),
-                Ok(Some(Misread { sent, read })) => Err(WorldFault::Undetected { sent, read }),
-                Err(_) => Err(WorldFault::NoMemory),
-            },
-        }
-    }
-
-    /// Goes through a round.
-    ///
-    /// # Errors
-    ///
-    /// `NoMemory` where memory runs out. What is below is of no use then.
-    pub(crate) fn round(&mut self) -> Result<(), WorldFault>
-        requires { HasRoomForRoundBelow self.old }
-        ensures stands { (header : Named) (plays : List Play) → StandsBelow self.old header plays
-            → OnOk result (StandsBelow self.new header (plays ++ Round ∷ [])) }
-        ensures entries { (header : Named) (plays : List Play) → StandsBelow self.old header plays
-            → OnOk result (last_noted self.new ≡ told_of_play header (lines_played header plays) Round) }
-        ensures fault { IfErr result (λ why. why ≡ fault.NoMemory) }
-    {
-        match self {
-            Below::Bare(world) => world.round(),
-            Below::Nodes(world) => match world.round() {
-                Ok(()) => Ok(()),
-                Err(_) => Err(WorldFault::NoMemory),
-            },
-        }
-    }
-
-    /// Where it takes its memory.
-    pub(crate) fn allocator(&self) -> Global {
-        match self {
-            Below::Bare(world) => world.allocator(),
-            Below::Nodes(world) => world.allocator(),
-        }
-    }
-
-    /// From now on so many of the lines that were stepped count as so many rounds, whose lines they were.
-    pub(crate) fn count_as_rounds(&mut self, lines: u32, rounds: u32)
-        requires { MayCountBelow self.old lines rounds }
-        ensures stands { (header : Named) (plays others : List Play) → StandsBelow self.old header plays
-            → lines_played header plays ≡ lines_played header others → AllByRecursion (IsPlayFor header) others → AreFewWithParts others
-            → lines_said others ≡ lines_said plays - lines → rounds_played others ≡ rounds_played plays + rounds
-            → StandsBelow self.new header others }
-        ensures entries { last_noted self.new ≡ last_noted self.old }
-    {
-        match self {
-            Below::Bare(world) => world.count_as_rounds(lines, rounds),
-            Below::Nodes(world) => world.count_as_rounds(lines, rounds),
-        }
-    }
 }
 
 /// A line that lets the links settle and isn't closed yet: how many rounds it allows, and how many parts of them were done.
@@ -166,7 +89,14 @@ impl World {
             → OnOk result (HaveLegalHistory (world_header self.old) (plays ++ Said line.now ∷ [])) }
         ensures header { world_header self.new ≡ world_header self.old }
     {
-        self.below.step(alloc, line)
+        match &mut self.below {
+            Below::Bare(world) => world.step(line),
+            Below::Nodes(world) => match world.step(alloc, line) {
+                Ok(None) => Ok(()),
+                Ok(Some(Misread { sent, read })) => Err(WorldFault::Undetected { sent, read }),
+                Err(_) => Err(WorldFault::NoMemory),
+            },
+        }
     }
 
     /// A round: the controller's end of each link and then the host's, the links ascending, takes all frames that stand on the wire to it
@@ -187,7 +117,13 @@ impl World {
         ensures fault { IfErr result (λ why. why ≡ fault.NoMemory) }
         ensures header { world_header self.new ≡ world_header self.old }
     {
-        self.below.round()
+        match &mut self.below {
+            Below::Bare(world) => world.round(),
+            Below::Nodes(world) => match world.round() {
+                Ok(()) => Ok(()),
+                Err(_) => Err(WorldFault::NoMemory),
+            },
+        }
     }
 
     /// Opens a line that lets the links settle, where the entry is its echo, or closes the open one, where it says in how many rounds the
@@ -214,11 +150,13 @@ impl World {
                 });
             }
             Entry::Settled { rounds } => {
-                let Some(opened) = &self.opened else {
+                let Some(opened) = self.opened.take() else {
                     unreachable!()
                 };
-                self.below.count_as_rounds(opened.parts, *rounds);
-                self.opened = None;
+                match &mut self.below {
+                    Below::Bare(world) => world.count_as_rounds(opened.parts, *rounds),
+                    Below::Nodes(world) => world.count_as_rounds(opened.parts, *rounds),
+                }
             }
             _ => unreachable!(),
         }
@@ -247,8 +185,16 @@ impl World {
             unreachable!()
         };
         opened.parts += 1;
-        let alloc = self.below.allocator();
-        self.below.step(alloc, line)
+        match &mut self.below {
+            Below::Bare(world) => world.step(line),
+            Below::Nodes(world) => {
+                let alloc = world.allocator();
+                match world.step(alloc, line) {
+                    Ok(None) => Ok(()),
+                    _ => Err(WorldFault::NoMemory),
+                }
+            }
+        }
     }
 
     /// Whether all links are at rest: no frame stands on a wire, no end waits for the acceptance of a reset, and at each end that is up

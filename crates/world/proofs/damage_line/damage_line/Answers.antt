@@ -1,5 +1,5 @@
 use Rattle.std.proofs.Common.{List, [], ◌∷◌, ◌++◌, refl, sym, ap, ◌∙◌}
-use Rattle.world.proofs.Words.{No, OnWire, Taken, WasLost, damage_causes, first_verdict, frames_to, seen_from}
+use Rattle.world.proofs.Words.{No, OnWire, Taken, WasLost, damage_causes, first_verdict, frames_to, on_ok, seen_from}
 use Rattle.link_laws.specs.messages.Links.{Loss}
 use Rattle.history.specs.Follows.{if_out_of_reach}
 use Rattle.world.proofs.LineLemmas.{refused_does, happened_does}
@@ -13,29 +13,31 @@ returns-in_ok-push-in-Refused-clause-stands c l h few none =
     refused_does (ap (λ ps. if_out_of_reach wire ps) (sym c.as_slice.ensures.value) ∙ found) h
     (c.in_ok-push-in-Refused.ensures.items ∙ ap (λ es. es ++ No c.in-Refused.cause ∷ []) c.requires.nothing)
 
-pub returns-in_ok-take_frame-in-Same-clause-stands : goal.returns-in_ok-take_frame-in-Same-clause-stands
-returns-in_ok-take_frame-in-Same-clause-stands c l h few none =
+pub returns-in-Same-clause-stands : goal.returns-in-Same-clause-stands
+returns-in-Same-clause-stands c l h few =
     let wire : List OnWire = frames_to l c.args.at in
     let found = c.in-Same.ensures wire h.here.has.wire_is in
     let value = sym c.as_slice.ensures.value in
-    happened_does (c.in_ok-take_frame-in-Same.ensures.stands (seen_from c.args.at l) h few) c.requires.nothing
+    on_ok c.take_frame.result (c.take_frame.ensures.stands (seen_from c.args.at l) h few)
+    (λ r none. happened_does r c.requires.nothing
     (record {
       cause = Taken c.args.at;
       none = ap (λ ps. if_out_of_reach wire ps) value ∙ found.0;
       causes = ap (λ ps. damage_causes c.args.at (first_verdict wire ps)) value ∙ ap (λ v. damage_causes c.args.at v) found.1;
       is = refl;
-    })
+    }))
 
-pub returns-in_ok-lose_first-in-Lost-clause-stands : goal.returns-in_ok-lose_first-in-Lost-clause-stands
-returns-in_ok-lose_first-in-Lost-clause-stands c l h few none =
+pub returns-in-Lost-clause-stands : goal.returns-in-Lost-clause-stands
+returns-in-Lost-clause-stands c l h few =
     let wire : List OnWire = frames_to l c.args.at in
     let found = c.in-Lost.ensures wire h.here.has.wire_is in
     let why : Loss = found.1.0 in
     let value = sym c.as_slice.ensures.value in
-    happened_does (lost_is h (c.in_ok-lose_first-in-Lost.ensures (seen_from c.args.at l).to_controller why h.here.has.wire_is found.1.2)) c.requires.nothing
+    on_ok c.lose_first.result (c.lose_first.ensures (seen_from c.args.at l).to_controller why h.here.has.wire_is found.1.2)
+    (λ r none. happened_does (lost_is h r) c.requires.nothing
     (record {
       cause = WasLost c.args.at why;
       none = ap (λ ps. if_out_of_reach wire ps) value ∙ found.0;
       causes = ap (λ ps. damage_causes c.args.at (first_verdict wire ps)) value ∙ ap (λ v. damage_causes c.args.at v) found.1.1;
       is = refl;
-    })
+    }))

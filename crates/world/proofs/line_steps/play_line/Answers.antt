@@ -1,59 +1,55 @@
 use Rattle.std.proofs.Common.{◌≡◌, refl, sym, ap, subst, ◌∙◌}
 use Rattle.std.specs.Prelude.{true, false}
-use Rattle.world.proofs.Words.{End, IsLineOf, Line, Readied, end_for, seen_from}
+use Rattle.world.proofs.Words.{End, IsLineOf, Line, Readied, end_for, on_ok, seen_from}
 use Rattle.trace_model.specs.declared.line.Line.TheVariants as line
 use Rattle.world.proofs.LineLemmas.{same_does, happened_does}
 use Rattle.world.proofs.Repeating.{few_here, few_short}
 use Rattle.world.proofs.line_steps.play_line.Goals as goal
 
-pub returns-in_ok-send_line-in-Send-clause-stands : goal.returns-in_ok-send_line-in-Send-clause-stands
-returns-in_ok-send_line-in-Send-clause-stands c l h sent none =
+pub returns-in-Send-clause-stands : goal.returns-in-Send-clause-stands
+returns-in-Send-clause-stands c l h sent =
     let i = c.in-Send in
     let at : c.args.at ≡ i.at = c.requires.seen.2 ∙ ap (end_for c.requires.seen.0) i.is in
-    same_does (i.is ∙ ap (λ (e : End). line.Send e i.pid i.message) (sym at))
-    (c.in_ok-send_line-in-Send.ensures.stands l h)
+    on_ok c.send_line.result (c.send_line.ensures.stands l h) (λ does none. same_does (i.is ∙ ap (λ (e : End). line.Send e i.pid i.message) (sym at)) does)
 
-pub returns-in_ok-deliver_line-in-Deliver-clause-stands : goal.returns-in_ok-deliver_line-in-Deliver-clause-stands
-returns-in_ok-deliver_line-in-Deliver-clause-stands c l h sent none =
+pub returns-in-Deliver-clause-stands : goal.returns-in-Deliver-clause-stands
+returns-in-Deliver-clause-stands c l h sent =
     let i = c.in-Deliver in
     let at : c.args.at ≡ i.at = c.requires.seen.2 ∙ ap (end_for c.requires.seen.0) i.is in
-    same_does (i.is ∙ ap (λ (e : End). line.Deliver e i.count) (sym at))
-    (c.in_ok-deliver_line-in-Deliver.ensures.stands l h sent)
+    on_ok c.deliver_line.result (c.deliver_line.ensures.stands l h sent) (λ does none. same_does (i.is ∙ ap (λ (e : End). line.Deliver e i.count) (sym at)) does)
 
-pub returns-in_ok-lose_line-in-Lose-clause-stands : goal.returns-in_ok-lose_line-in-Lose-clause-stands
-returns-in_ok-lose_line-in-Lose-clause-stands c l h sent none =
+pub returns-in-Lose-clause-stands : goal.returns-in-Lose-clause-stands
+returns-in-Lose-clause-stands c l h sent =
     let i = c.in-Lose in
     let at : c.args.at ≡ i.at = c.requires.seen.2 ∙ ap (end_for c.requires.seen.0) i.is in
-    same_does (i.is ∙ ap (λ (e : End). line.Lose e) (sym at))
-    (c.in_ok-lose_line-in-Lose.ensures.stands l h)
+    on_ok c.lose_line.result (c.lose_line.ensures.stands l h) (λ does none. same_does (i.is ∙ ap (λ (e : End). line.Lose e) (sym at)) does)
 
-pub returns-in_ok-tick_line-in-Tick-clause-stands : goal.returns-in_ok-tick_line-in-Tick-clause-stands
-returns-in_ok-tick_line-in-Tick-clause-stands c l h sent none =
+pub returns-in-Tick-clause-stands : goal.returns-in-Tick-clause-stands
+returns-in-Tick-clause-stands c l h sent =
     let i = c.in-Tick in
-    same_does i.is (c.in_ok-tick_line-in-Tick.ensures.stands l h sent)
+    on_ok c.tick_line.result (c.tick_line.ensures.stands l h sent) (λ does none. same_does i.is does)
 
-pub returns-in_ok-reset_line-in-Reset-clause-stands : goal.returns-in_ok-reset_line-in-Reset-clause-stands
-returns-in_ok-reset_line-in-Reset-clause-stands c l h sent none =
+pub returns-in-Reset-clause-stands : goal.returns-in-Reset-clause-stands
+returns-in-Reset-clause-stands c l h sent =
     let i = c.in-Reset in
     let at : c.args.at ≡ i.at = c.requires.seen.2 ∙ ap (end_for c.requires.seen.0) i.is in
-    same_does (i.is ∙ ap (λ (e : End). line.Reset e i.window) (sym at))
-    (c.in_ok-reset_line-in-Reset.ensures.stands l h (few_short (few_here c.args.at sent)))
+    on_ok c.reset_line.result (c.reset_line.ensures.stands l h (few_short (few_here c.args.at sent))) (λ does none. same_does (i.is ∙ ap (λ (e : End). line.Reset e i.window) (sym at)) does)
 
-pub returns-in_ok-set_ready-in-Busy-clause-stands : goal.returns-in_ok-set_ready-in-Busy-clause-stands
-returns-in_ok-set_ready-in-Busy-clause-stands c l h sent none =
+pub returns-in-Busy-clause-stands : goal.returns-in-Busy-clause-stands
+returns-in-Busy-clause-stands c l h sent =
     let i = c.in-Busy in
     let at : c.args.at ≡ i.at = c.requires.seen.2 ∙ ap (end_for c.requires.seen.0) i.is in
-    same_does (i.is ∙ ap (λ (e : End). line.Busy e) (sym at))
-    (happened_does (c.in_ok-set_ready-in-Busy.ensures.stands (seen_from c.args.at l) h) c.requires.nothing
-    (record { cause = Readied c.args.at false; none = refl; causes = refl; is = refl }))
+    on_ok c.set_ready.result (c.set_ready.ensures.stands (seen_from c.args.at l) h)
+    (λ r none. same_does (i.is ∙ ap (λ (e : End). line.Busy e) (sym at))
+    (happened_does r c.requires.nothing (record { cause = Readied c.args.at false; none = refl; causes = refl; is = refl })))
 
-pub returns-in_ok-set_ready-in-Ready-clause-stands : goal.returns-in_ok-set_ready-in-Ready-clause-stands
-returns-in_ok-set_ready-in-Ready-clause-stands c l h sent none =
+pub returns-in-Ready-clause-stands : goal.returns-in-Ready-clause-stands
+returns-in-Ready-clause-stands c l h sent =
     let i = c.in-Ready in
     let at : c.args.at ≡ i.at = c.requires.seen.2 ∙ ap (end_for c.requires.seen.0) i.is in
-    same_does (i.is ∙ ap (λ (e : End). line.Ready e) (sym at))
-    (happened_does (c.in_ok-set_ready-in-Ready.ensures.stands (seen_from c.args.at l) h) c.requires.nothing
-    (record { cause = Readied c.args.at true; none = refl; causes = refl; is = refl }))
+    on_ok c.set_ready-in-Ready.result (c.set_ready-in-Ready.ensures.stands (seen_from c.args.at l) h)
+    (λ r none. same_does (i.is ∙ ap (λ (e : End). line.Ready e) (sym at))
+    (happened_does r c.requires.nothing (record { cause = Readied c.args.at true; none = refl; causes = refl; is = refl })))
 
 pub returns-in-Boot : goal.returns-in-Boot
 returns-in-Boot c =

@@ -1,9 +1,8 @@
-use Rattle.std.proofs.Common.{◌≡◌, ℕ, false, List, [], ◌∷◌, ◌++◌, replicate, refl, ap, sym, subst, ◌∙◌, append_assoc}
+use Rattle.std.proofs.Common.{◌≡◌, ℕ, false, true, List, [], ◌∷◌, ◌++◌, replicate, refl, ap, subst, ◌∙◌, arith}
 use Rattle.trace_model.specs.declared.entry.Entry.{Entry}
-use Rattle.trace_model.specs.declared.entry.Entry.TheVariants.{Echo, Settled}
 use Rattle.trace_model.specs.declared.line.Header.{Header}
 use Rattle.trace_model.specs.declared.line.Line.TheVariants as line
-use Rattle.lines_told.specs.lines.Plays.{rounds_to_rest, told_of_rounds}
+use Rattle.lines_told.specs.lines.Plays.{lines_played, rounds_to_rest, told_of_play}
 use Rattle.lines_told.specs.lines.Plays.Play.{Round}
 use Rattle.world.specs.declared.world_steps.World.{World}
 use Rattle.world.specs.Worlds.{IsWorldAt, world_header}
@@ -11,105 +10,113 @@ use Rattle.world.proofs.Histories.{plays_may}
 use Rattle.world.proofs.Playing.{begins_so}
 use Rattle.world_laws.proofs.schedules.Bringing.{brings_all}
 use Rattle.world_settle.specs.Fronts.{IsFrontNoted}
-use Rattle.world_settle.proofs.Going.{any_err, own_within, settles_so, under, was_long}
+use Rattle.world_settle.proofs.Rounds.{all_needed, none_needed, rests_so, room_behind, under_own_header}
+use Rattle.world_settle.proofs.Going.{any_err, breaks_off, noted_whole, told_whole, was_long, went_more, went_none}
 use Rattle.world_settle.proofs.settling.settle.Goals as goal
+use Rattle.world_settle.proofs.settling.settle.Goals.{then-rounds-test+else-not-quiet, else-rounds-test}
 
--- one entry is noted, then these, and then those
-noted_on : (start first mid last : List Entry) (e : Entry) (es fs : List Entry) → first ≡ start ++ e ∷ [] → mid ≡ first ++ es → last ≡ mid ++ fs
-    → last ≡ start ++ e ∷ (es ++ fs)
-noted_on start first mid last e es fs one some rest =
-    rest ∙ (ap (λ (x : List Entry). x ++ fs) (some ∙ ap (λ (x : List Entry). x ++ es) one)
-    ∙ (append_assoc (start ++ e ∷ []) es fs ∙ append_assoc start (e ∷ []) (es ++ fs)))
+pub rounds-init : goal.rounds-init
+rounds-init g c = record {
+  few = omega arith;
+  goes = λ plays at. went_none c.args.rounds at;
+  stays = λ short. short;
+  header = refl;
+}
 
-pub go_rounds-requires : goal.go_rounds-requires
-go_rounds-requires g c =
-    let w : World = c.args.world.now in
-    let room = c.requires.room in
+pub quiet-requires : goal.quiet-requires
+quiet-requires g c =
+    let r = c.requires.room in
+    let header : Header = world_header c.args.world.now in
+    let h = c.rounds.invariant.goes r.plays r.stands in
+    let plays = r.plays ++ replicate c.rounds.done Round in
+    (plays, (under_own_header c.rounds.world header plays h.stands).stands)
+
+pub round-requires : goal.round-requires
+round-requires g c =
+    let r = c.requires.room in
+    let h = c.rounds.invariant.goes r.plays r.stands in
+    room_behind c.rounds.world (world_header c.args.world.now) r.plays c.args.rounds c.rounds.done r.few c.rounds-test.true h.stands
+
+pub rounds-preserved : goal.rounds-preserved
+rounds-preserved g c =
+    let short = g.W.Watch.is_short in
+    let noted = g.W.Watch.noted in
+    let header : Header = world_header c.args.world.now in
+    let w : World = c.rounds.world in
+    let next : World = c.round.new.self in
+    let k : ℕ = c.rounds.done in
+    let inv = c.rounds.invariant in
+    let mid : List Entry = noted c.rounds.watch in
+    let later = c.note_all.new.watch in
     record {
-      most = c.requires.most;
-      plays = room.plays;
-      within = own_within c.mark.new.self (world_header w) room.plays c.args.rounds [] (c.mark.ensures.opens room.plays c.args.rounds room.stands refl);
+      few = omega (arith, c.rounds-test.true);
+      goes = λ plays at.
+          (let h = inv.goes plays at in
+          let before = plays ++ replicate k Round in
+          let own = under_own_header w header before h.stands in
+          let moves = rests_so w header before c.quiet.result false h.stands c.quiet.ensures c.if-not-quiet.true in
+          let S : Header → Type 0 = λ x. IsWorldAt next x (before ++ Round ∷ []) in
+          let T : List Entry → Type 0 = λ es. short later ≡ false → noted later ≡ mid ++ es in
+          let told : c.entries.result.now ≡ told_of_play header (lines_played header before) Round =
+          c.entries.ensures ∙ (c.in_ok-round.ensures.entries before own ∙ ap (λ x. told_of_play x (lines_played x before) Round) h.stands.header_is) in
+          went_more h c.rounds-test.true moves (subst S h.stands.header_is (c.in_ok-round.ensures.stands before own))
+          (was_long (short c.rounds.watch) (short later) c.note_all.ensures.stays) (subst T told c.note_all.ensures.noted));
+      stays = λ s. c.note_all.ensures.stays (inv.stays s);
+      header = c.in_ok-round.ensures.header ∙ inv.header;
     }
 
-pub mark-requires-2 : goal.mark-requires-2
-mark-requires-2 g c =
-    let w : World = c.args.world.now in
-    let room = c.requires.room in
-    let last : World = c.go_rounds.new.world in
-    let z = settles_so c.mark.new.self last (world_header w) room.plays c.args.rounds c.in_ok-done.done
-    (c.mark.ensures.opens room.plays c.args.rounds room.stands refl) c.in_ok-done.ensures.settled in
-    record {
-      plays = room.plays;
-      most = c.args.rounds;
-      parts = z.0;
-      settled = under (world_header w) (world_header last) (sym z.1.within.header_is) z.1;
-    }
+-- memory ran out in a round
+pub returns-in_err-round-clause-broken : goal.returns-in_err-round-clause-broken
+returns-in_err-round-clause-broken g c plays at =
+    let short = g.W.Watch.is_short in
+    let noted = g.W.Watch.noted in
+    let header : Header = world_header c.args.world.now in
+    let n : ℕ = c.args.rounds in
+    let h = c.rounds.invariant.goes plays at in
+    let broken : short c.rounds.watch ≡ false
+    → IsFrontNoted (noted c.args.watch.now) (noted c.rounds.watch) (told_whole header plays n (rounds_to_rest header plays n)) = λ long.
+    breaks_off (noted c.args.watch.now) h
+    (c.note.ensures.noted (was_long (short c.note.new.self) (short c.rounds.watch) c.rounds.invariant.stays long)) long in
+    any_err c.from_residual.result broken
 
+-- as many rounds were gone through as all links needed, or as there may be
 pub returns-clause-settled : goal.returns-clause-settled
 returns-clause-settled g c plays at =
-    let w : World = c.args.world.now in
-    let z = settles_so c.mark.new.self c.go_rounds.new.world (world_header w) plays c.args.rounds c.in_ok-done.done
-    (c.mark.ensures.opens plays c.args.rounds at refl) c.in_ok-done.ensures.settled in
-    z.1.rounds_are
+    let header : Header = world_header c.args.world.now in
+    let n : ℕ = c.args.rounds in
+    let k : ℕ = c.rounds.done in
+    let inv = c.rounds.invariant in
+    let h = inv.goes plays at in
+    elim c.rounds-test.branch [
+      | then-rounds-test+else-not-quiet w ↦
+          none_needed header plays n k w.rounds-test.true
+          (rests_so c.rounds.world header (plays ++ replicate k Round) w.quiet.result true h.stands w.quiet.ensures w.if-not-quiet.false) h.need
+      | else-rounds-test w ↦
+          (let few = inv.few in
+          let all : k ≡ n = omega (arith, w.rounds-test.false, few) in
+          all ∙ all_needed header plays n k all h.need)
+    ]
 
 pub returns-clause-stands : goal.returns-clause-stands
-returns-clause-stands g c plays at =
-    let w : World = c.args.world.now in
-    let last : World = c.go_rounds.new.world in
-    let z = settles_so c.mark.new.self last (world_header w) plays c.args.rounds c.in_ok-done.done
-    (c.mark.ensures.opens plays c.args.rounds at refl) c.in_ok-done.ensures.settled in
-    let P : Header → Type 0 = λ x. IsWorldAt c.mark-2.new.self x (plays ++ replicate c.in_ok-done.done Round) in
-    subst P z.1.within.header_is
-    (c.mark-2.ensures.closes plays c.args.rounds z.0 c.in_ok-done.done refl
-    (under (world_header w) (world_header last) (sym z.1.within.header_is) z.1))
+returns-clause-stands g c plays at = (c.rounds.invariant.goes plays at).stands
 
 pub returns-clause-brought : goal.returns-clause-brought
 returns-clause-brought g c plays at =
     let w : World = c.args.world.now in
     let begun = begins_so w.below (world_header w) plays at.stands in
     let may = plays_may (world_header w) w.below plays at.stands in
-    brings_all (world_header w) begun plays may c.args.rounds c.in_ok-done.done (returns-clause-settled g c plays at)
+    brings_all (world_header w) begun plays may c.args.rounds c.rounds.done (returns-clause-settled g c plays at)
 
 pub returns-clause-noted : goal.returns-clause-noted
 returns-clause-noted g c plays at long =
     let short = g.W.Watch.is_short in
     let noted = g.W.Watch.noted in
-    let header : Header = c.args.world.now.header in
-    let mid : World = c.mark.new.self in
-    let done : ℕ = c.in_ok-done.done in
-    let within = c.mark.ensures.opens plays c.args.rounds at refl in
-    let gone = was_long (short c.go_rounds.new.watch) (short c.note-2.new.self) c.note-2.ensures.stays long in
-    let begun = was_long (short c.note.new.self) (short c.go_rounds.new.watch) c.in_ok-done.ensures.stays gone in
-    let T : Header → Type 0 = λ x. noted c.go_rounds.new.watch ≡ noted c.note.new.self ++ told_of_rounds x plays done in
-    let told = subst T within.header_is (c.in_ok-done.ensures.noted plays (own_within mid header plays c.args.rounds [] within) gone) in
-    let whole =
-    noted_on (noted c.args.watch.now) (noted c.note.new.self) (noted c.go_rounds.new.watch) (noted c.note-2.new.self) (Echo (line.Settle c.args.rounds))
-    (told_of_rounds header plays done) (Settled done ∷ []) (c.note.ensures.noted begun) told (c.note-2.ensures.noted long) in
-    let z = settles_so mid c.go_rounds.new.world header plays c.args.rounds done within c.in_ok-done.ensures.settled in
-    let P : ℕ → Type 0 = λ r.
-    noted c.note-2.new.self ≡ noted c.args.watch.now ++ Echo (line.Settle c.args.rounds) ∷ (told_of_rounds header plays r ++ Settled r ∷ []) in
-    subst P z.1.rounds_are whole
-
-pub returns-in_err-done-clause-broken : goal.returns-in_err-done-clause-broken
-returns-in_err-done-clause-broken g c plays at =
-    let short = g.W.Watch.is_short in
-    let noted = g.W.Watch.noted in
-    let header : Header = c.args.world.now.header in
-    let n : ℕ = c.args.rounds in
-    let within = c.mark.ensures.opens plays n at refl in
-    let e = c.in_err-done.ensures in
-    let F : Header → Type 0 = λ x.
-    IsFrontNoted (noted c.note.new.self) (noted c.go_rounds.new.watch) (told_of_rounds x plays (rounds_to_rest x plays n)) in
-    let first : Entry = Echo (line.Settle n) in
-    let last : List Entry = Settled (rounds_to_rest header plays n) ∷ [] in
-    let broken : short c.go_rounds.new.watch ≡ false → IsFrontNoted (noted c.args.watch.now) (noted c.go_rounds.new.watch)
-    (first ∷ (told_of_rounds header plays (rounds_to_rest header plays n) ++ last)) = λ long.
-    (let f = subst F within.header_is (e.broken plays (own_within c.mark.new.self header plays n [] within) long) in
-    let begun = was_long (short c.note.new.self) (short c.go_rounds.new.watch) e.stays long in
-    record {
-      front = first ∷ f.front;
-      back = f.back ++ last;
-      now_is = f.now_is ∙ (ap (λ (es : List Entry). es ++ f.front) (c.note.ensures.noted begun) ∙ append_assoc (noted c.args.watch.now) (first ∷ []) f.front);
-      whole_is = ap (λ (es : List Entry). first ∷ (es ++ last)) f.whole_is ∙ ap (λ (es : List Entry). first ∷ es) (append_assoc f.front f.back last);
-    }) in
-    any_err c.from_residual.result broken
+    let header : Header = world_header c.args.world.now in
+    let start : List Entry = noted c.args.watch.now in
+    let last : List Entry = noted c.note-2.new.self in
+    let gone = was_long (short c.rounds.watch) (short c.note-2.new.self) c.note-2.ensures.stays long in
+    let begun = was_long (short c.note.new.self) (short c.rounds.watch) c.rounds.invariant.stays gone in
+    let whole : last ≡ start ++ told_whole header plays c.args.rounds c.rounds.done =
+    noted_whole start last (c.rounds.invariant.goes plays at) gone (c.note.ensures.noted begun) (c.note-2.ensures.noted long) in
+    let P : ℕ → Type 0 = λ r. last ≡ start ++ told_whole header plays c.args.rounds r in
+    subst P (returns-clause-settled g c plays at) whole
