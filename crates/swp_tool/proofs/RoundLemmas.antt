@@ -1,7 +1,7 @@
 -- Rounds that are played one after another until all links are at rest.
 use Rattle.std.proofs.Common.{◌≡◌, ℕ, zero, suc, ◌+◌, ◌-◌, ◌<◌, Bool, true, false, cond, List, [], ◌∷◌, ◌++◌, sym, ap, ◌∙◌, append_assoc, append-nil}
 use Rattle.std.proofs.Common.{arith, subst}
-use Rattle.std.specs.Prelude.{Result, Ok, Err, OnOk, OnErr, replicate}
+use Rattle.std.specs.Prelude.{Result, Ok, Err, OnOk, OnErr, IfErr, IsErrAnd, replicate}
 use Rattle.std.proofs.lemmas.List.Concat.{flat_map-append}
 use Rattle.trace_model.specs.declared.entry.Entry.{Entry}
 use Rattle.trace_model.specs.declared.entry.Entry.TheVariants.{Echo, Settled}
@@ -20,6 +20,16 @@ use Rattle.swp_tool.proofs.Happened.{schedule_text-push}
 use Rattle.swp_tool.proofs.Playing.{under_own_header}
 
 -- ## Texts
+
+-- what `?` hands on is the error itself
+pub err_is : {T E : Type 0} (P : E → Type 0) (r : Result T E) (why : E) → IsErrAnd r (λ e. e ≡ why) → P why → IfErr r P
+err_is P (Ok x) why is h = absurd is
+err_is P (Err e) why is h = subst P (sym is) h
+
+-- what holds where a call fails, together
+pub err_both : {T E : Type 0} (A B : Type 0) (P : E → Type 0) (r : Result T E) → OnErr r A → OnErr r B → IfErr r P → IfErr r (λ e. A × B × P e)
+err_both A B P (Ok x) a b h = tt
+err_both A B P (Err e) a b h = (a, b, h)
 
 -- what a text that grew has behind what it had
 pub any_ok : {T E : Type 0} (P : Type 0) (r : Result T E) → P → OnOk r P
@@ -166,6 +176,12 @@ gone_more w v most n before text left gone =
     (entry_lines (told_of_rounds (world_header w) left.0 n), (gone (world_header w) left.0 left.1).text_is)
 
 -- ## A line that lets the links settle
+
+-- what was gathered of the line and its rounds
+pub line_more : (w v : World) (most n : ℕ) (old first text : List ℕ) → HasRoundsLeft w most
+    → first ≡ old ++ (entry_line (Echo (saying.Settle most)) ++ entry_lines []) → HaveGone w v n first text → (more : List ℕ) × (text ≡ old ++ more)
+line_more w v most n old first text left first_is gone =
+    more_again old first text (entry_line (Echo (saying.Settle most)) ++ entry_lines [], first_is) (gone_more w v most n first text left gone)
 
 pub settled_text : (header : Header) (plays : List Play) (most r : ℕ) (old first text last : List ℕ) → r ≡ rounds_to_rest header plays most
     → first ≡ old ++ (entry_line (Echo (saying.Settle most)) ++ entry_lines []) → text ≡ first ++ entry_lines (told_of_rounds header plays r)

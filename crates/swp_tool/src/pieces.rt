@@ -51,18 +51,14 @@ impl Pieces {
     {
         let mut left = piece;
         'lines: while let Some((line, more)) = cut_line(left) {
-            if let Err(why) = self.take_line(alloc, line) {
-                return Err(why);
-            }
+            self.take_line(alloc, line)?;
             left = more;
             if self.replay.text.len() > MOST_GATHERED {
                 return Ok(left);
             }
         }
-        match self.keep(left) {
-            Ok(()) => Ok(&[]),
-            Err(why) => Err(why),
-        }
+        self.keep(left)?;
+        Ok(&[])
     }
 
     /// The bytes have ended: plays the line that no LF has ended, if there is one, and gathers the last line of the
@@ -75,13 +71,8 @@ impl Pieces {
         ensures halts { IfErr result (λ why. (bytes written : List ℕ) → HasRead self.old bytes written
             → HaltsAtEnd why self.new.replay.count bytes (written ++ self.new.replay.text.items)) }
     {
-        if let Err(why) = self.play_rest(alloc) {
-            return Err(why);
-        }
-        match self.replay.close(alloc) {
-            Ok(()) => Ok(()),
-            Err(why) => Err(why),
-        }
+        self.play_rest(alloc)?;
+        self.replay.close(alloc)
     }
 
     /// Plays the line that no LF has ended, if there is one.
@@ -96,10 +87,7 @@ impl Pieces {
         if rest.is_empty() {
             return Ok(());
         }
-        match self.replay.play(alloc, rest) {
-            Ok(()) => Ok(()),
-            Err(why) => Err(why),
-        }
+        self.replay.play(alloc, rest)
     }
 
     /// Takes bytes and the LF that ends their line, which is played where it stands if it lies whole in the piece.
@@ -117,18 +105,13 @@ impl Pieces {
             return Err(Halt::TooMany);
         }
         if self.partial.is_empty() && bytes.len() <= MAX_LINE + 1 {
-            match self.replay.play(alloc, without_carriage_return(bytes)) {
-                Ok(()) => return Ok(()),
-                Err(why) => return Err(why),
-            }
+            return self.replay.play(alloc, without_carriage_return(bytes));
         }
-        if let Err(why) = self.keep(bytes) {
-            return Err(why);
-        }
-        match self.end_line(alloc) {
-            Ok(()) => Ok(()),
-            Err(why) => Err(why),
-        }
+        self.keep(bytes)?;
+        let line = without_carriage_return(self.partial.as_slice());
+        self.replay.play(alloc, line)?;
+        self.partial.clear();
+        Ok(())
     }
 
     /// Keeps bytes of the line that has not ended.
@@ -155,27 +138,6 @@ impl Pieces {
         match self.partial.extend_from_slice(bytes) {
             Ok(()) => Ok(()),
             Err(_) => Err(Halt::NoMemory),
-        }
-    }
-
-    /// Plays the line that an LF has ended.
-    fn end_line(&mut self, alloc: Global) -> Result<(), Halt>
-        requires reading { IsReading self.old }
-        requires room { self.old.replay.count < 20000 }
-        ensures read { OnOk result ((bytes written : List ℕ) → HasRead self.old bytes written → HasRead self.new (bytes ++ 10 ∷ []) written) }
-        ensures reading { OnOk result (IsReading self.new) }
-        ensures counted { self.new.replay.count ≤ 20000 }
-        ensures progress { OnOk result (bytes_left self.new < bytes_left self.old) }
-        ensures halts { IfErr result (λ why. (bytes written : List ℕ) → HasRead self.old bytes written
-            → Halts why self.new.replay.count (bytes ++ 10 ∷ []) (written ++ self.new.replay.text.items)) }
-    {
-        let line = without_carriage_return(self.partial.as_slice());
-        match self.replay.play(alloc, line) {
-            Ok(()) => {
-                self.partial.clear();
-                Ok(())
-            }
-            Err(why) => Err(why),
         }
     }
 }

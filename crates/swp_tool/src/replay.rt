@@ -3,9 +3,8 @@ ghost use Rattle.std.specs.Prelude.{◌≡◌, ◌+◌, ◌<◌, ◌++◌, ◌�
 ghost use Rattle.trace_model.specs.declared.line.Header.{Header};
 ghost use Rattle.trace_model.specs.declared.line.Line.{Line};
 ghost use Rattle.trace_model.specs.Lines.{MayBegin, MayFollow};
-ghost use Rattle.schedule_text.specs.Entries.{entry_lines};
 ghost use Rattle.lines_told.specs.lines.Below.{misread_below};
-ghost use Rattle.lines_told.specs.lines.Plays.{Play, lines_played, schedule_told};
+ghost use Rattle.lines_told.specs.lines.Plays.{Play, lines_played};
 ghost use Rattle.world.specs.Worlds.{IsWorldAt, world_header};
 ghost use Rattle.swp_tool.specs.Schedules.{Schedule, and_line, and_said, nothing_read};
 ghost use Rattle.swp_tool.specs.Replays.{Runs, WasStepped, HasPlayed, HasFew, HaltsOn, HaltsBefore, HaltsAt};
@@ -154,7 +153,7 @@ impl Replay {
         }
     }
 
-    /// Begins the world of a header, which is the next line.
+    /// Begins the world of a header, which is the next line, and gathers the text of its opening.
     #[cold]
     #[inline(never)]
     fn begin(&mut self, alloc: Global, header: &Header) -> Result<(), Halt>
@@ -168,7 +167,8 @@ impl Replay {
         ensures same { OnErr result (self.new.text.items ≡ self.old.text.items) }
         ensures uncounted { OnErr result (self.new.count ≡ self.old.count) }
     {
-        let world = open(alloc, header, &mut self.text)?;
+        let world = World::new(alloc, header)?;
+        write_opening(alloc, header, world.entries(), &mut self.text)?;
         self.world = Some(world);
         self.count += 1;
         Ok(())
@@ -192,13 +192,9 @@ impl Replay {
         let Some(world) = &mut self.world else {
             return Err(Halt::Fault(LineFault::Order));
         };
-        match play_line(alloc, world, line, &mut self.text) {
-            Ok(()) => {
-                self.count += 1;
-                Ok(())
-            }
-            Err(why) => Err(why),
-        }
+        play_line(alloc, world, line, &mut self.text)?;
+        self.count += 1;
+        Ok(())
     }
 
     /// Gathers the last line of the transcript, with the number of lines; without a header the schedule is no schedule.
@@ -211,34 +207,12 @@ impl Replay {
         if self.world.is_none() {
             return Err(Halt::Fault(LineFault::Order));
         }
-        match append_done(alloc, self.count, &mut self.text) {
-            Ok(()) => Ok(()),
-            Err(_) => Err(Halt::NoMemory),
-        }
+        let Ok(line) = format!(in alloc; "done {}\n", self.count) else {
+            return Err(Halt::NoMemory);
+        };
+        self.text.append(line.as_bytes())?;
+        Ok(())
     }
-}
-
-/// Appends the last line of a transcript. Where there is no memory, the text stays as it was.
-fn append_done(alloc: Global, count: u64, text: &mut Transcript) -> Result<(), NoMemory>
-    ensures ok { OnOk result (text.new.items ≡ text.old.items ++ done_line count) }
-    ensures err { OnErr result (text.new.items ≡ text.old.items) }
-{
-    let line = format!(in alloc; "done {count}\n")?;
-    text.append(line.as_bytes())
-}
-
-/// The world of a header, and the text of its opening behind what was gathered.
-fn open(alloc: Global, header: &Header, text: &mut Transcript) -> Result<World, Halt>
-    requires { MayBegin header.now }
-    ensures stands { IfOk result (λ w. IsWorldAt w header.now []) }
-    ensures stepped { IfOk result (λ w. WasStepped w 0) }
-    ensures text { OnOk result (text.new.items ≡ text.old.items ++ entry_lines (schedule_told header.now [])) }
-    ensures halts { IfErr result (λ why. why ≡ Halt.NoMemory) }
-    ensures same { OnErr result (text.new.items ≡ text.old.items) }
-{
-    let world = World::new(alloc, header)?;
-    write_opening(alloc, header, world.entries(), text)?;
-    Ok(world)
 }
 
 /// Has a world play a line, by rounds where it lets the links settle and else by a step, and gathers the text of the line and of what it

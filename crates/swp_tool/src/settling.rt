@@ -1,18 +1,17 @@
 //! A line that lets the links settle: rounds until all are at rest.
-ghost use Rattle.std.specs.Prelude.{◌≡◌, ℕ, ◌+◌, ◌≤◌, ◌++◌, ◌∷◌, [], List, OnOk, OnErr, IfOk, IfErr};
+ghost use Rattle.std.specs.Prelude.{◌≡◌, ℕ, ◌+◌, ◌≤◌, ◌++◌, ◌∷◌, [], List, OnOk, OnErr, IfErr};
 ghost use Rattle.trace_model.specs.declared.entry.Entry.TheVariants.{Echo};
 ghost use Rattle.trace_model.specs.declared.line.Header.{Header};
 ghost use Rattle.trace_model.specs.declared.line.Line.{Line as Said};
 ghost use Rattle.trace_model.specs.declared.line.Line.TheVariants as line;
 ghost use Rattle.schedule_text.specs.Entries.{entry_line, entry_lines};
-ghost use Rattle.lines_told.specs.lines.Plays.{Play, plays_of_line, rounds_to_rest, told_of_line};
+ghost use Rattle.lines_told.specs.lines.Plays.{Play, plays_of_line, told_of_line};
 ghost use Rattle.world.specs.Worlds.{IsWorldAt};
-ghost use Rattle.swp_tool.specs.Replays.{Runs, WasStepped, HasGoneThrough, HasRoundsLeft};
+ghost use Rattle.swp_tool.specs.Replays.{Runs, WasStepped, HasRoundsLeft};
 
 use crate::replay::Halt;
 use schedule_text::{Transcript, write_entries, write_step};
 use std::alloc::Global;
-use swp_base::NoMemory;
 use trace_model::{Entry, Line};
 use world::World;
 
@@ -33,58 +32,30 @@ pub fn settle(
     ensures same { OnErr result (text.new.items ≡ text.old.items) }
 {
     let gathered = text.len();
-    match gather(alloc, world, most, text) {
-        Ok(()) => Ok(()),
-        Err(_) => {
-            text.truncate(gathered);
-            Err(Halt::NoMemory)
-        }
+    if let Err(why) = gather(alloc, world, most, text) {
+        text.truncate(gathered);
+        return Err(why);
     }
+    Ok(())
 }
 
 // The same, but where there is no memory, more may stand behind the text.
-fn gather(
-    alloc: Global,
-    world: &mut World,
-    most: u32,
-    text: &mut Transcript,
-) -> Result<(), NoMemory>
+fn gather(alloc: Global, world: &mut World, most: u32, text: &mut Transcript) -> Result<(), Halt>
     requires { HasRoundsLeft world.old most }
     ensures stands { OnOk result ((header : Header) (plays : List Play) → IsWorldAt world.old header plays
         → IsWorldAt world.new header (plays ++ plays_of_line header plays (line.Settle most))) }
     ensures told { OnOk result ((header : Header) (plays : List Play) → IsWorldAt world.old header plays → text.new.items ≡
         text.old.items ++ (entry_line (Echo (line.Settle most)) ++ entry_lines (told_of_line header plays (line.Settle most)))) }
     ensures more { OnErr result ((more : List ℕ) × (text.new.items ≡ text.old.items ++ more)) }
+    ensures halts { IfErr result (λ why. why ≡ Halt.NoMemory) }
 {
     write_step(alloc, &Line::Settle { rounds: most }, &[], text)?;
-    match play_rounds(alloc, world, most, text) {
-        Ok(rounds) => write_entries(alloc, &[Entry::Settled { rounds }], text),
-        Err(_) => Err(NoMemory),
+    let mut rounds = 0;
+    'rounds: while rounds < most && !world.quiet() {
+        world.round()?;
+        write_entries(alloc, world.entries(), text)?;
+        rounds += 1;
     }
-}
-
-// Plays the rounds, and gathers what they tell. How many there were.
-fn play_rounds(
-    alloc: Global,
-    world: &mut World,
-    most: u32,
-    text: &mut Transcript,
-) -> Result<u32, NoMemory>
-    requires { HasRoundsLeft world.old most }
-    ensures gone { IfOk result (λ rounds. (header : Header) (plays : List Play) → IsWorldAt world.old header plays
-        → HasGoneThrough world.new header plays rounds text.old.items text.new.items) }
-    ensures rests { IfOk result (λ rounds. (header : Header) (plays : List Play) → IsWorldAt world.old header plays
-        → rounds ≡ rounds_to_rest header plays most) }
-    ensures more { OnErr result ((more : List ℕ) × (text.new.items ≡ text.old.items ++ more)) }
-{
-    for done in 0..most {
-        if world.quiet() {
-            return Ok(done);
-        }
-        match world.round() {
-            Ok(()) => write_entries(alloc, world.entries(), text)?,
-            Err(_) => return Err(NoMemory),
-        }
-    }
-    Ok(most)
+    write_entries(alloc, &[Entry::Settled { rounds }], text)?;
+    Ok(())
 }

@@ -1,6 +1,5 @@
 -- The text of the line and of what it caused stands behind that of the lines before it.
 use Rattle.std.proofs.Common.{◌≡◌, List, ◌++◌, ◌∷◌, [], ap, sym, ◌∙◌, append_assoc, subst, arith}
-use Rattle.std.specs.Prelude.{Result, Ok, Err, IfErr, IsErrAnd}
 use Rattle.std.proofs.lemmas.Result.{on_ok_weaker}
 use Rattle.trace_model.specs.declared.entry.Entry.TheVariants as entry
 use Rattle.trace_model.specs.declared.line.Header.{Header}
@@ -11,11 +10,11 @@ use Rattle.lines_told.specs.lines.Plays.{Play, lines_played, plays_of, schedule_
 use Rattle.lines_told.specs.lines.Plays.Play.{Said}
 use Rattle.lines_told.proofs.lines.Plays.{no_more_rounds, one_said}
 use Rattle.world.specs.Worlds.{IsWorldAt, world_header}
-use Rattle.world.specs.declared.fault.WorldFault.{WorldFault}
 use Rattle.swp_tool.specs.declared.replay.Halt.{Halt}
 use Rattle.swp_tool.specs.Replays.{Runs, halt_of, HaltsOn}
 use Rattle.swp_tool.proofs.Playing.{has_room, has_rounds_left, settles_few, settles_not, under_own_header, halts_on}
 use Rattle.swp_tool.proofs.Happened.{said_plays, said_text-push}
+use Rattle.swp_tool.proofs.RoundLemmas.{err_is}
 use Rattle.swp_tool.proofs.replay.play_line.Goals as goal
 
 pub settle-requires-clause-room : goal.settle-requires-clause-room
@@ -84,20 +83,14 @@ returns-in_ok-write_step-in_default-clause-stepped c count was =
       rounds = omega (arith, rounds, so_far);
     }
 
--- the replay halts as the world did
-as_it_halts : {T : Type 0} (P : Halt → Type 0) (r : Result T Halt) (fault : WorldFault) → IsErrAnd r (λ why. why ≡ halt_of fault) → P (halt_of fault)
-    → IfErr r P
-as_it_halts P (Err why) fault is holds = subst P (sym is) holds
-as_it_halts P (Ok x) fault is holds = absurd is
-
 pub returns-in_err-step-in_default-clause-halts : goal.returns-in_err-step-in_default-clause-halts
 returns-in_err-step-in_default-clause-halts c =
     let line = c.args.line.now in
     let w = c.args.world.now in
     let fault = c.in_err-step-in_default.field-0.0 in
-    as_it_halts
+    err_is
     (λ (why : Halt). (header : Header) (plays : List Play) → IsWorldAt w header plays → HaltsOn why (misread_below header (lines_played header plays) line))
-    c.from_residual.result fault c.from_residual.ensures.1
+    c.from_residual.result (halt_of fault) c.from_residual.ensures.1
     (λ (header : Header) (plays : List Play) (stands : IsWorldAt w header plays).
     subst (λ (h : Header). HaltsOn (halt_of fault) (misread_below h (lines_played h plays) line)) stands.header_is
     (halts_on fault (world_header w) (lines_played (world_header w) plays) line

@@ -1,7 +1,6 @@
 use Rattle.std.proofs.Common.{◌≡◌, ℕ, false, true, List, [], ◌∷◌, ◌++◌, replicate, refl, ap, subst, ◌∙◌, arith}
 use Rattle.trace_model.specs.declared.entry.Entry.{Entry}
 use Rattle.trace_model.specs.declared.line.Header.{Header}
-use Rattle.trace_model.specs.declared.line.Line.TheVariants as line
 use Rattle.lines_told.specs.lines.Plays.{lines_played, rounds_to_rest, told_of_play}
 use Rattle.lines_told.specs.lines.Plays.Play.{Round}
 use Rattle.world.specs.declared.world_steps.World.{World}

@@ -4,6 +4,8 @@ use Rattle.swp_tool.specs.Schedules.{Schedule, and_line}
 use Rattle.swp_tool.specs.Replays.{HasPlayed, HaltsAt}
 use Rattle.swp_tool.proofs.Texts.{tests_empty, tests_some}
 use Rattle.swp_tool.proofs.Reading.{played_all, played_rest, halts_at_rest}
+use Rattle.std.proofs.lemmas.Result.{IfErr-weaker, on_ok_weaker}
+use Rattle.swp_tool.proofs.RoundLemmas.{err_both}
 use Rattle.swp_tool.proofs.pieces.Pieces.play_rest.Goals as goal
 
 pub returns-then-is_empty-clause-played : goal.returns-then-is_empty-clause-played
@@ -12,22 +14,28 @@ returns-then-is_empty-clause-played c bytes written h =
     ∙ tests_empty c.as_slice-rest.result.now c.is_empty.result c.is_empty.ensures c.if-is_empty.true in
     played_all c.args.self.now bytes written h none
 
-pub returns-in-Ok-clause-played : goal.returns-in-Ok-clause-played
-returns-in-Ok-clause-played c bytes written h =
+pub returns-clause-played : goal.returns-clause-played
+returns-clause-played c =
     let p = c.args.self.now in
     let P : List ℕ → Type 0 = λ l. 0 < length l in
     let some : 0 < length p.partial.items =
     subst P c.as_slice-rest.ensures.value (tests_some c.as_slice-rest.result.now c.is_empty.result c.is_empty.ensures c.if-is_empty.false) in
+    on_ok_weaker c.play.result
+    (λ played (bytes written : List ℕ) h.
     played_rest p c.play.new.self bytes written h some
     (λ (s : Schedule) (w : List ℕ) (k : HasPlayed p.replay s w).
-    (let P : List ℕ → Type 0 = λ l. HasPlayed c.play.new.self (and_line s l) w in subst P c.as_slice-rest.ensures.value (c.in-Ok.ensures.played s w k)))
+    (let P : List ℕ → Type 0 = λ l. HasPlayed c.play.new.self (and_line s l) w in subst P c.as_slice-rest.ensures.value (played s w k))))
+    c.play.ensures.played
 
-pub returns-in-Err-clause-halts : goal.returns-in-Err-clause-halts
-returns-in-Err-clause-halts c bytes written h =
+pub returns-clause-halts : goal.returns-clause-halts
+returns-clause-halts c =
     let p = c.args.self.now in
     let P : List ℕ → Type 0 = λ l. 0 < length l in
     let some : 0 < length p.partial.items =
     subst P c.as_slice-rest.ensures.value (tests_some c.as_slice-rest.result.now c.is_empty.result c.is_empty.ensures c.if-is_empty.false) in
-    halts_at_rest c.in-Err.why h some c.in-Err.ensures.uncounted c.in-Err.ensures.same
+    IfErr-weaker c.play.result _ _
+    (λ why is (bytes written : List ℕ) h.
+    halts_at_rest why h some is.0 is.1
     (λ (s : Schedule) (w : List ℕ) (k : HasPlayed p.replay s w).
-    (let P : List ℕ → Type 0 = λ l. HaltsAt c.in-Err.why s l in subst P c.as_slice-rest.ensures.value (c.in-Err.ensures.halts s w k)))
+    (let P : List ℕ → Type 0 = λ l. HaltsAt why s l in subst P c.as_slice-rest.ensures.value (is.2 s w k))))
+    (err_both _ _ _ c.play.result c.play.ensures.uncounted c.play.ensures.same c.play.ensures.halts)
