@@ -4,8 +4,7 @@ use Rattle.history.proofs.Words.{WasLost, WasReset, [], arith, at, bare_link, co
 use Rattle.link_laws.specs.messages.Links.EndEvent.{Step}
 use Rattle.link_laws.specs.messages.Rsets.{FewRsets, NumbersWithin, rset_causes, resets_in_event}
 use Rattle.history.specs.BareRsets.{rsets_by_bare, rsets_by_all_bare}
-use Rattle.link_laws.proofs.messages.RsetsOnLinks.{made_by_event}
-use Rattle.link_laws.proofs.messages.RsetNumbers.{event_numbered, start_numbered, numbers_within}
+use Rattle.link_laws.proofs.messages.RsetNumbers.{event_numbered, made_by_event, numbers_within, start_numbered}
 
 at_end : (e : End) (event : EndEvent) → rset_causes (at e event) ≡ resets_in_event event
 at_end e event = go e.at_host

@@ -15,7 +15,7 @@ pub use Rattle.history.specs.Legal.{begins_on, has_lost, has_rnr, has_rset, is_c
 pub use Rattle.history.specs.Steps.{at, bare_link, end_of, entries_for, entry_of, event_at, event_of, events_at, idle, link_after, link_after_all}
 pub use Rattle.link_laws.proofs.entries.Books.{Book, read-append, same_far, same_self}
 pub use Rattle.link_laws.proofs.entries.Hearing.{heard, session_up, up_session}
-pub use Rattle.link_laws.proofs.entries.Lasting.{same_number}
+pub use Rattle.link_laws.proofs.entries.Quieting.{same_number}
 pub use Rattle.link_laws.proofs.entries.Running.{Before, IsInTick, IsUnderWay, Noted as IsNoted, Sounds, after_tick, all_in_tick, at_each_moment, before_here}
 pub use Rattle.link_laws.proofs.entries.Running.{before_there, comes_first, goes_on, host_here, host_in_tick, near_in_tick, near_of, note_event, own_in_tick}
 pub use Rattle.link_laws.proofs.entries.Running.{sound_here, start_noted, start_under_way, without_tick}

@@ -14,8 +14,7 @@ pub use Rattle.lines_told.specs.messages.Recovery.{AllOrdinaryOnLink, AreLinkRou
 pub use Rattle.lines_told.specs.messages.Recovery.{IsOrdinaryOnLink, IsOrdinaryStep, come_here, come_to_controller, come_to_host, fragments_left, times_among}
 pub use Rattle.link_laws.proofs.messages.Runs.{Good, Reached, event_step, reached_more, run}
 pub use Rattle.link_laws.proofs.places.Joined.{fetch_cases, ready_cases, received_cases, taken_I, taken_S}
-pub use Rattle.link_laws.proofs.places.Marks.{Counts, counts_le, slice_get-append}
-pub use Rattle.link_laws.proofs.places.Whole.{AnswersOnly, NoRnr}
+pub use Rattle.link_laws.proofs.places.Flows.{AnswersOnly, Counts, NoRnr, counts_le, slice_get-append}
 pub use Rattle.link_laws.proofs.sessions.Data.{Pair, ShowsAct, TakenUp, of_up, taken_up}
 pub use Rattle.link_laws.proofs.sessions.Safe.{HasWindows, Safe, agreed, frame_cases, pair_from, safe_swap}
 pub use Rattle.link_laws.proofs.sessions.Sending.{SafeLink, sends_keeps}

@@ -1,4 +1,3 @@
-pub mod SameMarks
 pub mod Evidence
 pub mod Timely
 pub mod Lasts

@@ -1,13 +1,7 @@
-pub mod Asks
-pub mod Ends
 pub mod ActsInOrder
 pub mod Project
 pub mod Steps
 pub mod Finishing
 pub mod Runs
-pub mod Whole
-pub mod Quiet
 pub mod Examples
-pub mod RsetsDue
-pub mod RsetsOnLinks
 pub mod RsetNumbers

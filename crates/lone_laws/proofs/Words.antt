@@ -35,9 +35,8 @@ pub use Rattle.journal_laws.specs.declared.state.State.{State}
 pub use Rattle.link_laws.proofs.entries.Stepping.{fetched_acked, sound_sent}
 pub use Rattle.link_laws.proofs.machine.Reports.{Becomes, reset_so, start_so, stop_so, take_so, tick_so}
 pub use Rattle.link_laws.proofs.machine.Runs.{Sound, new_sound, sound_input, sound_turn}
-pub use Rattle.link_laws.proofs.machine.Shifts.{IsNotUp, Shift}
-pub use Rattle.link_laws.proofs.machine.Shifts.Shift.{Begins, Ends, Renews, Rests, Stays}
-pub use Rattle.link_laws.proofs.machine.Sound.{Data, SentAfter, whole_given, whole_more}
+pub use Rattle.link_laws.proofs.machine.Sound.{Data, IsNotUp, SentAfter, Shift, whole_given, whole_more}
+pub use Rattle.link_laws.proofs.machine.Sound.Shift.{Begins, Ends, Renews, Rests, Stays}
 pub use Rattle.link_laws.proofs.places.Joined.{fetch_cases, ready_cases, received_cases}
 pub use Rattle.link_laws.specs.entries.Entries.{End as Side, Entry as Noted, if_so, sent_unless, told, turn_entry}
 pub use Rattle.link_laws.specs.entries.Entries.Entry.{Acked, Active, Cut, Down, Emit, GaveUp, Got, Lost, Restarted, Took, Up}

@@ -12,8 +12,8 @@ use Rattle.shdlc_core.specs.Machine.{all_frames, fetched, fragment_due, Fragment
 use Rattle.link_laws.specs.machine.Machine.{LinkEnd as Machine, ActDue, among, next_frame, frame_fetched, frames_out, sent_all, nearer}
 use Rattle.link_laws.specs.machine.AtRest.{end_rests}
 use Rattle.link_laws.specs.machine.Laws.{fetches, after_fetches, most_fetches}
-use Rattle.link_laws.proofs.machine.Places.{fetched_all, left_all}
-use Rattle.link_laws.proofs.places.Idle.{left, idle_after}
+use Rattle.link_laws.proofs.machine.Reports.{fetched_all, left_all}
+use Rattle.link_laws.proofs.places.Joined.{idle_after, left}
 use Rattle.node_machine.specs.Parts.{Desk as DeskOf}
 use Rattle.node_machine.specs.Node.{with_error}
 use Rattle.node_ends.specs.Ends.{SeatStandsFor, IsHeldWhileOneWaits, frame_at, are_at_rest}

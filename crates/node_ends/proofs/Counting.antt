@@ -11,9 +11,8 @@ use Rattle.link_laws.specs.machine.Machine.LinkInput.{Take, TakeUnknown, TakeBro
 use Rattle.link_laws.specs.machine.Machine.Turn.{Give, Hold, FetchMessage, SetAside, Release}
 use Rattle.link_laws.specs.machine.Laws.{AreSendableInputs}
 use Rattle.link_laws.proofs.machine.Runs.{Sound, sound, parted}
-use Rattle.link_laws.proofs.machine.Shifts.{Shift}
-use Rattle.link_laws.proofs.machine.Shifts.Shift.{Stays, Ends, Renews, Begins, Rests}
-use Rattle.link_laws.proofs.machine.Sound.{SentAfter, whole_more, whole_given}
+use Rattle.link_laws.proofs.machine.Sound.{SentAfter, Shift, whole_given, whole_more}
+use Rattle.link_laws.proofs.machine.Sound.Shift.{Begins, Ends, Renews, Rests, Stays}
 use Rattle.link_laws.proofs.machine.Reports.{Reports, take_so, tick_so, reset_so, start_so, stop_so}
 use Rattle.link_end.specs.declared.report.LinkReport.{LinkReport}
 use Rattle.link_end.specs.Reports.{report_told, nothing_told, reset_told, reset_refused}

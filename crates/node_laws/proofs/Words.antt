@@ -42,17 +42,17 @@ pub use Rattle.journal_laws.specs.Planned.{after_planned, fails_within}
 pub use Rattle.journal_laws.specs.Writes.{Write, after_writes, last_place}
 pub use Rattle.journal_laws.specs.declared.banks.Side.{Side}
 pub use Rattle.journal_laws.specs.declared.state.State.{State}
-pub use Rattle.link_laws.proofs.entries.Lasting.{same_number}
+pub use Rattle.link_laws.proofs.entries.Quieting.{same_number}
 pub use Rattle.link_laws.proofs.entries.Noting.{FramesFor, reset_role, turned_same}
 pub use Rattle.link_laws.proofs.entries.Running.{Before, Sounds, before_here, before_there, read_here, read_there}
-pub use Rattle.link_laws.proofs.entries.Sparing.{or_none, silences}
+pub use Rattle.link_laws.proofs.entries.Settling.{or_none, silences}
 pub use Rattle.link_laws.proofs.entries.Stepping.{host_finished}
 pub use Rattle.link_laws.proofs.entries.Together.{ticks_host, ticks_host as tick_host}
-pub use Rattle.link_laws.proofs.machine.Kept.{activated_got, moved_got, reset_got}
+pub use Rattle.link_laws.proofs.machine.Reports.{activated_got, moved_got, reset_got}
 pub use Rattle.link_laws.proofs.messages.Project.{host_ended, moved_role, turned_role}
-pub use Rattle.link_laws.proofs.messages.Runs.{Good, Reached, clf_starts, event_step, reached_more, rests_of, safe_reached}
+pub use Rattle.link_laws.proofs.messages.Runs.{Good, Reached, clf_starts, event_step, from_start, one_number, reached, reached_more, rests_of, safe_reached}
+pub use Rattle.link_laws.proofs.messages.Runs.{start_good, start_reached}
 pub use Rattle.link_laws.proofs.messages.Steps.{activated_role}
-pub use Rattle.link_laws.proofs.messages.Whole.{from_start, one_number, reached, start_good, start_reached}
 pub use Rattle.link_laws.proofs.sessions.Sending.{SafeLink}
 pub use Rattle.link_laws.specs.entries.Entries.{Entry as Noted, aged_entries, ending_entries, entries, entries_of_events, event_entries, far, first_lost}
 pub use Rattle.link_laws.specs.entries.Entries.{here_entries, if_so, input_entries, left_after, pushed_out, put_entries, puts_entries, rest_entries}

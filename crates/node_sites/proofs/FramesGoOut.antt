@@ -9,7 +9,7 @@ use Rattle.swp_lpdu.specs.Controls.{lpdu_of, control_of}
 use Rattle.trace_model.specs.declared.entry.Entry.{Entry}
 use Rattle.trace_model.specs.declared.line.End.{End}
 use Rattle.shdlc_core.specs.Machine.{frame_due, fetched, all_frames}
-use Rattle.link_laws.proofs.places.Idle.{fetched_idle}
+use Rattle.link_laws.proofs.places.Joined.{fetched_idle}
 use Rattle.link_laws.specs.machine.Machine.{LinkEnd, ActDue, among, next_frame, frame_fetched, frames_out, sent_all}
 use Rattle.link_laws.specs.machine.Laws.{fetches, after_fetches, most_fetches}
 use Rattle.link_laws.specs.messages.Links.{Link, put, put_all}

@@ -14,7 +14,7 @@ pub use Rattle.lines_told.specs.lines.Below.{IsPlayedLine, nodes_behind}
 pub use Rattle.lines_told.specs.lines.Plays.{IsPlayFor, Play, lines_played, lines_said, round_behind, rounds_played}
 pub use Rattle.lines_told.specs.lines.Plays.Play.{Round, Said}
 pub use Rattle.link_end.specs.declared.report.ResetRefused.{ResetRefused}
-pub use Rattle.link_laws.proofs.entries.Lasting.{same_number}
+pub use Rattle.link_laws.proofs.entries.Quieting.{same_number}
 pub use Rattle.link_laws.specs.entries.Entries.{first_lost, puts_entries}
 pub use Rattle.link_laws.specs.entries.Entries.End.{Controller, Host}
 pub use Rattle.link_laws.specs.machine.Machine.{LinkEnd, LinkInput, Message, Turn, after_input, ended_by, frames_out, new_link_end, next_frame, renewed}

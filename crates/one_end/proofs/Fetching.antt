@@ -6,7 +6,7 @@ use Rattle.std.proofs.lemmas.List.{length-map}
 use Rattle.swp_base.specs.declared.control_frames.Control.{Control}
 use Rattle.swp_base.specs.declared.control_frames.Control.TheVariants.{Act as ActFrame}
 use Rattle.shdlc_core.specs.Machine.{frame_due, fetched, all_frames}
-use Rattle.link_laws.proofs.places.Idle.{fetched_idle}
+use Rattle.link_laws.proofs.places.Joined.{fetched_idle}
 use Rattle.link_laws.specs.machine.Machine.{LinkEnd, ActDue, among, next_frame, frame_fetched, frames_out, sent_all, nearer}
 use Rattle.link_laws.specs.machine.Laws.{fetches, after_fetches, most_fetches}
 use Rattle.node_core.specs.Running.{SendsOneByOne}

@@ -10,7 +10,7 @@ use Rattle.swp_base.specs.declared.control_frames.Control.{Control}
 use Rattle.shdlc_core.specs.declared.answers.Due.{Due}
 use Rattle.shdlc_core.specs.Machine.{EndState, Fragment, all_frames, fetched, fragment_due, frame_due}
 use Rattle.shdlc_core.proofs.Histories.{fragment_due-within}
-use Rattle.link_laws.proofs.places.Idle.{left, fetched_idle}
+use Rattle.link_laws.proofs.places.Joined.{fetched_idle, left}
 use Rattle.link_laws.specs.machine.Machine.{LinkEnd as Machine, ActDue, among, next_frame, frame_fetched, nearer, frames_out, sent_all}
 use Rattle.link_laws.specs.machine.Laws.{fetches, after_fetches, most_fetches}
 use Rattle.node_machine.specs.Parts.{Core, Port}

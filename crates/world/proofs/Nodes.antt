@@ -22,7 +22,7 @@ use Rattle.shdlc_core.specs.declared.answers.LinkState.TheVariants.{Down, Up}
 use Rattle.link_laws.specs.machine.Machine.{ActDue, Refused, oldest, brought, lpdu_input, frame_fetched, whole_among}
 use Rattle.hcp_packet.specs.Packets.{IsSendable, packet_count}
 use Rattle.link_laws.proofs.machine.Sound.{whole_given}
-use Rattle.link_laws.proofs.machine.Reports.{Reports}
+use Rattle.link_laws.proofs.machine.Reports.{Reports, activated_got, moved_got, took_got}
 use Rattle.link_end.specs.declared.report.ResetRefused.{ResetRefused}
 use Rattle.link_end.specs.declared.report.LinkReport.{LinkReport}
 use Rattle.link_end.specs.Ends.{EndStandsFor, Accounts, EndLeavesOthers}
@@ -32,7 +32,6 @@ use Rattle.link_laws.specs.entries.Entries.Entry.{Got}
 use Rattle.world.specs.Noting.{acked_on, reported}
 use Rattle.world.specs.Nodes.{Reached, CanFetch, HasInput}
 use Rattle.world.proofs.Noting.{told_at, acked_told}
-use Rattle.link_laws.proofs.machine.Kept.{took_got, moved_got, activated_got}
 use Rattle.link_laws.proofs.entries.Stepping.{one_fetched_acked}
 
 pub is_sound : (m : LinkEnd) → Reached m → Sound m

@@ -7,9 +7,8 @@ use Rattle.swp_base.specs.declared.link_terms.Cause.{Cause}
 use Rattle.world.proofs.Words.{End, Entry, LinkEnd, LinkInput, after_input, end_is, end_of, ended_by, entries_for, report, side_of, told, whole_acked}
 use Rattle.trace_model.specs.declared.entry.Entry.TheVariants as entry
 use Rattle.link_laws.specs.machine.Machine.{Report, began_by, whole_among}
-use Rattle.link_laws.proofs.machine.Shifts.{Shift}
-use Rattle.link_laws.proofs.machine.Shifts.Shift.{Stays, Ends, Renews, Begins, Rests}
-use Rattle.link_laws.proofs.machine.Sound.{SentAfter, whole_more, whole_few}
+use Rattle.link_laws.proofs.machine.Sound.{SentAfter, Shift, whole_few, whole_more}
+use Rattle.link_laws.proofs.machine.Sound.Shift.{Begins, Ends, Renews, Rests, Stays}
 use Rattle.link_laws.proofs.machine.Runs.{Sound}
 use Rattle.link_laws.proofs.machine.Reports.{Reports}
 use Rattle.link_end.specs.Reports.{report_told as told_of}

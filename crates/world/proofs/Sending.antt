@@ -10,9 +10,9 @@ use Rattle.link_laws.specs.machine.Machine.{among, next_frame, sent_all}
 use Rattle.link_laws.specs.messages.Links.{with_controller}
 use Rattle.link_laws.specs.entries.Entries.{Entry as Noted, put_entries}
 use Rattle.world.proofs.Bare.{is_bare, plain_fetched}
-use Rattle.link_laws.proofs.machine.Places.{fetched_due}
+use Rattle.link_laws.proofs.machine.Reports.{fetched_due}
 use Rattle.link_laws.proofs.sessions.Ties.{nothing_sent}
-use Rattle.link_laws.proofs.places.Idle.{after_frames_idle, no_due, fetched_idle}
+use Rattle.link_laws.proofs.places.Joined.{after_frames_idle, fetched_idle, no_due}
 
 -- ## The frames of an end without ACT frames
 

@@ -34,21 +34,20 @@ pub use Rattle.lines_told.specs.lines.Plays.Play.{Round, Said}
 pub use Rattle.lines_told.specs.messages.Recovery.{AllOrdinaryOnLink, AreLinkRounds, EarlierGot, IsLinkRound, IsLinkStretch, IsLinkUndisturbed}
 pub use Rattle.lines_told.specs.messages.Recovery.{come_to_controller, come_to_host, fragments_left, times_among}
 pub use Rattle.link_laws.proofs.entries.Hearing.{heard, heard-append, session_up, up_session}
-pub use Rattle.link_laws.proofs.entries.Lasting.{same_number, taken_noted}
+pub use Rattle.link_laws.proofs.entries.Quieting.{same_number, taken_noted}
 pub use Rattle.link_laws.proofs.entries.Running.{Before, IsUnderWay, before_here, before_there, goes_on, read_here, read_there, start_under_way}
-pub use Rattle.link_laws.proofs.entries.Sparing.{or_none}
+pub use Rattle.link_laws.proofs.entries.Settling.{or_none}
 pub use Rattle.link_laws.proofs.machine.Reports.{shdlc_is as shdlc_moved, take_so}
 pub use Rattle.link_laws.proofs.machine.Runs.{Sound, opened}
-pub use Rattle.link_laws.proofs.messages.Ends.{ticked_keeps}
+pub use Rattle.link_laws.proofs.messages.Project.{Mid, Now, Says, Tells, among_now, beside-put_all, due_now, frames_now, host_ended, mid_moved, put-core}
+pub use Rattle.link_laws.proofs.messages.Project.{ticked_keeps, turns_mid, with_ended-core}
 pub use Rattle.link_laws.proofs.messages.Finishing.{all_here-append, core_tick_rests, reset_keeps, reset_tells, restart_mid, rests, step_tick, tick_closed}
 pub use Rattle.link_laws.proofs.messages.Finishing.{tick_open, tick_role}
-pub use Rattle.link_laws.proofs.messages.Project.{Mid, Now, Says, Tells, among_now, beside-put_all, due_now, frames_now, host_ended, mid_moved, put-core}
-pub use Rattle.link_laws.proofs.messages.Project.{turns_mid, with_ended-core}
-pub use Rattle.link_laws.proofs.messages.Runs.{Good, Reached, all_step, can_start, clf_starts, event_step, from_controller, from_host, own_here, own_turns}
-pub use Rattle.link_laws.proofs.messages.Runs.{reached_more, rest_both, rests_of, safe_reached, seen, started_clf, step_own, tells_same}
+pub use Rattle.link_laws.proofs.messages.Runs.{Good, Reached, all_step, allowed, can_start, clf_starts, core_starts, event_step, from_controller, from_host}
+pub use Rattle.link_laws.proofs.messages.Runs.{own_here, own_turns, reached_more, rest_both, rests_of, safe_reached, seen, start_good, start_reached}
+pub use Rattle.link_laws.proofs.messages.Runs.{started_clf, step_own, tells_same}
 pub use Rattle.link_laws.proofs.messages.Steps.{ComesFirst, FromHost, Heard, Rests, act_mid, core_first, counted_is, heard_end, heard_is, is_shdlc, mid_counted}
 pub use Rattle.link_laws.proofs.messages.Steps.{no_fault_first, polite, role_closes, tick_closes, took_closed, took_open}
-pub use Rattle.link_laws.proofs.messages.Whole.{allowed, core_starts, start_good, start_reached}
 pub use Rattle.link_laws.proofs.places.Joined.{changed, fetch_cases}
 pub use Rattle.link_laws.proofs.sessions.Data.{Base, Below, IsAnswer, TakenUp, below_more, none_ended, of_begin, of_end, of_none, of_up, of_update, taken_up}
 pub use Rattle.link_laws.proofs.sessions.Hand.{IsRset, NothingIsOut, ahead_not_waiting, idle_out, nothing_out, peer_of, rset_told, ua_told}

@@ -4,8 +4,8 @@ use Rattle.history.proofs.Words.{IsHeader, IsLineOf, IsQuietSince, IsReadQuiet, 
 use Rattle.history.proofs.Words.{after_link_events, ap, bare_link, causes_of, disturbs, end_of, entries_for, false, good_of, has_lost, has_rnr, host_of, length}
 use Rattle.history.proofs.Words.{list_any, nothing_seen, number_of, refl, see_all, session_number, session_up, since, since_up, subst, sym, true, wire_to, ℕ}
 use Rattle.history.proofs.Words.{◌==◌, ◌∙◌, ◌≡◌}
-use Rattle.link_laws.proofs.entries.Ages.{read_off}
-use Rattle.link_laws.proofs.entries.Delivering.{quiet_here, quiet_there}
+use Rattle.link_laws.proofs.entries.Seeing.{read_off}
+use Rattle.link_laws.proofs.entries.Together.{quiet_here, quiet_there}
 use Rattle.history.proofs.legal.Runs.{AreOf, link_events, of_front, of_allowed, of_can}
 use Rattle.history.proofs.legal.Noted.{sent-all, got-all, acked-all, unsaid}
 use Rattle.history.proofs.legal.Ordered.{IsRun, is_run, notes_of, run_entries, same_link}

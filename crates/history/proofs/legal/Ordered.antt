@@ -5,7 +5,7 @@ use Rattle.history.proofs.Words.{IsInOrder, IsLineOf, Line, List, Message, Noted
 use Rattle.history.proofs.Words.{at_each_moment, bare_link, end_of, entries_for, entries_of, entry_of, false, flat_map, good_of, got_in, host_of}
 use Rattle.history.proofs.Words.{is_chain_fault, length, list_any, opening_of, other_end, refl, sent_in, subst, sym, take, trace, true, ℕ, ◌++◌, ◌==◌, ◌∙◌, ◌∷◌}
 use Rattle.history.proofs.Words.{◌≡◌, ◌≤◌}
-use Rattle.link_laws.proofs.entries.Chains.{no_chain_noted}
+use Rattle.link_laws.proofs.entries.Disturbing.{no_chain_noted}
 use Rattle.history.proofs.legal.Runs.{AreOf, link_events, of_entries, of_allowed, of_steps}
 use Rattle.history.proofs.legal.Noted.{sent-all, got-all, acked-all, unsaid, none_sent, none_got, none_acked, fault-all}
 

@@ -1,7 +1,7 @@
 -- What is noted of the events of causes says which sessions both ends have.
 use Rattle.history.proofs.Words.{Cause, Controller, Host, IsBare, List, None, after_link_events, bare_link, event_of, heard, map, trace, ◌≡◌}
 use Rattle.link_laws.specs.entries.Sessions.{number_now}
-use Rattle.link_laws.proofs.entries.Heard.{controller_heard as link_controller, host_heard as link_host}
+use Rattle.link_laws.proofs.entries.Hearing.{controller_heard as link_controller, host_heard as link_host}
 use Rattle.history.proofs.legal.Runs.{CanAll, all_can}
 
 -- what is heard of a bare link from its beginning on

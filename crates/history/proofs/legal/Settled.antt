@@ -9,9 +9,9 @@ use Rattle.history.proofs.Words.{session_number, start_noted, subst, sym, togeth
 use Rattle.history.proofs.Words.{◌∷◌, ◌≡◌}
 use Rattle.link_laws.specs.places.Wire.{sans}
 use Rattle.link_laws.specs.messages.Settled.{AreUpTogether as LinkTogether}
-use Rattle.link_laws.proofs.messages.Whole.{start_good, start_reached}
+use Rattle.link_laws.proofs.messages.Runs.{start_good, start_reached}
 use Rattle.link_laws.specs.entries.Settled.{IsReset, rest_of, withholds}
-use Rattle.link_laws.proofs.entries.Sparing.{Spared, Stands, or_none, none_withheld}
+use Rattle.link_laws.proofs.entries.Settling.{Spared, Stands, none_withheld, or_none}
 use Rattle.history.proofs.legal.Runs.{AreOf, CanAll, can_event, link_events, of_front, of_entries, of_allowed, of_can, after_causes}
 use Rattle.history.proofs.legal.Plain.{ArePlain, plain_event, plain_entries, plain_trace}
 use Rattle.history.proofs.legal.Ordered.{IsRun, is_run, notes_of, run_entries}

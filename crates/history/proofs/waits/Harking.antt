@@ -25,12 +25,10 @@ use Rattle.link_laws.specs.machine.Machine.{Refused}
 use Rattle.link_laws.specs.machine.Machine.Role.{Bare}
 use Rattle.link_laws.specs.machine.Machine.LinkInput.{Reset}
 use Rattle.link_laws.proofs.machine.Reports.{shdlc_is as shdlc_moved}
-use Rattle.link_laws.proofs.machine.Shifts.{Shift, taken_shift}
-use Rattle.link_laws.proofs.machine.Shifts.Shift.{Stays, Ends, Renews, Begins, Rests as ShiftRests}
+use Rattle.link_laws.proofs.machine.Sound.{Shift, taken_shift}
+use Rattle.link_laws.proofs.machine.Sound.Shift.{Begins, Ends, Renews, Rests as ShiftRests, Stays}
 use Rattle.link_laws.specs.messages.Links.EndEvent.{Step, Lose}
-use Rattle.link_laws.proofs.messages.Asks.{NoAsk, NoRset, none_due}
-use Rattle.link_laws.proofs.messages.Ends.{frames_alike, ticked_keeps}
-use Rattle.link_laws.proofs.messages.Project.{Now, mid_moved, turns_mid}
+use Rattle.link_laws.proofs.messages.Project.{NoAsk, NoRset, Now, frames_alike, mid_moved, none_due, ticked_keeps, turns_mid}
 use Rattle.link_laws.proofs.messages.Steps.{ComesFirst, is_shdlc, heard_is, took_open, took_closed, no_fault_first, polite, role_closes, act_mid}
 use Rattle.link_laws.specs.entries.Entries.{End, Entry}
 use Rattle.link_laws.proofs.entries.Noting.{turned_same, Near, IsRestart, start_restarts, stop_restarts}

@@ -4,7 +4,7 @@ use Rattle.lines_told.proofs.Words.{AnswersOnly, Due, EndState, Fragment, List, 
 use Rattle.lines_told.proofs.Words.{ShdlcTurn, Some, Up, [], ap, arith, cases_lt, expected, false, few_turns, fragment_due, frame_due, frames_of, inl, inr}
 use Rattle.lines_told.proofs.Words.{length, length-append, lt-ltb, nat_lt, not, noted_out, or_right, refl, shdlc_becomes, shdlc_exchanged, shdlc_put_all}
 use Rattle.lines_told.proofs.Words.{shdlc_turned, slice_get, slice_get-append, suc, sym, true, zero, ℕ, ◌%◌, ◌++◌, ◌+◌, ◌<◌, ◌||◌, ◌∙◌, ◌∷◌, ◌≡◌, ◌≤◌, ◌⊎◌}
-use Rattle.link_laws.proofs.places.Idle.{left, idle_after}
+use Rattle.link_laws.proofs.places.Joined.{idle_after, left}
 use Rattle.link_laws.proofs.sessions.Quiet.{few_room}
 use Rattle.lines_told.proofs.fragments.Wires.{StandsIn, Stands, NoRnrBehind, in_more, behind_more}
 use Rattle.lines_told.proofs.fragments.Sends.{SentSame, sent_same, put_all_same, sent_stands, first_stands, fragment_stands, sent_no_rnr}

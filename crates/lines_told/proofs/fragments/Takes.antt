@@ -4,7 +4,7 @@ use Rattle.lines_told.proofs.Words.{Rej_due, Rnr, Rr, Rr_due, Rset, S, Session, 
 use Rattle.lines_told.proofs.Words.{cases_lt, counts_le, eqb-false, eqb-true, false, inl, inr, is_act, is_rnr, le-ltb, length, length-append, ltb-false}
 use Rattle.lines_told.proofs.Words.{ltb-true, made_busy, max, nat_lt, place_of, ready_again, received, refl, rejected, repeated, taken, taken_I, taken_S, true}
 use Rattle.lines_told.proofs.Words.{ℕ, ◌%◌, ◌++◌, ◌+◌, ◌<◌, ◌==◌, ◌∙◌, ◌∷◌, ◌≡◌, ◌≤◌, ◌⊎◌}
-use Rattle.link_laws.proofs.places.Numbers.{place_found}
+use Rattle.link_laws.proofs.places.Joined.{place_found}
 
 -- the frame tells that the place a is accepted, where its number is valid and none below a is told
 abbrev pub Answers : ℕ → Control → Type 0

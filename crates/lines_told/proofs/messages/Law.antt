@@ -18,7 +18,7 @@ use Rattle.lines_told.proofs.fragments.Stretches.{ended}
 use Rattle.link_laws.proofs.machine.Sound.{whole_acked_before}
 use Rattle.link_laws.specs.machine.AtRest.{end_rests}
 use Rattle.link_laws.proofs.messages.Project.{Says}
-use Rattle.link_laws.proofs.messages.Whole.{start_good, start_reached, sendable}
+use Rattle.link_laws.proofs.messages.Runs.{sendable, start_good, start_reached}
 use Rattle.lines_told.proofs.messages.Projected.{Known, known_after, rounds_core}
 
 -- ## Messages of fragments

@@ -9,9 +9,8 @@ use Rattle.link_laws.proofs.Words.{option_to_list, packet_count, packet_of, pack
 use Rattle.link_laws.proofs.Words.{true, turn, turn_entry, whole_acked, whole_among, with_ready, ℕ, ◌&&◌, ◌++◌, ◌-◌, ◌<◌, ◌==◌, ◌∙◌, ◌∷◌, ◌≡◌, ◌≤◌}
 use Rattle.hcp_chain.specs.Joining.{message_in}
 use Rattle.link_laws.proofs.places.Joined.{ready_cases}
-use Rattle.link_laws.proofs.machine.Shifts.{Shift, IsNotUp}
-use Rattle.link_laws.proofs.machine.Shifts.Shift.{Stays, Ends, Renews, Begins, Rests}
-use Rattle.link_laws.proofs.machine.Sound.{Data, SentAfter, whole_more, whole_given}
+use Rattle.link_laws.proofs.machine.Sound.{Data, IsNotUp, SentAfter, Shift, whole_given, whole_more}
+use Rattle.link_laws.proofs.machine.Sound.Shift.{Begins, Ends, Renews, Rests, Stays}
 use Rattle.link_laws.proofs.machine.Reports.{Becomes}
 use Rattle.link_laws.specs.entries.Entries.Entry.{Up, Down}
 use Rattle.link_laws.specs.entries.Filters.{same_link_end}

@@ -1,23 +1,396 @@
--- What is lost in a step, or answered RNR, is noted there; and where an end comes up first in its session, behind its entry.
-use Rattle.std.specs.Prelude.{◌+◌, ◌||◌}
+-- What may disturb a session is noted where it happens: frames that are lost, an RNR, a packet that can't be joined.
 use Rattle.std.proofs.lemmas.Bool.{and_right}
-use Rattle.link_laws.proofs.Words.{Act, ActEvent, ActTake, Activation, AreSendableTurns, Asked, Bool, Clt, Control, CoreActs, CoreDeliver, CoreLink, CoreLose}
-use Rattle.link_laws.proofs.Words.{CoreReset, CoreTurn, Down as IsDown, EndState, Ignore as CoreIgnore, Link, LinkEnd, List, Losses, None, OnWire, Option, Take}
-use Rattle.link_laws.proofs.Words.{Turn, Turns as CoreTurns, [], act_answer, activated, ap, began_by, came_up, core_happens_here, core_of, core_take}
-use Rattle.link_laws.proofs.Words.{core_turned, core_turns, core_with_ended, counts_first, drop, ended_by, false, frames_out, if_up, inl, inr, is_act, is_open}
-use Rattle.link_laws.proofs.Words.{is_rset, is_some, is_up, left_after, not, noted_all, noted_here, noted_out, noted_turns, option_to_list, refl, reset_by}
-use Rattle.link_laws.proofs.Words.{reset_refusal, reset_with, role_after, sym, take_answer, taken, took, took_with, true, true≢false, turned, with_ended, ℕ}
-use Rattle.link_laws.proofs.Words.{◌&&◌, ◌∙◌, ◌∷◌, ◌≡◌, ◌⊎◌}
-use Rattle.link_laws.proofs.messages.Project.{Now, Tells, turns_mid, with_ended-core, mid_moved}
-use Rattle.link_laws.proofs.machine.Runs.{opened}
-use Rattle.link_laws.proofs.machine.Reports.{shdlc_is as shdlc_moved, no_began}
-use Rattle.link_laws.proofs.messages.Steps.{ComesFirst, Heard, is_shdlc, heard_end, heard_is, counted_is, mid_counted, took_open, took_closed, no_fault_first}
-use Rattle.link_laws.proofs.messages.Steps.{polite, role_closes, stays_down, act_mid}
-use Rattle.link_laws.proofs.messages.Finishing.{reset_tells, reset_keeps}
-use Rattle.link_laws.proofs.entries.Losing.{out_noted}
+use Rattle.std.specs.Prelude.{◌+◌, ◌||◌}
+use Rattle.link_laws.proofs.Words.{Acked, Act, ActEvent, ActTake, ActTick, Activate, Activation, Active, AllAllowed, AreOwn, AreSendableTurns, Asked, AsksReset}
+use Rattle.link_laws.proofs.Words.{AtController, AtHost, Bare, Bool, ByAct, Cause, Chain, Clt, Comes, Control, Controller, CoreActs, CoreDeliver, CoreLink}
+use Rattle.link_laws.proofs.Words.{CoreLose, CoreReset, CoreTurn, CutOff, Down as IsDown, Emit, End, EndEvent, EndState, Ending, Entry, FetchMessage, GaveUp}
+use Rattle.link_laws.proofs.Words.{Give, GoesOut, Got, HasTick, Hold, Host, I, Ignore as CoreIgnore, IsEvent, IsOwn, IsStart, Link, LinkEnd, LinkEvent}
+use Rattle.link_laws.proofs.Words.{LinkInput, List, Lose, Loss, Losses, Message, NextFrame, NoInput, Node, None, NumberedEnd, OnWire, Option, Peer, Refused}
+use Rattle.link_laws.proofs.Words.{Rej, Release, Report, Reset, Rnr, Role, Rr, Rset, S, SetAside, Some, Srej, Start, Starts, Step, Stop, Stops, Take, Ticks}
+use Rattle.link_laws.proofs.Words.{TicksWithout, TooMany, Turn, Turns as CoreTurns, Ua, [], act_answer, activated, after_input, aged, aged_entries}
+use Rattle.link_laws.proofs.Words.{all_at_controller, among, and_parts, ap, arith, began_by, came_up, cond, core_event, core_happens_here, core_of, core_take}
+use Rattle.link_laws.proofs.Words.{core_turned, core_turns, core_with_ended, counts_first, disturbs, drop, ended_by, ending_entries, entries, entries_of_events}
+use Rattle.link_laws.proofs.Words.{event_entries, exchanged, false, far, first_entries, first_lost, frames_of, frames_out, give_refusal, happens}
+use Rattle.link_laws.proofs.Words.{happens_at_controller, here_entries, if_so, if_up, inl, inr, is_act, is_open, is_rnr, is_rset, is_some, is_up, left_after}
+use Rattle.link_laws.proofs.Words.{length, length-append, list_any, ltb-true, map, most_frames, nat_lt, not, noted_all, noted_here, noted_loss, noted_out}
+use Rattle.link_laws.proofs.Words.{noted_turns, number_of, option_to_list, overflows, pushed_out, put, put_entries, puts_entries, refl, report, reset_by}
+use Rattle.link_laws.proofs.Words.{reset_refusal, reset_with, rest_entries, role_after, sent_unless, shdlc_put as core_put, shdlc_put_all as core_put_all}
+use Rattle.link_laws.proofs.Words.{silent, step_entries, steps_at_controller, subst, sym, take_answer, taken, taken_entries, tick_answer, tick_entries}
+use Rattle.link_laws.proofs.Words.{ticks_at_controller, told, told_of, took, took_with, trace, true, true≢false, turn, turn_entries, turn_entry, turned}
+use Rattle.link_laws.proofs.Words.{whole_acked, wire_with, with_ended, ℕ, ◌&&◌, ◌++◌, ◌∙◌, ◌∷◌, ◌≡◌, ◌⊎◌}
+use Rattle.swp_base.specs.declared.link_terms.Cause.TheVariants.{NoAnswer}
+use Rattle.link_laws.specs.entries.Entries.Entry.{Down, Up}
+use Rattle.link_laws.specs.entries.Order.{is_noted_chain_fault}
+use Rattle.link_laws.proofs.Cases.{by_list, by_option, by_phase, by_test}
 use Rattle.link_laws.proofs.entries.Noting.{if_up_is}
+use Rattle.link_laws.proofs.machine.Reports.{no_began, shdlc_is as shdlc_moved}
+use Rattle.link_laws.proofs.machine.Runs.{opened}
+use Rattle.link_laws.proofs.machine.Sound.{by_tick}
+use Rattle.link_laws.proofs.messages.Finishing.{reset_keeps, reset_tells}
+use Rattle.link_laws.proofs.messages.Project.{Now, Tells, among_now, due_now, frames_now, mid_moved, put-core, turns_mid, with_ended-core}
+use Rattle.link_laws.proofs.messages.Runs.{Good, Reached, act_not_chain, event_step, from_controller, from_host, not_chain, reached_more, start_good}
+use Rattle.link_laws.proofs.messages.Runs.{start_reached}
+use Rattle.link_laws.proofs.messages.Steps.{ComesFirst, FromHost, Heard, act_mid, core_first, counted_is, heard_end, heard_is, is_shdlc, mid_counted}
+use Rattle.link_laws.proofs.messages.Steps.{no_fault_first, polite, role_closes, stays_down, took_closed, took_open}
 
--- ## A frame is taken
+-- ## No session ends by a packet that can't be joined
+
+-- none of these tells of a chain fault
+abbrev NoChain : List Entry → Type 0
+NoChain [] = Unit {0}
+NoChain (e ∷ t) = (is_noted_chain_fault e ≡ false) × NoChain t
+
+more : (t u : List Entry) → NoChain t → NoChain u → NoChain (t ++ u)
+more [] u a b = b
+more (e ∷ t) u a b = (a.0, more t u a.1 b)
+
+-- the causes of the other ends of sessions
+abbrev IsOther : Option Cause → Type 0
+IsOther o = o ≡ Some Chain → ⊥
+
+chain_ended : (who : End) (o : Option Cause) → IsOther o → NoChain (map (Down who) (option_to_list o))
+chain_ended who None n = tt
+chain_ended who (Some Chain) n = absurd (n refl)
+chain_ended who (Some Asked) n = (refl, tt)
+chain_ended who (Some NoAnswer) n = (refl, tt)
+chain_ended who (Some Peer) n = (refl, tt)
+chain_ended who (Some ByAct) n = (refl, tt)
+
+chain_so : (b : Bool) (e : Entry) → is_noted_chain_fault e ≡ false → NoChain (if_so b e)
+chain_so false e p = tt
+chain_so true e p = (p, tt)
+
+chain_option : {A : Type 0} (f : A → Entry) (o : Option A) → ((x : A) → is_noted_chain_fault (f x) ≡ false) → NoChain (map f (option_to_list o))
+chain_option f None p = tt
+chain_option f (Some x) p = (p x, tt)
+
+chain_got : (who : End) (k : ℕ) (ms : List Message) → NoChain (map (Got who k) ms)
+chain_got who k [] = tt
+chain_got who k (m ∷ ms) = (refl, chain_got who k ms)
+
+chain_told : (who : End) (k : ℕ) (r : Report) (acked : ℕ) → IsOther r.ended → NoChain (told who k r acked)
+chain_told who k r acked n =
+    let e : List Entry = if_so (nat_lt 0 r.acked) (Acked who k acked) ++ map (Got who k) r.got in
+    let d : List Entry = map (GaveUp who) (option_to_list r.gave_up) ++ e in
+    let c : List Entry = if_so r.became_active (Active who) ++ d in
+    more (map (Down who) (option_to_list r.ended)) (if_so r.began (Up who k) ++ c) (chain_ended who r.ended n)
+    (more (if_so r.began (Up who k)) c (chain_so r.began (Up who k) refl)
+    (more (if_so r.became_active (Active who)) d (chain_so r.became_active (Active who) refl)
+    (more (map (GaveUp who) (option_to_list r.gave_up)) e (chain_option (GaveUp who) r.gave_up (λ x. refl))
+    (more (if_so (nat_lt 0 r.acked) (Acked who k acked)) (map (Got who k) r.got) (chain_so (nat_lt 0 r.acked) (Acked who k acked) refl)
+    (chain_got who k r.got)))))
+
+chain_turn : (who : End) (k : ℕ) (e : LinkEnd) (t : Turn) → NoChain (turn_entry who k e t)
+chain_turn who k e (Give m) = go (give_refusal e m)
+  where
+    go : (o : Option Refused) → NoChain (sent_unless o who k m)
+    go None = (refl, tt)
+    go (Some why) = tt
+chain_turn who k e (Hold held) = tt
+chain_turn who k e FetchMessage = tt
+chain_turn who k e SetAside = tt
+chain_turn who k e Release = tt
+
+chain_turns : (who : End) (k : ℕ) (e : LinkEnd) (ts : List Turn) → NoChain (turn_entries who k e ts)
+chain_turns who k e [] = tt
+chain_turns who k e (t ∷ ts) = more (turn_entry who k e t) (turn_entries who k (turn e t) ts) (chain_turn who k e t) (chain_turns who k (turn e t) ts)
+
+chain_lost : (who : End) (why : Loss) (w : List OnWire) → NoChain (first_lost who why w)
+chain_lost who why [] = tt
+chain_lost who why (x ∷ xs) = (refl, tt)
+
+chain_pushed : (who : End) (w : List OnWire) → NoChain (pushed_out who w)
+chain_pushed who w = by_test (nat_lt 64 (length w)) (λ q. rw q (chain_lost who TooMany w)) (λ q. rw q tt)
+
+chain_puts : (cs : List Control) (who : End) (l : Link) → NoChain (puts_entries who l cs)
+chain_puts [] who l = tt
+chain_puts (c ∷ cs) who l =
+    more (put_entries who l c) (puts_entries who (put l c) cs) (refl, chain_pushed (far who) (wire_with l c)) (chain_puts cs who (put l c))
+
+chain_ending : (who : End) (l : Link) (e : LinkEnd) (ending : Ending) → NoChain (ending_entries who l e ending)
+chain_ending who l e GoesOut = chain_puts (frames_out e) who l
+chain_ending who l e CutOff = (refl, tt)
+
+chain_rest : (who : End) (l : Link) (e : LinkEnd) (ts : List Turn) (ending : Ending) → NoChain (rest_entries who l e ts ending)
+chain_rest who l e ts ending =
+    more (turn_entries who (number_of l.controller) e ts) (ending_entries who l (turned e ts) ending) (chain_turns who (number_of l.controller) e ts)
+    (chain_ending who l (turned e ts) ending)
+
+chain_input : (who : End) (k : Link) (h : NumberedEnd) (i : LinkInput) (e : LinkEnd) (ts : List Turn) (ending : Ending) → IsOther (ended_by h.side i)
+    → NoChain (told_of who h i ++ rest_entries who k e ts ending)
+chain_input who k h i e ts ending n =
+    more (told_of who h i) (rest_entries who k e ts ending) (chain_told who (number_of h) (report h.side i) (whole_acked (after_input h.side i)) n)
+    (chain_rest who k e ts ending)
+
+-- ### Causes
+
+if_up_other : (s : EndState) (cause : Cause) → (cause ≡ Chain → ⊥) → IsOther (if_up s cause)
+if_up_other s cause n q = by_phase {P = ⊥} s.phase (λ p. let z = rw p at q in n (cc)) (λ p. let z = rw p at q in cc) (λ p. let z = rw p at q in cc)
+
+reset_other : (e : LinkEnd) (window : Option ℕ) → IsOther (ended_by e (Reset window))
+reset_other e window q =
+    by_option {P = ⊥} (reset_refusal e) (λ p. if_up_other e.shdlc Asked (λ z. cc) (let z = q in rw p at z)) (λ why p. let z = rw p at q in cc)
+
+tick_other : (e : LinkEnd) → IsOther (ended_by e HasTick)
+tick_other e q = by_test {P = ⊥} (is_open e.role) (λ o. shdlc (let z = q in rw o at z)) (λ o. act_not_chain e ActTick (let z = q in rw o at z))
+  where
+    none : None ≡ Some Chain → ⊥
+    none y = cc
+
+    other : Some NoAnswer ≡ Some Chain → ⊥
+    other y = cc
+
+    shdlc : (tick_answer e.shdlc).ended ≡ Some Chain → ⊥
+    shdlc z =
+        by_tick (λ _ answer. answer.ended ≡ Some Chain → ⊥) e.shdlc none (λ _. none) (λ _. none) (λ _. other) (λ _. none) (λ _. none) z
+
+-- ### Steps and events
+
+-- the first frame on the wire doesn't bring one
+abbrev Joins : Link → Type 0
+Joins l = (x : OnWire) (xs : List OnWire) → l.to_controller ≡ x ∷ xs → IsOther (ended_by l.controller.side (Take x.frame))
+
+abbrev JoinsFor : Comes → Link → Type 0
+JoinsFor NextFrame l = Joins l
+JoinsFor _ l = Unit {0}
+
+chain_step : (who : End) (l : Link) (comes : Comes) (ts : List Turn) (ending : Ending) → JoinsFor comes l → NoChain (step_entries who l comes ts ending)
+chain_step who l NextFrame ts ending j =
+    by_list {P = NoChain (step_entries who l NextFrame ts ending)} l.to_controller
+    (λ q. let none : step_entries who l NextFrame ts ending ≡ [] = rw q refl in subst P (sym none) tt) (λ x xs q.
+    let some : step_entries who l NextFrame ts ending ≡ taken_entries who l x xs ts ending = rw q refl in
+    subst P (sym some) (
+      refl,
+      chain_input who (left_after l x xs) (record l.controller { took = took_with l.controller.took x }) (Take x.frame)
+          (after_input l.controller.side (Take x.frame)) ts ending (j x xs q),
+    ))
+  where
+    P : List Entry → Type 0
+    P u = NoChain u
+chain_step who l (AsksReset window) ts ending j =
+    chain_input who (with_ended l (is_some (ended_by l.controller.side (Reset window)))) l.controller (Reset window)
+    (after_input l.controller.side (Reset window)) ts ending
+    (reset_other l.controller.side window)
+chain_step who l (Starts v) ts ending j = (
+  refl,
+  chain_input who (silent l (after_input l.controller.side (Start v))) l.controller (Start v) (after_input l.controller.side (Start v)) ts ending
+      (if_up_other l.controller.side.shdlc ByAct (λ z. cc)),
+)
+chain_step who l Stops ts ending j = (
+  refl,
+  chain_input who (silent l (after_input l.controller.side Stop)) l.controller Stop (after_input l.controller.side Stop) ts ending
+      (if_up_other l.controller.side.shdlc ByAct (λ z. cc)),
+)
+chain_step who l NoInput ts ending j = chain_rest who l l.controller.side ts ending
+
+chain_here : (who : End) (l : Link) (e : EndEvent) → Joins l → NoChain (here_entries who l e)
+chain_here who l (Step NextFrame ts ending) j = chain_step who l NextFrame ts ending j
+chain_here who l (Step (AsksReset window) ts ending) j = chain_step who l (AsksReset window) ts ending tt
+chain_here who l (Step (Starts v) ts ending) j = chain_step who l (Starts v) ts ending tt
+chain_here who l (Step Stops ts ending) j = chain_step who l Stops ts ending tt
+chain_here who l (Step NoInput ts ending) j = chain_step who l NoInput ts ending tt
+chain_here who l (Lose why) j = chain_lost who why l.to_controller
+
+chain_own : (who : End) (l : Link) (e : EndEvent) → IsOwn e → NoChain (here_entries who l e)
+chain_own who l (Step NextFrame ts ending) o = absurd o
+chain_own who l (Step (AsksReset window) ts ending) o = chain_step who l (AsksReset window) ts ending tt
+chain_own who l (Step (Starts v) ts ending) o = chain_step who l (Starts v) ts ending tt
+chain_own who l (Step Stops ts ending) o = chain_step who l Stops ts ending tt
+chain_own who l (Step NoInput ts ending) o = chain_step who l NoInput ts ending tt
+chain_own who l (Lose why) o = absurd o
+
+chain_all : (who : End) (es : List EndEvent) (l : Link) → AreOwn l es → NoChain (entries_of_events who l es)
+chain_all who [] l a = tt
+chain_all who (e ∷ es) l a =
+    more (here_entries who l e) (entries_of_events who (happens_at_controller l e) es) (chain_own who l e a.0)
+    (chain_all who es (happens_at_controller l e) a.2)
+
+chain_tick : (who : End) (l : Link) (node : Node) → NoChain (tick_entries who l node)
+chain_tick who l node =
+    chain_input who (with_ended l (is_some (ended_by l.controller.side HasTick))) l.controller HasTick (after_input l.controller.side HasTick)
+    node.turns node.ending
+    (tick_other l.controller.side)
+
+chain_aged : (who : End) (w : List OnWire) → NoChain (aged_entries who w)
+chain_aged who [] = tt
+chain_aged who (x ∷ xs) =
+    by_test {P = NoChain (aged_entries who (x ∷ xs))} (nat_lt x.age 4) (λ q. rw q (chain_aged who xs)) (λ q. rw q (refl, (chain_aged who xs)))
+
+joins_here : (l : Link) → Good l → Reached (core_of l) → Joins l
+joins_here l g r x xs q =
+    not_chain l.controller.side x.frame
+    (λ o. no_fault_first l x xs q g.controller g.host o (subst FromHost (core_first (core_of l) [] x xs q) (from_host (core_of l) r)))
+
+joins_there : (l : Link) → Good l → Reached (core_of l) → Joins (exchanged l)
+joins_there l g r x xs q =
+    let k : Link = exchanged l in
+    not_chain l.host.side x.frame
+    (λ o. no_fault_first k x xs q g.host g.controller o (subst FromHost (core_first (core_of k) [] x xs q) (from_controller (core_of l) r)))
+
+chain_event : (l : Link) (e : LinkEvent) → IsEvent l e → Good l → Reached (core_of l) → NoChain (event_entries l e)
+chain_event l (AtController e) a g r = chain_here Controller l e (joins_here l g r)
+chain_event l (AtHost e) a g r = chain_here Host (exchanged l) e (joins_there l g r)
+chain_event l (Ticks c es h) a g r =
+    let near : Link = ticks_at_controller (aged l) c.turns c.ending in
+    let ds : List Entry = entries_of_events Controller near es in
+    let fs : List Entry = tick_entries Host (exchanged (all_at_controller near es)) h in
+    let cs : List Entry = tick_entries Controller (aged l) c in (
+      refl,
+      more (aged_entries Controller l.to_controller) (aged_entries Host l.to_host ++ (cs ++ (ds ++ fs))) (chain_aged Controller l.to_controller)
+          (more (aged_entries Host l.to_host) (cs ++ (ds ++ fs)) (chain_aged Host l.to_host)
+          (more cs (ds ++ fs) (chain_tick Controller (aged l) c)
+          (more ds fs (chain_all Controller es near a.1) (chain_tick Host (exchanged (all_at_controller near es)) h)))),
+    )
+chain_event l (TicksWithout es h) a g r =
+    let ds : List Entry = entries_of_events Controller (aged l) es in
+    let fs : List Entry = tick_entries Host (exchanged (all_at_controller (aged l) es)) h in (
+      refl,
+      more (aged_entries Controller l.to_controller) (aged_entries Host l.to_host ++ (ds ++ fs)) (chain_aged Controller l.to_controller)
+          (more (aged_entries Host l.to_host) (ds ++ fs) (chain_aged Host l.to_host)
+          (more ds fs (chain_all Controller es (aged l) a.1) (chain_tick Host (exchanged (all_at_controller (aged l) es)) h))),
+    )
+chain_event l (Activate power c id h) a g r =
+    more (step_entries Controller l (Starts power) c.turns c.ending)
+    (step_entries Host (exchanged (steps_at_controller l (Starts power) c.turns c.ending)) (Starts id) h.turns h.ending)
+    (chain_step Controller l (Starts power) c.turns c.ending tt)
+    (chain_step Host (exchanged (steps_at_controller l (Starts power) c.turns c.ending)) (Starts id) h.turns h.ending tt)
+
+chain_events : (events : List LinkEvent) (l : Link) → AllAllowed l events → Good l → Reached (core_of l) → NoChain (entries l events)
+chain_events [] l a g r = tt
+chain_events (e ∷ es) l a g r =
+    let st = event_step l e a.0 g r in
+    let next : Reached (core_of (happens l e)) = subst Reached (sym st.core) (reached_more (core_of l) (core_event l e) st.allowed r) in
+    more (event_entries l e) (entries (happens l e) es) (chain_event l e a.0 g r) (chain_events es (happens l e) a.1 st.good next)
+
+first_chain : (r : Role) → NoChain (first_entries r)
+first_chain Bare = (refl, (refl, tt))
+first_chain _ = tt
+
+none_any : (t : List Entry) → NoChain t → list_any is_noted_chain_fault t ≡ false
+none_any [] a = refl
+none_any (e ∷ t) a = rw (a.0) (none_any t a.1)
+
+pub no_chain_noted : (l : Link) → IsStart l → (events : List LinkEvent) → AllAllowed l events → list_any is_noted_chain_fault (trace l events) ≡ false
+no_chain_noted l s events a =
+    none_any (trace l events)
+    (more (first_entries l.controller.side.role) (entries l events) (first_chain l.controller.side.role)
+    (chain_events events l a (start_good l s) (start_reached l s)))
+
+-- ## Where a frame of a step is lost on the link over fragments, or an RNR made, it is noted
+
+-- a frame was lost, or an RNR made
+abbrev pub bad : Losses → Bool
+bad n = n.lost || n.rnr
+
+-- it is noted
+abbrev pub Disturbed : List Entry → Type 0
+Disturbed t = list_any disturbs t ≡ true
+
+any-append : (t u : List Entry) → list_any disturbs (t ++ u) ≡ (list_any disturbs t || list_any disturbs u)
+any-append [] u = refl
+any-append (e ∷ t) u = go (disturbs e) (any-append t u)
+  where
+    go : (b : Bool) → list_any disturbs (t ++ u) ≡ (list_any disturbs t || list_any disturbs u)
+        → (b || list_any disturbs (t ++ u)) ≡ ((b || list_any disturbs t) || list_any disturbs u)
+    go true q = refl
+    go false q = q
+
+or_left : (a b : Bool) → a ≡ true → (a || b) ≡ true
+or_left a b q = rw q refl
+
+or_right : (a b : Bool) → b ≡ true → (a || b) ≡ true
+or_right true b q = refl
+or_right false b q = q
+
+pub disturbed_left : (t u : List Entry) → Disturbed t → Disturbed (t ++ u)
+disturbed_left t u d = any-append t u ∙ or_left (list_any disturbs t) (list_any disturbs u) d
+
+pub disturbed_right : (t u : List Entry) → Disturbed u → Disturbed (t ++ u)
+disturbed_right t u d = any-append t u ∙ or_right (list_any disturbs t) (list_any disturbs u) d
+
+-- more is bad only where it is noted
+abbrev pub Grows : Losses → Losses → List Entry → Type 0
+Grows n m u = bad m ≡ true → (bad n ≡ true) ⊎ Disturbed u
+
+rnr_disturbs : (who : End) (c : Control) → is_rnr c ≡ true → disturbs (Emit who c) ≡ true
+rnr_disturbs who (I ns nr info) q = absurd (true≢false (sym q))
+rnr_disturbs who (S Rnr nr) q = refl
+rnr_disturbs who (S Rr nr) q = absurd (true≢false (sym q))
+rnr_disturbs who (S Rej nr) q = absurd (true≢false (sym q))
+rnr_disturbs who (S Srej nr) q = absurd (true≢false (sym q))
+rnr_disturbs who (Rset w caps) q = absurd (true≢false (sym q))
+rnr_disturbs who Ua q = absurd (true≢false (sym q))
+rnr_disturbs who (Act act again) q = absurd (true≢false (sym q))
+rnr_disturbs who Clt q = absurd (true≢false (sym q))
+
+push_lost : (who : End) (l : Link) (c : Control) → overflows (l.to_host ++ record { frame = c; age = 0; number = 0 } ∷ [])
+    ≡ true → Disturbed (pushed_out (far who) (wire_with l c))
+push_lost who l c q = go (nat_lt 64 (length (wire_with l c))) refl (wire_with l c) refl
+  where
+    long : nat_lt 64 (length (wire_with l c)) ≡ true
+    long =
+        let a = (and_parts (nat_lt 64 (length (l.to_host ++ record { frame = c; age = 0; number = 0 } ∷ [])))
+        (counts_first (l.to_host ++ record { frame = c; age = 0; number = 0 } ∷ [])) q).0 in
+        let x = length-append l.to_host (record { frame = c; age = 0; number = 0 } ∷ []) in
+        let y = length-append l.to_host (record { frame = c; age = 0; number = cond (is_rset c) (l.resets + 1) 0 } ∷ []) in
+        ap (nat_lt 64) (y ∙ sym x) ∙ a
+
+    go : (b : Bool) → nat_lt 64 (length (wire_with l c)) ≡ b → (w : List OnWire) → wire_with l c ≡ w → Disturbed (pushed_out (far who) (wire_with l c))
+    go false p w r = absurd (true≢false (sym long ∙ p))
+    go true p [] r = absurd (let i = ltb-true 64 (length (wire_with l c)) p in let k = ap (λ (z : List OnWire). length z) r in omega (arith, i, k))
+    go true p (x ∷ xs) r =
+        ap (λ b. list_any disturbs (cond b (first_lost (far who) TooMany (wire_with l c)) [])) p
+        ∙ ap (λ z. list_any disturbs (first_lost (far who) TooMany z)) r
+
+-- a frame goes out
+put_grows : (n : Losses) (who : End) (l : Link) (c : Control) → Grows n (noted_loss n (core_of l) c) (put_entries who l c)
+put_grows n who l c q = go (n.lost) (n.rnr) (overflows (l.to_host ++ record { frame = c; age = 0; number = 0 } ∷ [])) (is_rnr c) refl refl refl refl
+  where
+    go : (a b x y : Bool) → n.lost ≡ a → n.rnr ≡ b → overflows (l.to_host ++ record { frame = c; age = 0; number = 0 } ∷ []) ≡ x → is_rnr c ≡ y
+        → (bad n ≡ true) ⊎ Disturbed (put_entries who l c)
+    go true b x y p r s t = inl (rw p refl)
+    go false true x y p r s t = inl (rw (p, r) refl)
+    go false false true y p r s t = inr (or_right (disturbs (Emit who c)) (list_any disturbs (pushed_out (far who) (wire_with l c))) (push_lost who l c s))
+    go false false false true p r s t = inr (or_left (disturbs (Emit who c)) (list_any disturbs (pushed_out (far who) (wire_with l c))) (rnr_disturbs who c t))
+    go false false false false p r s t = absurd (let z : false ≡ true = rw (p, r, s, t) at q in cc)
+
+grows_then : (n m k : Losses) (u v : List Entry) → Grows n m u → Grows m k v → Grows n k (u ++ v)
+grows_then n m k u v a b q = go (b q)
+  where
+    first : (bad n ≡ true) ⊎ Disturbed u → (bad n ≡ true) ⊎ Disturbed (u ++ v)
+    first (inl x) = inl x
+    first (inr x) = inr (disturbed_left u v x)
+
+    go : (bad m ≡ true) ⊎ Disturbed v → (bad n ≡ true) ⊎ Disturbed (u ++ v)
+    go (inl x) = first (a x)
+    go (inr x) = inr (disturbed_right u v x)
+
+-- all frames that go out
+pub flush_grows : (cs : List Control) (n : Losses) (who : End) (l : Link) → Grows n (noted_all n (core_of l) cs) (puts_entries who l cs)
+flush_grows [] n who l = λ q. inl q
+flush_grows (c ∷ cs) n who l =
+    let m : Losses = noted_loss n (core_of l) c in
+    let P : CoreLink → Type 0 = λ k. Grows m (noted_all m k cs) (puts_entries who (put l c) cs) in
+    grows_then n m (noted_all m (core_put (core_of l) c) cs) (put_entries who l c) (puts_entries who (put l c) cs) (put_grows n who l c)
+    (subst P (put-core l c) (flush_grows cs m who (put l c)))
+
+-- ### The frames of an end
+
+noted_all-append : (n : Losses) (c : CoreLink) (xs ys : List Control) → noted_all (noted_all n c xs) (core_put_all c xs) ys ≡ noted_all n c (xs ++ ys)
+noted_all-append n c [] ys = refl
+noted_all-append n c (x ∷ xs) ys = noted_all-append (noted_loss n c x) (core_put c x) xs ys
+
+-- what goes out of an end with this frame of activation
+pub out_noted : (n : Losses) (c : CoreLink) (o : Option Activation) (g : LinkEnd) (s : EndState) → g.acts ≡ due_now o → g.shdlc ≡ s
+    → noted_out (noted_all n c (frames_now o)) (core_put_all c (frames_now o)) s ≡ noted_all n c (frames_out g)
+out_noted n c o g s acts is =
+    noted_all-append n c (frames_now o) (frames_of most_frames s)
+    ∙ ap (noted_all n c) (sym (ap (λ a. among 0 a (frames_of most_frames g.shdlc)) acts
+    ∙ (ap (λ f. among 0 (due_now o) (frames_of most_frames f)) is ∙ among_now o (frames_of most_frames s))))
+
+-- ## What is lost in a step, or answered RNR, is noted there; and where an end comes up first in its session, behind its entry
+
+-- ### A frame is taken
 
 abbrev pub left_core : Link → OnWire → List OnWire → Bool → CoreLink
 left_core l x xs b =
@@ -172,7 +545,7 @@ take_noted n l ts x xs a comes = go x.frame refl
     go Clt q = counts (is_open e.role) refl q
     go _ q = shdlc (is_open e.role) refl (ap is_shdlc q) (ap is_act q)
 
--- ## Turns and resets
+-- ### Turns and resets
 
 pub idle_noted : (n : Losses) (l : Link) (ts : List Turn) → AreSendableTurns ts → Tells l.controller
     → noted_here n (core_of l) (CoreTurns (core_turns l.controller.side ts)) ≡ noted_all n (core_of l) (frames_out (turned l.controller.side ts))

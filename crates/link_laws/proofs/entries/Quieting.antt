@@ -1,28 +1,513 @@
--- A quiet session has delivered all, as it is noted.
+-- A quiet session has delivered all, as it is noted: losses are told, and each step keeps what is known of both ends.
 use Rattle.std.specs.Prelude.{◌||◌}
-use Rattle.link_laws.proofs.Words.{ActTick, Activation, AreSendableTurns, AsksReset, Bool, ByAct, Controller, CoreActs, CoreEndEvent, CoreLink, CoreTurn}
-use Rattle.link_laws.proofs.Words.{CutOff, Down as IsDown, End, EndEvent, EndState, Ending, Entry, GoesOut, HasTick, Host, IsAllowed, IsNode, IsOwn, Link}
-use Rattle.link_laws.proofs.Words.{LinkEnd, List, Lose, Loss, Losses, NextFrame, NoInput, Node, None, OnWire, Option, Some, Starts, Step, Stops, Turn, []}
-use Rattle.link_laws.proofs.Words.{act_answer, activated, after_input, aged, aged_entries, ap, cond, core_here, core_of, core_tick, core_tick_rest}
-use Rattle.link_laws.proofs.Words.{core_ticks_or_cut, core_turned, core_turns, core_with_ended, counts_first, ended_by, false, first_lost, frames_of}
-use Rattle.link_laws.proofs.Words.{frames_out, happens_at_controller, here_entries, if_up, inl, inr, is_act, is_open, is_some, loses_aged, most_frames, moved}
-use Rattle.link_laws.proofs.Words.{nat_lt, noted_aged, noted_all, noted_here, noted_out, noted_tick, noted_turns, option_to_list, refl, rest_entries, sans}
-use Rattle.link_laws.proofs.Words.{shdlc_ticks_at_controller as core_ticks_here, subst, sym, tick_answer, tick_entries, ticked, ticks_at_controller, told_of}
-use Rattle.link_laws.proofs.Words.{true, true≢false, turned, with_ended, ◌++◌, ◌∙◌, ◌∷◌, ◌≡◌, ◌⊎◌}
-use Rattle.link_laws.proofs.machine.Reports.{tick_so, shdlc_is as shdlc_moved}
-use Rattle.link_laws.proofs.messages.Project.{Now, Tells, turns_mid, with_ended-core, mid_moved}
+use Rattle.link_laws.proofs.Words.{Acked, ActTick, Activation, Active, AreSendableTurns, Asked, AsksReset, Bare, Bool, ByAct, CanEnd, Comes, Controller}
+use Rattle.link_laws.proofs.Words.{CoreActs, CoreEndEvent, CoreLink, CoreTurn, Cut, CutOff, Down as IsDown, End, EndEvent, EndState, Ending, Entry, GaveUp}
+use Rattle.link_laws.proofs.Words.{GoesOut, Got, HasTick, Host, IsAllowed, IsNode, IsOwn, Link, LinkEnd, LinkInput, LinkState, List, Lose, Loss, Losses}
+use Rattle.link_laws.proofs.Words.{NextFrame, NoInput, Node, None, NumberedEnd, OnWire, Option, Refused, Reset, Role, Some, Start, Starts, Step, Stop, Stops}
+use Rattle.link_laws.proofs.Words.{Take, Took, Turn, Up as IsUpNow, [], act_answer, activated, after_input, aged, aged_entries, and_parts, ap, append-nil}
+use Rattle.link_laws.proofs.Words.{append_assoc, arith, began_by, came_up, common_steps, cond, core_all_here, core_end, core_ending, core_happens_here}
+use Rattle.link_laws.proofs.Words.{core_here, core_of, core_reset, core_step, core_take, core_tick, core_tick_rest, core_ticks_or_cut, core_turned, core_turns}
+use Rattle.link_laws.proofs.Words.{core_with_ended, counts_first, ended_by, eqb-true, false, finished, first_lost, frames_of, frames_out, happens_at_controller}
+use Rattle.link_laws.proofs.Words.{has_taken, here_entries, if_so, if_up, inl, inr, is_act, is_open, is_some, is_up, is_up_with, left_after, list_any}
+use Rattle.link_laws.proofs.Words.{loses_aged, map, max, most_frames, moved, nat_lt, new_link_end, no_losses, noted_aged, noted_all, noted_here, noted_out}
+use Rattle.link_laws.proofs.Words.{noted_tick, noted_turns, number_of, option_to_list, put_all, puts_entries, refl, renewed, report, reset_by, reset_refusal}
+use Rattle.link_laws.proofs.Words.{rest_entries, sans, shdlc_ticks_at_controller as core_ticks_here, since, step_entries, steps_at_controller, subst, sym}
+use Rattle.link_laws.proofs.Words.{taken_entries, tick_answer, tick_entries, ticked, ticks_at_controller, told_of, took, took_with, true, true≢false}
+use Rattle.link_laws.proofs.Words.{turn_entries, turned, whole_acked, window_of, with_ended, ℕ, ◌++◌, ◌==◌, ◌∙◌, ◌∷◌, ◌≡◌, ◌⊎◌}
+use Rattle.link_laws.specs.entries.Entries.Entry.{Down, Tick, Up}
+use Rattle.link_laws.specs.entries.Quiet.{begins}
+use Rattle.link_laws.proofs.Cases.{by_list, by_option, by_test}
+use Rattle.link_laws.proofs.entries.Disturbing.{Disturbed, Grows, bad, disturbed_left, disturbed_right, flush_grows, idle_noted, out_noted, reset_noted}
+use Rattle.link_laws.proofs.entries.Disturbing.{take_noted}
+use Rattle.link_laws.proofs.entries.Noting.{Frame, IsPlainInput, Near, idle_finishes, plain_ended, plain_silent, reset_finishes, restart_finishes}
+use Rattle.link_laws.proofs.entries.Noting.{start_restarts, stop_restarts, take_finishes, tick_finishes, turned_same}
+use Rattle.link_laws.proofs.entries.Running.{Before, comes_first, frame_facts, near_of}
+use Rattle.link_laws.proofs.entries.Stepping.{CanFinish, host_finished, puts_number}
+use Rattle.link_laws.proofs.machine.Reports.{Reports, reset_so, shdlc_is as shdlc_moved, take_so, tick_so}
 use Rattle.link_laws.proofs.machine.Runs.{opened}
-use Rattle.link_laws.proofs.messages.Ends.{ticked_keeps}
+use Rattle.link_laws.proofs.machine.Sound.{IsNotUp, Shift}
+use Rattle.link_laws.proofs.machine.Sound.Shift.{Begins, Ends, Renews, Rests as ShiftRests, Stays}
+use Rattle.link_laws.proofs.messages.Project.{Now, Tells, frames_alike, mid_moved, ticked_keeps, turns_mid, with_ended-core}
+use Rattle.link_laws.proofs.messages.Finishing.{core_tick_rests, rests, tick_closed, tick_open, tick_role}
 use Rattle.link_laws.proofs.messages.Steps.{Rests, act_mid, tick_closes}
-use Rattle.link_laws.proofs.messages.Finishing.{tick_open, tick_closed, tick_role, core_tick_rests, rests}
-use Rattle.link_laws.specs.entries.Entries.Entry.{Tick}
-use Rattle.link_laws.proofs.entries.Noting.{Near, plain_ended, tick_finishes}
-use Rattle.link_laws.proofs.entries.Running.{Before, near_of}
-use Rattle.link_laws.proofs.entries.Losing.{bad, Disturbed, disturbed_left, disturbed_right, Grows, out_noted}
-use Rattle.link_laws.proofs.entries.Lasting.{knows_more}
-use Rattle.link_laws.proofs.entries.Completing.{Both, input_grows, input_cut, input_knows, own_knows, frame_knows}
 
--- ## Ticks
+-- ## What was noted since a session began tells each loss of it
+
+-- ### Since an end came up
+
+-- an end came up with this number
+abbrev pub Has : ℕ → List Entry → Type 0
+Has n t = list_any (begins n) t ≡ true
+
+has-append : (n : ℕ) (t u : List Entry) → Has n t → Has n (t ++ u)
+has-append n [] u h = absurd (true≢false (sym h))
+has-append n (e ∷ t) u h = by_test {P = Has n (e ∷ (t ++ u))} (begins n e) (λ q. rw q refl) (λ q. rw q ((has-append n t u) (let z = h in rw q at z)))
+
+has_later : (n : ℕ) (t u : List Entry) → Has n u → Has n (t ++ u)
+has_later n [] u h = h
+has_later n (e ∷ t) u h = by_test {P = Has n (e ∷ (t ++ u))} (begins n e) (λ q. rw q refl) (λ q. rw q (has_later n t u h))
+
+pub same_number : (n : ℕ) → (n == n) ≡ true
+same_number n = grind (arith, common_steps)
+
+has_up : (n : ℕ) (who : End) (t v : List Entry) → Has n (t ++ (Up who n ∷ v))
+has_up n who t v = has_later n t (Up who n ∷ v) (let z = same_number n in rw z refl)
+
+since-append : (n : ℕ) (t u : List Entry) → Has n t → since n (t ++ u) ≡ since n t ++ u
+since-append n [] u h = absurd (true≢false (sym h))
+since-append n (e ∷ t) u h =
+    by_test {P = since n (e ∷ (t ++ u)) ≡ since n (e ∷ t) ++ u} (begins n e) (λ q. rw q refl) (λ q. rw q ((since-append n t u) (let z = h in rw q at z)))
+
+-- what is noted behind the entry of an end is noted since the first that came up with its number
+since_up : (n : ℕ) (who : End) (t v : List Entry) → Disturbed v → Disturbed (since n (t ++ (Up who n ∷ v)))
+since_up n who [] v d = let z = same_number n in rw z d
+since_up n who (e ∷ t) v d = by_test {P = Disturbed (since n (e ∷ (t ++ (Up who n ∷ v))))} (begins n e) (λ q. rw q all) (λ q. rw q (since_up n who t v d))
+  where
+    all : Disturbed (t ++ (Up who n ∷ v))
+    all = disturbed_right t (Up who n ∷ v) d
+
+-- what is known of the session of an end
+pub record Knows (t : List Entry) (n : Losses) (h : NumberedEnd) : Type 0 where
+  pub has : h.side.shdlc.phase ≡ IsUpNow → Has (number_of h) t
+  pub tells : h.side.shdlc.phase ≡ IsUpNow → bad n ≡ true → Disturbed (since (number_of h) t)
+
+-- more was noted, and its session goes on
+knows_more : (t u : List Entry) (n m : Losses) (h k : NumberedEnd)
+    → (k.side.shdlc.phase ≡ IsUpNow → (h.side.shdlc.phase ≡ IsUpNow) × (number_of k ≡ number_of h))
+    → Grows n m u → Knows t n h → Knows (t ++ u) m k
+knows_more t u n m h k same grows x =
+    record {
+      has = λ up. let s = same up in let P : ℕ → Type 0 = λ z. Has z (t ++ u) in subst P (sym s.1) (has-append (number_of h) t u (x.has s.0));
+      tells = λ up b. let s = same up in let P : ℕ → Type 0 = λ z. Disturbed (since z (t ++ u)) in subst P (sym s.1) (by s.0 (grows b));
+    }
+  where
+    by : h.side.shdlc.phase ≡ IsUpNow → (bad n ≡ true) ⊎ Disturbed u → Disturbed (since (number_of h) (t ++ u))
+    by up d =
+        let P : List Entry → Type 0 = λ z. Disturbed z in
+        subst P (sym (since-append (number_of h) t u (x.has up))) (which d)
+      where
+        which : (bad n ≡ true) ⊎ Disturbed u → Disturbed (since (number_of h) t ++ u)
+        which (inl b) = disturbed_left (since (number_of h) t) u (x.tells up b)
+        which (inr b) = disturbed_right (since (number_of h) t) u b
+
+-- the end comes up: first in its session, or where the other end is up with its number
+knows_new : {t : List Entry} (pre v : List Entry) (who : End) {n m : Losses} {other k : NumberedEnd} → Knows t n other
+    → Grows n m (pre ++ (Up who (number_of k) ∷ v))
+    → (is_up_with (core_end other) (number_of k) ≡ false → bad m ≡ true → Disturbed v)
+    → Knows (t ++ (pre ++ (Up who (number_of k) ∷ v))) m k
+knows_new {t} pre v who {n} {m} {other} {k} x grows first =
+    record { has = λ up. has_later j t u (has_up j who pre v); tells = λ up b. go (is_up_with (core_end other) j) refl b }
+  where
+    j : ℕ
+    j = number_of k
+
+    u : List Entry
+    u = pre ++ (Up who j ∷ v)
+
+    alone : Disturbed v → Disturbed (since j (t ++ u))
+    alone d = let P : List Entry → Type 0 = λ z. Disturbed (since j z) in subst P (append_assoc t pre (Up who j ∷ v)) (since_up j who (t ++ pre) v d)
+
+    up_other : is_up_with (core_end other) j ≡ true → (other.side.shdlc.phase ≡ IsUpNow) × (number_of other ≡ j)
+    up_other q =
+        let p = and_parts (is_up other.side.shdlc.phase) (number_of other == j) q in
+        (phase other.side.shdlc.phase refl p.0, eqb-true (number_of other) j p.1)
+      where
+        phase : (y : LinkState) → other.side.shdlc.phase ≡ y → is_up other.side.shdlc.phase ≡ true → other.side.shdlc.phase ≡ IsUpNow
+        phase IsUpNow r z = r
+        phase _ r z = absurd (let y : false ≡ true = rw r at z in cc)
+
+    go : (b : Bool) → is_up_with (core_end other) j ≡ b → bad m ≡ true → Disturbed (since j (t ++ u))
+    go false q b = alone (first q b)
+    go true q b =
+        let o = up_other q in
+        let h : Has j t = let P : ℕ → Type 0 = λ z. Has z t in subst P o.1 (x.has o.0) in
+        let P : List Entry → Type 0 = λ z. Disturbed z in
+        subst P (sym (since-append j t u h)) (which o (grows b))
+      where
+        which : (other.side.shdlc.phase ≡ IsUpNow) × (number_of other ≡ j) → (bad n ≡ true) ⊎ Disturbed u → Disturbed (since j t ++ u)
+        which o (inl z) = let P : ℕ → Type 0 = λ y. Disturbed (since y t) in disturbed_left (since j t) u (subst P o.1 (x.tells o.0 z))
+        which o (inr z) = disturbed_right (since j t) u z
+
+-- ### A step
+
+cut_disturbs : (who : End) (k : Link) (e : LinkEnd) (ts : List Turn) → Disturbed (rest_entries who k e ts CutOff)
+cut_disturbs who k e ts = disturbed_right (turn_entries who (number_of k.controller) e ts) (Cut who ∷ []) refl
+
+rest_grows : (n m : Losses) (who : End) (k : Link) (e : LinkEnd) (ts : List Turn) → m ≡ noted_all n (core_of k) (frames_out (turned e ts))
+    → Grows n m (rest_entries who k e ts GoesOut)
+rest_grows n m who k e ts q b =
+    which (flush_grows (frames_out (turned e ts)) n who k (ap bad (sym q) ∙ b))
+  where
+    which : (bad n ≡ true) ⊎ Disturbed (puts_entries who k (frames_out (turned e ts))) → (bad n ≡ true) ⊎ Disturbed (rest_entries who k e ts GoesOut)
+    which (inl z) = inl z
+    which (inr z) = inr (disturbed_right (turn_entries who (number_of k.controller) e ts) (puts_entries who k (frames_out (turned e ts))) z)
+
+grows_right : (n m : Losses) (u v : List Entry) → Grows n m v → Grows n m (u ++ v)
+grows_right n m u v g b = which (g b)
+  where
+    which : (bad n ≡ true) ⊎ Disturbed v → (bad n ≡ true) ⊎ Disturbed (u ++ v)
+    which (inl z) = inl z
+    which (inr z) = inr (disturbed_right u v z)
+
+came_bad : (n : Losses) (l : CoreLink) (b : Bool) → bad (came_up n l b) ≡ true → bad n ≡ true
+came_bad n l false q = q
+came_bad n l true q =
+    by_test (is_up_with l.host (max l.controller.emitted l.controller.took)) (λ r. let z = q in rw r at z)
+    (λ r. absurd (let z : false ≡ true = rw r at q in cc))
+
+pub noted-append : (n : Losses) (c : CoreLink) (es fs : List CoreEndEvent)
+    → noted_turns n c (es ++ fs) ≡ noted_turns (noted_turns n c es) (core_all_here c es) fs
+noted-append n c [] fs = refl
+noted-append n c (e ∷ es) fs = noted-append (noted_here n c e) (core_happens_here c e) es fs
+
+ending_noted : (n : Losses) (c : CoreLink) (ending : Ending) → noted_turns n c (core_ending ending) ≡ n
+ending_noted n c GoesOut = refl
+ending_noted n c CutOff = refl
+
+-- what is lost as a frame is taken
+pub taken_noted : (n : Losses) (l : Link) (ts : List Turn) (ending : Ending) (x : OnWire) (xs : List OnWire)
+    → l.to_controller ≡ x ∷ xs → AreSendableTurns ts → Before l
+    → noted_turns n (core_of l) (core_take l.controller.side x.frame ts ++ core_ending ending)
+    ≡ noted_all (came_up n (core_of (left_after l x xs)) (began_by l.controller.side (Take x.frame))) (core_of (left_after l x xs))
+    (frames_out (turned (took l.controller.side x.frame) ts))
+taken_noted n l ts ending x xs w a b =
+    noted-append n (core_of l) (core_take l.controller.side x.frame ts) (core_ending ending)
+    ∙ (ending_noted (noted_turns n (core_of l) (core_take l.controller.side x.frame ts))
+    (core_all_here (core_of l) (core_take l.controller.side x.frame ts)) ending
+    ∙ take_noted n l ts x xs a (comes_first l x xs w b))
+
+-- ## Each step keeps what is known of the sessions of both ends
+
+-- ### What is lost in a step is noted
+
+input_grows : (n m : Losses) (who : End) (h : NumberedEnd) (i : LinkInput) (k : Link) (f : LinkEnd) (ts : List Turn)
+    → m ≡ noted_all n (core_of k) (frames_out (turned f ts))
+    → Grows n m (told_of who h i ++ rest_entries who k f ts GoesOut)
+input_grows n m who h i k f ts q = grows_right n m (told_of who h i) (rest_entries who k f ts GoesOut) (rest_grows n m who k f ts q)
+
+input_cut : (n m : Losses) (who : End) (h : NumberedEnd) (i : LinkInput) (k : Link) (f : LinkEnd) (ts : List Turn)
+    → Grows n m (told_of who h i ++ rest_entries who k f ts CutOff)
+input_cut n m who h i k f ts b = inr (disturbed_right (told_of who h i) (rest_entries who k f ts CutOff) (cut_disturbs who k f ts))
+
+reset_grows : (n : Losses) (who : End) (l : Link) (window : Option ℕ) (ts : List Turn) (ending : Ending) → AreSendableTurns ts → Tells l.controller
+    → Grows n (noted_turns n (core_of l) (core_step l (AsksReset window) ts ending)) (step_entries who l (AsksReset window) ts ending)
+reset_grows n who l window ts CutOff a h =
+    let e : LinkEnd = l.controller.side in
+    let i : LinkInput = Reset window in
+    input_cut n (noted_turns n (core_of l) (core_step l (AsksReset window) ts CutOff)) who l.controller i (with_ended l (is_some (ended_by e i)))
+    (after_input e i) ts
+reset_grows n who l window ts GoesOut a h =
+    by_option {P = Grows n m (step_entries who l (AsksReset window) ts GoesOut)} (reset_refusal e) (λ q.
+    let c : Bool = is_some (if_up e.shdlc Asked) in
+    entries_as c (reset_by e w) (rw q refl) (rw q refl)
+    (input_grows n m who l.controller i (with_ended l c) (reset_by e w) ts (is_core None q ∙ reset_noted n l w ts a h q)))
+    (λ why q.
+    entries_as false e (rw q refl) (rw q refl)
+    (input_grows n m who l.controller i l e ts (is_core (Some why) q ∙ idle_noted n l ts a h)))
+  where
+    e : LinkEnd
+    e = l.controller.side
+
+    i : LinkInput
+    i = Reset window
+
+    w : ℕ
+    w = window_of e window
+
+    m : Losses
+    m = noted_turns n (core_of l) (core_step l (AsksReset window) ts GoesOut)
+
+    is_core : (o : Option Refused) → reset_refusal e ≡ o → m ≡ noted_turns n (core_of l) (core_reset o e w ts GoesOut)
+    is_core o q = ap (λ z. noted_turns n (core_of l) (core_reset z e w ts GoesOut)) q
+
+    entries_as : (c : Bool) (f : LinkEnd)
+        → is_some (ended_by e i) ≡ c → after_input e i ≡ f → Grows n m (told_of who l.controller i ++ rest_entries who (with_ended l c) f ts GoesOut)
+        → Grows n m (step_entries who l (AsksReset window) ts GoesOut)
+    entries_as c f p q g =
+        let P : Bool → Type 0 = λ z. Grows n m (told_of who l.controller i ++ rest_entries who (with_ended l z) (after_input e i) ts GoesOut) in
+        let Q : LinkEnd → Type 0 = λ z. Grows n m (told_of who l.controller i ++ rest_entries who (with_ended l c) z ts GoesOut) in
+        subst P (sym p) (subst Q (sym q) g)
+
+-- where no frame is taken
+own_grows : (n : Losses) (who : End) (l : Link) (comes : Comes) (ts : List Turn) (ending : Ending) → IsOwn (Step comes ts ending)
+    → AreSendableTurns ts → Tells l.controller
+    → Grows n (noted_turns n (core_of l) (core_step l comes ts ending)) (step_entries who l comes ts ending)
+own_grows n who l NextFrame ts ending o a h = absurd o
+own_grows n who l (AsksReset window) ts ending o a h = reset_grows n who l window ts ending a h
+own_grows n who l NoInput ts CutOff o a h = λ b. inr (cut_disturbs who l l.controller.side ts)
+own_grows n who l NoInput ts GoesOut o a h =
+    rest_grows n (noted_turns n (core_of l) (core_step l NoInput ts GoesOut)) who l l.controller.side ts (idle_noted n l ts a h)
+own_grows n who l _ ts ending o a h = λ b. inr refl
+
+-- ### An end that is Up behind a step in which no session began
+
+-- the new end of a node that lost power isn't Up
+pub new_not_up : (r : Role) → CanEnd r CutOff → IsNotUp (new_link_end (renewed r)).shdlc
+new_not_up Bare can u = absurd can
+new_not_up _ can u = cc
+
+went_on : (e f : EndState) (ended began : Bool) → Shift e f ended began → began ≡ false → f.phase ≡ IsUpNow → (e.phase ≡ IsUpNow) × (ended ≡ false)
+went_on e f ended began (Stays p q g) n up = (g.was, p)
+went_on e f ended began (Ends p q x still s) n up = absurd (still up)
+went_on e f ended began (Renews p q x z) n up = absurd (true≢false (sym q ∙ n))
+went_on e f ended began (Begins p q d z) n up = absurd (true≢false (sym q ∙ n))
+went_on e f ended began (ShiftRests p q d still s) n up = absurd (still up)
+
+-- what an end that is Up was before its frames went out
+was_up : (k : Link) (g : LinkEnd) (ending : Ending) → CanEnd g.role ending
+    → (g.shdlc.phase ≡ IsUpNow → number_of (put_all k (frames_out g)).controller ≡ number_of k.controller)
+    → (finished k g ending).controller.side.shdlc.phase ≡ IsUpNow → (g.shdlc.phase ≡ IsUpNow)
+    × (number_of (finished k g ending).controller ≡ number_of k.controller)
+was_up k g GoesOut can number up = let p : g.shdlc.phase ≡ IsUpNow = sym (frames_alike most_frames g.shdlc).phase ∙ up in (p, number p)
+was_up k g CutOff can number up = absurd (new_not_up g.role can up)
+
+near_same : (l k : Link) (i : LinkInput) (ts : List Turn) (ending : Ending) → Reports l.controller.side i → began_by l.controller.side i ≡ false
+    → (l.controller.side.shdlc.phase ≡ IsUpNow → is_some (ended_by l.controller.side i) ≡ false → number_of k.controller ≡ number_of l.controller)
+    → CanFinish (after_input l.controller.side i) ts ending
+    → (finished k (turned (after_input l.controller.side i) ts) ending).controller.side.shdlc.phase ≡ IsUpNow
+    → (l.controller.side.shdlc.phase ≡ IsUpNow)
+    × (number_of (finished k (turned (after_input l.controller.side i) ts) ending).controller ≡ number_of l.controller)
+near_same l k i ts ending so none number finishes up =
+    let e : LinkEnd = l.controller.side in
+    let f : LinkEnd = after_input e i in
+    let w = was_up k (turned f ts) ending finishes.can (λ u. puts_number k (frames_out (turned f ts)) (finishes.quiet u)) up in
+    let on = went_on e.shdlc f.shdlc (is_some (ended_by e i)) (began_by e i) so.shift none (sym (turned_same ts f) ∙ w.0) in
+    (on.0, w.1 ∙ number on.0 on.1)
+
+-- ### Both ends
+
+pub record Both (t : List Entry) (n : Losses) (l : Link) : Type 0 where
+  pub here : Knows t n l.controller
+  pub there : Knows t n l.host
+
+-- the other end goes on
+far_knows : (t u : List Entry) (n m : Losses) (h k : NumberedEnd) → k ≡ h → Grows n m u → Knows t n h → Knows (t ++ u) m k
+far_knows t u n m h k q g x =
+    knows_more t u n m h k (λ up. let P : NumberedEnd → Type 0 = λ z. z.side.shdlc.phase ≡ IsUpNow in (subst P q up, ap number_of q)) g x
+
+input_knows : {t : List Entry} (u : List Entry) {n m : Losses} {l k : Link} (i : LinkInput) {ts : List Turn} {ending : Ending} → IsPlainInput l k i
+    → CanFinish (after_input l.controller.side i) ts ending → Grows n m u → Both t n l
+    → Both (t ++ u) m (finished k (turned (after_input l.controller.side i) ts) ending)
+input_knows {t} u {n} {m} {l} {k} i {ts} {ending} plain finishes g b =
+    let f : LinkEnd = turned (after_input l.controller.side i) ts in
+    record {
+      here = knows_more t u n m l.controller (finished k f ending).controller
+          (near_same l k i ts ending plain.reports plain.none (λ a c. plain.number) finishes) g b.here;
+      there = far_knows t u n m l.host (finished k f ending).host (host_finished k f ending ∙ plain.host) g b.there;
+    }
+
+idle_same : (l : Link) (ts : List Turn) (ending : Ending) → IsNode l ts ending → Near l
+    → (finished l (turned l.controller.side ts) ending).controller.side.shdlc.phase ≡ IsUpNow
+    → (l.controller.side.shdlc.phase ≡ IsUpNow) × (number_of (finished l (turned l.controller.side ts) ending).controller ≡ number_of l.controller)
+idle_same l ts ending a n up =
+    let e : LinkEnd = l.controller.side in
+    let finishes = idle_finishes l ts ending a n in
+    let w = was_up l (turned e ts) ending finishes.can (λ u. puts_number l (frames_out (turned e ts)) (finishes.quiet u)) up in
+    (sym (turned_same ts e) ∙ w.0, w.1)
+
+own_knows : {t : List Entry} {n : Losses} (who : End) (l : Link) (comes : Comes) (ts : List Turn) (ending : Ending) → IsOwn (Step comes ts ending)
+    → IsNode l ts ending → Near l → Both t n l
+    → Both (t ++ step_entries who l comes ts ending) (noted_turns n (core_of l) (core_step l comes ts ending)) (steps_at_controller l comes ts ending)
+own_knows {t} {n} who l comes ts ending o a x b = go comes o
+  where
+    e : LinkEnd
+    e = l.controller.side
+
+    go : (comes : Comes) → IsOwn (Step comes ts ending)
+        → Both (t ++ step_entries who l comes ts ending) (noted_turns n (core_of l) (core_step l comes ts ending)) (steps_at_controller l comes ts ending)
+    go NextFrame o = absurd o
+    go (AsksReset window) o =
+        let c : Bool = is_some (ended_by e (Reset window)) in
+        input_knows (step_entries who l (AsksReset window) ts ending) (Reset window) (plain_ended l c (reset_so e window x.sound) refl)
+        (reset_finishes l window ts ending a x) (own_grows n who l (AsksReset window) ts ending tt a.0 x.tells) b
+    go (Starts v) o =
+        let r = start_restarts e v x.sound in
+        input_knows (step_entries who l (Starts v) ts ending) (Start v) (plain_silent l (after_input e (Start v)) r.reports r.none)
+        (restart_finishes l ts ending a x r) (own_grows n who l (Starts v) ts ending tt a.0 x.tells) b
+    go Stops o =
+        let r = stop_restarts e x.sound in
+        input_knows (step_entries who l Stops ts ending) Stop (plain_silent l (after_input e Stop) r.reports r.none) (restart_finishes l ts ending a x r)
+        (own_grows n who l Stops ts ending tt a.0 x.tells) b
+    go NoInput o =
+        let g = own_grows n who l NoInput ts ending tt a.0 x.tells in
+        let u : List Entry = step_entries who l NoInput ts ending in
+        let m : Losses = noted_turns n (core_of l) (core_step l NoInput ts ending) in
+        record {
+          here = knows_more t u n m l.controller (steps_at_controller l NoInput ts ending).controller (idle_same l ts ending a x) g b.here;
+          there = far_knows t u n m l.host (steps_at_controller l NoInput ts ending).host (host_finished l (turned e ts) ending) g b.there;
+        }
+
+-- ### A frame is taken
+
+taken_knows : {t : List Entry} {n : Losses} (who : End) (l : Link) (x : OnWire) (xs : List OnWire) (ts : List Turn) (ending : Ending)
+    → l.to_controller ≡ x ∷ xs → IsNode l ts ending → Before l → Both t n l
+    → Both (t ++ taken_entries who l x xs ts ending)
+    (noted_all (came_up n (core_of (left_after l x xs)) (began_by l.controller.side (Take x.frame))) (core_of (left_after l x xs))
+    (frames_out (turned (took l.controller.side x.frame) ts))) (has_taken l x xs ts ending)
+taken_knows {t} {n} who l x xs ts ending w a b both = go (began_by e i) refl
+  where
+    e : LinkEnd
+    e = l.controller.side
+
+    i : LinkInput
+    i = Take x.frame
+
+    f : LinkEnd
+    f = after_input e i
+
+    k : Link
+    k = left_after l x xs
+
+    h : NumberedEnd
+    h = record l.controller { took = took_with l.controller.took x }
+
+    m : Losses
+    m = noted_all (came_up n (core_of k) (began_by e i)) (core_of k) (frames_out (turned f ts))
+
+    rest : List Entry
+    rest = rest_entries who k f ts ending
+
+    u : List Entry
+    u = taken_entries who l x xs ts ending
+
+    fr : Frame l x ts
+    fr = frame_facts l ts a.0 b x xs w
+
+    -- lost before, or noted
+    grows : Grows n m u
+    grows = by ending
+      where
+        by : (ending : Ending) → Grows n m (taken_entries who l x xs ts ending)
+        by CutOff = input_cut n m who h i k f ts
+        by GoesOut = λ z. which (input_grows (came_up n (core_of k) (began_by e i)) m who h i k f ts refl z)
+          where
+            which : (bad (came_up n (core_of k) (began_by e i)) ≡ true) ⊎ Disturbed (told_of who h i ++ rest_entries who k f ts GoesOut)
+                → (bad n ≡ true) ⊎ Disturbed (taken_entries who l x xs ts GoesOut)
+            which (inl z) = inl (came_bad n (core_of k) (began_by e i) z)
+            which (inr z) = inr z
+
+    number : (c : Bool) → number_of (record (with_ended (record l { to_controller = xs }) c).controller { took = took_with l.controller.took x })
+        ≡ max l.controller.emitted (took_with l.controller.took x)
+    number false = refl
+    number true = refl
+
+    host : (c : Bool) → (with_ended (record l { to_controller = xs }) c).host ≡ l.host
+    host false = refl
+    host true = refl
+
+    c : Bool
+    c = is_some (ended_by e i)
+
+    m' : Link
+    m' = has_taken l x xs ts ending
+
+    finishes : CanFinish f ts ending
+    finishes = take_finishes l x ts ending a (near_of l b) fr
+
+    there : Knows (t ++ u) m m'.host
+    there = far_knows t u n m l.host m'.host (host_finished k (turned f ts) ending ∙ host c) grows both.there
+
+    go : (y : Bool) → began_by e i ≡ y → Both (t ++ u) m m'
+    go false q =
+        record {
+          here = knows_more t u n m l.controller m'.controller
+              (near_same l k i ts ending (take_so e x.frame b.sound) q (λ up z. number c ∙ ap (max l.controller.emitted) (fr.same up z))
+              finishes) grows both.here;
+          there = there;
+        }
+    go true q = record { here = new; there = there }
+      where
+        j : ℕ
+        j = number_of h
+
+        pre : List Entry
+        pre = Took who x.frame ∷ map (Down who) (option_to_list (report e i).ended)
+
+        tail : List Entry
+        tail =
+            if_so (report e i).became_active (Active who)
+            ++ (map (GaveUp who) (option_to_list (report e i).gave_up)
+            ++ (if_so (nat_lt 0 (report e i).acked) (Acked who j (whole_acked f)) ++ map (Got who j) (report e i).got))
+
+        v : List Entry
+        v = tail ++ rest
+
+        parts : u ≡ pre ++ (Up who j ∷ v)
+        parts =
+            ap (λ z. Took who x.frame ∷ (z ++ rest)) (ap (λ y. map (Down who) (option_to_list (report e i).ended) ++ (if_so y (Up who j) ++ tail)) q)
+            ∙ ap (λ z. Took who x.frame ∷ z) (append_assoc (map (Down who) (option_to_list (report e i).ended)) (Up who j ∷ tail) rest)
+
+        -- the frames of this step
+        first : is_up_with (core_end l.host) j ≡ false → bad m ≡ true → Disturbed v
+        first alone z = disturbed_right tail rest (by ending)
+          where
+            lone : came_up n (core_of k) (began_by e i) ≡ no_losses
+            lone =
+                ap (came_up n (core_of k)) q
+                ∙ (ap (λ y. cond (is_up_with (core_end y) (number_of k.controller)) n no_losses) (host c)
+                ∙ (ap (λ y. cond (is_up_with (core_end l.host) y) n no_losses) (number c) ∙ ap (λ y. cond y n no_losses) alone))
+
+            by : (ending : Ending) → Disturbed (rest_entries who k f ts ending)
+            by CutOff = cut_disturbs who k f ts
+            by GoesOut = which (rest_grows (came_up n (core_of k) (began_by e i)) m who k f ts refl z)
+              where
+                which : (bad (came_up n (core_of k) (began_by e i)) ≡ true) ⊎ Disturbed (rest_entries who k f ts GoesOut)
+                    → Disturbed (rest_entries who k f ts GoesOut)
+                which (inl y) = absurd (let r : bad no_losses ≡ true = ap bad (sym lone) ∙ y in true≢false (sym r))
+                which (inr y) = y
+
+        -- the end with its number
+        up_number : m'.controller.side.shdlc.phase ≡ IsUpNow → number_of m'.controller ≡ j
+        up_number up = (was_up k (turned f ts) ending finishes.can (λ _. puts_number k (frames_out (turned f ts)) fr.quiet) up).1 ∙ number c
+
+        at_j : (number_of m'.controller ≡ j) → Knows (t ++ u) m m'.controller
+        at_j r =
+            let P : List Entry → Type 0 = λ z. Knows (t ++ z) m m'.controller in
+            let Q : List Entry → Type 0 = λ z. Grows n m z in
+            let split : u ≡ pre ++ (Up who (number_of m'.controller) ∷ v) = parts ∙ ap (λ z. pre ++ (Up who z ∷ v)) (sym r) in
+            let R : ℕ → Type 0 = λ z. is_up_with (core_end l.host) z ≡ false → bad m ≡ true → Disturbed v in
+            subst P (sym split) (knows_new pre v who both.there (subst Q split grows) (subst R (sym r) first))
+
+        new : Knows (t ++ u) m m'.controller
+        new = record { has = λ up. (at_j (up_number up)).has up; tells = λ up z. (at_j (up_number up)).tells up z }
+
+frame_knows : (t : List Entry) (n : Losses) (who : End) (l : Link) (ts : List Turn) (ending : Ending) → IsNode l ts ending → Before l → Both t n l
+    → Both (t ++ step_entries who l NextFrame ts ending) (noted_turns n (core_of l) (core_step l NextFrame ts ending))
+    (steps_at_controller l NextFrame ts ending)
+frame_knows t n who l ts ending a b both =
+    by_list l.to_controller (λ q.
+    let z = none q in
+    as_is (step_entries who l NextFrame ts ending) [] (noted_turns n (core_of l) (core_step l NextFrame ts ending)) n
+    (steps_at_controller l NextFrame ts ending) l z.0 z.1 z.2 same)
+    (λ x xs q.
+    let k : Losses = noted_all (came_up n (core_of (left_after l x xs)) (began_by l.controller.side (Take x.frame))) (core_of (left_after l x xs))
+    (frames_out (turned (took l.controller.side x.frame) ts)) in
+    as_is (step_entries who l NextFrame ts ending) (taken_entries who l x xs ts ending) (noted_turns n (core_of l) (core_step l NextFrame ts ending)) k
+    (steps_at_controller l NextFrame ts ending) (has_taken l x xs ts ending) (rw q refl) (ap (noted_turns n (core_of l)) (list x xs q)
+    ∙ taken_noted n l ts ending x xs q a.0 b) (rw q refl)
+    (taken_knows who l x xs ts ending q a b both))
+  where
+    as_is : (u v : List Entry) (m k : Losses) (x y : Link) → u ≡ v → m ≡ k → x ≡ y → Both (t ++ v) k y → Both (t ++ u) m x
+    as_is u v m k x y p q r h =
+        let A : List Entry → Type 0 = λ z. Both (t ++ z) m x in
+        let B : Losses → Type 0 = λ z. Both (t ++ v) z x in
+        let C : Link → Type 0 = λ z. Both (t ++ v) k z in
+        subst A (sym p) (subst B (sym q) (subst C (sym r) h))
+
+    none : l.to_controller ≡ [] → (step_entries who l NextFrame ts ending ≡ []) × (noted_turns n (core_of l) (core_step l NextFrame ts ending) ≡ n)
+        × (steps_at_controller l NextFrame ts ending ≡ l)
+    none q = (rw q refl, rw q refl, rw q refl)
+
+    list : (x : OnWire) (xs : List OnWire) → l.to_controller ≡ x ∷ xs → core_step l NextFrame ts ending
+        ≡ core_take l.controller.side x.frame ts ++ core_ending ending
+    list x xs q = rw q refl
+
+    same : Both (t ++ []) n l
+    same = let P : List Entry → Type 0 = λ z. Both z n l in subst P (sym (append-nil t)) both
+
+-- ## A quiet session has delivered all, as it is noted
+
+-- ### Ticks
 
 -- the flags after the tick of an end
 abbrev pub tick_flags : Losses → Link → Node → Losses
@@ -156,7 +641,7 @@ aged_knows t n l b =
       there = knows_more t u n (noted_aged n (core_of l)) l.host l.host (λ up. (up, refl)) (aged_grows n l) b.there;
     }
 
--- ## Events at one end
+-- ### Events at one end
 
 lost_grows : (n : Losses) (who : End) (why : Loss) (w : List OnWire) → Grows n (record n { lost = n.lost || counts_first w }) (first_lost who why w)
 lost_grows n who why (x ∷ xs) = λ q. inr refl

@@ -15,25 +15,21 @@ use Rattle.link_laws.proofs.sessions.Hand.{IsRset, rset_told}
 use Rattle.link_laws.proofs.sessions.Safe.{Safe}
 use Rattle.link_laws.proofs.sessions.Sending.{SafeLink}
 use Rattle.link_laws.proofs.sessions.Steps.{took_other, safe_aged, safe_turns, safe_exchanged, tick_or_cut, tick_if_waiting}
-use Rattle.link_laws.proofs.machine.Shifts.{Shift}
-use Rattle.link_laws.proofs.machine.Shifts.Shift.{Stays, Ends, Renews, Begins, Rests as ShiftRests}
+use Rattle.link_laws.proofs.machine.Sound.{Shift}
+use Rattle.link_laws.proofs.machine.Sound.Shift.{Begins, Ends, Renews, Rests as ShiftRests, Stays}
 use Rattle.link_laws.proofs.machine.Runs.{Sound, new_sound}
 use Rattle.link_laws.proofs.machine.Reports.{take_so}
-use Rattle.link_laws.proofs.messages.Asks.{NoRset}
+use Rattle.link_laws.proofs.messages.Project.{NoRset, Step, Tells, beside-put_all, frames_alike}
 use Rattle.link_laws.proofs.messages.ActsInOrder.{LinkInOrder, IsPolite, polite_of}
-use Rattle.link_laws.proofs.messages.Ends.{frames_alike}
-use Rattle.link_laws.proofs.messages.Project.{Tells, Step, beside-put_all}
 use Rattle.link_laws.proofs.messages.Steps.{ComesFirst, FromHost, core_first}
 use Rattle.link_laws.proofs.messages.Finishing.{first_none, step_tick}
-use Rattle.link_laws.proofs.messages.Runs.{Good, Reached, safe_reached, rests_of, reached_more, from_host, from_controller, own_here, own_turns, step_here}
-use Rattle.link_laws.proofs.messages.Runs.{event_step, rest_both, tells_same, seen, started_clf, can_start}
-use Rattle.link_laws.proofs.messages.Whole.{new_number, start_good, start_reached}
+use Rattle.link_laws.proofs.messages.Runs.{Good, Reached, can_start, event_step, from_controller, from_host, new_number, own_here, own_turns, reached_more}
+use Rattle.link_laws.proofs.messages.Runs.{rest_both, rests_of, safe_reached, seen, start_good, start_reached, started_clf, step_here, tells_same}
 use Rattle.link_laws.specs.entries.Entries.Entry.{Tick}
 use Rattle.link_laws.proofs.entries.Books.{Book, blank, book_of, Silent, silent_cons, Told, up_talk, down_talk, told_silent, past_after}
-use Rattle.link_laws.proofs.entries.Stepping.{Tolds, Out, one_step, one_input, silent_first, puts_number}
-use Rattle.link_laws.proofs.entries.Fronts.{OfOne, NoAcked, few_told, few_more}
-use Rattle.link_laws.proofs.entries.Moments.{Ok, AllOk, all_then, between, ok_silent, ok_link}
-use Rattle.link_laws.proofs.entries.Noting.{Near, Frames, FramesFor, step_told, tick_told, sound_tick, sound_step}
+use Rattle.link_laws.proofs.entries.Stepping.{NoAcked, OfOne, Out, Tolds, few_more, few_told, one_input, one_step, puts_number, silent_first}
+use Rattle.link_laws.proofs.entries.Noting.{AllOk, Frames, FramesFor, Near, Ok, all_then, between, ok_link, ok_silent, sound_step, sound_tick, step_told}
+use Rattle.link_laws.proofs.entries.Noting.{tick_told}
 use Rattle.link_laws.proofs.Cases.{by_test}
 
 -- ## The first frame on a wire

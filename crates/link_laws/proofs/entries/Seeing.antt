@@ -1,16 +1,23 @@
--- What is seen in the entries of a step is what the link keeps.
+-- What is seen of a link in the entries of its steps is what the link keeps, and along each wire the ages of frames don't rise.
 use Rattle.std.specs.Prelude.{◌+◌}
-use Rattle.link_laws.proofs.Words.{Acked, Act, Active, AsksReset, Bool, Clt, Comes, Control, Controller, Cut, CutOff, End, EndEvent, Ending, Entry}
-use Rattle.link_laws.proofs.Words.{FetchMessage, GaveUp, Give, GoesOut, Got, HasTick, Hold, Host, I, Link, LinkEnd, LinkInput, List, Lose, NextFrame, NoInput}
-use Rattle.link_laws.proofs.Words.{Node, None, NumberedEnd, OnWire, Option, Refused, Release, Report, Reset, Rset, S, Seen, SetAside, Some, Start, Starts, Step}
-use Rattle.link_laws.proofs.Words.{Stop, Stops, Take, TooMany, Took, Turn, Ua, [], after_input, all_at_controller, ap, cond, drop, ended_by, ending_entries}
-use Rattle.link_laws.proofs.Words.{entries_of_events, exchanged, false, far, finished, first_lost, fits, frames_out, give_refusal, happens_at_controller}
-use Rattle.link_laws.proofs.Words.{has_taken, here_entries, if_so, is_rset, is_some, is_up, kept, left_after, length, map, nat_lt, number_of, option_to_list}
-use Rattle.link_laws.proofs.Words.{pushed_out, put, put_all, put_entries, puts_entries, refl, report, rest_entries, see, see_all, sent_all, sent_unless, silent}
-use Rattle.link_laws.proofs.Words.{step_entries, steps_at_controller, sym, taken_entries, tick_entries, ticks_at_controller, told, told_of, took_with, true}
-use Rattle.link_laws.proofs.Words.{turn, turn_entries, turn_entry, turned, whole_acked, wire_with, with_controller, with_ended, ℕ, ◌++◌, ◌∙◌, ◌∷◌, ◌≡◌}
-use Rattle.link_laws.specs.entries.Entries.Entry.{Up, Down}
-use Rattle.link_laws.proofs.Cases.{by_list}
+use Rattle.link_laws.proofs.Words.{Acked, Act, Activate, Active, AsksReset, AtController, AtHost, Bool, Clt, Comes, Control, Controller, Cut, CutOff, End}
+use Rattle.link_laws.proofs.Words.{EndEvent, Ending, Entry, FetchMessage, GaveUp, Give, GoesOut, Got, HasTick, Hold, Host, I, IsBare, IsLine, IsStart, Link}
+use Rattle.link_laws.proofs.Words.{LinkEnd, LinkEvent, LinkInput, List, Lose, Lost, NextFrame, NoInput, Node, None, NumberedEnd, OnWire, Option, Refused}
+use Rattle.link_laws.proofs.Words.{Release, Report, Reset, Rset, S, Seen, SetAside, Some, Start, Starts, Step, Stop, Stops, Take, Ticks, TicksWithout, TooMany}
+use Rattle.link_laws.proofs.Words.{TooOld, Took, Turn, Ua, [], after_input, after_link_events, aged, aged_entries, aged_wire, all_at_controller, ap, arith}
+use Rattle.link_laws.proofs.Words.{cond, drop, ended_by, ending_entries, entries, entries_of_events, event_entries, exchanged, false, far, finished, first_lost}
+use Rattle.link_laws.proofs.Words.{fits, frames_out, give_refusal, happens, happens_at_controller, has_taken, here_entries, if_so, is_rset, is_some, is_up}
+use Rattle.link_laws.proofs.Words.{kept, left_after, length, ltb-false, ltb-true, map, nat_lt, number_of, older, option_to_list, pushed_out, put, put_all}
+use Rattle.link_laws.proofs.Words.{put_entries, puts_entries, refl, report, rest_entries, see, see_all, sent_all, sent_unless, silent, step_entries}
+use Rattle.link_laws.proofs.Words.{steps_at_controller, subst, sym, taken_entries, tick_entries, ticks_at_controller, told, told_of, took_with, trace, true}
+use Rattle.link_laws.proofs.Words.{turn, turn_entries, turn_entry, turned, whole_acked, wire_with, with_controller, with_ended, ℕ, ◌++◌, ◌<◌, ◌∙◌, ◌∷◌, ◌≡◌}
+use Rattle.link_laws.specs.entries.Entries.Entry.{Down, Tick, Up}
+use Rattle.link_laws.specs.entries.Reading.{nothing_seen}
+use Rattle.link_laws.proofs.Cases.{by_list, by_test}
+use Rattle.link_laws.proofs.sessions.Steps.{aged-fresh}
+use Rattle.link_laws.proofs.sessions.Wire.{Young, young_later, young_push}
+
+-- ## What is seen in the entries of a step is what the link keeps
 
 -- what a link keeps, seen from the end with this name, which is its controller's
 abbrev pub seen_as : End → Link → Seen
@@ -21,7 +28,7 @@ pub see_all-append : (s : Seen) (t u : List Entry) → see_all s (t ++ u) ≡ se
 see_all-append s [] u = refl
 see_all-append s (e ∷ t) u = see_all-append (see s e) t u
 
--- ## Entries that tell nothing of wires
+-- ### Entries that tell nothing of wires
 
 -- nothing is seen in these
 abbrev Plain : List Entry → Type 0
@@ -73,7 +80,7 @@ plain_turns who n e [] s = refl
 plain_turns who n e (t ∷ ts) s =
     plain-append (turn_entry who n e t) (turn_entries who n (turn e t) ts) (plain_turn who n e t) (plain_turns who n (turn e t) ts) s
 
--- ## Frames that go out
+-- ### Frames that go out
 
 -- where a wire has a frame more
 abbrev loses : End → Bool → List OnWire → List Entry
@@ -134,7 +141,7 @@ puts_seen who (c ∷ cs) l =
     see_all-append (seen_as who l) (put_entries who l c) (puts_entries who (put l c) cs)
     ∙ (ap (λ s. see_all s (puts_entries who (put l c) cs)) (put_seen who l c) ∙ puts_seen who cs (put l c))
 
--- ## A step
+-- ### A step
 
 -- what its end is and what is known of sessions isn't seen
 same_seen : (who : End) (l : Link) (e : LinkEnd) → seen_as who (with_controller l e) ≡ seen_as who l
@@ -287,3 +294,202 @@ tick_seen who l node =
     let i : LinkInput = HasTick in
     told_seen who l (with_ended l (is_some (ended_by l.controller.side i))) l.controller i (after_input l.controller.side i) node.turns node.ending
     (ended_seen who l (is_some (ended_by l.controller.side i)))
+
+-- ## Along each wire the ages of frames don't rise, and what is seen of a link is what it keeps
+
+-- along a wire ages don't rise, and none is above four
+record Ages (l : Link) : Type 0 where
+  pub near : Young 4 l.to_controller
+  pub there : Young 4 l.to_host
+
+young_fits : (w : List OnWire) → Young 4 w → Young 4 (fits w)
+young_fits w y = go (nat_lt 64 (length w)) w y
+  where
+    go : (b : Bool) (w : List OnWire) → Young 4 w → Young 4 (cond b (drop 1 w) w)
+    go false w y = y
+    go true [] y = tt
+    go true (x ∷ xs) y = young_later x.age 4 xs y.0 y.1
+
+ages_put : (l : Link) (c : Control) → Ages l → Ages (put l c)
+ages_put l c a = go c
+  where
+    there : (n : ℕ) (c : Control) → Young 4 (fits (l.to_host ++ record { frame = c; age = 0; number = n } ∷ []))
+    there n c =
+        let x : OnWire = record { frame = c; age = 0; number = n } in young_fits (l.to_host ++ x ∷ []) (young_push 4 l.to_host x refl a.there)
+
+    go : (c : Control) → Ages (put l c)
+    go (Rset w caps) = record { near = a.near; there = there (l.resets + 1) (Rset w caps) }
+    go frame = record { near = a.near; there = there 0 frame }
+
+ages_puts : (cs : List Control) (l : Link) → Ages l → Ages (put_all l cs)
+ages_puts [] l a = a
+ages_puts (c ∷ cs) l a = ages_puts cs (put l c) (ages_put l c a)
+
+ages_silent : (l : Link) (e : LinkEnd) → Ages (silent l e)
+ages_silent l e = record { near = tt; there = tt }
+
+ages_ended : (l : Link) (b : Bool) → Ages l → Ages (with_ended l b)
+ages_ended l false a = a
+ages_ended l true a = record { near = a.near; there = a.there }
+
+ages_finished : (l : Link) (e : LinkEnd) (ending : Ending) → Ages l → Ages (finished l e ending)
+ages_finished l e GoesOut a = let b = ages_puts (frames_out e) l a in record { near = b.near; there = b.there }
+ages_finished l e CutOff a = record { near = tt; there = tt }
+
+dropped : (w : List OnWire) → Young 4 w → Young 4 (drop 1 w)
+dropped [] y = tt
+dropped (x ∷ xs) y = young_later x.age 4 xs y.0 y.1
+
+ages_step : (l : Link) (comes : Comes) (ts : List Turn) (ending : Ending) → Ages l → Ages (steps_at_controller l comes ts ending)
+ages_step l NextFrame ts ending a =
+    by_list {P = Ages (steps_at_controller l NextFrame ts ending)} l.to_controller (λ q. rw q (record { near = tt; there = a.there })) (λ x xs q.
+    let m : Link = with_ended (record l { to_controller = xs }) (is_some (ended_by l.controller.side (Take x.frame))) in
+    let k : Link = record m { controller = record m.controller { took = took_with l.controller.took x } } in
+    let y : Young 4 (x ∷ xs) = subst (Young 4) q a.near in
+    let less : Ages (record l { to_controller = xs }) = record { near = young_later x.age 4 xs y.0 y.1; there = a.there } in
+    let b = ages_ended (record l { to_controller = xs }) (is_some (ended_by l.controller.side (Take x.frame))) less in
+    let c : Ages k = record { near = b.near; there = b.there } in
+    let d = ages_finished k (turned (after_input l.controller.side (Take x.frame)) ts) ending c in
+    rw q d)
+ages_step l (AsksReset window) ts ending a =
+    ages_finished (with_ended l (is_some (ended_by l.controller.side (Reset window)))) (turned (after_input l.controller.side (Reset window)) ts) ending
+    (ages_ended l (is_some (ended_by l.controller.side (Reset window))) a)
+ages_step l (Starts value) ts ending a =
+    ages_finished (silent l (after_input l.controller.side (Start value))) (turned (after_input l.controller.side (Start value)) ts) ending
+    (ages_silent l (after_input l.controller.side (Start value)))
+ages_step l Stops ts ending a =
+    ages_finished (silent l (after_input l.controller.side Stop)) (turned (after_input l.controller.side Stop) ts) ending
+    (ages_silent l (after_input l.controller.side Stop))
+ages_step l NoInput ts ending a = ages_finished l (turned l.controller.side ts) ending a
+
+ages_here : (l : Link) (e : EndEvent) → Ages l → Ages (happens_at_controller l e)
+ages_here l (Step comes ts ending) a = ages_step l comes ts ending a
+ages_here l (Lose why) a = record { near = dropped l.to_controller a.near; there = a.there }
+
+ages_all : (es : List EndEvent) (l : Link) → Ages l → Ages (all_at_controller l es)
+ages_all [] l a = a
+ages_all (e ∷ es) l a = ages_all es (happens_at_controller l e) (ages_here l e a)
+
+ages_other : (l : Link) → Ages l → Ages (exchanged l)
+ages_other l a = record { near = a.there; there = a.near }
+
+young_aged : (w : List OnWire) → Young 4 w → Young 4 (aged_wire w)
+young_aged w y = let z = aged-fresh w y in subst (Young 4) (sym z.0) z.1
+
+ages_aged : (l : Link) → Ages l → Ages (aged l)
+ages_aged l a = record { near = young_aged l.to_controller a.near; there = young_aged l.to_host a.there }
+
+ages_tick : (l : Link) (ts : List Turn) (ending : Ending) → Ages l → Ages (ticks_at_controller l ts ending)
+ages_tick l ts ending a =
+    ages_finished (with_ended l (is_some (ended_by l.controller.side HasTick))) (turned (after_input l.controller.side HasTick) ts) ending
+    (ages_ended l (is_some (ended_by l.controller.side HasTick)) a)
+
+ages_event : (l : Link) (e : LinkEvent) → Ages l → Ages (happens l e)
+ages_event l (AtController e) a = ages_here l e a
+ages_event l (AtHost e) a = ages_other (happens_at_controller (exchanged l) e) (ages_here (exchanged l) e (ages_other l a))
+ages_event l (Ticks c es h) a =
+    let near : Link = ticks_at_controller (aged l) c.turns c.ending in
+    let m : Link = exchanged (all_at_controller near es) in
+    ages_other (ticks_at_controller m h.turns h.ending)
+    (ages_tick m h.turns h.ending (ages_other (all_at_controller near es) (ages_all es near (ages_tick (aged l) c.turns c.ending (ages_aged l a)))))
+ages_event l (TicksWithout es h) a =
+    let m : Link = exchanged (all_at_controller (aged l) es) in
+    ages_other (ticks_at_controller m h.turns h.ending)
+    (ages_tick m h.turns h.ending (ages_other (all_at_controller (aged l) es) (ages_all es (aged l) (ages_aged l a))))
+ages_event l (Activate power c id h) a =
+    let near : Link = steps_at_controller l (Starts power) c.turns c.ending in
+    ages_other (steps_at_controller (exchanged near) (Starts id) h.turns h.ending)
+    (ages_step (exchanged near) (Starts id) h.turns h.ending (ages_other near (ages_step l (Starts power) c.turns c.ending a)))
+
+-- ### A tick
+
+none_aged : (who : End) (w : List OnWire) (b : ℕ) → b < 4 → Young b w → (aged_entries who w ≡ []) × (aged_wire w ≡ older w)
+none_aged who [] b i y = (refl, refl)
+none_aged who (x ∷ xs) b i y =
+    by_test {P = (aged_entries who (x ∷ xs) ≡ []) × (aged_wire (x ∷ xs) ≡ older (x ∷ xs))} (nat_lt x.age 4)
+    (λ q. (
+      rw q (none_aged who xs x.age (omega (arith, i, y.0)) y.1).0,
+      rw q (ap (λ v. record x { age = x.age + 1 } ∷ v) (none_aged who xs x.age (omega (arith, i, y.0)) y.1).1),
+    ))
+    (λ q. absurd (let g = ltb-false x.age 4 q in omega (arith, g, i, y.0)))
+
+-- the wire to an end is w
+abbrev with_wire : End → Seen → List OnWire → Seen
+with_wire Controller s w = record s { to_controller = w }
+with_wire Host s w = record s { to_host = w }
+
+aged_seen : (who : End) (s : Seen) (w : List OnWire) → Young 4 w → see_all (with_wire who s (older w)) (aged_entries who w) ≡ with_wire who s (aged_wire w)
+aged_seen who s [] y = refl
+aged_seen who s (x ∷ xs) y =
+    by_test {P = see_all (with_wire who s (older (x ∷ xs))) (aged_entries who (x ∷ xs)) ≡ with_wire who s (aged_wire (x ∷ xs))} (nat_lt x.age 4) (λ q.
+    let z = none_aged who xs x.age (ltb-true x.age 4 q) y.1 in
+    let e : aged_entries who (x ∷ xs) ≡ [] = rw q z.0 in
+    let w : aged_wire (x ∷ xs) ≡ older (x ∷ xs) = rw q (ap (λ v. record x { age = x.age + 1 } ∷ v) z.1) in
+    ap (see_all (with_wire who s (older (x ∷ xs)))) e ∙ ap (with_wire who s) (sym w))
+    (λ q.
+    let e : aged_entries who (x ∷ xs) ≡ Lost who x.frame TooOld ∷ aged_entries who xs = rw q refl in
+    let w : aged_wire (x ∷ xs) ≡ aged_wire xs = rw q refl in
+    ap (see_all (with_wire who s (older (x ∷ xs)))) e
+    ∙ (ap (λ z. see_all z (aged_entries who xs)) (lost who) ∙ ((aged_seen who s xs (young_later x.age 4 xs y.0 y.1)) ∙ ap (with_wire who s) (sym w))))
+  where
+    lost : (who : End) → see (with_wire who s (older (x ∷ xs))) (Lost who x.frame TooOld) ≡ with_wire who s (older xs)
+    lost Controller = refl
+    lost Host = refl
+
+both_aged : (l : Link) → Ages l
+    → see_all (see (kept l) Tick) (aged_entries Controller l.to_controller ++ aged_entries Host l.to_host) ≡ kept (aged l)
+both_aged l a =
+    let s : Seen = see (kept l) Tick in
+    see_all-append s (aged_entries Controller l.to_controller) (aged_entries Host l.to_host)
+    ∙ (ap (λ z. see_all z (aged_entries Host l.to_host)) (aged_seen Controller s l.to_controller a.near)
+    ∙ aged_seen Host (record s { to_controller = aged_wire l.to_controller }) l.to_host a.there)
+
+-- ### Events
+
+-- these entries, and then those, take what is seen from s over t to u
+then : (s t u : Seen) (xs ys : List Entry) → see_all s xs ≡ t → see_all t ys ≡ u → see_all s (xs ++ ys) ≡ u
+then s t u xs ys p q = see_all-append s xs ys ∙ (ap (λ z. see_all z ys) p ∙ q)
+
+-- behind those of the frames that are too old, which come first in a tick
+behind_aged : (l : Link) (rest : List Entry) (u : Seen) → Ages l → see_all (kept (aged l)) rest ≡ u
+    → see_all (see (kept l) Tick) (aged_entries Controller l.to_controller ++ (aged_entries Host l.to_host ++ rest)) ≡ u
+behind_aged l rest u a q =
+    let s : Seen = see (kept l) Tick in
+    see_all-append s (aged_entries Controller l.to_controller) (aged_entries Host l.to_host ++ rest)
+    ∙ (see_all-append (see_all s (aged_entries Controller l.to_controller)) (aged_entries Host l.to_host) rest
+    ∙ (ap (λ z. see_all z rest) (sym (see_all-append s (aged_entries Controller l.to_controller) (aged_entries Host l.to_host)) ∙ both_aged l a) ∙ q))
+
+event_seen : (l : Link) (e : LinkEvent) → Ages l → see_all (kept l) (event_entries l e) ≡ kept (happens l e)
+event_seen l (AtController e) a = here_seen Controller l e
+event_seen l (AtHost e) a = here_seen Host (exchanged l) e
+event_seen l (Ticks c es h) a =
+    let near : Link = ticks_at_controller (aged l) c.turns c.ending in
+    let m : Link = all_at_controller near es in
+    let last : List Entry = tick_entries Host (exchanged m) h in
+    let four = then (kept near) (kept m) (kept (happens l (Ticks c es h))) (entries_of_events Controller near es) last (all_seen Controller es near)
+    (tick_seen Host (exchanged m) h) in
+    let three = then (kept (aged l)) (kept near) (kept (happens l (Ticks c es h))) (tick_entries Controller (aged l) c)
+    (entries_of_events Controller near es ++ last) (tick_seen Controller (aged l) c) four in
+    let rest : List Entry = tick_entries Controller (aged l) c ++ (entries_of_events Controller near es ++ last) in
+    behind_aged l rest (kept (happens l (Ticks c es h))) a three
+event_seen l (TicksWithout es h) a =
+    let m : Link = all_at_controller (aged l) es in
+    let last : List Entry = tick_entries Host (exchanged m) h in
+    let two = then (kept (aged l)) (kept m) (kept (happens l (TicksWithout es h))) (entries_of_events Controller (aged l) es) last
+    (all_seen Controller es (aged l)) (tick_seen Host (exchanged m) h) in
+    behind_aged l (entries_of_events Controller (aged l) es ++ last) (kept (happens l (TicksWithout es h))) a two
+event_seen l (Activate power c id h) a =
+    let near : Link = steps_at_controller l (Starts power) c.turns c.ending in
+    then (kept l) (kept near) (kept (happens l (Activate power c id h))) (step_entries Controller l (Starts power) c.turns c.ending)
+    (step_entries Host (exchanged near) (Starts id) h.turns h.ending) (step_seen Controller l (Starts power) c.turns c.ending)
+    (step_seen Host (exchanged near) (Starts id) h.turns h.ending)
+
+events_seen : (events : List LinkEvent) (l : Link) → Ages l → see_all (kept l) (entries l events) ≡ kept (after_link_events l events)
+events_seen [] l a = refl
+events_seen (e ∷ es) l a =
+    then (kept l) (kept (happens l e)) (kept (after_link_events (happens l e) es)) (event_entries l e) (entries (happens l e) es) (event_seen l e a)
+    (events_seen es (happens l e) (ages_event l e a))
+
+pub read_off : (l : Link) → IsStart l → (events : List LinkEvent) → see_all nothing_seen (trace l events) ≡ kept (after_link_events l events)
+read_off l IsBare events = events_seen events l (record { near = tt; there = tt })
+read_off l IsLine events = events_seen events l (record { near = tt; there = tt })

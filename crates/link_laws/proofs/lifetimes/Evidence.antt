@@ -3,8 +3,7 @@ use Rattle.std.proofs.Common.{◌==◌}
 use Rattle.link_laws.proofs.Words.{Act, Clt, Control, Due, Fragment, I, Kind, List, Rej, Rej_due, Rnr, Rnr_due, Rr, Rr_due, Rset, Rset_due, S, Srej, Ua, Ua_due}
 use Rattle.link_laws.proofs.Words.{[], ap, arith, cond, eqb-false, eqb-true, inl, inr, refl, with_frame, ℕ, ◌++◌, ◌+◌, ◌<◌, ◌∷◌, ◌≡◌, ◌≤◌, ◌⊎◌}
 use Rattle.link_laws.specs.places.Wire.{OnWire, older}
-use Rattle.link_laws.proofs.places.Marks.{Shows, last_count}
-use Rattle.link_laws.proofs.places.Whole.{AnswersOnly}
+use Rattle.link_laws.proofs.places.Flows.{AnswersOnly, Shows, last_count}
 use Rattle.link_laws.proofs.sessions.Wire.{Young, young_later}
 use Rattle.link_laws.proofs.Cases.{by_test}
 

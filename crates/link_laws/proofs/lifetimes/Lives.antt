@@ -9,9 +9,8 @@ use Rattle.link_laws.proofs.Words.{noted_aged, noted_all, noted_event, noted_her
 use Rattle.link_laws.proofs.Words.{shdlc_becomes, shdlc_exchanged, shdlc_happens, shdlc_put, shdlc_put_all, shdlc_ticks_at_controller, shdlc_turn, start, subst}
 use Rattle.link_laws.proofs.Words.{sym, take_answer, taken, tick_answer, ticked, took_with, true, true≢false, with_frame, ℕ, ◌||◌, ◌∙◌, ◌∷◌, ◌≡◌, ◌≤◌}
 use Rattle.link_laws.specs.places.Wire.{OnWire, fits, is_act, sans, overflows, loses_aged, aged_wire, older}
-use Rattle.link_laws.proofs.places.Marks.{Shows, Counts}
-use Rattle.link_laws.proofs.places.Joined.{joined_weaker}
-use Rattle.link_laws.proofs.places.Idle.{few_taken, idle_after, left, no_due}
+use Rattle.link_laws.proofs.places.Flows.{Counts, Shows}
+use Rattle.link_laws.proofs.places.Joined.{few_taken, idle_after, joined_weaker, left, no_due}
 use Rattle.link_laws.proofs.sessions.Wire.{IsData, Young, young_later, young_older}
 use Rattle.link_laws.proofs.sessions.Steps.{not_rset, took_other}
 use Rattle.link_laws.proofs.sessions.Ties.{Meets, IsNew, new_meets, data_due, sends_noted, offer_up, few_turns}

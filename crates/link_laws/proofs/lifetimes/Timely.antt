@@ -5,8 +5,7 @@ use Rattle.link_laws.proofs.Words.{Bool, Control, Due, EndState, Fragment, I, Ki
 use Rattle.link_laws.proofs.Words.{length, length-append, put_out, refl, sent_again, sent_next, sym, true, true≢false, with_frame, ℕ, ⊎_elim, ◌++◌, ◌+◌, ◌<◌}
 use Rattle.link_laws.proofs.Words.{◌∙◌, ◌∷◌, ◌≡◌, ◌≤◌, ◌⊎◌}
 use Rattle.link_laws.specs.places.Wire.{OnWire, older}
-use Rattle.link_laws.proofs.places.Marks.{Shows, last_count, last_count_push_I, last_count_push_S}
-use Rattle.link_laws.proofs.places.Whole.{AnswersOnly, push_not_empty}
+use Rattle.link_laws.proofs.places.Flows.{AnswersOnly, Shows, last_count, last_count_push_I, last_count_push_S, push_not_empty}
 use Rattle.link_laws.proofs.places.Joined.{changed}
 use Rattle.link_laws.proofs.sessions.Wire.{Young}
 use Rattle.link_laws.proofs.lifetimes.Evidence.{Answers, SentBy, AnswerBy, DueBy, RewindDue, RewindBy, NoSrej, OnlyAcks, course_of, sent_push, sent_new}

@@ -1,13 +1,236 @@
--- What is true of an end after any inputs.
+-- What is true of an end after any inputs, with the walks over what a frame and a tick do and what each input does to a session.
 use Rattle.std.proofs.lemmas.Bool.{leb-true}
-use Rattle.link_laws.proofs.Words.{Bool, LinkEnd, List, Message, Session, [], ap, arith, drop, false, fragments_of, in_use, leb-false, length, length-append}
-use Rattle.link_laws.proofs.Words.{length-map, map, nat_le, need, need_of_all, no_session, packet_bytes, packet_count, packets_are_counted, packets_of, refl}
-use Rattle.link_laws.proofs.Words.{subst, suc, sym, take, true, whole_among, zero, ℕ, ◌++◌, ◌+◌, ◌-◌, ◌<◌, ◌∙◌, ◌∷◌, ◌≡◌, ◌≤◌}
-use Rattle.link_laws.proofs.machine.Shifts.{Shift, IsNotUp, IsNew}
-use Rattle.link_laws.proofs.machine.Shifts.Shift.{Stays, Ends, Renews, Begins, Rests}
-use Rattle.link_laws.proofs.Cases.{by_test}
+use Rattle.std.specs.Prelude.{◌+◌}
+use Rattle.link_laws.proofs.Words.{Bool, Cause, Control, Down, EndState, Fragment, I, Kind, LinkEnd, LinkState, List, Message, None, Option, Peer, Rset, S}
+use Rattle.link_laws.proofs.Words.{Session, Some, Srej, Ua, Ua_due, Up, Waiting, [], acknowledged, ap, append-nil, arith, asked_again, drop, false}
+use Rattle.link_laws.proofs.Words.{fragments_of, given_up, if_up, in_use, inl, inr, is_some, is_waiting, leb-false, length, length-append, length-map, map, min}
+use Rattle.link_laws.proofs.Words.{nat_le, nat_lt, need, need_of_all, no_session, option_to_list, packet_bytes, packet_count, packets_are_counted, packets_of}
+use Rattle.link_laws.proofs.Words.{place_of, received, received-phase, received-sending, refl, reset_with, runs_timer, sent_again, stopped, subst, suc, sym}
+use Rattle.link_laws.proofs.Words.{take, take_answer, taken, tick_answer, ticked, true, up_with, waiting_from, whole_among, zero, ℕ, ⊎_elim, ◌++◌, ◌-◌, ◌<◌}
+use Rattle.link_laws.proofs.Words.{◌==◌, ◌∙◌, ◌∷◌, ◌≡◌, ◌≤◌, ◌⊎◌}
+use Rattle.shdlc_core.proofs.Histories.{place_of-within, received-accepted, received-acked}
+use Rattle.shdlc_core.specs.Machine.{accepted_reset, fragment_accepted, nothing_taken, nothing_ticked}
+use Rattle.shdlc_core.specs.declared.answers.Taken.{Taken}
+use Rattle.shdlc_core.specs.declared.answers.Ticked.{Ticked}
+use Rattle.swp_base.specs.declared.link_terms.Cause.TheVariants.{NoAnswer}
+use Rattle.link_laws.proofs.Cases.{by_option, by_phase, by_test}
 
--- ## Messages and their blocks
+-- ## What a frame and a tick do to an SHDLC end holds of it, where it holds of each thing that may come of them
+
+-- An I frame and an S frame come to an end that is Up; a frame is passed over; an RSET comes to an end that is Up, that waits and that
+-- is Down; and a UA to one that waits.
+pub by_taken : (Q : Control → EndState → Taken → Type 0) (e : EndState)
+    → ((ns nr : ℕ) (info : Fragment) → e.phase ≡ Up → Q (I ns nr info) (taken e (I ns nr info)) (take_answer e (I ns nr info)))
+    → ((kind : Kind) (nr : ℕ) → e.phase ≡ Up → Q (S kind nr) (taken e (S kind nr)) (take_answer e (S kind nr)))
+    → ((c : Control) → Q c e nothing_taken)
+    → ((w caps : ℕ) → e.phase ≡ Up
+    → Q (Rset w caps) (up_with (record e { due = Ua_due ∷ [] }) (min e.own_window (min w 4))) (record nothing_taken { ended = Some Peer; began = true }))
+    → ((w caps : ℕ) → e.phase ≡ Waiting → Q (Rset w caps) (record e { due = e.due ++ Ua_due ∷ []; peer_window = min w 4 }) nothing_taken)
+    → ((w caps : ℕ) → e.phase ≡ Down
+    → Q (Rset w caps) (up_with (record e { due = e.due ++ Ua_due ∷ [] }) (min e.own_window (min w 4))) (record nothing_taken { began = true }))
+    → (e.phase ≡ Waiting → Q Ua (accepted_reset e) (record nothing_taken { began = true }))
+    → (c : Control) → Q c (taken e c) (take_answer e c)
+by_taken Q e fragment supervised passed renews answers begins confirmed c = go e.phase refl c
+  where
+    go : (p : LinkState) → e.phase ≡ p → (c : Control) → Q c (taken e c) (take_answer e c)
+    go Up p (I ns nr info) = rw p (rw p at (fragment ns nr info p))
+    go Up p (S kind nr) = rw p (rw p at (supervised kind nr p))
+    go Up p (Rset w caps) =
+        by_test {P = Q (Rset w caps) (taken e (Rset w caps)) (take_answer e (Rset w caps))} (w == 0) (λ q. rw (p, q) (rw p at (passed (Rset w caps))))
+        (λ q. rw (p, q) (renews w caps p))
+    go Waiting p (Rset w caps) =
+        by_test {P = Q (Rset w caps) (taken e (Rset w caps)) (take_answer e (Rset w caps))} (w == 0) (λ q. rw (p, q) (rw p at (passed (Rset w caps))))
+        (λ q. rw (p, q) (rw p at (answers w caps p)))
+    go Down p (Rset w caps) =
+        by_test {P = Q (Rset w caps) (taken e (Rset w caps)) (take_answer e (Rset w caps))} (w == 0) (λ q. rw (p, q) (rw p at (passed (Rset w caps))))
+        (λ q. rw (p, q) (begins w caps p))
+    go Waiting p Ua = rw p (confirmed p)
+    go _ p frame = rw p (rw p at (passed frame))
+
+-- Nothing comes of a tick; it counts; an end that is Up sends again, and begins to wait; one that waits asks again, and gives up.
+pub by_tick : (Q : EndState → Ticked → Type 0) (e : EndState) → Q e nothing_ticked
+    → ((e.phase ≡ Up) ⊎ (e.phase ≡ Waiting) → Q (record e { timer = e.timer + 1 }) nothing_ticked) → (e.phase ≡ Up → Q (sent_again e) nothing_ticked)
+    → (e.phase ≡ Up → Q (waiting_from e) (record nothing_ticked { ended = Some NoAnswer })) → (e.phase ≡ Waiting → Q (asked_again e) nothing_ticked)
+    → (e.phase ≡ Waiting → Q (given_up e) (record nothing_ticked { gave_up = Some e.tries }))
+    → Q (ticked e) (tick_answer e)
+by_tick Q e same counted again waits asks gives_up =
+    go e.phase (runs_timer e.session) (nat_lt (e.timer + 1) 10) (nat_lt e.tries 5) refl refl refl refl
+  where
+    go : (p : LinkState) (a b c : Bool) → e.phase ≡ p → runs_timer e.session ≡ a → nat_lt (e.timer + 1) 10 ≡ b → nat_lt e.tries 5 ≡ c
+        → Q (ticked e) (tick_answer e)
+    go Down a b c p q r t = rw p (rw p at same)
+    go Up false b c p q r t = rw (p, q) (rw p at same)
+    go Up true true c p q r t = rw (p, q, r) (rw p at (counted (inl p)))
+    go Up true false true p q r t = rw (p, q, r, t) (rw p at (again p))
+    go Up true false false p q r t = rw (p, q, r, t) (rw p at (waits p))
+    go Waiting a true c p q r t = rw (p, r) (rw p at (counted (inr p)))
+    go Waiting a false true p q r t = rw (p, r, t) (rw p at (asks p))
+    go Waiting a false false p q r t = rw (p, r, t) (gives_up p)
+
+-- ## What each thing that comes to an SHDLC end does to its session: it goes on, ends, begins, or there is none
+
+-- the session goes on: what is sent stays, what is acknowledged and what was accepted grow
+pub record GoesOn (e f : EndState) : Type 0 where
+  pub was : e.phase ≡ Up
+  pub is : f.phase ≡ Up
+  pub out : f.session.out ≡ e.session.out
+  pub reached : f.session.reached ≡ e.session.reached
+  pub low : e.session.acked ≤ f.session.acked
+  pub high : f.session.acked ≤ e.session.acked + (f.session.reached + e.session.acked)
+  pub within : e.session.acked ≤ e.session.reached → f.session.acked ≤ f.session.reached
+  pub more : List Fragment
+  pub acc : f.session.acc ≡ e.session.acc ++ more
+
+abbrev pub IsNotUp : EndState → Type 0
+IsNotUp e = e.phase ≡ Up → ⊥
+
+-- it is a new session
+pub record IsNew (f : EndState) : Type 0 where
+  pub is : f.phase ≡ Up
+  pub out : f.session.out ≡ []
+  pub acc : f.session.acc ≡ []
+  pub acked : f.session.acked ≡ 0
+  pub reached : f.session.reached ≡ 0
+
+-- an SHDLC end e becomes f; its session ended or not, and one began or not
+pub data Shift (e f : EndState) (ended began : Bool) : Type 0 where
+  Stays : ended ≡ false → began ≡ false → GoesOn e f → Shift e f ended began
+  Ends : ended ≡ true → began ≡ false → e.phase ≡ Up → IsNotUp f → f.session ≡ no_session → Shift e f ended began
+  Renews : ended ≡ true → began ≡ true → e.phase ≡ Up → IsNew f → Shift e f ended began
+  Begins : ended ≡ false → began ≡ true → IsNotUp e → IsNew f → Shift e f ended began
+  Rests : ended ≡ false → began ≡ false → IsNotUp e → IsNotUp f → (e.session ≡ no_session → f.session ≡ no_session) → Shift e f ended began
+
+waiting_not_up : (e : EndState) → e.phase ≡ Waiting → IsNotUp e
+waiting_not_up e p u = let z = sym p ∙ u in cc
+
+down_not_up : (e : EndState) → e.phase ≡ Down → IsNotUp e
+down_not_up e p u = let z = sym p ∙ u in cc
+
+-- nothing happens
+pub same_shift : (e f : EndState) → f ≡ e → Shift e f false false
+same_shift e f q =
+    by_phase e.phase (λ p.
+    rw q
+    (Stays refl refl
+    (record {
+      was = p;
+      is = p;
+      out = refl;
+      reached = refl;
+      low = omega arith;
+      high = omega arith;
+      within = λ i. i;
+      more = [];
+      acc = sym (append-nil e.session.acc);
+    })))
+    (λ p. rw q (Rests refl refl (waiting_not_up e p) (waiting_not_up e p) (λ s. s))) (λ p. rw q (Rests refl refl (down_not_up e p) (down_not_up e p) (λ s. s)))
+
+-- what is acknowledged by a valid number
+at_place : {e f : EndState} (nr : ℕ) {x : ℕ} (more : List Fragment) → e.phase ≡ Up → f.phase ≡ Up → place_of e.session nr ≡ Some x
+    → f.session.out ≡ e.session.out → f.session.reached ≡ e.session.reached → f.session.acked ≡ x → f.session.acc ≡ e.session.acc ++ more → GoesOn e f
+at_place {e} nr {x} more p q place out reached acked acc =
+    let w = place_of-within e.session nr x place in
+    record {
+      was = p;
+      is = q;
+      out = out;
+      reached = reached;
+      low = omega (arith, w.0, acked);
+      high = omega (arith, w.1, acked, reached);
+      within = λ _. omega (arith, w.1, acked, reached);
+      more = more;
+      acc = acc;
+    }
+
+up_I : (e : EndState) (ns nr : ℕ) (info : Fragment) → e.phase ≡ Up → Shift e (taken e (I ns nr info)) false false
+up_I e ns nr info up =
+    by_option (place_of e.session nr) (λ q. same_shift e (taken e (I ns nr info)) (rw (up, q) refl)) (λ x q.
+    let g : EndState = acknowledged e x in
+    let s = received-sending g ns info in
+    let on : GoesOn e (received g ns info) =
+    at_place nr (option_to_list (fragment_accepted g ns info)) up (received-phase g ns info ∙ up) q s.0 s.2
+    (received-acked g ns info) (received-accepted g ns info) in
+    let shift : Shift e (received g ns info) false false = Stays refl refl on in
+    rw (up, q) (rw up at shift))
+
+up_S : (e : EndState) (k : Kind) (nr : ℕ) → e.phase ≡ Up → Shift e (taken e (S k nr)) false false
+up_S e k nr up = go k (place_of e.session nr) refl
+  where
+    none : (k : Kind) → taken e (S k nr) ≡ e → Shift e (taken e (S k nr)) false false
+    none k q = same_shift e (taken e (S k nr)) q
+
+    nil : e.session.acc ≡ e.session.acc ++ []
+    nil = sym (append-nil e.session.acc)
+
+    go : (k : Kind) (o : Option ℕ) → place_of e.session nr ≡ o → Shift e (taken e (S k nr)) false false
+    go Srej o q = none Srej (rw up refl)
+    go c None q = none c (rw (up, q) refl)
+    go _ (Some x) q =
+        Stays refl refl (at_place nr [] up (rw (up, q) refl) q (rw (up, q) refl) (rw (up, q) refl) (rw (up, q) refl) (rw (up, q) nil))
+
+-- a frame
+pub taken_shift : (e : EndState) (c : Control) → Shift e (taken e c) (is_some (take_answer e c).ended) (take_answer e c).began
+taken_shift e c =
+    by_taken (λ _ f answer. Shift e f (is_some answer.ended) answer.began) e
+    (λ ns nr info p. by (I ns nr info) false false (rw p refl) (rw p refl) (up_I e ns nr info p))
+    (λ kind nr p. by (S kind nr) false false (rw p refl) (rw p refl) (up_S e kind nr p)) (λ _. same_shift e e refl)
+    (λ _ _ p. Renews refl refl p (record { is = refl; out = refl; acc = refl; acked = refl; reached = refl }))
+    (λ _ _ p. Rests refl refl (waiting_not_up e p) (waiting_not_up e p) (λ s. s))
+    (λ _ _ p. Begins refl refl (down_not_up e p) (record { is = refl; out = refl; acc = refl; acked = refl; reached = refl }))
+    (λ p. Begins refl refl (waiting_not_up e p) (record { is = refl; out = refl; acc = refl; acked = refl; reached = refl })) c
+  where
+    by : (c : Control) (a b : Bool) → is_some (take_answer e c).ended ≡ a → (take_answer e c).began ≡ b → Shift e (taken e c) a b
+        → Shift e (taken e c) (is_some (take_answer e c).ended) (take_answer e c).began
+    by c a b p q s = rw (p, q) s
+
+-- a tick
+pub ticked_shift : (e : EndState) → Shift e (ticked e) (is_some (tick_answer e).ended) false
+ticked_shift e =
+    by_tick (λ f answer. Shift e f (is_some answer.ended) false) e (same_shift e e refl)
+    (λ w. ⊎_elim (λ p. on (record e { timer = e.timer + 1 }) p p refl refl refl refl)
+    (λ p. waits (record e { timer = e.timer + 1 }) p (waiting_not_up e p) refl) w)
+    (λ p. on (sent_again e) p p refl refl refl refl) (λ p. Ends refl refl p (waiting_not_up (waiting_from e) refl) refl)
+    (λ p. waits (asked_again e) p (waiting_not_up e p) refl) (λ p. waits (given_up e) p (down_not_up (given_up e) refl) refl)
+  where
+    on : (f : EndState) → e.phase ≡ Up → f.phase ≡ Up → f.session.out ≡ e.session.out → f.session.reached ≡ e.session.reached
+        → f.session.acked ≡ e.session.acked → f.session.acc ≡ e.session.acc → Shift e f false false
+    on f p q out reached acked acc =
+        Stays refl refl
+        (record {
+          was = p;
+          is = q;
+          out = out;
+          reached = reached;
+          low = omega (arith, acked);
+          high = omega (arith, acked);
+          within = λ i. omega (arith, i, acked, reached);
+          more = [];
+          acc = acc ∙ sym (append-nil e.session.acc);
+        })
+
+    waits : (f : EndState) → e.phase ≡ Waiting → IsNotUp f → f.session ≡ e.session → Shift e f false false
+    waits f p n s = Rests refl refl (waiting_not_up e p) n (λ z. s ∙ z)
+
+-- a reset that isn't refused
+pub reset_shift : (e : EndState) (w : ℕ) (cause : Cause) → is_waiting e ≡ false → Shift e (reset_with e w) (is_some (if_up e cause)) false
+reset_shift e w cause n =
+    by_phase e.phase
+    (λ p. let s : Shift e (reset_with e w) true false = Ends refl refl p (waiting_not_up (reset_with e w) (rw n refl)) (rw n refl) in rw p (rw p at s))
+    (λ p. absurd (let z : true ≡ false = rw p at n in cc)) (λ p.
+    let s : Shift e (reset_with e w) false false =
+    Rests refl refl (down_not_up e p) (waiting_not_up (reset_with e w) (rw n refl)) (λ _. rw n refl) in
+    rw p (rw p at s))
+
+-- the link goes down
+pub stopped_shift : (e : EndState) (cause : Cause) → Shift e (stopped e) (is_some (if_up e cause)) false
+stopped_shift e cause =
+    by_phase e.phase (λ p. let s : Shift e (stopped e) true false = Ends refl refl p (down_not_up (stopped e) refl) refl in rw p (rw p at s))
+    (λ p. let s : Shift e (stopped e) false false = Rests refl refl (waiting_not_up e p) (down_not_up (stopped e) refl) (λ _. refl) in rw p (rw p at s))
+    (λ p. let s : Shift e (stopped e) false false = Rests refl refl (down_not_up e p) (down_not_up (stopped e) refl) (λ _. refl) in rw p (rw p at s))
+
+-- ## What is true of an end after any inputs
+
+-- ### Messages and their blocks
 
 -- more fragments acknowledged are no fewer messages
 pub whole_more : (ms : List Message) (a b : ℕ) → a ≤ b → whole_among ms a ≤ whole_among ms b
@@ -84,7 +307,7 @@ whole_given (x ∷ ms) m a p i =
     l : length (fragments_of (x ∷ ms)) ≡ n + length (fragments_of ms)
     l = let z = length-append (map packet_bytes (packets_of x.0 x.1)) (fragments_of ms) in omega (arith, z, fragments_count x)
 
--- ## An end
+-- ### An end
 
 -- what is true of its session, its messages and its blocks
 pub record Data (e : LinkEnd) : Type 0 where

@@ -14,19 +14,18 @@ use Rattle.link_laws.proofs.Words.{steps_at_controller, stopped, subst, sym, tak
 use Rattle.link_laws.proofs.Words.{true, true≢false, turned, window_of, with_controller, with_ended, with_shdlc_controller as core_with_controller, ℕ, ◌&&◌}
 use Rattle.link_laws.proofs.Words.{◌++◌, ◌∙◌, ◌∷◌, ◌≡◌, ◌⊎◌}
 use Rattle.swp_act.specs.declared.Phase.TheVariants.{Active}
-use Rattle.link_laws.proofs.places.Idle.{after_frames_idle}
+use Rattle.link_laws.proofs.places.Joined.{after_frames_idle}
 use Rattle.link_laws.specs.messages.Projection.{core_restart}
-use Rattle.link_laws.proofs.messages.Asks.{NoAsk, NoRset, none_due, no_rset, turned_asks, taken_asks, ticked_asks, turned_phase, puts_none}
+use Rattle.link_laws.proofs.messages.Project.{Idle, Keeps, Mid, NoAsk, NoRset, Now, Step, Tells, among_now, frames_alike, frames_now, host_ended, mid_moved}
+use Rattle.link_laws.proofs.messages.Project.{moved_role, no_rset, none_due, past_ended, puts_none, step_moved, step_same, step_turned, taken_asks, ticked_asks}
+use Rattle.link_laws.proofs.messages.Project.{ticked_keeps, turned_asks, turned_phase, turned_role, turns_mid}
 use Rattle.link_laws.proofs.messages.ActsInOrder.{ActsInOrder, LinkInOrder, IsPolite, with_sent, in_order_cut, in_order_tick}
-use Rattle.link_laws.proofs.messages.Ends.{Idle, Keeps, ticked_keeps, frames_alike}
-use Rattle.link_laws.proofs.messages.Project.{Mid, Now, mid_moved, moved_role, frames_now, among_now, Tells, Step, step_same, step_turned, step_moved}
-use Rattle.link_laws.proofs.messages.Project.{turns_mid, turned_role, past_ended, host_ended}
 use Rattle.link_laws.proofs.machine.Runs.{opened}
 use Rattle.link_laws.proofs.machine.Reports.{shdlc_is as shdlc_moved}
 use Rattle.link_laws.proofs.messages.Steps.{FromHost, Rests, is_shdlc, heard_end, heard_is, mid_counted, took_open, took_closed, no_fault_first, polite}
 use Rattle.link_laws.proofs.messages.Steps.{role_closes, ComesFirst, step_first, stays_down, activated_role, act_mid, Acted, tick_closes, core_first}
 use Rattle.link_laws.proofs.Cases.{by_list, by_phase, by_test}
-use Rattle.link_laws.proofs.machine.Walks.{by_tick}
+use Rattle.link_laws.proofs.machine.Sound.{by_tick}
 
 -- ## A step that is cut off
 

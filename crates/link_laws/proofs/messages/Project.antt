@@ -1,22 +1,209 @@
--- A step of a link over messages is its projection's step, where no chain fault comes.
-use Rattle.std.specs.Prelude.{◌+◌, ◌-◌, drop}
-use Rattle.link_laws.proofs.Words.{Act, ActDue, Activation, AreSendableTurns, AreShort, Bool, Clt, Control, CoreLink, CoreTurn, Down, EndState, FetchMessage}
-use Rattle.link_laws.proofs.Words.{Give, Hold, I, Link, LinkEnd, LinkState, List, Message, None, NumberedEnd, Offer, OnWire, Option, Refused, Release, Role}
-use Rattle.link_laws.proofs.Words.{Rset, S, SetAside, Some, Talk, Turn, Ua, Up, [], act_frame, after_frames, among, ap, append-nil, aside_refusal, becomes}
-use Rattle.link_laws.proofs.Words.{core_of, core_turned, core_turns, core_with_ended, false, flat_map-append, fragments_of, frames_of, frames_out, give_refusal}
-use Rattle.link_laws.proofs.Words.{given, is_open, length, ltb-false, map, most_frames, moved, nat_lt, not, option_to_list, packet_bytes, packets_of, put}
-use Rattle.link_laws.proofs.Words.{put_all, put_out, refl, sent_all, shdlc_becomes as core_becomes, shdlc_put as core_put, shdlc_put_all as core_put_all}
-use Rattle.link_laws.proofs.Words.{shdlc_turn as core_turn_of, subst, sym, talk_now, true, turn, turned, with_ended}
-use Rattle.link_laws.proofs.Words.{with_shdlc_controller as core_with_controller, ℕ, ◌++◌, ◌∙◌, ◌∷◌, ◌≡◌, ◌≤◌}
-use Rattle.link_laws.specs.sending.Sending.{IsShort}
+-- A step of a link over messages is its projection's step, and what that needs of what an end asks for and has to send.
+use Rattle.std.specs.Prelude.{drop, ◌+◌, ◌-◌}
+use Rattle.link_laws.proofs.Words.{Act, ActDue, Activation, AreSendableTurns, AreShort, Bool, Clt, Control, CoreLink, CoreTurn, CoreTurn as ShdlcTurn, Down}
+use Rattle.link_laws.proofs.Words.{Due, EndState, FetchMessage, Fragment, Give, Hold, I, Kind, Link, LinkEnd, LinkState, List, Message, None, NumberedEnd}
+use Rattle.link_laws.proofs.Words.{Offer, OnWire, Option, Refused, Rej_due, Release, Rnr_due, Role, Rr_due, Rset, Rset_due, S, SetAside, SetReady, Some, Srej}
+use Rattle.link_laws.proofs.Words.{Talk, Turn, Ua, Ua_due, Up, [], acknowledged, act_frame, after_frames, among, ap, append-nil, aside_refusal, becomes}
+use Rattle.link_laws.proofs.Words.{control_due, core_of, core_turned, core_turned as shdlc_turned, core_turns, core_with_ended, false, fetched, flat_map-append}
+use Rattle.link_laws.proofs.Words.{fragments_of, frame_due, frames_of, frames_out, give_refusal, given, is_open, is_rset, is_some, is_waiting, length}
+use Rattle.link_laws.proofs.Words.{ltb-false, map, most_frames, moved, nat_lt, not, option_to_list, packet_bytes, packets_of, place_of, put, put_all, put_out}
+use Rattle.link_laws.proofs.Words.{received, received-phase, received-sending, refl, sent_all, shdlc_becomes as core_becomes, shdlc_put as core_put}
+use Rattle.link_laws.proofs.Words.{shdlc_put_all as core_put_all, shdlc_turn, shdlc_turn as core_turn_of, subst, suc, sym, take_answer, taken, talk_now}
+use Rattle.link_laws.proofs.Words.{tick_answer, ticked, true, true≢false, turn, turned, with_ended, with_ready, with_shdlc_controller as core_with_controller}
+use Rattle.link_laws.proofs.Words.{zero, ℕ, ◌++◌, ◌∙◌, ◌∷◌, ◌≡◌, ◌≤◌}
 use Rattle.link_laws.specs.messages.Projection.{core_turn}
-use Rattle.link_laws.proofs.messages.ActsInOrder.{ActsInOrder, LinkInOrder, with_sent, no_acts, in_order_put_all}
-use Rattle.link_laws.proofs.messages.Ends.{Idle, Keeps, ready_keeps, frames_alike}
-use Rattle.link_laws.proofs.sessions.Ties.{ready-phase as ready_phase}
+use Rattle.link_laws.specs.sending.Sending.{IsShort}
+use Rattle.link_laws.proofs.Cases.{by_option, by_phase}
 use Rattle.link_laws.proofs.machine.Reports.{shdlc_is as shdlc_moved}
-use Rattle.link_laws.proofs.Cases.{by_option}
+use Rattle.link_laws.proofs.machine.Sound.{by_taken, by_tick}
+use Rattle.link_laws.proofs.messages.ActsInOrder.{ActsInOrder, LinkInOrder, in_order_put_all, no_acts, with_sent}
+use Rattle.link_laws.proofs.places.Joined.{fetch_cases, ready_cases, received_cases}
+use Rattle.link_laws.proofs.sessions.Ties.{ready-phase as ready_phase, turn-phase as turn_phase}
 
--- ## One end
+-- ## Where an end doesn't wait it has no RSET to send, and frames that are none give a link no number
+
+-- it is an RSET
+abbrev pub is_ask : Due → Bool
+is_ask Rset_due = true
+is_ask Rr_due = false
+is_ask Rej_due = false
+is_ask Rnr_due = false
+is_ask Ua_due = false
+
+-- none of these is an RSET
+abbrev pub NoAsk : List Due → Type 0
+NoAsk [] = Unit {0}
+NoAsk (d ∷ ds) = (is_ask d ≡ false) × NoAsk ds
+
+no_ask_more : (ds : List Due) (d : Due) → is_ask d ≡ false → NoAsk ds → NoAsk (ds ++ d ∷ [])
+no_ask_more [] d q a = (q, tt)
+no_ask_more (x ∷ ds) d q a = (a.0, no_ask_more ds d q a.1)
+
+-- nothing is due
+pub none_due : (e : EndState) → e.due ≡ [] → NoAsk e.due
+none_due e q = rw q tt
+
+-- ### What comes to an end
+
+up_I : (e : EndState) (ns nr : ℕ) (info : Fragment) → e.phase ≡ Up → NoAsk e.due → NoAsk (taken e (I ns nr info)).due
+up_I e ns nr info up a = by_option (place_of e.session nr) (λ q. rw (up, q) a) (λ x q. rw (up, q) (let z = by x in rw up at z))
+  where
+    by : (x : ℕ) → NoAsk (received (acknowledged e x) ns info).due
+    by x =
+        received_cases (λ f. NoAsk f.due) (acknowledged e x) ns info (λ _. no_ask_more e.due Rr_due refl a) (λ _ _. a)
+        (λ _ _. no_ask_more e.due Rej_due refl a) (λ _ _. no_ask_more e.due Rr_due refl a) (no_ask_more e.due Rnr_due refl a)
+
+up_S : (e : EndState) (k : Kind) (nr : ℕ) → e.phase ≡ Up → NoAsk e.due → NoAsk (taken e (S k nr)).due
+up_S e k nr up a = go k (place_of e.session nr) refl
+  where
+    go : (k : Kind) (o : Option ℕ) → place_of e.session nr ≡ o → NoAsk (taken e (S k nr)).due
+    go Srej o q = rw up a
+    go _ None q = rw (up, q) a
+    go _ (Some x) q = rw (up, q) a
+
+-- a frame makes no RSET
+pub taken_asks : (e : EndState) (c : Control) → NoAsk e.due → NoAsk (taken e c).due
+taken_asks e c a =
+    by_taken (λ _ f _. NoAsk f.due) e (λ ns nr info p. up_I e ns nr info p a) (λ kind nr p. up_S e kind nr p a) (λ _. a) (λ _ _ _. (refl, tt))
+    (λ _ _ _. no_ask_more e.due Ua_due refl a) (λ _ _ _. no_ask_more e.due Ua_due refl a) (λ _. a) c
+
+-- nor does a tick, where the end doesn't wait then
+pub ticked_asks : (e : EndState) → is_waiting (ticked e) ≡ false → NoAsk e.due → NoAsk (ticked e).due
+ticked_asks e n a =
+    by_tick (λ f _. is_waiting f ≡ false → NoAsk f.due) e (λ _. a) (λ _ _. a) (λ _ _. a) (λ _ z. absurd (true≢false z))
+    (λ p z. absurd (let y : true ≡ false = rw p at z in cc)) (λ _ _. a) n
+
+turn_asks : (e : EndState) (t : ShdlcTurn) → NoAsk e.due → NoAsk (shdlc_turn e t).due
+turn_asks e (Offer fs) a = by_phase {P = NoAsk (shdlc_turn e (Offer fs)).due} e.phase (λ p. rw p a) (λ p. rw p a) (λ p. rw p a)
+turn_asks e (SetReady r) a = ready_cases (λ f. NoAsk f.due) e r a a (no_ask_more e.due Rr_due refl a)
+
+-- nor do the turns of its node
+pub turned_asks : (e : EndState) (ts : List ShdlcTurn) → NoAsk e.due → NoAsk (shdlc_turned e ts).due
+turned_asks e [] a = a
+turned_asks e (t ∷ ts) a = turned_asks (shdlc_turn e t) ts (turn_asks e t a)
+
+-- turns leave it Up, waiting or Down
+pub turned_phase : (e : EndState) (ts : List ShdlcTurn) → (shdlc_turned e ts).phase ≡ e.phase
+turned_phase e [] = refl
+turned_phase e (t ∷ ts) = turned_phase (shdlc_turn e t) ts ∙ turn_phase e t
+
+-- ### What it sends
+
+-- none of these is an RSET
+abbrev pub NoRset : List Control → Type 0
+NoRset [] = Unit {0}
+NoRset (c ∷ cs) = (is_rset c ≡ false) × NoRset cs
+
+control_no_rset : (e : EndState) (d : Due) → is_ask d ≡ false → is_rset (control_due e d) ≡ false
+control_no_rset e Rset_due q = q
+control_no_rset e _ q = refl
+
+-- a frame that is fetched
+record Fetches (f : EndState) (o : Option Control) : Type 0 where
+  frame : (c : Control) → o ≡ Some c → is_rset c ≡ false
+  rest : NoAsk f.due
+
+fetches : (e : EndState) → NoAsk e.due → Fetches (fetched e) (frame_due e)
+fetches e a =
+    fetch_cases Fetches e
+    (λ d ds p. let z : NoAsk (d ∷ ds) = rw p at a in
+    record { frame = λ c q. let same : control_due e d ≡ c = cc in ap is_rset (sym same) ∙ control_no_rset e d z.0; rest = z.1 })
+    (λ p q. record { frame = λ c r. absurd (let z = r in cc); rest = a })
+    (λ info p q. record { frame = λ c r. fragment r; rest = a })
+  where
+    fragment : {n m : ℕ} {info : List ℕ} {c : Control} → Some (I n m info) ≡ Some c → is_rset c ≡ false
+    fragment {n} {m} {info} {c} r = let same : I n m info ≡ c = cc in ap is_rset (sym same)
+
+-- where no RSET is due none goes out
+pub no_rset : (n : ℕ) (e : EndState) → NoAsk e.due → NoRset (frames_of n e)
+no_rset zero e a = tt
+no_rset (suc n) e a =
+    by_option {P = NoRset (frames_of (suc n) e)} (frame_due e) (λ q. rw q tt)
+    (λ c q. rw q ((fetches e a).frame c q, (no_rset n (fetched e) (fetches e a).rest)))
+
+-- frames that are no RSETs change the wire to the host alone
+pub puts_none : (cs : List Control) (l : Link) → NoRset cs → put_all l cs ≡ record l { to_host = (put_all l cs).to_host }
+puts_none [] l a = refl
+puts_none (c ∷ cs) l a =
+    let later = puts_none cs (put l c) a.1 in
+    later ∙ ap (λ (m : Link). record m { to_host = (put_all (put l c) cs).to_host }) (one c a.0)
+  where
+    one : (c : Control) → is_rset c ≡ false → put l c ≡ record l { to_host = (put l c).to_host }
+    one (Rset _ _) q = absurd (true≢false q)
+    one _ q = refl
+
+-- ## What an SHDLC end has to send over each thing that may happen to it
+
+-- an end without a session has nothing
+abbrev pub Idle : EndState → Type 0
+Idle e = (e.phase ≡ Up → ⊥) → (e.session.out ≡ []) × (e.session.acc ≡ [])
+
+-- what it has to send is what it had, or nothing where its session ended
+abbrev pub OutAfter : Bool → EndState → EndState → Type 0
+OutAfter true e f = f.session.out ≡ []
+OutAfter false e f = f.session.out ≡ e.session.out
+
+pub record Keeps (ended : Bool) (e f : EndState) : Type 0 where
+  pub out : OutAfter ended e f
+  pub idle : Idle f
+
+-- an end that is Up stays so
+stays : (e f : EndState) → f.phase ≡ Up → f.session.out ≡ e.session.out → Keeps false e f
+stays e f up out = record { out = out; idle = λ n. absurd (n up) }
+
+up_I_of_ends : (e : EndState) (ns nr : ℕ) (info : Fragment) → e.phase ≡ Up → Keeps false e (taken e (I ns nr info))
+up_I_of_ends e ns nr info up =
+    by_option (place_of e.session nr) (λ q. stays e (taken e (I ns nr info)) (rw (up, q) refl) (rw (up, q) refl)) (λ x q.
+    stays e (taken e (I ns nr info)) (rw (up, q) (let r = received-phase (acknowledged e x) ns info in rw up at r))
+    (rw (up, q) (let r = (received-sending (acknowledged e x) ns info).0 in rw up at r)))
+
+up_S_of_ends : (e : EndState) (k : Kind) (nr : ℕ) → e.phase ≡ Up → Keeps false e (taken e (S k nr))
+up_S_of_ends e k nr up = go k (place_of e.session nr) refl
+  where
+    go : (k : Kind) (o : Option ℕ) → place_of e.session nr ≡ o → Keeps false e (taken e (S k nr))
+    go Srej o q = stays e (taken e (S Srej nr)) (rw up refl) (rw up refl)
+    go c None q = stays e (taken e (S c nr)) (rw (up, q) refl) (rw (up, q) refl)
+    go c (Some x) q = stays e (taken e (S c nr)) (rw (up, q) refl) (rw (up, q) refl)
+
+pub taken_keeps : (e : EndState) (c : Control) → Idle e → Keeps (is_some (take_answer e c).ended) e (taken e c)
+taken_keeps e c idle =
+    by_taken (λ _ f answer. Keeps (is_some answer.ended) e f) e (λ ns nr info p. let k = up_I_of_ends e ns nr info p in rw p (rw p at k))
+    (λ kind nr p. let k = up_S_of_ends e kind nr p in rw p (rw p at k)) (λ _. record { out = refl; idle = idle })
+    (λ _ _ _. record { out = refl; idle = λ n. absurd (n refl) }) (λ _ _ _. record { out = refl; idle = idle })
+    (λ _ _ p. record { out = sym (idle (λ u. let z = sym p ∙ u in cc)).0; idle = λ n. absurd (n refl) })
+    (λ p. record { out = sym (idle (λ u. let z = sym p ∙ u in cc)).0; idle = λ n. absurd (n refl) }) c
+
+pub ticked_keeps : (e : EndState) → Idle e → Keeps (is_some (tick_answer e).ended) e (ticked e)
+ticked_keeps e idle =
+    by_tick (λ f answer. Keeps (is_some answer.ended) e f) e (record { out = refl; idle = idle }) (λ _. record { out = refl; idle = idle })
+    (λ p. record { out = refl; idle = λ n. absurd (n p) }) (λ _. record { out = refl; idle = λ _. (refl, refl) })
+    (λ _. record { out = refl; idle = idle }) (λ p. record { out = refl; idle = λ _. idle (λ u. let z = sym p ∙ u in cc) })
+
+ready_keeps : (e : EndState) (r : Bool) → Idle e → Keeps false e (with_ready e r)
+ready_keeps e r idle =
+    ready_cases (λ f. Keeps false e f) e r (record { out = refl; idle = idle }) (record { out = refl; idle = idle }) (record { out = refl; idle = idle })
+
+-- frames that go out leave the lists and the phase
+pub record Alike (e f : EndState) : Type 0 where
+  pub out : f.session.out ≡ e.session.out
+  pub acc : f.session.acc ≡ e.session.acc
+  pub phase : f.phase ≡ e.phase
+
+fetched_alike : (e : EndState) → Alike e (fetched e)
+fetched_alike e =
+    fetch_cases (λ f o. Alike e f) e (λ d ds p. record { out = refl; acc = refl; phase = refl }) (λ p q. record { out = refl; acc = refl; phase = refl })
+    (λ info p q. record { out = refl; acc = refl; phase = refl })
+
+pub frames_alike : (n : ℕ) (e : EndState) → Alike e (after_frames n e)
+frames_alike zero e = record { out = refl; acc = refl; phase = refl }
+frames_alike (suc n) e =
+    let a = fetched_alike e in
+    let b = frames_alike n (fetched e) in
+    record { out = b.out ∙ a.out; acc = b.acc ∙ a.acc; phase = b.phase ∙ a.phase }
+
+-- ## A step of a link over messages is its projection's step, where no chain fault comes
+
+-- ### One end
 
 -- what an end has to send in a session is the fragments of the messages given in it
 pub record Says (t : Talk) : Type 0 where
@@ -43,7 +230,7 @@ mid_moved e false s h k c =
 mid_moved e true s h k c =
     record { acts = rw h.acts refl; idle = k.idle; closed = c; says = record { out = k.out; short = tt } }
 
-pub now_sent : (e : LinkEnd) (o : Option Activation) → Mid o e → Now (sent_all e)
+now_sent : (e : LinkEnd) (o : Option Activation) → Mid o e → Now (sent_all e)
 now_sent e o h =
     let a = frames_alike most_frames e.shdlc in
     record {
@@ -53,7 +240,7 @@ now_sent e o h =
       says = record { out = a.out ∙ h.says.out; short = h.says.short };
     }
 
--- ## Turns
+-- ### Turns
 
 pub give_tells : (e : LinkEnd) (m : Message) → give_refusal e m ≡ None → (e.shdlc.phase ≡ Up) × (length m.1 ≤ 4096)
 give_tells e m q = go e.shdlc.phase (nat_lt 4096 (length m.1)) refl refl
@@ -63,11 +250,11 @@ give_tells e m q = go e.shdlc.phase (nat_lt 4096 (length m.1)) refl refl
     go Up true p b = absurd (let z = rw (p, b) at q in cc)
     go _ b p r = absurd (let z = rw p at q in cc)
 
-pub short_more : (ms : List Message) (m : Message) → AreShort ms → IsShort m → AreShort (ms ++ m ∷ [])
+short_more : (ms : List Message) (m : Message) → AreShort ms → IsShort m → AreShort (ms ++ m ∷ [])
 short_more [] m h s = (s, tt)
 short_more (x ∷ ms) m h s = (h.0, short_more ms m h.1 s)
 
-pub mid_given : (o : Option Activation) (e : LinkEnd) (m : Message) → Mid o e → e.shdlc.phase ≡ Up → IsShort m → Mid o (given e m)
+mid_given : (o : Option Activation) (e : LinkEnd) (m : Message) → Mid o e → e.shdlc.phase ≡ Up → IsShort m → Mid o (given e m)
 mid_given o e m h up short =
     let f : Message → List (List ℕ) = λ k. map packet_bytes (packets_of k.0 k.1) in
     let last : fragments_of (m ∷ []) ≡ f m = append-nil (f m) in
@@ -86,7 +273,7 @@ pub record Turned (o : Option Activation) (e f : LinkEnd) (ts : List CoreTurn) :
   pub mid : Mid o f
   pub is : f.shdlc ≡ core_turned e.shdlc ts
 
-pub turned_same : (o : Option Activation) (e f : LinkEnd) (ts us : List CoreTurn) (g : LinkEnd) → f ≡ g → ts ≡ us → Turned o e g us → Turned o e f ts
+turned_same : (o : Option Activation) (e f : LinkEnd) (ts us : List CoreTurn) (g : LinkEnd) → f ≡ g → ts ≡ us → Turned o e g us → Turned o e f ts
 turned_same o e f ts us g p q h =
     record { mid = subst (Mid o) (sym p) h.mid; is = ap (λ (z : LinkEnd). z.shdlc) p ∙ (h.is ∙ ap (core_turned e.shdlc) (sym q)) }
 
@@ -106,7 +293,7 @@ turned_beside o e f role shdlc sent acts h =
       is = shdlc;
     }
 
-pub turn_mid : (o : Option Activation) (e : LinkEnd) (t : Turn) → AreSendableTurns (t ∷ []) → Mid o e → Turned o e (turn e t) (core_turn e t)
+turn_mid : (o : Option Activation) (e : LinkEnd) (t : Turn) → AreSendableTurns (t ∷ []) → Mid o e → Turned o e (turn e t) (core_turn e t)
 turn_mid o e (Hold held) a h =
     let k = ready_keeps e.shdlc (not held) h.idle in
     record {
@@ -156,7 +343,7 @@ turn_mid o e (Give m) a h =
     offered : e.shdlc.phase ≡ Up → put_out e.shdlc fs ≡ core_turn_of e.shdlc (Offer fs)
     offered up = rw up refl
 
-pub core_turned-append : (s : EndState) (ts us : List CoreTurn) → core_turned s (ts ++ us) ≡ core_turned (core_turned s ts) us
+core_turned-append : (s : EndState) (ts us : List CoreTurn) → core_turned s (ts ++ us) ≡ core_turned (core_turned s ts) us
 core_turned-append s [] us = refl
 core_turned-append s (t ∷ ts) us = core_turned-append (core_turn_of s t) ts us
 
@@ -176,7 +363,7 @@ turns_mid o e (t ∷ ts) a h =
     parted (Give m) ts a = ((a.0, tt), a.1)
     parted _ ts a = (tt, a)
 
--- ## A link
+-- ### A link
 
 pub put-core : (l : Link) (c : Control) → core_of (put l c) ≡ core_put (core_of l) c
 put-core l (I _ _ _) = refl
@@ -186,11 +373,11 @@ put-core l Ua = refl
 put-core l (Act _ _) = refl
 put-core l Clt = refl
 
-pub put_all-core : (cs : List Control) (l : Link) → core_of (put_all l cs) ≡ core_put_all (core_of l) cs
+put_all-core : (cs : List Control) (l : Link) → core_of (put_all l cs) ≡ core_put_all (core_of l) cs
 put_all-core [] l = refl
 put_all-core (c ∷ cs) l = put_all-core cs (put l c) ∙ ap (λ m. core_put_all m cs) (put-core l c)
 
-pub core_put_all-append : (c : CoreLink) (xs ys : List Control) → core_put_all c (xs ++ ys) ≡ core_put_all (core_put_all c xs) ys
+core_put_all-append : (c : CoreLink) (xs ys : List Control) → core_put_all c (xs ++ ys) ≡ core_put_all (core_put_all c xs) ys
 core_put_all-append c [] ys = refl
 core_put_all-append c (x ∷ xs) ys = core_put_all-append (core_put c x) xs ys
 
@@ -201,7 +388,7 @@ pub among_now : (o : Option Activation) (frames : List Control) → among 0 (due
 among_now None frames = refl
 among_now (Some act) frames = refl
 
-pub becomes-core : (l : Link) (o : Option Activation) (e : LinkEnd) (s : EndState) → e.acts ≡ due_now o → e.shdlc ≡ s
+becomes-core : (l : Link) (o : Option Activation) (e : LinkEnd) (s : EndState) → e.acts ≡ due_now o → e.shdlc ≡ s
     → core_of (becomes l e) ≡ core_becomes (core_put_all (core_of l) (frames_now o)) s
 becomes-core l o e s acts is =
     let frames : frames_out e ≡ frames_now o ++ frames_of most_frames s =
@@ -222,7 +409,7 @@ pub record Beside (l m : Link) : Type 0 where
   pub past : m.controller.past ≡ l.controller.past
   pub to_controller : m.to_controller ≡ l.to_controller
 
-pub beside-put : (l : Link) (c : Control) → Beside l (put l c)
+beside-put : (l : Link) (c : Control) → Beside l (put l c)
 beside-put l (I _ _ _) = record { host = refl; past = refl; to_controller = refl }
 beside-put l (S _ _) = record { host = refl; past = refl; to_controller = refl }
 beside-put l (Rset _ _) = record { host = refl; past = refl; to_controller = refl }
@@ -262,12 +449,12 @@ step_same l m k c d p q st =
       in_order = λ z. subst LinkInOrder (sym p) (st.in_order z);
     }
 
-pub put_all-append : (l : Link) (xs ys : List Control) → put_all l (xs ++ ys) ≡ put_all (put_all l xs) ys
+put_all-append : (l : Link) (xs ys : List Control) → put_all l (xs ++ ys) ≡ put_all (put_all l xs) ys
 put_all-append l [] ys = refl
 put_all-append l (x ∷ xs) ys = put_all-append (put l x) xs ys
 
 -- all that is due goes out
-pub becomes_in_order : (l k : Link) (o : Option Activation) (e : LinkEnd) → k.host ≡ l.host → e.acts ≡ due_now o
+becomes_in_order : (l k : Link) (o : Option Activation) (e : LinkEnd) → k.host ≡ l.host → e.acts ≡ due_now o
     → ActsInOrder e.role l.host.side.role k.to_controller (with_sent o k.to_host) → LinkInOrder (becomes k e)
 becomes_in_order l k o e host acts in_order =
     let b = beside-put_all (frames_out e) k in
@@ -292,7 +479,7 @@ becomes_in_order l k o e host acts in_order =
         subst P (sym wire) (in_order_put_all e.role l.host.side.role k.to_controller (frames_of most_frames e.shdlc) (put_all k (frames_now o))
         (no_acts most_frames e.shdlc) (subst P (sym (sends o)) in_order))
 
-pub step_becomes : (l k : Link) (o : Option Activation) (e : LinkEnd) (s : EndState) → k.host ≡ l.host → AllSay k.controller.past → Mid o e → e.shdlc ≡ s
+step_becomes : (l k : Link) (o : Option Activation) (e : LinkEnd) (s : EndState) → k.host ≡ l.host → AllSay k.controller.past → Mid o e → e.shdlc ≡ s
     → (LinkInOrder l → ActsInOrder e.role l.host.side.role k.to_controller (with_sent o k.to_host))
     → Step l (becomes k e) (core_becomes (core_put_all (core_of k) (frames_now o)) s)
 step_becomes l k o e s host past h is in_order =

@@ -1,16 +1,443 @@
--- No RSET of a link has a greater number than how many were put on it: neither those on its wires nor those that its ends sent and took.
+-- RSETs on a link come of ticks and of resets that are asked for, and their numbers are no greater than their count.
 use Rattle.std.specs.Prelude.{length}
-use Rattle.link_laws.proofs.Words.{Activate, AsksReset, AtController, AtHost, Bool, Comes, Control, CutOff, EndEvent, Ending, GoesOut, HasTick as Tick, IsBare}
-use Rattle.link_laws.proofs.Words.{IsLine, IsStart, Link, LinkEnd, LinkEvent, LinkInput, List, Lose, NextFrame, NoInput, NumberedEnd, OnWire, Reset, Starts}
-use Rattle.link_laws.proofs.Words.{Step, Stops, Take, Ticks, TicksWithout, Turn, [], after_input, after_link_events, aged, aged_wire, all_at_controller, arith}
-use Rattle.link_laws.proofs.Words.{cond, deactivated, drop, ended_by, exchanged, false, finished, fits, frames_out, happens, happens_at_controller, has_input}
-use Rattle.link_laws.proofs.Words.{has_restarted, has_taken, is_rset, is_some, is_up, left_after, max, nat_lt, new_link_end, number_of, put, put_all, refl}
-use Rattle.link_laws.proofs.Words.{renewed, rset_causes_in, sent_all, silent, started, steps_at_controller, ticks_at_controller, took_with, true, turned}
-use Rattle.link_laws.proofs.Words.{with_controller, with_ended, ℕ, ◌++◌, ◌+◌, ◌∷◌, ◌≡◌, ◌≤◌}
-use Rattle.link_laws.specs.messages.Rsets.{NumbersWithin, WireIsLow, EndIsLow, HasLowNumbers}
-use Rattle.link_laws.proofs.messages.RsetsOnLinks.{resets_of_run}
+use Rattle.link_laws.proofs.Words.{Act as ActFrame, ActDue, ActEvent, ActOut, ActStart, ActStop, ActTake, ActTick, Activate, Activation as Act, Asked}
+use Rattle.link_laws.proofs.Words.{AsksReset, AtController, AtHost, Bare, Bool, Clf, Clt, Comes, Control, CutOff, Down, Due, EndEvent, EndState, Ending}
+use Rattle.link_laws.proofs.Words.{FetchMessage, Fragment, Give, GoesOut, HasTick as Tick, Hold, I, IsBare, IsLine, IsStart, Kind, Link, LinkEnd, LinkEvent}
+use Rattle.link_laws.proofs.Words.{LinkInput, LinkState, List, Lose, NextFrame, NoInput, None, NumberedEnd, OnWire, Option, Refused, Rej_due, Release, Reset}
+use Rattle.link_laws.proofs.Words.{Rnr_due, Role, Rr_due, Rset_due, S, SetAside, Some, Srej, Starts, Step, Stops, Take, Ticks, TicksWithout, Turn, Ua_due, Uicc}
+use Rattle.link_laws.proofs.Words.{Up, Waiting, [], acknowledged, act_answer, activated, after_frames, after_input, after_link_events, aged, aged_wire}
+use Rattle.link_laws.proofs.Words.{all_at_controller, among, ap, arith, aside_refusal, cond, control_due, deactivated, drop, due_left, ended_by, exchanged}
+use Rattle.link_laws.proofs.Words.{false, fetched, finished, fits, frame_due, frames_of, frames_out, give_refusal, given, had_tick, happens}
+use Rattle.link_laws.proofs.Words.{happens_at_controller, has_input, has_restarted, has_taken, heard, if_up, is_faulty, is_open, is_rset, is_some, is_up}
+use Rattle.link_laws.proofs.Words.{is_waiting, left_after, max, most_frames, moved, nat_lt, new_link_end, news, not, number_of, place_of, put, put_all}
+use Rattle.link_laws.proofs.Words.{put_down, received, refl, renewed, reset_by, reset_refusal, reset_with, role_after, rset_causes_in, rsets_among, rsets_due}
+use Rattle.link_laws.proofs.Words.{sent_all, silent, started, steps_at_controller, stopped, suc, take, take_answer, taken, tick_answer, ticked}
+use Rattle.link_laws.proofs.Words.{ticks_at_controller, took, took_with, true, turn, turned, waiting_from, window_of, with_act, with_controller, with_ended}
+use Rattle.link_laws.proofs.Words.{zero, ℕ, ◌++◌, ◌+◌, ◌-◌, ◌∙◌, ◌∷◌, ◌≡◌, ◌≤◌}
+use Rattle.link_laws.specs.machine.Machine.{unless}
+use Rattle.link_laws.specs.messages.Rsets.{EndIsLow, HasLowNumbers, NumbersWithin, WireIsLow, resets_in_coming, resets_in_event, resets_in_events, rset_causes}
+use Rattle.link_laws.specs.messages.Rsets.{rsets_made}
+use Rattle.link_laws.proofs.Cases.{by_option, by_phase, by_test}
+use Rattle.link_laws.proofs.machine.Sound.{by_taken, by_tick}
+use Rattle.link_laws.proofs.places.Joined.{fetch_cases, ready_cases, received_cases}
 
--- ## Wires
+-- ## An end makes an RSET only in a tick and where a reset is asked for, one at most: no frame that it takes makes one, nor does its node
+
+-- ### Control frames that are due
+
+-- one more
+due_more : (ds : List Due) (d : Due) → rsets_among (ds ++ d ∷ []) ≡ rsets_among ds + rsets_among (d ∷ [])
+due_more [] d = omega arith
+due_more (Rset_due ∷ ds) d = let z = due_more ds d in omega (arith, z)
+due_more (Rr_due ∷ ds) d = due_more ds d
+due_more (Rej_due ∷ ds) d = due_more ds d
+due_more (Rnr_due ∷ ds) d = due_more ds d
+due_more (Ua_due ∷ ds) d = due_more ds d
+
+-- one more that is no RSET
+with_other : (ds : List Due) (d : Due) → rsets_among (d ∷ []) ≡ 0 → rsets_among (ds ++ d ∷ []) ≤ rsets_among ds
+with_other ds d q = let z = due_more ds d in omega (arith, z, q)
+
+-- ### A frame
+
+up_I : (e : EndState) (ns nr : ℕ) (info : Fragment) → e.phase ≡ Up → rsets_among (taken e (I ns nr info)).due ≤ rsets_among e.due
+up_I e ns nr info up = by_option (place_of e.session nr) (λ q. rw (up, q) (omega arith)) (λ x q. rw (up, q) (let z = by x in rw up at z))
+  where
+    by : (x : ℕ) → rsets_among (received (acknowledged e x) ns info).due ≤ rsets_among e.due
+    by x =
+        received_cases (λ f. rsets_among f.due ≤ rsets_among e.due) (acknowledged e x) ns info (λ _. with_other e.due Rr_due refl) (λ _ _. omega arith)
+        (λ _ _. with_other e.due Rej_due refl) (λ _ _. with_other e.due Rr_due refl) (with_other e.due Rnr_due refl)
+
+up_S : (e : EndState) (k : Kind) (nr : ℕ) → e.phase ≡ Up → rsets_among (taken e (S k nr)).due ≤ rsets_among e.due
+up_S e k nr up = go k (place_of e.session nr) refl
+  where
+    go : (k : Kind) (o : Option ℕ) → place_of e.session nr ≡ o → rsets_among (taken e (S k nr)).due ≤ rsets_among e.due
+    go Srej o q = rw up (omega arith)
+    go _ None q = rw (up, q) (omega arith)
+    go _ (Some x) q = rw (up, q) (omega arith)
+
+taken_due : (e : EndState) (c : Control) → rsets_among (taken e c).due ≤ rsets_among e.due
+taken_due e c =
+    by_taken (λ _ f _. rsets_among f.due ≤ rsets_among e.due) e (up_I e) (up_S e) (λ _. omega arith) (λ _ _ _. omega arith)
+    (λ _ _ _. with_other e.due Ua_due refl) (λ _ _ _. with_other e.due Ua_due refl) (λ _. omega arith) c
+
+-- ### A tick and a reset
+
+left_due : (p : LinkState) (ds : List Due) → rsets_among (due_left p ds) ≤ rsets_among ds
+left_due Up ds = omega arith
+left_due Waiting ds = omega arith
+left_due Down ds = omega arith
+
+-- an end that begins to wait sends one RSET
+waiting_due : (e : EndState) → rsets_among (waiting_from e).due ≤ rsets_among e.due + 1
+waiting_due e =
+    let z = due_more (due_left e.phase e.due) Rset_due in let w = left_due e.phase e.due in omega (arith, z, w)
+
+ticked_due : (e : EndState) → rsets_among (ticked e).due ≤ rsets_among e.due + 1
+ticked_due e =
+    by_tick (λ f _. rsets_among f.due ≤ rsets_among e.due + 1) e (omega arith) (λ _. omega arith) (λ _. omega arith) (λ _. waiting_due e)
+    (λ _. let z = due_more e.due Rset_due in omega (arith, z)) (λ _. omega arith)
+
+reset_due : (s : EndState) (w : ℕ) → rsets_among (reset_with s w).due ≤ rsets_among s.due + 1
+reset_due s w = go (is_waiting s)
+  where
+    go : (b : Bool) → rsets_among (cond b s (waiting_from (record s { own_window = w }))).due ≤ rsets_among s.due + 1
+    go true = omega arith
+    go false = waiting_due (record s { own_window = w })
+
+-- ### An end over messages
+
+moved_due : (e : LinkEnd) (b : Bool) (s : EndState) → rsets_due (moved e b s) ≡ rsets_among s.due
+moved_due e true s = refl
+moved_due e false s = refl
+
+-- a packet that can't be joined takes the link down, and no RSET goes out
+down_due : (e : LinkEnd) (b : Bool) → rsets_due (put_down b e) ≤ rsets_due e
+down_due e false = omega arith
+down_due e true =
+    by_phase {P = rsets_due (put_down true e) ≤ rsets_due e} e.shdlc.phase (λ p. rw p (omega arith)) (λ p. rw p (omega arith)) (λ p. rw p (omega arith))
+
+act_due : (o : Option Act) (e : LinkEnd) → rsets_due (with_act o e) ≡ rsets_due e
+act_due None e = refl
+act_due (Some act) e = refl
+
+activated_due : (e : LinkEnd) (event : ActEvent) → rsets_due (activated e event) ≤ rsets_due e
+activated_due e event =
+    let out : ActOut = act_answer e.role event in
+    let down = down_due e out.ended_link in
+    let act = act_due out.send (record (put_down out.ended_link e) { role = role_after e.role event }) in
+    omega (arith, down, act)
+
+heard_due : (e : LinkEnd) (c : Control) → rsets_due (heard e c) ≤ rsets_due e
+heard_due e c = go (is_faulty (taken e.shdlc c).session)
+  where
+    f : LinkEnd
+    f = moved e (is_some (take_answer e.shdlc c).ended) (taken e.shdlc c)
+
+    go : (b : Bool) → rsets_due (cond b (put_down true e) (record f { got = e.got ++ news e.shdlc.session (taken e.shdlc c) })) ≤ rsets_due e
+    go true = down_due e true
+    go false =
+        let m = moved_due e (is_some (take_answer e.shdlc c).ended) (taken e.shdlc c) in let z = taken_due e.shdlc c in omega (arith, m, z)
+
+open_due : (e : LinkEnd) (c : Control) → rsets_due (cond (is_open e.role) (heard e c) e) ≤ rsets_due e
+open_due e c = go (is_open e.role)
+  where
+    go : (b : Bool) → rsets_due (cond b (heard e c) e) ≤ rsets_due e
+    go true = heard_due e c
+    go false = omega arith
+
+-- no frame makes an RSET
+took_due : (e : LinkEnd) (c : Control) → rsets_due (took e c) ≤ rsets_due e
+took_due e (ActFrame act again) = activated_due e (ActTake act again)
+took_due e Clt = omega arith
+took_due e frame = open_due e frame
+
+-- a tick makes one at most
+had_tick_due : (e : LinkEnd) → rsets_due (had_tick e) ≤ rsets_due e + 1
+had_tick_due e = go (is_open e.role)
+  where
+    go : (b : Bool) → rsets_due (cond b (moved e (is_some (tick_answer e.shdlc).ended) (ticked e.shdlc)) (activated e ActTick)) ≤ rsets_due e + 1
+    go true =
+        let m = moved_due e (is_some (tick_answer e.shdlc).ended) (ticked e.shdlc) in let z = ticked_due e.shdlc in omega (arith, m, z)
+    go false = let z = activated_due e ActTick in omega (arith, z)
+
+-- and so does a reset
+had_reset_due : (e : LinkEnd) (window : Option ℕ) → rsets_due (after_input e (Reset window)) ≤ rsets_due e + 1
+had_reset_due e window = go (reset_refusal e)
+  where
+    w : ℕ
+    w = window_of e window
+
+    go : (o : Option Refused) → rsets_due (unless o e (reset_by e w)) ≤ rsets_due e + 1
+    go None =
+        let m = moved_due e (is_some (if_up e.shdlc Asked)) (reset_with e.shdlc w) in let z = reset_due e.shdlc w in omega (arith, m, z)
+    go (Some why) = omega arith
+
+-- activation that begins or ends leaves none
+started_due : (e : LinkEnd) (value : ℕ) → rsets_due (started e value) ≤ rsets_due e
+started_due e value = let z = activated_due (moved e true (stopped e.shdlc)) (ActStart value) in omega (arith, z)
+
+deactivated_due : (e : LinkEnd) → rsets_due (deactivated e) ≤ rsets_due e
+deactivated_due e = let z = activated_due (moved e true (stopped e.shdlc)) ActStop in omega (arith, z)
+
+-- ### What a node does to an end
+
+turn_due : (e : LinkEnd) (t : Turn) → rsets_due (turn e t) ≤ rsets_due e
+turn_due e (Give m) = go (give_refusal e m)
+  where
+    go : (o : Option Refused) → rsets_due (unless o e (given e m)) ≤ rsets_due e
+    go None = omega arith
+    go (Some why) = omega arith
+turn_due e (Hold held) =
+    ready_cases (λ s. rsets_among s.due ≤ rsets_among e.shdlc.due) e.shdlc (not held) (omega arith) (omega arith) (with_other e.shdlc.due Rr_due refl)
+turn_due e FetchMessage = omega arith
+turn_due e SetAside = go (aside_refusal e)
+  where
+    go : (o : Option Refused) → rsets_due (unless o e (record e { aside = e.aside + 1 })) ≤ rsets_due e
+    go None = omega arith
+    go (Some why) = omega arith
+turn_due e Release = omega arith
+
+turned_due : (ts : List Turn) (e : LinkEnd) → rsets_due (turned e ts) ≤ rsets_due e
+turned_due [] e = omega arith
+turned_due (t ∷ ts) e = let z = turned_due ts (turn e t) in let o = turn_due e t in omega (arith, z, o)
+
+-- ## In each event of a link its ends make no more RSETs than they have ticks and are asked for resets, whatever their nodes do
+
+-- ### RSETs among frames
+
+abbrev rsets : List Control → ℕ
+rsets [] = 0
+rsets (c ∷ cs) = cond (is_rset c) 1 0 + rsets cs
+
+rsets_append : (xs ys : List Control) → rsets (xs ++ ys) ≡ rsets xs + rsets ys
+rsets_append [] ys = omega arith
+rsets_append (x ∷ xs) ys = let z = rsets_append xs ys in omega (arith, z)
+
+take_and_drop : (k : ℕ) (fs : List Control) → rsets (take k fs) + rsets (drop k fs) ≡ rsets fs
+take_and_drop zero fs = omega arith
+take_and_drop (suc k) [] = omega arith
+take_and_drop (suc k) (f ∷ fs) = let z = take_and_drop k fs in omega (arith, z)
+
+-- ACT frames among others are no RSETs
+among_rsets : (n : ℕ) (acts : List ActDue) (fs : List Control) → rsets (among n acts fs) ≡ rsets fs
+among_rsets n [] fs = refl
+among_rsets n (a ∷ acts) fs =
+    let k : ℕ = a.behind - n in
+    let rest : List Control = among a.behind acts (drop k fs) in
+    let all = rsets_append (take k fs) (ActFrame a.frame false ∷ rest) in
+    let back = among_rsets a.behind acts (drop k fs) in
+    let whole = take_and_drop k fs in
+    omega (arith, all, back, whole)
+
+-- ### All that is due goes out
+
+abbrev rset_of : Option Control → ℕ
+rset_of None = 0
+rset_of (Some c) = cond (is_rset c) 1 0
+
+control_rset : (e : EndState) (d : Due) (ds : List Due) → rsets_among ds + rset_of (Some (control_due e d)) ≡ rsets_among (d ∷ ds)
+control_rset e Rr_due ds = omega arith
+control_rset e Rej_due ds = omega arith
+control_rset e Rnr_due ds = omega arith
+control_rset e Rset_due ds = omega arith
+control_rset e Ua_due ds = omega arith
+
+-- an RSET that is fetched is due no more
+fetched_rset : (e : EndState) → rsets_among (fetched e).due + rset_of (frame_due e) ≤ rsets_among e.due
+fetched_rset e =
+    fetch_cases (λ f o. rsets_among f.due + rset_of o ≤ rsets_among e.due) e
+    (λ d ds q. let z = control_rset e d ds in let w = ap rsets_among q in omega (arith, z, w)) (λ _ _. omega arith) (λ info _ _. omega arith)
+
+frames_rsets : (n : ℕ) (e : EndState) → rsets_among (after_frames n e).due + rsets (frames_of n e) ≤ rsets_among e.due
+frames_rsets zero e = omega arith
+frames_rsets (suc n) e = go (frame_due e) (frames_rsets n (fetched e)) (fetched_rset e)
+  where
+    by : Option Control → List Control → List Control
+    by None later = []
+    by (Some c) later = c ∷ later
+
+    go : (o : Option Control) → rsets_among (after_frames n (fetched e)).due + rsets (frames_of n (fetched e)) ≤ rsets_among (fetched e).due
+        → rsets_among (fetched e).due + rset_of o ≤ rsets_among e.due
+        → rsets_among (after_frames n (fetched e)).due + rsets (by o (frames_of n (fetched e))) ≤ rsets_among e.due
+    go None later first = omega (arith, later, first)
+    go (Some c) later first = omega (arith, later, first)
+
+out_rsets : (e : LinkEnd) → rsets_due (sent_all e) + rsets (frames_out e) ≤ rsets_due e
+out_rsets e =
+    let a = among_rsets 0 e.acts (frames_of most_frames e.shdlc) in let b = frames_rsets most_frames e.shdlc in omega (arith, a, b)
+
+-- ### A step of the near end
+
+put_more : (l : Link) (c : Control) → (put l c).resets ≡ l.resets + cond (is_rset c) 1 0
+put_more l c = by_test (is_rset c) (λ q. rw q refl) (λ q. rw q (omega arith))
+
+put_host : (l : Link) (c : Control) → (put l c).host ≡ l.host
+put_host l c = by_test (is_rset c) (λ q. rw q refl) (λ q. rw q refl)
+
+puts_more : (cs : List Control) (l : Link) → (put_all l cs).resets ≡ l.resets + rsets cs
+puts_more [] l = omega arith
+puts_more (c ∷ cs) l = let z = puts_more cs (put l c) in let o = put_more l c in omega (arith, z, o)
+
+puts_host : (cs : List Control) (l : Link) → (put_all l cs).host ≡ l.host
+puts_host [] l = refl
+puts_host (c ∷ cs) l = puts_host cs (put l c) ∙ put_host l c
+
+-- the RSETs put on a link and those due at its near end are at most so many, and its far end is that of l
+record Makes (n : ℕ) (l m : Link) : Type 0 where
+  made : m.resets + rsets_due m.controller.side ≤ n
+  far : m.host ≡ l.host
+
+ended_resets : (l : Link) (b : Bool) → (with_ended l b).resets ≡ l.resets
+ended_resets l true = refl
+ended_resets l false = refl
+
+ended_host : (l : Link) (b : Bool) → (with_ended l b).host ≡ l.host
+ended_host l true = refl
+ended_host l false = refl
+
+new_due : (r : Role) → rsets_due (new_link_end r) ≡ 0
+new_due Bare = refl
+new_due (Clf s) = refl
+new_due (Uicc s) = refl
+
+finished_makes : (n : ℕ) (l k : Link) (e : LinkEnd) (ending : Ending) → k.resets ≡ l.resets → k.host ≡ l.host → l.resets + rsets_due e ≤ n
+    → Makes n l (finished k e ending)
+finished_makes n l k e GoesOut resets host within =
+    record {
+      made = let z = puts_more (frames_out e) k in let o = out_rsets e in omega (arith, resets, z, o, within);
+      far = puts_host (frames_out e) k ∙ host;
+    }
+finished_makes n l k e CutOff resets host within =
+    let c : Link = with_controller k (sent_all e) in
+    let b : Bool = is_up c.controller.side.shdlc.phase in
+    record {
+      made = let z = ended_resets c b in let d = new_due (renewed e.role) in omega (arith, resets, z, d, within);
+      far = ended_host c b ∙ host;
+    }
+
+tick_makes : (l : Link) (ts : List Turn) (ending : Ending)
+    → Makes (l.resets + rsets_due l.controller.side + 1) l (ticks_at_controller l ts ending)
+tick_makes l ts ending =
+    let e : LinkEnd = after_input l.controller.side Tick in
+    let b : Bool = is_some (ended_by l.controller.side Tick) in
+    let z = turned_due ts e in
+    let o = had_tick_due l.controller.side in
+    finished_makes (l.resets + rsets_due l.controller.side + 1) l (with_ended l b) (turned e ts) ending (ended_resets l b) (ended_host l b)
+    (omega (arith, z, o))
+
+reset_makes : (l : Link) (window : Option ℕ) (ts : List Turn) (ending : Ending)
+    → Makes (l.resets + rsets_due l.controller.side + 1) l (has_input l (Reset window) ts ending)
+reset_makes l window ts ending =
+    let e : LinkEnd = after_input l.controller.side (Reset window) in
+    let b : Bool = is_some (ended_by l.controller.side (Reset window)) in
+    let z = turned_due ts e in
+    let o = had_reset_due l.controller.side window in
+    finished_makes (l.resets + rsets_due l.controller.side + 1) l (with_ended l b) (turned e ts) ending (ended_resets l b) (ended_host l b)
+    (omega (arith, z, o))
+
+taken_makes : (l : Link) (x : OnWire) (xs : List OnWire) (ts : List Turn) (ending : Ending)
+    → Makes (l.resets + rsets_due l.controller.side) l (has_taken l x xs ts ending)
+taken_makes l x xs ts ending =
+    let e : LinkEnd = after_input l.controller.side (Take x.frame) in
+    let b : Bool = is_some (ended_by l.controller.side (Take x.frame)) in
+    let m : Link = with_ended (record l { to_controller = xs }) b in
+    let k : Link = record m { controller = record m.controller { took = took_with l.controller.took x } } in
+    let z = turned_due ts e in
+    let o = took_due l.controller.side x.frame in
+    finished_makes (l.resets + rsets_due l.controller.side) l k (turned e ts) ending (ended_resets (record l { to_controller = xs }) b)
+    (ended_host (record l { to_controller = xs }) b) (omega (arith, z, o))
+
+restarted_makes : (l : Link) (e : LinkEnd) (ts : List Turn) (ending : Ending) → rsets_due e ≤ rsets_due l.controller.side
+    → Makes (l.resets + rsets_due l.controller.side) l (has_restarted l e ts ending)
+restarted_makes l e ts ending few =
+    let b : Bool = is_up l.controller.side.shdlc.phase in
+    let z = turned_due ts e in
+    finished_makes (l.resets + rsets_due l.controller.side) l (silent l e) (turned e ts) ending (ended_resets l b) (ended_host l b)
+    (omega (arith, z, few))
+
+steps_make : (l : Link) (comes : Comes) (ts : List Turn) (ending : Ending)
+    → Makes (l.resets + rsets_due l.controller.side + resets_in_coming comes) l (steps_at_controller l comes ts ending)
+steps_make l NextFrame ts ending = go l.to_controller
+  where
+    by : List OnWire → Link
+    by [] = l
+    by (x ∷ xs) = has_taken l x xs ts ending
+
+    go : (w : List OnWire) → Makes (l.resets + rsets_due l.controller.side + 0) l (by w)
+    go [] = record { made = omega arith; far = refl }
+    go (x ∷ xs) = let z = taken_makes l x xs ts ending in record { made = let m = z.made in omega (arith, m); far = z.far }
+steps_make l (AsksReset window) ts ending = reset_makes l window ts ending
+steps_make l (Starts value) ts ending =
+    let z = restarted_makes l (started l.controller.side value) ts ending (started_due l.controller.side value) in
+    record { made = let m = z.made in omega (arith, m); far = z.far }
+steps_make l Stops ts ending =
+    let z = restarted_makes l (deactivated l.controller.side) ts ending (deactivated_due l.controller.side) in
+    record { made = let m = z.made in omega (arith, m); far = z.far }
+steps_make l NoInput ts ending =
+    let z = turned_due ts l.controller.side in
+    finished_makes (l.resets + rsets_due l.controller.side + 0) l l (turned l.controller.side ts) ending refl refl (omega (arith, z))
+
+-- ### Both ends
+
+-- where the near end makes so many more, the link has so many more
+both : (n : ℕ) (l m : Link) → Makes (l.resets + rsets_due l.controller.side + n) l m → rsets_made m ≤ rsets_made l + n
+both n l m a =
+    let z = a.made in let h = ap (λ (h : NumberedEnd). rsets_due h.side) a.far in omega (arith, z, h)
+
+made_exchanged : (l : Link) → rsets_made (exchanged l) ≡ rsets_made l
+made_exchanged l = omega arith
+
+made_in_step : (l : Link) (comes : Comes) (ts : List Turn) (ending : Ending)
+    → rsets_made (steps_at_controller l comes ts ending) ≤ rsets_made l + resets_in_coming comes
+made_in_step l comes ts ending = both (resets_in_coming comes) l (steps_at_controller l comes ts ending) (steps_make l comes ts ending)
+
+pub made_in_tick : (l : Link) (ts : List Turn) (ending : Ending) → rsets_made (ticks_at_controller l ts ending) ≤ rsets_made l + 1
+made_in_tick l ts ending = both 1 l (ticks_at_controller l ts ending) (tick_makes l ts ending)
+
+made_there : (l : Link) (comes : Comes) (ts : List Turn) (ending : Ending)
+    → rsets_made (exchanged (steps_at_controller (exchanged l) comes ts ending)) ≤ rsets_made l + resets_in_coming comes
+made_there l comes ts ending =
+    let a = made_in_step (exchanged l) comes ts ending in
+    let b = made_exchanged (steps_at_controller (exchanged l) comes ts ending) in
+    let c = made_exchanged l in
+    omega (arith, a, b, c)
+
+pub made_in_tick_there : (l : Link) (ts : List Turn) (ending : Ending)
+    → rsets_made (exchanged (ticks_at_controller (exchanged l) ts ending)) ≤ rsets_made l + 1
+made_in_tick_there l ts ending =
+    let a = made_in_tick (exchanged l) ts ending in
+    let b = made_exchanged (ticks_at_controller (exchanged l) ts ending) in
+    let c = made_exchanged l in
+    omega (arith, a, b, c)
+
+made_here : (l : Link) (e : EndEvent) → rsets_made (happens_at_controller l e) ≤ rsets_made l + resets_in_event e
+made_here l (Step comes ts ending) = made_in_step l comes ts ending
+made_here l (Lose why) = omega arith
+
+made_by_all : (es : List EndEvent) (l : Link) → rsets_made (all_at_controller l es) ≤ rsets_made l + resets_in_events es
+made_by_all [] l = omega arith
+made_by_all (e ∷ es) l = let z = made_by_all es (happens_at_controller l e) in let o = made_here l e in omega (arith, z, o)
+
+-- ### Events
+
+pub made_by_event : (l : Link) (e : LinkEvent) → rsets_made (happens l e) ≤ rsets_made l + rset_causes e
+made_by_event l (AtController e) = made_here l e
+made_by_event l (AtHost e) =
+    let a = made_here (exchanged l) e in
+    let b = made_exchanged (happens_at_controller (exchanged l) e) in
+    let c = made_exchanged l in
+    omega (arith, a, b, c)
+made_by_event l (Ticks c events h) =
+    let near : Link = ticks_at_controller (aged l) c.turns c.ending in
+    let x = made_in_tick (aged l) c.turns c.ending in
+    let y = made_by_all events near in
+    let z = made_in_tick_there (all_at_controller near events) h.turns h.ending in
+    omega (arith, x, y, z)
+made_by_event l (TicksWithout events h) =
+    let y = made_by_all events (aged l) in
+    let z = made_in_tick_there (all_at_controller (aged l) events) h.turns h.ending in
+    omega (arith, y, z)
+made_by_event l (Activate power c id h) =
+    let near : Link = steps_at_controller l (Starts power) c.turns c.ending in
+    let x = made_in_step l (Starts power) c.turns c.ending in
+    let y = made_there near (Starts id) h.turns h.ending in
+    omega (arith, x, y)
+
+made_by_events : (events : List LinkEvent) (l : Link) → rsets_made (after_link_events l events) ≤ rsets_made l + rset_causes_in events
+made_by_events [] l = omega arith
+made_by_events (e ∷ es) l = let z = made_by_events es (happens l e) in let o = made_by_event l e in omega (arith, z, o)
+
+none_made : (l : Link) → IsStart l → rsets_made l ≡ 0
+none_made l IsBare = refl
+none_made l IsLine = refl
+
+pub resets_of_run : (l : Link) → IsStart l → (events : List LinkEvent) → (after_link_events l events).resets ≤ rset_causes_in events
+resets_of_run l start events = let z = made_by_events events l in let o = none_made l start in omega (arith, z, o)
+
+-- ## No RSET of a link has a greater number than how many were put on it: neither those on its wires nor those that its ends sent and took
+
+-- ### Wires
 
 low_more : (m n : ℕ) (wire : List OnWire) → m ≤ n → WireIsLow m wire → WireIsLow n wire
 low_more m n [] q a = tt
@@ -46,7 +473,7 @@ took_low n t x q a = go (is_rset x.frame)
     go true = omega (arith, q, a)
     go false = q
 
--- ## Links
+-- ### Links
 
 pub number_low : (n : ℕ) (h : NumberedEnd) → EndIsLow n h → number_of h ≤ n
 number_low n h a = let e = a.emitted in let t = a.took in omega (arith, e, t)
@@ -117,7 +544,7 @@ with_numbered l e a =
       to_host = a.to_host;
     }
 
-pub ended_numbered : (l : Link) (b : Bool) → HasLowNumbers l → HasLowNumbers (with_ended l b)
+ended_numbered : (l : Link) (b : Bool) → HasLowNumbers l → HasLowNumbers (with_ended l b)
 ended_numbered l false a = a
 ended_numbered l true a =
     record {
@@ -148,7 +575,7 @@ finished_numbered l e GoesOut a = with_numbered (put_all l (frames_out e)) (sent
 finished_numbered l e CutOff a =
     let k : Link = with_controller l (sent_all e) in silent_numbered k (new_link_end (renewed e.role)) (with_numbered l (sent_all e) a)
 
--- ## Steps
+-- ### Steps
 
 input_numbered : (l : Link) (i : LinkInput) (ts : List Turn) (ending : Ending) → HasLowNumbers l → HasLowNumbers (has_input l i ts ending)
 input_numbered l i ts ending a =
@@ -156,7 +583,7 @@ input_numbered l i ts ending a =
     finished_numbered (with_ended l b) (turned (after_input l.controller.side i) ts) ending (ended_numbered l b a)
 
 -- the link where the near end has taken x, and these frames are left
-pub left_numbered : (l : Link) (x : OnWire) (xs : List OnWire) → l.to_controller ≡ x ∷ xs → HasLowNumbers l → HasLowNumbers (left_after l x xs)
+left_numbered : (l : Link) (x : OnWire) (xs : List OnWire) → l.to_controller ≡ x ∷ xs → HasLowNumbers l → HasLowNumbers (left_after l x xs)
 left_numbered l x xs q a = go (is_some (ended_by l.controller.side (Take x.frame)))
   where
     wire : WireIsLow l.resets (x ∷ xs)
@@ -212,7 +639,7 @@ steps_numbered l NoInput ts ending a = finished_numbered l (turned l.controller.
 pub tick_numbered : (l : Link) (ts : List Turn) (ending : Ending) → HasLowNumbers l → HasLowNumbers (ticks_at_controller l ts ending)
 tick_numbered l ts ending a = input_numbered l Tick ts ending a
 
-pub there_numbered : (l : Link) (comes : Comes) (ts : List Turn) (ending : Ending) → HasLowNumbers l
+there_numbered : (l : Link) (comes : Comes) (ts : List Turn) (ending : Ending) → HasLowNumbers l
     → HasLowNumbers (exchanged (steps_at_controller (exchanged l) comes ts ending))
 there_numbered l comes ts ending a =
     exchanged_numbered (steps_at_controller (exchanged l) comes ts ending) (steps_numbered (exchanged l) comes ts ending (exchanged_numbered l a))
@@ -236,7 +663,7 @@ pub all_numbered : (es : List EndEvent) (l : Link) → HasLowNumbers l → HasLo
 all_numbered [] l a = a
 all_numbered (e ∷ es) l a = all_numbered es (happens_at_controller l e) (here_numbered l e a)
 
--- ## Events
+-- ### Events
 
 pub event_numbered : (l : Link) (e : LinkEvent) → HasLowNumbers l → HasLowNumbers (happens l e)
 event_numbered l (AtController e) a = here_numbered l e a
@@ -252,7 +679,7 @@ event_numbered l (Activate power c id h) a =
     there_numbered (steps_at_controller l (Starts power) c.turns c.ending) (Starts id) h.turns h.ending
     (steps_numbered l (Starts power) c.turns c.ending a)
 
-pub events_numbered : (events : List LinkEvent) (l : Link) → HasLowNumbers l → HasLowNumbers (after_link_events l events)
+events_numbered : (events : List LinkEvent) (l : Link) → HasLowNumbers l → HasLowNumbers (after_link_events l events)
 events_numbered [] l a = a
 events_numbered (e ∷ es) l a = events_numbered es (happens l e) (event_numbered l e a)
 

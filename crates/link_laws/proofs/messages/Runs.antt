@@ -1,27 +1,45 @@
--- Every run of a link over messages is projected, and no chain fault comes in it.
-use Rattle.link_laws.proofs.Words.{Act, ActStart, ActStop, Activate, AllAllowed, AllShdlcAllowed as CoreAllAllowed, AreOwn, AreTurns as CoreAreTurns, AsksReset}
-use Rattle.link_laws.proofs.Words.{AtController, AtHost, Bool, CanStart, Clf, ClfAct, Comes, Control, CoreAtController, CoreAtHost, CoreDeliver, CoreEndEvent}
-use Rattle.link_laws.proofs.Words.{CoreIsAllowed, CoreLink, CoreTurn, CutOff, EndEvent, Ending, GoesOut, IsAllowed, IsClf, IsEvent, IsNode, IsOwn}
-use Rattle.link_laws.proofs.Words.{IsShdlcStart as CoreIsStart, IsUicc, Link, LinkEnd, LinkEvent, List, Lose, Loss, NextFrame, NoInput, Node, None, NumberedEnd}
-use Rattle.link_laws.proofs.Words.{OnWire, Option, Refused, Role, ShdlcLinkEvent as CoreLinkEvent, Some, Starts, Step as EndStep, Stops, Tick as CoreTick}
-use Rattle.link_laws.proofs.Words.{TickWithout as CoreTickWithout, Ticks, TicksWithout, Turn, Uicc, [], after_link_events, aged, all_at_controller, ap}
-use Rattle.link_laws.proofs.Words.{core_after, core_aged, core_all, core_all_here, core_ending, core_event, core_events, core_happens_here, core_here, core_of}
-use Rattle.link_laws.proofs.Words.{core_reset, core_step, core_take, core_tick, core_tick_rest, core_ticks_if_waiting, core_ticks_or_cut, drop, exchanged}
-use Rattle.link_laws.proofs.Words.{false, happens, happens_at_controller, is_active, is_lost_tick, is_open, map, moved, refl, renewed, reset_refusal}
-use Rattle.link_laws.proofs.Words.{role_after, shdlc_exchanged as core_exchanged, started, steps_at_controller, stopped, subst, sym, ticks_at_controller, true}
-use Rattle.link_laws.proofs.Words.{turned, window_of, ℕ, ◌++◌, ◌<◌, ◌∙◌, ◌∷◌, ◌≡◌, ◌≤◌}
-use Rattle.link_laws.proofs.sessions.Sending.{SafeLink}
-use Rattle.link_laws.proofs.sessions.Steps.{after-append, safe, in_order_here, in_order_there, safe_aged, safe_turns, safe_exchanged, tick_or_cut}
-use Rattle.link_laws.proofs.sessions.Steps.{tick_if_waiting}
-use Rattle.link_laws.specs.messages.Links.{IsWindow, CanCome}
-use Rattle.link_laws.proofs.messages.Project.{Tells, Step, turned_role}
-use Rattle.link_laws.proofs.messages.Steps.{Rests, FromHost, activated_role}
-use Rattle.link_laws.proofs.messages.Finishing.{step_idle, step_frame, step_reset, step_restart, step_tick, all_here-append}
-use Rattle.link_laws.proofs.messages.ActsInOrder.{ActsInOrder, LinkInOrder, in_order_swap, in_order_drop, in_order_aged, in_order_start, in_order_stop}
+-- Every run of a link over messages is projected: what is true of it, and what was delivered where nothing was lost.
+use Rattle.std.specs.Prelude.{Some}
+use Rattle.link_laws.proofs.Words.{Act, ActEvent, ActStart, ActStop, ActTake, Activate, AllAllowed, AllDelivered, AllShdlcAllowed as CoreAllAllowed, AreOwn}
+use Rattle.link_laws.proofs.Words.{AreSendable, AreShort, AreTurns as CoreAreTurns, AsksReset, AtController, AtHost, Bare, Bool, BothDown, BothUp, CanStart}
+use Rattle.link_laws.proofs.Words.{Chain, Clf, ClfAct, Clt, Comes, Control, CoreAreUpTogether, CoreAtController, CoreAtHost, CoreDeliver, CoreEndEvent}
+use Rattle.link_laws.proofs.Words.{CoreInOrder, CoreIsAllowed, CoreLink, CoreTurn, CutOff, Down, EndEvent, EndState, Ending}
+use Rattle.link_laws.proofs.Words.{FragmentsDelivered as CoreAllDelivered, GoesOut, InOrder, IsAllowed, IsBare, IsClf, IsEvent, IsFrontOf, IsLine, IsNode}
+use Rattle.link_laws.proofs.Words.{IsOwn, IsQuiet, IsShdlcQuiet as CoreIsQuiet, IsShdlcSettled as CoreIsSettled, IsShdlcStart as CoreIsStart, IsStart, IsUicc}
+use Rattle.link_laws.proofs.Words.{Link, LinkEnd, LinkEvent, LinkState, LinkTogether as AreUpTogether, List, Lose, Loss, Message, NextFrame, NoInput, Node}
+use Rattle.link_laws.proofs.Words.{None, NumberedEnd, OnWire, Option, Peer, Refused, Role, ShdlcLinkEvent as CoreLinkEvent, Starts, Step as EndStep, Stops}
+use Rattle.link_laws.proofs.Words.{Take, Talk, Tick as CoreTick, TickWithout as CoreTickWithout, Ticks, TicksWithout, Turn, Uicc, Up, Waiting, [], act_answer}
+use Rattle.link_laws.proofs.Words.{after_link_events, aged, all_at_controller, ap, append-nil, append_assoc, arith, core_after, core_aged, core_all}
+use Rattle.link_laws.proofs.Words.{core_all_here, core_end, core_ending, core_event, core_events, core_happens_here, core_here, core_of, core_past, core_reset}
+use Rattle.link_laws.proofs.Words.{core_step, core_take, core_tick, core_tick_rest, core_ticks_if_waiting, core_ticks_or_cut, drop, ended_by, ended_by_act}
+use Rattle.link_laws.proofs.Words.{ended_talk, exchanged, false, fragments_of, good_messages_of, good_of, happens, happens_at_controller, inl, is_active}
+use Rattle.link_laws.proofs.Words.{is_faulty, is_lost_tick, is_open, leb-false, length, length-append, length-map, losses_of, map, messages_got, moved, nat_le}
+use Rattle.link_laws.proofs.Words.{ne_eqb, new_clf, new_link_end, new_numbered_end, new_uicc, no_talk, number_of, packet_bytes, packet_count}
+use Rattle.link_laws.proofs.Words.{packets_are_counted, packets_of, refl, renewed, reset_refusal, role_after, shdlc_exchanged as core_exchanged}
+use Rattle.link_laws.proofs.Words.{shdlc_number_of as core_number_of, shdlc_session_of, started, steps_at_controller, stopped, subst, suc, sym, take}
+use Rattle.link_laws.proofs.Words.{take_answer, taken, talk_now, talk_of, ticks_at_controller, true, true≢false, turned, whole_among, window_of, zero, ℕ, ◌++◌}
+use Rattle.link_laws.proofs.Words.{◌+◌, ◌-◌, ◌<◌, ◌==◌, ◌∙◌, ◌∷◌, ◌≡◌, ◌≤◌}
+use Rattle.hcp_packet.proofs.Joining.{good_messages_are_a_front, joined_again, whole_messages_have_come}
+use Rattle.link_laws.specs.messages.Links.{CanCome, IsWindow}
+use Rattle.link_laws.specs.messages.Settled.{IsSettled, sure_of}
+use Rattle.link_laws.proofs.Cases.{by_list, by_test}
+use Rattle.link_laws.proofs.machine.Sound.{by_taken, whole_acked_before}
+use Rattle.link_laws.proofs.messages.ActsInOrder.{ActsInOrder, Line, LinkInOrder, in_order_aged, in_order_drop, in_order_start, in_order_stop, in_order_swap}
 use Rattle.link_laws.proofs.messages.ActsInOrder.{polite_of}
-use Rattle.link_laws.proofs.Cases.{by_list}
+use Rattle.link_laws.proofs.messages.Finishing.{all_here-append, step_frame, step_idle, step_reset, step_restart, step_tick}
+use Rattle.link_laws.proofs.messages.Project.{Says, Step, Tells, turned_role}
+use Rattle.link_laws.proofs.messages.Steps.{FromHost, Rests, activated_role, core_first, no_fault_first, says_of, session-core}
+use Rattle.link_laws.proofs.sending.TakenLemmas.{all_given}
+use Rattle.link_laws.proofs.sessions.Data.{Below, bound}
+use Rattle.link_laws.proofs.sessions.Quiet.{delivered_here, delivered_there}
+use Rattle.link_laws.proofs.sessions.Resets.{up_together as core_up_together}
+use Rattle.link_laws.proofs.sessions.Sending.{SafeLink}
+use Rattle.link_laws.proofs.sessions.Steps.{after-append, agree, in_order_here, in_order_there, safe, safe_aged, safe_exchanged, safe_turns, tick_if_waiting}
+use Rattle.link_laws.proofs.sessions.Steps.{tick_or_cut}
 
--- ## Lists of events
+-- ## Every run of a link over messages is projected, and no chain fault comes in it
+
+-- ### Lists of events
 
 allowed-append : (es fs : List CoreLinkEvent) → CoreAllAllowed es → CoreAllAllowed fs → CoreAllAllowed (es ++ fs)
 allowed-append [] fs a b = b
@@ -38,7 +56,7 @@ after_there : (c : CoreLink) (es : List CoreEndEvent) → core_after c (map Core
 after_there c [] = refl
 after_there c (e ∷ es) = after_there (core_exchanged (core_happens_here (core_exchanged c) e)) es
 
--- ## What is allowed there
+-- ### What is allowed there
 
 abbrev pub AreAllowed : List CoreEndEvent → Type 0
 AreAllowed [] = Unit {0}
@@ -86,7 +104,7 @@ reset_both None e w ts GoesOut a = record { allowed = (a, tt); turns = (a, tt) }
 reset_both None e w ts CutOff a = record { allowed = (tt, tt); turns = (tt, tt) }
 reset_both (Some why) e w ts ending a = let b = ending_both ending in record { allowed = (tt, b.allowed); turns = (tt, b.turns) }
 
-pub step_allowed : (l : Link) (comes : Comes) (ts : List Turn) (ending : Ending) → Rests l.controller.side.shdlc → CanCome l comes
+step_allowed : (l : Link) (comes : Comes) (ts : List Turn) (ending : Ending) → Rests l.controller.side.shdlc → CanCome l comes
     → AreAllowed (core_step l comes ts ending)
 step_allowed l NextFrame ts ending r a =
     by_list {P = AreAllowed (core_step l NextFrame ts ending)} l.to_controller (λ q. rw q tt) (λ x xs q.
@@ -108,7 +126,7 @@ own_turns l (EndStep Stops ts ending) r o a = (tt, (tt, (ending_both ending).tur
 own_turns l (EndStep NoInput ts ending) r o a = (tt, (ending_both ending).turns)
 own_turns l (Lose why) r o a = absurd o
 
-pub here_allowed : (l : Link) (e : EndEvent) → Rests l.controller.side.shdlc → IsAllowed l e → AreAllowed (core_here l e)
+here_allowed : (l : Link) (e : EndEvent) → Rests l.controller.side.shdlc → IsAllowed l e → AreAllowed (core_here l e)
 here_allowed l (EndStep comes ts ending) r a = step_allowed l comes ts ending r a.0
 here_allowed l (Lose why) r a = (tt, tt)
 
@@ -120,7 +138,7 @@ rest_both e ts ending = go (is_lost_tick e ending) (is_open e.role) refl refl (e
     go false true p q h = rw (p, q) h
     go false false p q h = rw (p, q) (record { allowed = (tt, h.allowed); turns = (tt, h.turns) })
 
--- ## What is known between events
+-- ### What is known between events
 
 -- both ends are as they should be
 pub record Good (l : Link) : Type 0 where
@@ -146,7 +164,7 @@ pub record Reached (c : CoreLink) : Type 0 where
   pub allowed : CoreAllAllowed events
   pub is : core_after start events ≡ c
 
-pub ordered : (c : CoreLink) → Reached c → Ordered c
+ordered : (c : CoreLink) → Reached c → Ordered c
 ordered c r =
     subst Ordered r.is
     (record {
@@ -182,7 +200,7 @@ from_controller c r =
     let es : List CoreLinkEvent = CoreAtHost (CoreDeliver []) ∷ [] in
     (ordered (core_after c es) (reached_more c es (tt, tt) r)).there
 
--- ## Steps
+-- ### Steps
 
 -- a step that takes no frame
 pub step_own : (l : Link) (comes : Comes) (ts : List Turn) (ending : Ending) → IsOwn (EndStep comes ts ending) → CanCome l comes → IsNode l ts ending
@@ -198,7 +216,7 @@ step_own l Stops ts ending o a n h r =
     (λ z. in_order_stop l.controller.side.role l.host.side.role l.to_controller l.to_host a z)
 step_own l NoInput ts ending o a n h r = step_idle l ts ending n.0 n.1 h r
 
-pub step_lost : (l : Link) (why : Loss) → Tells l.controller → Step l (happens_at_controller l (Lose why)) (core_all_here (core_of l) (core_here l (Lose why)))
+step_lost : (l : Link) (why : Loss) → Tells l.controller → Step l (happens_at_controller l (Lose why)) (core_all_here (core_of l) (core_here l (Lose why)))
 step_lost l why h = record { core = refl; tells = h; host = refl; in_order = lost l.to_controller }
   where
     lost : (w : List OnWire) → ActsInOrder l.controller.side.role l.host.side.role w l.to_host
@@ -252,7 +270,7 @@ tells_same h k q t = subst Tells (sym q) t
 pub seen : (n : Link) → LinkInOrder n → LinkInOrder (exchanged n)
 seen n z = in_order_swap n.controller.side.role n.host.side.role n.to_controller n.to_host z
 
--- ## Events
+-- ### Events
 
 step_event : (l : Link) (e : EndEvent) → IsAllowed l e → Good l → Reached (core_of l)
     → Event l (happens_at_controller l e) (core_after (core_of l) (map CoreAtController (core_here l e))) (map CoreAtController (core_here l e))
@@ -428,7 +446,7 @@ event_step l (Activate power c id h) a g r =
       allowed = allowed-append es fs one.allowed two.allowed;
     }
 
--- ## Runs
+-- ### Runs
 
 pub record Run (l m : Link) (c : CoreLink) (es : List CoreLinkEvent) : Type 0 where
   pub core : core_of m ≡ c
@@ -452,3 +470,258 @@ run (e ∷ es) l a g r =
       reached = subst Reached q more.reached;
       allowed = allowed-append (core_event l e) (core_events (happens l e) es) st.allowed more.allowed;
     }
+
+-- ## What is true of every run of a link over messages
+
+bare_tells : Tells (new_numbered_end (new_link_end Bare))
+bare_tells =
+    record {
+      now = record { acts = refl; idle = λ n. absurd (n refl); closed = λ q. absurd (true≢false q); says = record { out = refl; short = tt } };
+      past = tt;
+    }
+
+clf_tells : Tells (new_numbered_end (new_link_end (Clf new_clf)))
+clf_tells = record { now = record { acts = refl; idle = λ _. (refl, refl); closed = λ _. refl; says = record { out = refl; short = tt } }; past = tt }
+
+uicc_tells : Tells (new_numbered_end (new_link_end (Uicc new_uicc)))
+uicc_tells = record { now = record { acts = refl; idle = λ _. (refl, refl); closed = λ _. refl; says = record { out = refl; short = tt } }; past = tt }
+
+new_in_order : Line new_clf new_uicc [] []
+new_in_order = record { clf = λ a. absurd (true≢false (sym a)); ready = inl tt; tail = tt; plain = tt; last = λ a. absurd (true≢false (sym a)) }
+
+pub start_good : (l : Link) → IsStart l → Good l
+start_good l IsBare = record { controller = bare_tells; host = bare_tells; in_order = tt }
+start_good l IsLine = record { controller = clf_tells; host = uicc_tells; in_order = new_in_order }
+
+pub start_reached : (l : Link) → IsStart l → Reached (core_of l)
+start_reached l IsBare = record { start = core_of l; starts = BothUp; events = []; allowed = tt; is = refl }
+start_reached l IsLine = record { start = core_of l; starts = BothDown; events = []; allowed = tt; is = refl }
+
+pub from_start : (l : Link) → IsStart l → (events : List LinkEvent) → AllAllowed l events
+    → Run l (after_link_events l events) (core_after (core_of l) (core_events l events)) (core_events l events)
+from_start l s events a = run events l a (start_good l s) (start_reached l s)
+
+pub core_starts : (l : Link) → IsStart l → CoreIsStart (core_of l)
+core_starts l IsBare = BothUp
+core_starts l IsLine = BothDown
+
+pub allowed : (l : Link) → IsStart l → (events : List LinkEvent) → AllAllowed l events → CoreAllAllowed (core_events l events)
+allowed l s events a = (from_start l s events a).allowed
+
+pub projected : (l : Link) → IsStart l → (events : List LinkEvent) → AllAllowed l events
+    → core_of (after_link_events l events) ≡ core_after (core_of l) (core_events l events)
+projected l s events a = (from_start l s events a).core
+
+pub reached : (l : Link) → IsStart l → (events : List LinkEvent) (a : AllAllowed l events) → Reached (core_of (after_link_events l events))
+reached l s events a = let r = from_start l s events a in subst Reached (sym r.core) r.reached
+
+-- ### In order
+
+pub sendable : (ms : List Message) → AreShort ms → AreSendable ms
+sendable [] h = tt
+sendable (m ∷ ms) h = (h.0.0, sendable ms h.1)
+
+-- of two fronts the shorter one is a front of the other
+front_of_front : {X : Type 0} (xs ys all : List X) → IsFrontOf xs all → IsFrontOf ys all → length xs ≤ length ys → IsFrontOf xs ys
+front_of_front [] ys all a b i = (ys, refl)
+front_of_front (x ∷ xs) [] all a b i = absurd (omega (arith, i))
+front_of_front (x ∷ xs) (y ∷ ys) [] a b i = absurd (let z = a.1 in cc)
+front_of_front (x ∷ xs) (y ∷ ys) (z ∷ all) a b i =
+    let p = a.1 in
+    let q = b.1 in
+    let same : x ≡ y = cc in
+    let s : xs ++ a.0 ≡ all = cc in
+    let t : ys ++ b.0 ≡ all = cc in
+    let f = front_of_front xs ys all (a.0, s) (b.0, t) (omega (arith, i)) in
+    (f.0, ap (λ w. w ∷ (xs ++ f.0)) same ∙ ap (λ ws. y ∷ ws) f.1)
+
+taken_front : (n : ℕ) (ms : List Message) → IsFrontOf (fragments_of (take n ms)) (fragments_of ms)
+taken_front zero ms = (fragments_of ms, refl)
+taken_front (suc n) [] = ([], refl)
+taken_front (suc n) (m ∷ ms) =
+    let f = taken_front n ms in
+    (f.0, append_assoc (map packet_bytes (packets_of m.0 m.1)) (fragments_of (take n ms)) f.0 ∙ ap (λ fs. map packet_bytes (packets_of m.0 m.1) ++ fs) f.1)
+
+pub in_messages : (s r : Talk) → Says s → CoreInOrder s.session r.session → InOrder s r
+in_messages s r says o =
+    let front : IsFrontOf r.session.acc (fragments_of s.sent) = (o.front.0, o.front.1 ∙ says.out) in
+    let given : messages_got r.session ≡ good_messages_of r.session.acc = ap good_of (all_given s.sent r.session.acc says.short front) in
+    let k : ℕ = whole_among s.sent s.session.acked in
+    let part : IsFrontOf (fragments_of (take k s.sent)) r.session.acc =
+    front_of_front (fragments_of (take k s.sent)) r.session.acc (fragments_of s.sent) (taken_front k s.sent) front
+    (omega (arith, whole_acked_before s.sent s.session.acked, o.acked)) in
+    record {
+      got = let f = good_messages_are_a_front s.sent r.session.acc (sendable s.sent says.short) front in (f.0, ap (λ ms. ms ++ f.0) given ∙ f.1);
+      acked =
+          let f = whole_messages_have_come (take k s.sent) r.session.acc (sendable (take k s.sent) (short_take k s.sent says.short)) part in
+          (f.0, f.1 ∙ sym given);
+    }
+  where
+    short_take : (n : ℕ) (ms : List Message) → AreShort ms → AreShort (take n ms)
+    short_take zero ms h = tt
+    short_take (suc n) [] h = tt
+    short_take (suc n) (m ∷ ms) h = (h.0, short_take n ms h.1)
+
+pub in_order_here_of_whole : (l : Link) → IsStart l → (events : List LinkEvent) → AllAllowed l events → (n : ℕ)
+    → InOrder (talk_of (after_link_events l events).controller n) (talk_of (after_link_events l events).host n)
+in_order_here_of_whole l s events a n =
+    let m = after_link_events l events in
+    let o = (ordered (core_of m) (reached l s events a)).there n in
+    let g = (from_start l s events a).good in
+    in_messages (talk_of m.controller n) (talk_of m.host n) (says_of m.controller n g.controller)
+    (subst (λ z. CoreInOrder z (talk_of m.host n).session) (session-core m.controller n)
+    (subst (λ r. CoreInOrder (shdlc_session_of (core_end m.controller) n) r) (session-core m.host n) o))
+
+pub in_order_there_of_whole : (l : Link) → IsStart l → (events : List LinkEvent) → AllAllowed l events → (n : ℕ)
+    → InOrder (talk_of (after_link_events l events).host n) (talk_of (after_link_events l events).controller n)
+in_order_there_of_whole l s events a n =
+    let m = after_link_events l events in
+    let o = (ordered (core_of m) (reached l s events a)).here n in
+    let g = (from_start l s events a).good in
+    in_messages (talk_of m.host n) (talk_of m.controller n) (says_of m.host n g.host)
+    (subst (λ z. CoreInOrder z (talk_of m.controller n).session) (session-core m.host n)
+    (subst (λ r. CoreInOrder (shdlc_session_of (core_end m.host) n) r) (session-core m.controller n) o))
+
+-- ### No chain fault
+
+never_chain : (e : EndState) (c : Control) → (take_answer e c).ended ≡ Some Chain → ⊥
+never_chain e c h =
+    by_taken (λ _ _ answer. answer.ended ≡ Some Chain → ⊥) e (λ ns nr info p z. let y = rw p at z in cc) (λ kind nr p z. let y = rw p at z in cc)
+    (λ _. none) (λ _ _ _. other) (λ _ _ _. none) (λ _ _ _. none) (λ _. none) c h
+  where
+    none : None ≡ Some Chain → ⊥
+    none z = cc
+
+    other : Some Peer ≡ Some Chain → ⊥
+    other z = cc
+
+pub act_not_chain : (e : LinkEnd) (event : ActEvent) → ended_by_act e event ≡ Some Chain → ⊥
+act_not_chain e event h = go (act_answer e.role event).ended_link e.shdlc.phase refl refl
+  where
+    go : (b : Bool) (p : LinkState) → (act_answer e.role event).ended_link ≡ b → e.shdlc.phase ≡ p → ⊥
+    go false p q r = let z = rw q at h in cc
+    go true Up q r = let z = rw (q, r) at h in cc
+    go true Waiting q r = let z = rw (q, r) at h in cc
+    go true Down q r = let z = rw (q, r) at h in cc
+
+pub not_chain : (e : LinkEnd) (c : Control) → (is_open e.role ≡ true → is_faulty (taken e.shdlc c).session ≡ false) → ended_by e (Take c) ≡ Some Chain → ⊥
+not_chain e (Act a b) f q = act_not_chain e (ActTake a b) q
+not_chain e Clt f q = cc
+not_chain e frame f q =
+    by_test (is_open e.role) (λ o. never_chain e.shdlc frame (let z = q in rw (o, f o) at z)) (λ o. let z = rw o at q in cc)
+
+pub no_chain_here : (l : Link) → IsStart l → (events : List LinkEvent) → AllAllowed l events → (x : OnWire) (xs : List OnWire)
+    → (after_link_events l events).to_controller ≡ x ∷ xs
+    → ended_by (after_link_events l events).controller.side (Take x.frame) ≡ Some Chain → ⊥
+no_chain_here l s events a x xs q =
+    let m = after_link_events l events in
+    let g = (from_start l s events a).good in
+    not_chain m.controller.side x.frame
+    (λ o. no_fault_first m x xs q g.controller g.host o (subst FromHost (core_first (core_of m) [] x xs q) (from_host (core_of m) (reached l s events a))))
+
+pub no_chain_there : (l : Link) → IsStart l → (events : List LinkEvent) → AllAllowed l events → (x : OnWire) (xs : List OnWire)
+    → (after_link_events l events).to_host ≡ x ∷ xs
+    → ended_by (after_link_events l events).host.side (Take x.frame) ≡ Some Chain → ⊥
+no_chain_there l s events a x xs q =
+    let m = after_link_events l events in
+    let k : Link = exchanged m in
+    let g = (from_start l s events a).good in
+    not_chain m.host.side x.frame
+    (λ o. no_fault_first k x xs q g.host g.controller o
+    (subst FromHost (core_first (core_of k) [] x xs q) (from_controller (core_of m) (reached l s events a))))
+
+-- ### One number
+
+pub one_number : (l : Link) → IsStart l → (events : List LinkEvent) → AllAllowed l events
+    → (after_link_events l events).controller.side.shdlc.phase ≡ Up → (after_link_events l events).host.side.shdlc.phase ≡ Up
+    → number_of (after_link_events l events).controller ≡ number_of (after_link_events l events).host
+one_number l s events a p q =
+    let r = reached l s events a in
+    let P : CoreLink → Type 0 = λ c. c.controller.side.phase ≡ Up → c.host.side.phase ≡ Up → core_number_of c.controller ≡ core_number_of c.host in
+    subst P r.is (agree r.start r.starts r.events r.allowed) p q
+
+-- a session that goes on has a number that no ended one has
+fresh_past : (past : List (ℕ × Talk)) (n : ℕ) → Below n (core_past past) → ended_talk past n ≡ no_talk
+fresh_past [] n b = refl
+fresh_past (x ∷ xs) n b = let d : (n == x.0) ≡ false = ne_eqb n x.0 (λ z. omega (arith, z, b.0)) in rw d (fresh_past xs n b.1)
+
+pub new_number : (h : NumberedEnd) → h.side.shdlc.phase ≡ Up → Below (bound (core_end h)) (core_past h.past) → ended_talk h.past (number_of h) ≡ no_talk
+new_number h up b = fresh_past h.past (number_of h) (rw up at b)
+
+pub new_number_here : (l : Link) → IsStart l → (events : List LinkEvent) → AllAllowed l events → (after_link_events l events).controller.side.shdlc.phase ≡ Up
+    → ended_talk (after_link_events l events).controller.past (number_of (after_link_events l events).controller) ≡ no_talk
+new_number_here l s events a up =
+    let r = reached l s events a in
+    let P : CoreLink → Type 0 = λ c. Below (bound c.controller) c.controller.past in
+    new_number (after_link_events l events).controller up (subst P r.is (safe r.start r.starts r.events r.allowed).n_past)
+
+pub new_number_there : (l : Link) → IsStart l → (events : List LinkEvent) → AllAllowed l events → (after_link_events l events).host.side.shdlc.phase ≡ Up
+    → ended_talk (after_link_events l events).host.past (number_of (after_link_events l events).host) ≡ no_talk
+new_number_there l s events a up =
+    let r = reached l s events a in
+    let P : CoreLink → Type 0 = λ c. Below (bound c.host) c.host.past in
+    new_number (after_link_events l events).host up (subst P r.is (safe r.start r.starts r.events r.allowed).f_past)
+
+-- ## What was delivered where nothing was lost
+
+-- where all fragments are there, all messages are
+whole_all : (ms : List Message) (n : ℕ) → length (fragments_of ms) ≤ n → whole_among ms n ≡ length ms
+whole_all [] n i = refl
+whole_all (m ∷ ms) n i =
+    by_test {P = whole_among (m ∷ ms) n ≡ length (m ∷ ms)} (nat_le (packet_count (length m.1)) n)
+    (λ q. rw q (ap suc ((whole_all ms (n - packet_count (length m.1))) (omega (arith, i, count)))))
+    (λ q. absurd (let z = leb-false (packet_count (length m.1)) n q in omega (arith, i, count, z)))
+  where
+    count : length (fragments_of (m ∷ ms)) ≡ packet_count (length m.1) + length (fragments_of ms)
+    count =
+        let a = length-append (map packet_bytes (packets_of m.0 m.1)) (fragments_of ms) in
+        let b = length-map (packets_of m.0 m.1) packet_bytes ∙ packets_are_counted m.0 m.1 in
+        omega (arith, a, b)
+
+in_messages_of_quiet : (s r : Talk) → Says s → CoreAllDelivered s.session r.session → AllDelivered s r
+in_messages_of_quiet s r says d =
+    let all : r.session.acc ≡ fragments_of s.sent = d.accepted ∙ says.out in
+    let given : messages_got r.session ≡ good_messages_of r.session.acc =
+    ap good_of (all_given s.sent r.session.acc says.short ([], append-nil r.session.acc ∙ all)) in
+    let count : s.session.acked ≡ length (fragments_of s.sent) = d.acked ∙ ap (λ (fs : List (List ℕ)). length fs) says.out in
+    record {
+      got = given ∙ (ap good_messages_of all ∙ ap good_of (joined_again s.sent (sendable s.sent says.short)));
+      acked = whole_all s.sent s.session.acked (omega (arith, count));
+    }
+
+quiet_core : (l : Link) → IsStart l → (events : List LinkEvent) → AllAllowed l events → IsQuiet (after_link_events l events) (losses_of l events)
+    → CoreIsQuiet (core_after (core_of l) (core_events l events)) (losses_of l events)
+quiet_core l s events a q =
+    let P : CoreLink → Type 0 = λ c. CoreIsQuiet c (losses_of l events) in
+    subst P (projected l s events a)
+    (record { controller = q.controller; host = q.host; lost = q.lost; rnr = q.rnr; to_controller = q.to_controller; to_host = q.to_host })
+
+pub all_here : (l : Link) → IsStart l → (events : List LinkEvent) → AllAllowed l events → IsQuiet (after_link_events l events) (losses_of l events)
+    → AllDelivered (talk_now (after_link_events l events).controller.side) (talk_now (after_link_events l events).host.side)
+all_here l s events a q =
+    let m = after_link_events l events in
+    let P : CoreLink → Type 0 = λ c. CoreAllDelivered c.controller.side.session c.host.side.session in
+    let d = subst P (sym (projected l s events a))
+    (delivered_here (core_of l) (core_starts l s) (core_events l events) (allowed l s events a) (quiet_core l s events a q)) in
+    in_messages_of_quiet (talk_now m.controller.side) (talk_now m.host.side) (from_start l s events a).good.controller.now.says d
+
+pub all_there : (l : Link) → IsStart l → (events : List LinkEvent) → AllAllowed l events → IsQuiet (after_link_events l events) (losses_of l events)
+    → AllDelivered (talk_now (after_link_events l events).host.side) (talk_now (after_link_events l events).controller.side)
+all_there l s events a q =
+    let m = after_link_events l events in
+    let P : CoreLink → Type 0 = λ c. CoreAllDelivered c.host.side.session c.controller.side.session in
+    let d = subst P (sym (projected l s events a))
+    (delivered_there (core_of l) (core_starts l s) (core_events l events) (allowed l s events a) (quiet_core l s events a q)) in
+    in_messages_of_quiet (talk_now m.host.side) (talk_now m.controller.side) (from_start l s events a).good.host.now.says d
+
+-- both ends are up after a reset that nothing disturbed
+pub up_together : (l : Link) → IsStart l → (events : List LinkEvent) → AllAllowed l events → IsSettled (after_link_events l events) (sure_of l events)
+    → AreUpTogether (after_link_events l events)
+up_together l s events a q =
+    let p = projected l s events a in
+    let P : CoreLink → Type 0 = λ c. CoreIsSettled c (sure_of l events) in
+    let settled : CoreIsSettled (core_after (core_of l) (core_events l events)) (sure_of l events) =
+    subst P p (record { sure = q.undisturbed; to_controller = q.to_controller; to_host = q.to_host }) in
+    let up : CoreAreUpTogether (core_of (after_link_events l events)) =
+    subst CoreAreUpTogether (sym p) (core_up_together (core_of l) (core_starts l s) (core_events l events) (allowed l s events a) settled) in
+    record { controller = up.controller; host = up.host; number = up.number }

@@ -15,8 +15,8 @@ use Rattle.swp_act.specs.declared.Phase.TheVariants.{Active}
 use Rattle.link_laws.proofs.sending.TakenLemmas.{no_fault}
 use Rattle.link_laws.proofs.sessions.Steps.{took as core_took}
 use Rattle.link_laws.proofs.messages.ActsInOrder.{ActsInOrder, LinkInOrder, IsPolite, with_sent, in_order_drop, in_order_take}
-use Rattle.link_laws.proofs.messages.Ends.{Idle, taken_keeps, Alike, frames_alike}
-use Rattle.link_laws.proofs.messages.Project.{Says, Mid, Now, mid_moved, moved_role, frames_now, AllSay, Tells, Step, step_same, step_turned}
+use Rattle.link_laws.proofs.messages.Project.{Alike, AllSay, Idle, Mid, Now, Says, Step, Tells, frames_alike, frames_now, mid_moved, moved_role, step_same}
+use Rattle.link_laws.proofs.messages.Project.{step_turned, taken_keeps}
 use Rattle.link_laws.proofs.machine.Runs.{opened}
 use Rattle.link_laws.proofs.machine.Reports.{shdlc_is as shdlc_moved}
 use Rattle.link_laws.proofs.Cases.{by_phase, by_test}

@@ -1,19 +1,40 @@
--- Two ends that are Up in one session and the wires between them: what is true of them at every moment of an event, and
--- how each thing that one end does keeps it.
-use Rattle.std.proofs.Common.{◌==◌, max}
-use Rattle.link_laws.proofs.Words.{Act, Bool, Clt, Control, Due, EndState, Fragment, I, Kind, List, None, Option, Rej, Rej_due, Rnr, Rnr_due, Rr, Rr_due, Rset}
-use Rattle.link_laws.proofs.Words.{S, Session, Some, Srej, Ua, Up, [], accepted, acknowledged, ahead, ap, arith, cases_eq, control_due, discarded, eqb-false}
-use Rattle.link_laws.proofs.Words.{eqb-true, expected, false, fetched, fragment_due, fragment_due-within, frame_due, inl, inr, is_rnr, length, length-append}
-use Rattle.link_laws.proofs.Words.{ltb-false, ltb-true, made_busy, nat_lt, place_of, put_out, ready_again, received, refl, rejected, repeated, runs_timer}
-use Rattle.link_laws.proofs.Words.{sent_again, sent_next, sym, take_answer, taken, tick_answer, ticked, true, true≢false, with_frame, with_ready, ℕ, ◌%◌, ◌++◌}
-use Rattle.link_laws.proofs.Words.{◌+◌, ◌<◌, ◌∙◌, ◌∷◌, ◌≡◌, ◌≤◌, ◌⊎◌}
+-- Two ends that are Up in one session and the wires between them at every moment, up to both wires empty and all delivered.
+use Rattle.std.proofs.Common.{max, ◌==◌}
+use Rattle.std.proofs.lemmas.Bool.{cond-true, le-leb}
+use Rattle.std.proofs.lemmas.List.{append-nil, nil_from_length}
+use mathlib.Core.List.{IsPrefix}
+use Rattle.link_laws.proofs.Words.{Act, Bool, Clt, Control, Due, EndState, Fragment, FragmentsDelivered, I, Kind, List, None, Option, Rej, Rej_due, Rnr}
+use Rattle.link_laws.proofs.Words.{Rnr_due, Rr, Rr_due, Rset, S, Session, Some, Srej, Ua, Up, [], accepted, acknowledged, after_frames, ahead, and_from, ap}
+use Rattle.link_laws.proofs.Words.{arith, cases_eq, control_due, discarded, eq-eqb, eqb-false, eqb-true, expected, false, fetched, fragment_due}
+use Rattle.link_laws.proofs.Words.{fragment_due-within, frame_due, inl, inr, is_rnr, length, length-append, lt-ltb, ltb-false, ltb-true, made_busy, nat_lt}
+use Rattle.link_laws.proofs.Words.{place_of, put_out, ready_again, received, refl, rejected, repeated, runs_timer, sent_again, sent_next, slice_get, suc, sym}
+use Rattle.link_laws.proofs.Words.{take_answer, taken, tick_answer, ticked, true, true≢false, with_frame, with_ready, zero, ℕ, ◌%◌, ◌++◌, ◌+◌, ◌-◌, ◌<◌, ◌∙◌}
+use Rattle.link_laws.proofs.Words.{◌∷◌, ◌≡◌, ◌≤◌, ◌⊎◌}
 use Rattle.link_laws.specs.places.Wire.{OnWire, older}
-use Rattle.link_laws.proofs.places.Numbers.{place_found, ahead_same, ahead_other, ahead_repeat}
-use Rattle.link_laws.proofs.places.Marks.{Shows, counts_le, AcksOnly, shows_push, shows_older}
-use Rattle.link_laws.proofs.places.Whole.{AnswersOnly, NoRnr, Whole, answers_push, no_rnr_push, rnr_pushed, push_not_empty, whole_send, whole_send_S}
-use Rattle.link_laws.proofs.places.Whole.{whole_answer_I, whole_answer_S}
-use Rattle.link_laws.proofs.places.Flows.{Flows, flows_put, flows_send, flows_send_S, flows_answer, flows_move, flows_number, flows_acked, flows_accept}
-use Rattle.link_laws.proofs.places.Flows.{flows_past, flows_lost_back}
+use Rattle.link_laws.proofs.places.Flows.{AcksOnly, AnswersOnly, Flows, NoRnr, Shows, Whole, answers_push, counts_le, flows_accept, flows_acked, flows_answer}
+use Rattle.link_laws.proofs.places.Flows.{flows_lost_back, flows_move, flows_number, flows_past, flows_put, flows_send, flows_send_S, no_rnr_push}
+use Rattle.link_laws.proofs.places.Flows.{push_not_empty, rnr_pushed, shows_older, shows_push, whole_answer_I, whole_answer_S, whole_send, whole_send_S}
+
+-- ## A number modulo 8 names one place among those that it can mean
+
+-- an N(R) names the one place that it can mean
+pub place_found : (s : Session) (nr : ℕ) → s.acked ≤ nr → nr ≤ s.reached → s.reached ≤ s.acked + 4 → place_of s (nr % 8) ≡ Some nr
+place_found s nr h i j =
+    let e : s.acked + (nr % 8 + (8 - s.acked % 8)) % 8 ≡ nr = omega arith in
+    rw e (cond-true _ (Some nr) None (and_from _ _ (eq-eqb (nr % 8) (nr % 8) refl) (le-leb nr s.reached i)))
+
+-- an N(S) is the number expected exactly where its place is the one expected
+pub ahead_same : (s : Session) (p : ℕ) → p ≡ length s.acc → ahead s (p % 8) ≡ 0
+ahead_same s p h = omega arith
+
+pub ahead_other : (s : Session) (p : ℕ) → length s.acc ≤ p + 4 → p ≤ length s.acc + 3 → ahead s (p % 8) ≡ 0 → p ≡ length s.acc
+ahead_other s p h i j = omega arith
+
+ahead_repeat : (s : Session) (p : ℕ) → p < length s.acc → length s.acc ≤ p + 4 → 4 ≤ ahead s (p % 8)
+ahead_repeat s p h i = omega arith
+
+-- ## Two ends that are Up in one session and the wires between them
+-- What is true of them at every moment of an event, and how each thing that one end does keeps it.
 
 -- the sender with this session, the receiver that accepted acc, and the marks on the wires from it and to it
 abbrev pub Sends : Session → List Fragment → List Control → List Control → Type 0
@@ -444,7 +465,7 @@ module _ (W : Type 0) where
       go (Act _ _ ∷ ms) shows near_sends far_sends near_whole far_whole = absurd near_sends.counts
       go (Clt ∷ ms) shows near_sends far_sends near_whole far_whole = absurd near_sends.counts
 
-  -- ## A frame is made. V says that nothing was lost and no RNR was made, this frame among them.
+  -- ### A frame is made. V says that nothing was lost and no RNR was made, this frame among them.
 
   joined_answered : {V : Type 0} → (V → W) → {near far : EndState} {to_near to_far : List OnWire} (k : Kind) {ds : List Due} → AnswersOnly ds
       → (V → AcksOnly (S k (length near.session.acc) ∷ [])) → (V → NoRnr ds → NoRnr near.due)
@@ -506,3 +527,130 @@ module _ (W : Type 0) where
       control Rej_due ds p a r = joined_answered weak Rej a (λ v. tt) (λ v n. rw p n) h
       control Rnr_due ds p a r = joined_answered weak Rnr a (λ v. absurd (true≢false (r v))) (λ v n. absurd (true≢false (r v))) h
       control _ ds p a r = absurd a
+
+-- ## How many frames an end has still to send, and that it has sent all that was due once it fetched so many
+
+-- where nothing is due a fetch changes nothing
+pub fetched_idle : (e : EndState) → frame_due e ≡ None → fetched e ≡ e
+fetched_idle e =
+    fetch_cases (λ f c. c ≡ None → f ≡ e) e (λ d ds p n. cc) (λ p q n. refl) (λ info p q n. cc)
+
+pub after_frames_idle : (n : ℕ) (e : EndState) → frame_due e ≡ None → after_frames n e ≡ e
+after_frames_idle zero e h = refl
+after_frames_idle (suc n) e h = rw (fetched_idle e h) (after_frames_idle n e h)
+
+-- so many frames are due at most
+abbrev pub left : EndState → ℕ
+left e = length e.due + (e.session.acked + e.session.window - e.session.next)
+
+-- each fetch leaves fewer
+fetch_leaves : (e : EndState) → (frame_due e ≡ None) ⊎ (left (fetched e) + 1 ≤ left e)
+fetch_leaves e =
+    fetch_cases (λ f c. (c ≡ None) ⊎ (left f + 1 ≤ left e)) e
+    (λ d ds p. inr (let q : length e.due ≡ suc (length ds) = ap length p in omega arith))
+    (λ p q. inl refl)
+    (λ info p q. inr (let tells = fragment_due-within e.session info q in omega (arith, tells.0)))
+
+nothing_left : (e : EndState) → left e ≡ 0 → frame_due e ≡ None
+nothing_left e h =
+    fetch_cases (λ f c. c ≡ None) e
+    (λ d ds p. absurd (let q : length e.due ≡ suc (length ds) = ap length p in omega arith))
+    (λ p q. refl)
+    (λ info p q. absurd (let tells = fragment_due-within e.session info q in omega (arith, tells.0)))
+
+pub idle_after : (n : ℕ) (e : EndState) → left e ≤ n → frame_due (after_frames n e) ≡ None
+idle_after zero e h = nothing_left e (omega arith)
+idle_after (suc n) e h = go (fetch_leaves e) (λ less. idle_after n (fetched e) less)
+  where
+    go : (frame_due e ≡ None) ⊎ (left (fetched e) + 1 ≤ left e) → (left (fetched e) ≤ n → frame_due (after_frames n (fetched e)) ≡ None)
+        → frame_due (after_frames (suc n) e) ≡ None
+    go (inl none) later = ap frame_due (after_frames_idle (suc n) e none) ∙ none
+    go (inr less) later = later (omega arith)
+
+-- an end that has nothing due has no control frame to send
+pub no_due : (e : EndState) → frame_due e ≡ None → e.due ≡ []
+no_due e =
+    fetch_cases (λ f c. c ≡ None → e.due ≡ []) e (λ d ds p n. cc) (λ p q n. p) (λ info p q n. cc)
+
+-- ### A frame that is taken makes at most one control frame
+
+few_taken_I : (e : EndState) (ns nr x : ℕ) (info : Fragment) → e.phase ≡ Up → place_of e.session nr ≡ Some x
+    → length (taken e (I ns nr info)).due ≤ length e.due + 1
+few_taken_I e ns nr x info up at =
+    let P : EndState → Type 0 = λ f. length f.due ≤ length e.due + 1 in
+    let one : (d : Due) → length (e.due ++ d ∷ []) ≤ length e.due + 1 = λ d. omega (arith, length-append e.due (d ∷ [])) in
+    taken_I P e ns nr x info up at
+    (received_cases P (acknowledged e x) ns info (λ z. one Rr_due) (λ z g. omega arith) (λ z g. one Rej_due) (λ z g. one Rr_due) (one Rnr_due))
+
+few_taken_S : (e : EndState) (k : Kind) (nr x : ℕ) → e.phase ≡ Up → place_of e.session nr ≡ Some x → length (taken e (S k nr)).due ≤ length e.due + 1
+few_taken_S e k nr x up at =
+    taken_S (λ f. length f.due ≤ length e.due + 1) e k nr x up at
+    (record { rr = λ i. omega arith; rej = λ i. omega arith; rnr = λ i. omega arith; srej = λ i. omega arith })
+
+pub few_taken : (e : EndState) (acc : List Fragment) (x : OnWire) (xs : List OnWire) (there back : List Control)
+    → e.phase ≡ Up → Shows (x ∷ xs) back → Sends e.session acc there back → length (taken e x.frame).due ≤ length e.due + 1
+few_taken e acc x xs there [] up shows sends = absurd shows
+few_taken e acc x xs there (I p n info ∷ ms) up shows sends =
+    let s = e.session in
+    let number = flows_number (I p n info) n refl sends in
+    let reach : s.reached ≤ s.acked + 4 = omega (arith, sends.window, sends.reach_window) in
+    rw shows.0 (few_taken_I e (p % 8) (n % 8) n info up (place_found s n number.0 number.1 reach))
+few_taken e acc x xs there (S k n ∷ ms) up shows sends =
+    let s = e.session in
+    let number = flows_number (S k n) n refl sends in
+    let reach : s.reached ≤ s.acked + 4 = omega (arith, sends.window, sends.reach_window) in
+    rw shows.0 (few_taken_S e k (n % 8) n up (place_found s n number.0 number.1 reach))
+few_taken e acc x xs there (Rset _ _ ∷ ms) up shows sends = absurd sends.counts
+few_taken e acc x xs there (Ua ∷ ms) up shows sends = absurd sends.counts
+few_taken e acc x xs there (Act _ _ ∷ ms) up shows sends = absurd sends.counts
+few_taken e acc x xs there (Clt ∷ ms) up shows sends = absurd sends.counts
+
+-- ## Where both wires are empty, and nothing was lost and no RNR made, all is accepted and acknowledged
+
+no_marks : (wire : List OnWire) (ms : List Control) → wire ≡ [] → Shows wire ms → ms ≡ []
+no_marks [] [] e h = refl
+no_marks [] (m ∷ ms) e h = absurd h
+no_marks (x ∷ xs) ms e h = cc
+
+pub past_end : {X : Type 0} (xs : List X) (k : ℕ) → slice_get xs k ≡ None → length xs ≤ k
+past_end [] k h = omega arith
+past_end (x ∷ xs) zero h = cc
+past_end (x ∷ xs) (suc k) h = omega (arith, past_end xs k h)
+
+whole_front : (acc out : List Fragment) → IsPrefix acc out → length out ≤ length acc → acc ≡ out
+whole_front acc out p h =
+    let none : length p.0 ≡ 0 = omega (arith, length-append acc p.0, ap length p.1) in
+    let empty : p.0 ≡ [] = nil_from_length p.0 none in
+    sym (append-nil acc) ∙ ap (λ l. acc ++ l) (sym empty) ∙ p.1
+
+no_fragment : (e : EndState) → frame_due e ≡ None → fragment_due e.session ≡ None
+no_fragment e =
+    fetch_cases (λ f c. c ≡ None → fragment_due e.session ≡ None) e (λ d ds p n. cc) (λ p q n. q) (λ info p q n. cc)
+
+-- a sender that may send and has nothing due has sent all
+all_sent : (s : Session) → s.peer_busy ≡ false → s.next < s.acked + s.window → fragment_due s ≡ None → length s.out ≤ s.next
+all_sent s free inside none =
+    let may : nat_lt s.next (s.acked + s.window) ≡ true = lt-ltb s.next (s.acked + s.window) inside in
+    past_end s.out s.next (rw (free, may) at none)
+
+-- one direction, with no mark on either wire and no answer due
+delivered_by : (s : Session) (acc : List Fragment) → Sends s acc [] [] → Whole s acc [] [] [] → fragment_due s ≡ None
+    → (acc ≡ s.out) × (s.acked ≡ length s.out)
+delivered_by s acc sends whole none =
+    let told : s.acked ≡ length acc = whole.told refl in
+    let caught : length acc ≡ s.reached = whole.caught in
+    let inside : s.next < s.acked + s.window = omega (arith, sends.acked_next, sends.next_reach, sends.wide) in
+    let all : length s.out ≤ s.next = all_sent s whole.free inside none in
+    (whole_front acc s.out sends.front (omega (arith, sends.next_reach)), omega (arith, sends.next_reach, sends.reach_out))
+
+pub delivered : {W : Type 0} {near far : EndState} {to_near to_far : List OnWire} → Joined W near far to_near to_far → W
+    → frame_due near ≡ None → frame_due far ≡ None → to_near ≡ [] → to_far ≡ [] → FragmentsDelivered near.session far.session
+delivered {near = near} {far} {to_near} {to_far} h w near_idle far_idle near_empty far_empty =
+    let a : h.near_marks ≡ [] = no_marks to_near h.near_marks near_empty h.near_shows in
+    let b : h.far_marks ≡ [] = no_marks to_far h.far_marks far_empty h.far_shows in
+    let d : far.due ≡ [] = no_due far far_idle in
+    let none : NoRnr far.due = rw d tt in
+    let sends : Sends near.session far.session.acc [] [] = rw (a, b) at h.near_sends in
+    let whole : Whole near.session far.session.acc [] [] [] = rw (a, b, d) at (h.near_whole w none) in
+    let all = delivered_by near.session far.session.acc sends whole (no_fragment near near_idle) in
+    record { accepted = all.0; acked = all.1 }

@@ -5,11 +5,9 @@ use Rattle.link_laws.proofs.Words.{Rej_due, Rnr_due, Rr_due, Rset, S, Session, S
 use Rattle.link_laws.proofs.Words.{discarded, ended_session, eq-eqb, eqb-true, false, inl, inr, length, length-append, made_busy, ne_eqb, new_session}
 use Rattle.link_laws.proofs.Words.{no_session, older, place_of, ready_again, refl, rejected, repeated, sent_next, shdlc_number_of, shdlc_session_of, slice_get}
 use Rattle.link_laws.proofs.Words.{slice_get_within, sym, take_answer, taken, true, ℕ, ◌%◌, ◌++◌, ◌+◌, ◌<◌, ◌∙◌, ◌∷◌, ◌≡◌, ◌≤◌, ◌⊎◌}
-use Rattle.link_laws.proofs.places.Numbers.{place_found, ahead_other}
-use Rattle.link_laws.proofs.places.Flows.{front_accept}
-use Rattle.link_laws.proofs.places.Joined.{received_cases, taken_I, taken_S, answer_I, answer_S}
-use Rattle.link_laws.proofs.places.Marks.{reduced, Carries, Counts, NoneBelow, Places, MayFollow, counts_le, counts_lower, counts_higher, counts_push}
-use Rattle.link_laws.proofs.places.Marks.{counts_lost, places_grow, places_reach, places_accepted, places_lost, places_push, places_push_S}
+use Rattle.link_laws.proofs.places.Joined.{ahead_other, answer_I, answer_S, place_found, received_cases, taken_I, taken_S}
+use Rattle.link_laws.proofs.places.Flows.{Carries, Counts, MayFollow, NoneBelow, Places, counts_higher, counts_le, counts_lost, counts_lower, counts_push}
+use Rattle.link_laws.proofs.places.Flows.{front_accept, places_accepted, places_grow, places_lost, places_push, places_push_S, places_reach, reduced}
 use Rattle.link_laws.proofs.sessions.Wire.{IsData, add_rset, no_rset_step, rsets}
 use Rattle.link_laws.proofs.Cases.{by_test}
 use mathlib.Core.List.{IsPrefix}

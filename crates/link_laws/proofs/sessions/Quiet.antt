@@ -15,9 +15,8 @@ use Rattle.link_laws.proofs.Words.{noted_tick, noted_turns, or_parts, overflows,
 use Rattle.link_laws.proofs.Words.{shdlc_happens, shdlc_number_of, shdlc_put, shdlc_put_all, shdlc_silent, shdlc_ticks_at_controller, shdlc_turn, start_down}
 use Rattle.link_laws.proofs.Words.{stopped, subst, sym, take_answer, taken, tick_answer, ticked, took_with, true, true≢false, up_with, waiting_from}
 use Rattle.link_laws.proofs.Words.{with_shdlc_controller, ℕ, ◌++◌, ◌+◌, ◌<◌, ◌||◌, ◌∙◌, ◌∷◌, ◌≡◌, ◌≤◌, ◌⊎◌}
-use Rattle.link_laws.proofs.places.Delivered.{delivered}
-use Rattle.link_laws.proofs.places.Whole.{AnswersOnly}
-use Rattle.link_laws.proofs.places.Joined.{Joined, joined_ticked, joined_taken, tick_cases}
+use Rattle.link_laws.proofs.places.Joined.{Joined, delivered, joined_taken, joined_ticked, tick_cases}
+use Rattle.link_laws.proofs.places.Flows.{AnswersOnly}
 use Rattle.link_laws.specs.sessions.Sessions.ShdlcEndEvent.{Cut}
 use Rattle.link_laws.proofs.sessions.Wire.{IsData, rsets, uas, behind_ua, live, behind_none, data_behind, AfterRset, after_rset_empty}
 use Rattle.link_laws.proofs.sessions.Hand.{NothingIsOut, IsRset, idle_out, ua_told, rset_told, nothing_out}

@@ -14,9 +14,8 @@ use Rattle.link_laws.proofs.Words.{overflows, refl, reset_with, runs_timer, sans
 use Rattle.link_laws.proofs.Words.{shdlc_put_all, shdlc_ticks_at_controller, shdlc_turn, subst, suc, sure_after, sure_aged, sure_all, sure_event, sure_here}
 use Rattle.link_laws.proofs.Words.{sure_if_waiting, sure_out, sure_put, sure_tick, sure_turns, sym, take_answer, taken, tick_answer, ticked, took_with, true}
 use Rattle.link_laws.proofs.Words.{true≢false, up_with, waiting_from, with_shdlc_controller, zero, ℕ, ◌++◌, ◌+◌, ◌||◌, ◌∙◌, ◌∷◌, ◌≡◌, ◌⊎◌}
-use Rattle.link_laws.proofs.places.Whole.{AnswersOnly}
-use Rattle.link_laws.proofs.places.Joined.{tick_cases, ready_cases}
-use Rattle.link_laws.proofs.places.Idle.{fetched_idle, after_frames_idle}
+use Rattle.link_laws.proofs.places.Flows.{AnswersOnly}
+use Rattle.link_laws.proofs.places.Joined.{after_frames_idle, fetched_idle, ready_cases, tick_cases}
 use Rattle.link_laws.specs.sessions.Sessions.ShdlcEndEvent.{Cut}
 use Rattle.link_laws.proofs.sessions.Wire.{IsData, data_not_rset, data_not_ua, not_rset_adds, not_ua_adds, rsets, uas, rsets-append, uas-append, plus_one}
 use Rattle.link_laws.proofs.sessions.Wire.{rsets-older, uas-older}

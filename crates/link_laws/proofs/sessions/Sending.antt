@@ -6,8 +6,7 @@ use Rattle.link_laws.proofs.Words.{Up, Waiting, [], after_frames, ap, arith, con
 use Rattle.link_laws.proofs.Words.{fits, fragment_due, fragment_due-within, frame_due, frames_of, inl, inr, is_act, length, length-append, map, nat_lt}
 use Rattle.link_laws.proofs.Words.{no_session, put_out, refl, sans, sent_next, shdlc_becomes, shdlc_put, shdlc_put_all, shdlc_turn, subst, suc, sym, true}
 use Rattle.link_laws.proofs.Words.{true≢false, with_ready, with_shdlc_controller, zero, ℕ, ◌%◌, ◌++◌, ◌+◌, ◌∙◌, ◌∷◌, ◌≡◌, ◌≤◌, ◌⊎◌}
-use Rattle.link_laws.proofs.places.Idle.{fetched_idle, after_frames_idle}
-use Rattle.link_laws.proofs.places.Joined.{fetch_cases, changed}
+use Rattle.link_laws.proofs.places.Joined.{after_frames_idle, changed, fetch_cases, fetched_idle}
 use Rattle.link_laws.proofs.sessions.Wire.{IsData, rsets, behind_ua, live, behind_push, behind_push_none, behind_rsets, data_not_ua}
 use Rattle.link_laws.proofs.sessions.Hand.{NothingIsOut, idle_out, hand_send, hand_timer}
 use Rattle.link_laws.proofs.sessions.Data.{Pair, pair_next, pair_put, Plain, pushed, pair_send, pair_send_S, IsAnswer}

@@ -25,7 +25,7 @@ use Rattle.link_laws.proofs.sessions.Safe.{frame_cases, safe_lose, safe_ignore, 
 use Rattle.link_laws.proofs.sessions.Sending.{SafeAt, SafeLink, sans-push_act, fits_keeps, safe_fits, no_rset_out, up_step, becomes_none, becomes_one}
 use Rattle.link_laws.proofs.sessions.Sending.{becomes_taken}
 use Rattle.link_laws.proofs.Cases.{by_phase, by_test}
-use Rattle.link_laws.proofs.machine.Walks.{by_taken}
+use Rattle.link_laws.proofs.machine.Sound.{by_taken}
 
 -- ## It sends an RSET and waits
 

@@ -7,10 +7,9 @@ use Rattle.link_laws.proofs.Words.{[], after_frames, ap, arith, cond, control_du
 use Rattle.link_laws.proofs.Words.{fits, fragment_due, frame_due, frames_of, inl, inr, is_act, is_rnr, length, length-append, min, nat_lt, new_session}
 use Rattle.link_laws.proofs.Words.{noted_all, noted_loss, older, or_parts, overflows, put_out, refl, sans, shdlc_put, shdlc_put_all, shdlc_turn, subst, suc}
 use Rattle.link_laws.proofs.Words.{sym, true, with_frame, with_ready, with_shdlc_controller, zero, ℕ, ◌%◌, ◌++◌, ◌+◌, ◌<◌, ◌||◌, ◌∙◌, ◌∷◌, ◌≡◌, ◌≤◌, ◌⊎◌}
-use Rattle.link_laws.proofs.places.Flows.{flows_new}
-use Rattle.link_laws.proofs.places.Whole.{AnswersOnly, Whole}
-use Rattle.link_laws.proofs.places.Joined.{Joined, joined_exchanged, joined_older, joined_fetched, joined_put, joined_ready, ready_cases, fetch_cases}
-use Rattle.link_laws.proofs.places.Idle.{fetched_idle, after_frames_idle, left, idle_after}
+use Rattle.link_laws.proofs.places.Flows.{AnswersOnly, Whole, flows_new}
+use Rattle.link_laws.proofs.places.Joined.{Joined, after_frames_idle, fetch_cases, fetched_idle, idle_after, joined_exchanged, joined_fetched, joined_older}
+use Rattle.link_laws.proofs.places.Joined.{joined_put, joined_ready, left, ready_cases}
 use Rattle.link_laws.proofs.sessions.Wire.{IsData, rsets, uas, behind_ua, live, no_ua_step, behind_new, live-older, older_part}
 use Rattle.link_laws.proofs.sessions.Data.{pushed}
 use Rattle.link_laws.proofs.sessions.Safe.{HasWindows, up_end}

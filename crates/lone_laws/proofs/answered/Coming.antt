@@ -6,7 +6,7 @@ use Rattle.lone_laws.proofs.Words.{forgets_same, forgotten, got_by, had_tick, ha
 use Rattle.lone_laws.proofs.Words.{is_some, list_any, map, moved, node_input, own_side, refl, report, reset_late, same_end, same_end_itself, started, stopped}
 use Rattle.lone_laws.proofs.Words.{sym, syncs_in, tick_answer, ticked, times_out, told_at, told_late, true, unless_cut, whole_acked, with_older, without_notice}
 use Rattle.lone_laws.proofs.Words.{ℕ, ◌++◌, ◌∙◌, ◌∷◌, ◌≡◌}
-use Rattle.link_laws.proofs.machine.Kept.{moved_got, activated_got, reset_got, took_got}
+use Rattle.link_laws.proofs.machine.Reports.{activated_got, moved_got, reset_got, took_got}
 use Rattle.node_laws.proofs.steps.StepWalks.{unless}
 use Rattle.lone_laws.proofs.answered.Reading.{eqb_same, Read, read_all, told_read, reads_of, Alone, read_more, alone_as}
 use Rattle.lone_laws.proofs.answered.Turning.{own_end}

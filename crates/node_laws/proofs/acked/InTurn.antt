@@ -13,8 +13,7 @@ use Rattle.link_laws.specs.messages.Links.LinkEvent.{Ticks}
 use Rattle.link_laws.specs.messages.Projection.{core_ending, core_events, core_reset, core_step}
 use Rattle.link_laws.specs.messages.Projection.{is_lost_tick}
 use Rattle.link_laws.proofs.messages.Project.{Tells}
-use Rattle.link_laws.proofs.messages.Runs.{run}
-use Rattle.link_laws.proofs.messages.Whole.{sendable}
+use Rattle.link_laws.proofs.messages.Runs.{run, sendable}
 use Rattle.node_laws.proofs.telling.Events.{after-append}
 use Rattle.node_laws.specs.acked.InTurn.{acked_at_host}
 use Rattle.node_laws.proofs.acked.Alone.{AllNear, AllFar, near_alone, far_alone}

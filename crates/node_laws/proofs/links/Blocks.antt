@@ -14,9 +14,8 @@ use Rattle.swp_base.specs.declared.control_frames.Act.{Act}
 use Rattle.shdlc_core.specs.declared.answers.LinkState.TheVariants.{Down}
 use Rattle.shdlc_core.specs.Machine.{fetched}
 use Rattle.link_laws.proofs.sessions.Ties.{fetched-phase, after_frames-phase}
-use Rattle.link_laws.proofs.machine.Shifts.{IsNotUp, Shift, taken_shift, ticked_shift, reset_shift}
-use Rattle.link_laws.proofs.machine.Shifts.Shift.{Stays, Ends, Renews, Begins, Rests}
-use Rattle.link_laws.proofs.machine.Sound.{SentAfter, whole_more, whole_few, need_less, need_more}
+use Rattle.link_laws.proofs.machine.Sound.{IsNotUp, SentAfter, Shift, need_less, need_more, reset_shift, taken_shift, ticked_shift, whole_few, whole_more}
+use Rattle.link_laws.proofs.machine.Sound.Shift.{Begins, Ends, Renews, Rests, Stays}
 use Rattle.link_laws.specs.messages.Links.LinkEvent.{Ticks}
 use Rattle.link_laws.proofs.messages.Finishing.{reset_tells}
 use Rattle.node_laws.specs.links.Runs.{SharesOut}

@@ -10,7 +10,7 @@ use Rattle.hcp_packet.specs.declared.Packet.{Packet}
 use Rattle.hcp_packet.specs.Packets.{packets_in}
 use Rattle.hcp_chain.specs.Joining.{join_step, message_in, given_by, is_fifth, grown}
 use Rattle.link_laws.specs.machine.Machine.{messages_got, news}
-use Rattle.link_laws.proofs.machine.Kept.{down_got}
+use Rattle.link_laws.proofs.machine.Reports.{down_got}
 
 -- ## Lists
 

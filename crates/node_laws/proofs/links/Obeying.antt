@@ -4,8 +4,8 @@ use Rattle.node_laws.proofs.Words.{Site, Some, Take, Up, all_so, ended_by, new_l
 use Rattle.node_laws.proofs.Words.{world_after, ℕ, ◌∷◌, ◌≡◌}
 use Rattle.link_laws.specs.messages.Order.{InOrder}
 use Rattle.link_laws.specs.messages.Quiet.{AllDelivered, IsQuiet, losses_of}
-use Rattle.link_laws.proofs.messages.Whole.{in_order_here, in_order_there, no_chain_here, no_chain_there}
-use Rattle.link_laws.proofs.messages.Quiet.{all_here, all_there, up_together}
+use Rattle.link_laws.proofs.messages.Runs.{all_here, all_there, in_order_here_of_whole as in_order_here, in_order_there_of_whole as in_order_there}
+use Rattle.link_laws.proofs.messages.Runs.{no_chain_here, no_chain_there, up_together}
 use Rattle.node_laws.proofs.links.Playing.{links_run}
 
 -- what holds of each run holds of each link

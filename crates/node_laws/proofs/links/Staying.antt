@@ -5,8 +5,8 @@ use Rattle.node_laws.proofs.Words.{by_option, by_test, cond, ended_by, ended_by_
 use Rattle.node_laws.proofs.Words.{put_down, refl, reset_refusal, role_after, subst, sym, take_answer, taken, tick_answer, ticked, true, true≢false, with_act}
 use Rattle.node_laws.proofs.Words.{◌∙◌, ◌≡◌}
 use Rattle.swp_base.specs.declared.control_frames.Act.{Act}
-use Rattle.link_laws.proofs.machine.Shifts.{Shift, taken_shift, ticked_shift}
-use Rattle.link_laws.proofs.machine.Shifts.Shift.{Stays, Ends, Renews, Begins, Rests}
+use Rattle.link_laws.proofs.machine.Sound.{Shift, taken_shift, ticked_shift}
+use Rattle.link_laws.proofs.machine.Sound.Shift.{Begins, Ends, Renews, Rests, Stays}
 use Rattle.link_laws.proofs.machine.Reports.{shdlc_is as shdlc_moved}
 
 abbrev pub IsUpEnd : LinkEnd → Type 0

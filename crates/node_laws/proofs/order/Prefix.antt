@@ -7,7 +7,7 @@ use Rattle.trace_model.specs.declared.entry.Entry.TheVariants as entry
 use Rattle.link_laws.specs.entries.Entries.{End as Side}
 use Rattle.link_laws.specs.entries.Order.{InOrderIn}
 use Rattle.link_laws.proofs.entries.Running.{at_each_moment}
-use Rattle.link_laws.proofs.entries.Chains.{no_chain_noted}
+use Rattle.link_laws.proofs.entries.Disturbing.{no_chain_noted}
 use Rattle.history.specs.Legal.{is_chain_fault}
 use Rattle.history.proofs.legal.Noted.{fault-all}
 use Rattle.history.proofs.legal.Ordered.{IsOneAtMost, front_given, one_entry, AtEnd, read_as, empty, order_at}

@@ -6,7 +6,7 @@ use Rattle.node_laws.proofs.Words.{entries, event_entries, false, happens, happe
 use Rattle.node_laws.proofs.Words.{most_frames, moved, new_line, new_link_end, or_none, readiness_of, refl, renewed, role_after, same_number, sent_all}
 use Rattle.node_laws.proofs.Words.{standing, standing_by_law, started, stopped, subst, sym, true, true≢false, turned, turned_role, turned_same, ℕ, ◌++◌, ◌∙◌}
 use Rattle.node_laws.proofs.Words.{◌∷◌, ◌≡◌}
-use Rattle.link_laws.proofs.messages.Ends.{frames_alike}
+use Rattle.link_laws.proofs.messages.Project.{frames_alike}
 use Rattle.link_laws.specs.entries.Entries.{End as Side}
 use Rattle.link_laws.specs.entries.Entries.Entry.{Up, Tick}
 use Rattle.history.proofs.waits.Harking.{hark, harks, harks-append, waits}

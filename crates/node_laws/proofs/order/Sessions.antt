@@ -9,7 +9,7 @@ use Rattle.link_laws.specs.entries.Entries.{End as Side}
 use Rattle.link_laws.specs.entries.Entries.Entry.{Up, Tick}
 use Rattle.link_laws.specs.entries.Filters.{same_link_end as same_in}
 use Rattle.link_laws.specs.entries.Sessions.{hear}
-use Rattle.link_laws.proofs.entries.Heard.{controller_heard, host_heard}
+use Rattle.link_laws.proofs.entries.Hearing.{controller_heard, host_heard}
 use Rattle.history.specs.Filters.{session_after}
 use Rattle.history.specs.Filters.Saying.{Ends, Sends, Takes, Loses}
 use Rattle.history.proofs.legal.Noted.{same_as, if_said}

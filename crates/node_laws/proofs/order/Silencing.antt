@@ -15,8 +15,7 @@ use Rattle.link_laws.proofs.sessions.Data.{bound}
 use Rattle.link_laws.specs.machine.Machine.{took as took_frame}
 use Rattle.link_laws.specs.messages.Links.{IsAllowed}
 use Rattle.link_laws.specs.messages.Links.LinkEvent.{Ticks}
-use Rattle.link_laws.proofs.messages.Ends.{frames_alike}
-use Rattle.link_laws.proofs.messages.Project.{Now}
+use Rattle.link_laws.proofs.messages.Project.{Now, frames_alike}
 use Rattle.link_laws.proofs.messages.Finishing.{can_end, took_can, restart_mid}
 use Rattle.link_laws.specs.entries.Entries.{End, Entry}
 use Rattle.link_laws.specs.entries.Entries.Entry.{Up, Tick}

@@ -5,8 +5,7 @@ use Rattle.node_laws.proofs.Words.{false, happens, inl, inr, kept, list_any, ltb
 use Rattle.node_laws.proofs.Words.{refl, see_all, silences, since, start_good, start_reached, subst, sym, true, true≢false, ℕ, ◌++◌, ◌<◌, ◌∙◌, ◌∷◌, ◌≡◌, ◌≤◌}
 use Rattle.node_laws.proofs.Words.{◌⊎◌}
 use Rattle.link_laws.specs.entries.Entries.{Entry}
-use Rattle.link_laws.proofs.entries.Ages.{read_off}
-use Rattle.link_laws.proofs.entries.Seeing.{see_all-append}
+use Rattle.link_laws.proofs.entries.Seeing.{read_off, see_all-append}
 use Rattle.node_laws.proofs.telling.Events.{after-append, entries-append}
 use Rattle.node_laws.proofs.order.Marking.{IsPast}
 use Rattle.node_laws.proofs.order.Jumping.{all_resets}

@@ -8,7 +8,7 @@ use Rattle.node_laws.proofs.Words.{world_behind, ℕ, ◌++◌, ◌==◌, ◌||�
 use Rattle.trace_model.specs.declared.entry.Entry.TheVariants as entry
 use Rattle.link_laws.specs.messages.Links.{after_link_events as link_after}
 use Rattle.link_laws.specs.entries.Quiet.{IsDeliveredOnLink as LinkDelivered, IsQuietSince, disturbs}
-use Rattle.link_laws.proofs.entries.Delivering.{quiet_here, quiet_there}
+use Rattle.link_laws.proofs.entries.Together.{quiet_here, quiet_there}
 use Rattle.link_laws.proofs.entries.Hearing.{session_up}
 use Rattle.history.specs.Filters.Saying.{Loses}
 use Rattle.history.specs.Legal.{begins_on, loses_on, rejects_on, since_up, has_lost, has_rnr}

@@ -13,7 +13,7 @@ use Rattle.trace_model.specs.declared.entry.Entry.TheVariants as entry
 use Rattle.link_laws.specs.entries.Entries.{End as Side}
 use Rattle.link_laws.specs.entries.Entries.Entry.{Up, Tick}
 use Rattle.link_laws.specs.entries.Settled.{IsReset, rest_of}
-use Rattle.link_laws.proofs.entries.Sparing.{spoils, Spared, Stands, none_withheld}
+use Rattle.link_laws.proofs.entries.Settling.{Spared, Stands, none_withheld, spoils}
 use Rattle.history.specs.Filters.Saying.{Ends, Sends, Takes, Loses}
 use Rattle.history.specs.Legal.{resets_on}
 use Rattle.history.proofs.legal.Reading.{link_same}

@@ -8,8 +8,7 @@ use Rattle.node_laws.proofs.Words.{false, forgets, has_come, host_ended, host_fi
 use Rattle.node_laws.proofs.Words.{number_now, refl, reset_late, rests_of, same_number, site_at, step_entries, subst, sym, times_out, true, turned, with_ended}
 use Rattle.node_laws.proofs.Words.{with_older, without_notice, without_power, ℕ, ◌++◌, ◌==◌, ◌∙◌, ◌∷◌, ◌≡◌}
 use Rattle.link_laws.proofs.entries.Books.{plus, plus-blank, read, read-append}
-use Rattle.link_laws.proofs.entries.Fronts.{OfOne, front_read, one-append}
-use Rattle.link_laws.proofs.entries.Stepping.{one_input, one_step}
+use Rattle.link_laws.proofs.entries.Stepping.{OfOne, front_read, one-append, one_input, one_step}
 use Rattle.link_laws.proofs.entries.Noting.{Near as NearOf}
 use Rattle.link_laws.proofs.entries.Hearing.{Passes, heard, heard-append, own_heard, passes-append, tick_heard}
 use Rattle.node_laws.proofs.kept.Plainly.{hosts_map}

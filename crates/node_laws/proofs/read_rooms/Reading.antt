@@ -5,7 +5,7 @@ use Rattle.node_laws.proofs.Words.{fold-append, from_start, got-all, law_noted, 
 use Rattle.node_laws.proofs.Words.{refl, sent-all, session_now, standing, standing_by_law, stands_noted, subst, sym, talk_of, ℕ, ◌++◌, ◌==◌, ◌∙◌, ◌≡◌}
 use Rattle.link_laws.specs.entries.Entries.{End as Side}
 use Rattle.link_laws.proofs.entries.Books.{Book, read, book_of}
-use Rattle.link_laws.proofs.entries.Heard.{controller_heard, host_heard}
+use Rattle.link_laws.proofs.entries.Hearing.{controller_heard, host_heard}
 use Rattle.node_laws.proofs.telling.Walks.{AreUncut}
 use Rattle.node_laws.proofs.telling.Powers.{AreClear, clear_stands}
 use Rattle.node_laws.proofs.telling.Accounts.{of-append}

@@ -11,9 +11,8 @@ use Rattle.node_laws.proofs.Words.{site_lost, site_ticked, steps, ticked_so, tic
 use Rattle.node_laws.proofs.Words.{world_behind, world_step, world_ticks, ℕ, ◌&&◌, ◌+◌, ◌==◌, ◌∷◌, ◌≡◌, ◌≤◌}
 use Rattle.link_laws.specs.messages.Rsets.{FewRsets, WireIsLow, resets_in_coming, rset_causes}
 use Rattle.node_laws.specs.rsets.Causes.{FewRsetsOnEach, NumbersWithinOnEach, happened_in, world_ticks_in, resets_among, others_among, rsets_by, rsets_by_all}
-use Rattle.link_laws.proofs.messages.RsetsOnLinks.{made_by_event, made_in_tick, made_in_tick_there}
-use Rattle.link_laws.proofs.messages.RsetNumbers.{number_low, took_low, exchanged_numbered, aged_numbered, tick_numbered, tick_there_numbered}
-use Rattle.link_laws.proofs.messages.RsetNumbers.{event_numbered, numbers_within}
+use Rattle.link_laws.proofs.messages.RsetNumbers.{aged_numbered, event_numbered, exchanged_numbered, made_by_event, made_in_tick, made_in_tick_there}
+use Rattle.link_laws.proofs.messages.RsetNumbers.{number_low, numbers_within, tick_numbered, tick_there_numbered, took_low}
 
 -- ## A link
 

@@ -7,7 +7,7 @@ use Rattle.node_laws.proofs.Words.{silent, started, steps_at_controller, stopped
 use Rattle.node_laws.proofs.Words.{with_ended, ◌&&◌, ◌++◌, ◌∙◌, ◌∷◌, ◌≡◌}
 use Rattle.link_laws.specs.machine.Machine.{got_by}
 use Rattle.node_laws.proofs.telling.Parts.{after_coming, IsStep}
-use Rattle.link_laws.proofs.machine.Kept.{took_got}
+use Rattle.link_laws.proofs.machine.Reports.{took_got}
 
 -- ## Turns
 

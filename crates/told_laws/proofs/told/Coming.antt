@@ -5,7 +5,7 @@ use Rattle.told_laws.proofs.Words.{bare_link, by_test, cons_option, each-append,
 use Rattle.told_laws.proofs.Words.{host_of, inl, is_good, noted, other_twice, refl, step_told, subst, sym, ℕ, ◌++◌, ◌+◌, ◌<◌, ◌==◌, ◌∷◌, ◌≡◌, ◌≤◌}
 use Rattle.trace_model.specs.declared.entry.Entry.TheVariants as entry
 use Rattle.trace_model.specs.Ends.{other_end}
-use Rattle.link_laws.proofs.entries.Lasting.{same_number}
+use Rattle.link_laws.proofs.entries.Quieting.{same_number}
 use Rattle.history.specs.Histories.{Step}
 use Rattle.history.specs.Histories.Outcome.{Refused}
 use Rattle.history.specs.Filters.{Saying, same_end, said, at_end, said_of, sent_by, sent_in, got_in_session, got_in}

@@ -6,7 +6,7 @@ use Rattle.world_laws.proofs.Words.{frames_in_order, frames_of, hears_all, lengt
 use Rattle.world_laws.proofs.Words.{put_all-append, put_out, ready_by, refl, room, sent_next, shdlc_becomes, shdlc_number_of, shdlc_put, shdlc_put_all}
 use Rattle.world_laws.proofs.Words.{shdlc_turn, shdlc_turned, subst, suc, sym, take-append-le, tap_hears, tap_tells, tells_all, zero, ℕ, ◌%◌, ◌++◌, ◌+◌, ◌∙◌}
 use Rattle.world_laws.proofs.Words.{◌∷◌, ◌≡◌, ◌≤◌}
-use Rattle.link_laws.proofs.places.Idle.{fetched_idle, after_frames_idle}
+use Rattle.link_laws.proofs.places.Joined.{after_frames_idle, fetched_idle}
 use Rattle.link_laws.specs.sessions.Sessions.ShdlcTurn.{Offer, SetReady}
 use Rattle.world_laws.proofs.fragments.Sides.{Knows, KnowsLink, SameLists, Alike, alike_update, alike_none, tracks_on, tracks_far}
 use Rattle.world_laws.proofs.fragments.Frames.{can_send, Goes, goes_fragment, answer_says, knows_wire}

@@ -7,7 +7,7 @@ use Rattle.world_laws.proofs.Words.{node_entries, nodes_behind, notes_of, occurr
 use Rattle.world_laws.proofs.Words.{refl, run_entries, session-all, session_up, site_at, subst, sym, wire-controller, wire-host, world_behind, ℕ, ◌∙◌, ◌≡◌}
 use Rattle.link_laws.specs.places.Wire.{OnWire}
 use Rattle.link_laws.specs.entries.Reading.{Seen, nothing_seen}
-use Rattle.link_laws.proofs.entries.Ages.{read_off as seen_off}
+use Rattle.link_laws.proofs.entries.Seeing.{read_off as seen_off}
 use Rattle.world_laws.specs.worlds.NotedRest.{AreNotedQuiet, AreNotedQuietInBare}
 use Rattle.world_laws.proofs.schedules.Bare.{happened_leads}
 use Rattle.world_laws.proofs.schedules.BareNoted.{history_read}

@@ -8,8 +8,8 @@ use Rattle.world_laws.proofs.Words.{left_after, map, number_of, option_to_list, 
 use Rattle.world_laws.proofs.Words.{tick_entries, ticks_at_controller, told, told_of, took, took_with, true, true≢false, turn, turn_entries, turn_entry, turned}
 use Rattle.world_laws.proofs.Words.{whole_acked, with_ended, ℕ, ◌++◌, ◌∙◌, ◌∷◌, ◌≡◌}
 use Rattle.swp_base.specs.declared.link_terms.Cause.{Cause}
-use Rattle.link_laws.proofs.machine.Shifts.{Shift}
-use Rattle.link_laws.proofs.machine.Shifts.Shift.{Stays, Ends, Renews, Begins, Rests}
+use Rattle.link_laws.proofs.machine.Sound.{Shift}
+use Rattle.link_laws.proofs.machine.Sound.Shift.{Begins, Ends, Renews, Rests, Stays}
 use Rattle.link_laws.specs.entries.Entries.{End, Entry, ending_entries}
 use Rattle.link_laws.specs.entries.Entries.Entry.{Up, Down, Tick}
 use Rattle.node_laws.proofs.telling.Frames.{ending_all, wires_all}

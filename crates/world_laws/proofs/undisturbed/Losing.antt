@@ -9,7 +9,7 @@ use Rattle.world_laws.proofs.Words.{told_of, true, true≢false, turn_entries, t
 use Rattle.world_laws.proofs.Words.{◌≡◌}
 use Rattle.link_laws.specs.entries.Entries.{End, Entry}
 use Rattle.link_laws.specs.entries.Entries.Entry.{Down}
-use Rattle.link_laws.proofs.entries.Losing.{out_noted}
+use Rattle.link_laws.proofs.entries.Disturbing.{out_noted}
 
 -- a frame is lost, a session ends, or an end is started, stopped or cut off
 abbrev pub troubles : Entry → Bool

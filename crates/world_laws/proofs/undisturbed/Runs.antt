@@ -7,7 +7,7 @@ use Rattle.world_laws.proofs.Words.{true≢false, up_session, ℕ, ◌++◌, ◌
 use Rattle.link_laws.specs.entries.Entries.{End, Entry}
 use Rattle.link_laws.specs.entries.Entries.Entry.{Up, Down}
 use Rattle.link_laws.specs.entries.Filters.{same_link_end}
-use Rattle.link_laws.proofs.entries.Heard.{controller_heard, host_heard}
+use Rattle.link_laws.proofs.entries.Hearing.{controller_heard, host_heard}
 use Rattle.world_laws.proofs.undisturbed.Losing.{Calm, calm_parts}
 use Rattle.world_laws.proofs.undisturbed.Begun.{Unbegun, both_none, event_none}
 use Rattle.world_laws.proofs.undisturbed.Events.{IsRoundEvent, calm_event}

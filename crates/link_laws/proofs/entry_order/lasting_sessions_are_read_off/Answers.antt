@@ -1,4 +1,4 @@
-use Rattle.link_laws.proofs.entries.Heard.{controller_heard, host_heard}
+use Rattle.link_laws.proofs.entries.Hearing.{controller_heard, host_heard}
 use Rattle.link_laws.proofs.entry_order.lasting_sessions_are_read_off.Goals as goal
 
 pub returns-clause-controller : goal.returns-clause-controller

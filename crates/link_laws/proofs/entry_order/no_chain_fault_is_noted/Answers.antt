@@ -1,4 +1,4 @@
-use Rattle.link_laws.proofs.entries.Chains.{no_chain_noted}
+use Rattle.link_laws.proofs.entries.Disturbing.{no_chain_noted}
 use Rattle.link_laws.proofs.entry_order.no_chain_fault_is_noted.Goals as goal
 
 pub returns : goal.returns

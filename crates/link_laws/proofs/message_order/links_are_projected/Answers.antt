@@ -1,4 +1,4 @@
-use Rattle.link_laws.proofs.messages.Whole.{projected, allowed, core_starts}
+use Rattle.link_laws.proofs.messages.Runs.{allowed, core_starts, projected}
 use Rattle.link_laws.proofs.message_order.links_are_projected.Goals as goal
 
 pub returns-clause-same : goal.returns-clause-same

@@ -1,4 +1,4 @@
-use Rattle.link_laws.proofs.messages.Whole.{no_chain_here, no_chain_there}
+use Rattle.link_laws.proofs.messages.Runs.{no_chain_here, no_chain_there}
 use Rattle.link_laws.proofs.message_order.no_chain_fault_comes.Goals as goal
 
 pub returns-clause-controller : goal.returns-clause-controller

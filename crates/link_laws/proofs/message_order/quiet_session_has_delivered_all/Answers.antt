@@ -1,4 +1,4 @@
-use Rattle.link_laws.proofs.messages.Quiet.{all_here, all_there}
+use Rattle.link_laws.proofs.messages.Runs.{all_here, all_there}
 use Rattle.link_laws.proofs.message_order.quiet_session_has_delivered_all.Goals as goal
 
 pub returns-clause-to_host : goal.returns-clause-to_host

@@ -1,4 +1,4 @@
-use Rattle.link_laws.proofs.messages.Whole.{new_number_here, new_number_there}
+use Rattle.link_laws.proofs.messages.Runs.{new_number_here, new_number_there}
 use Rattle.link_laws.proofs.message_order.sessions_have_new_numbers.Goals as goal
 
 pub returns-clause-controller : goal.returns-clause-controller

@@ -1,4 +1,4 @@
-use Rattle.link_laws.proofs.places.Numbers.{place_found, ahead_other}
+use Rattle.link_laws.proofs.places.Joined.{ahead_other, place_found}
 use Rattle.link_laws.proofs.numbers.numbers_name_places.Goals as goal
 
 pub returns-clause-acknowledged : goal.returns-clause-acknowledged

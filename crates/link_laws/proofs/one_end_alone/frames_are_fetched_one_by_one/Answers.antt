@@ -1,4 +1,4 @@
-use Rattle.link_laws.proofs.machine.Places.{fetched_all, left_all}
+use Rattle.link_laws.proofs.machine.Reports.{fetched_all, left_all}
 use Rattle.link_laws.proofs.one_end_alone.frames_are_fetched_one_by_one.Goals as goal
 
 pub returns-clause-frames : goal.returns-clause-frames

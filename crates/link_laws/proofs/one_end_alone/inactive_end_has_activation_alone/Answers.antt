@@ -1,4 +1,4 @@
-use Rattle.link_laws.proofs.machine.Told.{inactive_takes, inactive_sends}
+use Rattle.link_laws.proofs.machine.Runs.{inactive_sends, inactive_takes}
 use Rattle.link_laws.proofs.one_end_alone.inactive_end_has_activation_alone.Goals as goal
 
 pub returns-clause-takes : goal.returns-clause-takes

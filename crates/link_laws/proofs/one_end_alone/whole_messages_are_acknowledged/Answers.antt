@@ -1,4 +1,4 @@
-use Rattle.link_laws.proofs.machine.Told.{acked_few, acked_all, acked_offered}
+use Rattle.link_laws.proofs.machine.Runs.{acked_all, acked_few, acked_offered}
 use Rattle.link_laws.proofs.one_end_alone.whole_messages_are_acknowledged.Goals as goal
 
 pub returns-clause-sent : goal.returns-clause-sent

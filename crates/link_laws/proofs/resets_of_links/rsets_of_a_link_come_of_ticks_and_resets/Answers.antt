@@ -1,5 +1,4 @@
-use Rattle.link_laws.proofs.messages.RsetsOnLinks.{made_by_event, resets_of_run}
-use Rattle.link_laws.proofs.messages.RsetNumbers.{numbers_of_run}
+use Rattle.link_laws.proofs.messages.RsetNumbers.{made_by_event, numbers_of_run, resets_of_run}
 use Rattle.link_laws.proofs.resets_of_links.rsets_of_a_link_come_of_ticks_and_resets.Goals as goal
 
 pub returns-clause-made : goal.returns-clause-made

@@ -1,9 +1,8 @@
 use Rattle.std.proofs.Common.{refl, sym, ◌∙◌}
 use Rattle.link_laws.specs.machine.Machine.LinkInput.{Reset}
-use Rattle.link_laws.proofs.machine.Reports.{reset_so}
+use Rattle.link_laws.proofs.machine.Reports.{reset_got, reset_so}
 use Rattle.world.proofs.Nodes.{HasTakenInput, IsReported, is_sound, input_done, without_message, refused_reset, answered_reset, reset_so_kept}
 use Rattle.world.proofs.node.Node.reset.Goals as goal
-use Rattle.link_laws.proofs.machine.Kept.{reset_got}
 
 pub returns-in_ok-note-in-Ok-clause-stands : goal.returns-in_ok-note-in-Ok-clause-stands
 returns-in_ok-note-in-Ok-clause-stands c m h room few _ =
