@@ -68,24 +68,21 @@ pub use Rattle.node_laws.proofs.Each.{all_changed, all_map}
 pub use Rattle.node_laws.proofs.answers.OneFact.{Fact, IsFirstThere, both_are, firsts_in_turn, is_fact}
 pub use Rattle.node_laws.proofs.answers.OneFact.Fact.{Ascending, Done, Due, Heard, Held, Held as HeldFact, InTurn, Replied, Short}
 pub use Rattle.node_laws.proofs.kept.Booting.{command_read, good_found}
-pub use Rattle.node_laws.proofs.kept.Commits.{IsLeftBetween, after-append, cut-append, says_either, some_other}
-pub use Rattle.node_laws.proofs.kept.Doing.{stays_cut, uncut}
-pub use Rattle.node_laws.proofs.kept.Plainly.{Plainly, plainly_desk, plainly_noting, plainly_then, plainly_turn}
-pub use Rattle.node_laws.proofs.kept.Planned.{after_planned-append, planned_cut, planned_whole}
-pub use Rattle.node_laws.proofs.kept.Snapshots.{snapshot_fits}
+pub use Rattle.node_laws.proofs.kept.Reckoned.{IsLeftBetween, after-append, after_planned-append, cut-append, planned_cut, planned_whole, says_either}
+pub use Rattle.node_laws.proofs.kept.Reckoned.{snapshot_fits, some_other}
+pub use Rattle.node_laws.proofs.kept.Doing.{Plainly, plainly_desk, plainly_noting, plainly_then, plainly_turn, stays_cut, uncut}
 pub use Rattle.node_laws.proofs.kept.Stepping.{one_may, plainly_come, syncs_one, ticked_sync}
 pub use Rattle.node_laws.proofs.links.Blocks.{moved_aside}
-pub use Rattle.node_laws.proofs.links.Deeds.{AreFine, IsFine, IsTrueDesk}
-pub use Rattle.node_laws.proofs.links.Works.{IsFinePort, IsFineWork, all_done_fine, came_fine, deeds_fine, fine_at, handles_fine, holds_fine, lets_fine}
-pub use Rattle.node_laws.proofs.passes.Before.{before_entries, before_none, come_entries, steps_are}
-pub use Rattle.node_laws.proofs.passes.Notes.{deed_notes, deeds_note}
+pub use Rattle.node_laws.proofs.links.Works.{AreFine, IsFine, IsFinePort, IsFineWork, IsTrueDesk, all_done_fine, came_fine, deeds_fine, fine_at, handles_fine}
+pub use Rattle.node_laws.proofs.links.Works.{holds_fine, lets_fine}
+pub use Rattle.node_laws.proofs.passes.InSteps.{before_entries, before_none, come_entries, deed_notes, deeds_note_of_notes as deeds_note, steps_are}
 pub use Rattle.node_laws.proofs.passes.Passing.{comes_lasts, comes_so, handles_sees, takes_entries, through}
-pub use Rattle.node_laws.proofs.power.Parts.{AreOwn, IsOwn}
-pub use Rattle.node_laws.proofs.readings.Stepping.{forgets_same}
-pub use Rattle.node_laws.proofs.reply_passes.Sides.{AreNoBoots, IsNoBoot}
+pub use Rattle.node_laws.proofs.power.Steps.{AreOwn, IsOwn}
+pub use Rattle.node_laws.proofs.readings.Noting.{forgets_same}
+pub use Rattle.node_laws.proofs.reply_passes.Held.{AreNoBoots, IsNoBoot}
 pub use Rattle.node_laws.proofs.steps.StepWalks.{Lasts, all_do, got_at, lets, rest_lasts}
-pub use Rattle.node_laws.proofs.telling.Reported.{rest_all, told_all}
-pub use Rattle.node_laws.proofs.views.Setting.{AreUnset, IsUpAt, SetDeeds, SetsNone, controller_sets, controller_unset, host_sets, host_unset, is_link_gate}
+pub use Rattle.node_laws.proofs.telling.Shapes.{rest_all, told_all}
+pub use Rattle.node_laws.proofs.views.Doing.{AreUnset, IsUpAt, SetDeeds, SetsNone, controller_sets, controller_unset, host_sets, host_unset, is_link_gate}
 pub use Rattle.node_laws.proofs.worlds.Late.{BeginsBehind}
 pub use Rattle.node_laws.specs.answers.Answered.{AnswersSo, before_turn, is_turn_of, to_command}
 pub use Rattle.node_laws.specs.answers.Moments.{holds_after, holds_in, is_up_read, unhandled_after, unhandled_in}

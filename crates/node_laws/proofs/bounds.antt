@@ -1,17 +1,6 @@
 pub mod SessionsNoted
-pub mod SessionsInHistories
-pub mod Costs
-pub mod Holding
-pub mod Deeds
 pub mod Turns
-pub mod Works
 pub mod Worlds
-pub mod Moving
 pub mod Paying
-pub mod Causes
 pub mod Syncs
-pub mod Links
-pub mod Calm
-pub mod Lines
-pub mod Passes
 pub mod Begun

@@ -1,13 +1,4 @@
-pub mod Until
-pub mod Owed
-pub mod Ended
-pub mod Taken
-pub mod Freed
-pub mod Noted
 pub mod Steps
-pub mod Deeds
-pub mod Near
-pub mod Syncs
+pub mod Freed
 pub mod Comes
-pub mod Ticks
 pub mod Events

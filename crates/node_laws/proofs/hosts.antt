@@ -1,12 +1,5 @@
-pub mod Shapes
-pub mod Answering
-pub mod Asides
 pub mod Knowing
-pub mod Turns
 pub mod Passes
-pub mod Grown
-pub mod Standing
 pub mod Beginning
-pub mod Lifting
 pub mod Events
 pub mod Histories

@@ -1,16 +1,5 @@
-pub mod Got
-pub mod Decisions
-pub mod Deeds
-pub mod HostDeeds
-pub mod Works
-pub mod Ends
 pub mod Sites
+pub mod Works
 pub mod Worlds
-pub mod Playing
-pub mod Obeying
-pub mod Masking
-pub mod Connected
-pub mod Reaching
-pub mod Staying
 pub mod Noticing
 pub mod Blocks

@@ -1,17 +1,5 @@
-pub mod Reading
-pub mod Deciding
 pub mod Telling
-pub mod Doing
 pub mod Turning
-pub mod Shut
-pub mod Stepping
 pub mod Steps
-pub mod Own
-pub mod Far
-pub mod Sites
 pub mod Near
 pub mod Events
-pub mod Lines
-pub mod Freeing
-pub mod Knowing
-pub mod Sparing

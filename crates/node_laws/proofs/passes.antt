@@ -1,14 +1,4 @@
-pub mod Notes
-pub mod Kinds
-pub mod Coming
-pub mod Ends
-pub mod Turnless
-pub mod Walking
 pub mod Passing
-pub mod Behind
 pub mod Replying
-pub mod Roomy
-pub mod Before
 pub mod InSteps
-pub mod Counts
 pub mod Waiting

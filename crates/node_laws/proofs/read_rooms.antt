@@ -1,13 +1,4 @@
-pub mod Inputs
-pub mod Coming
-pub mod Reading
 pub mod Carrying
-pub mod Ports
-pub mod Lasting
 pub mod Beginning
-pub mod HostBeginning
 pub mod Ticking
-pub mod Turning
 pub mod HostTicking
-pub mod Lines
-pub mod HostLines

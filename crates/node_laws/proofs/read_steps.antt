@@ -1,12 +1,2 @@
-pub mod Parts
-pub mod Lasting
-pub mod Running
-pub mod Readying
-pub mod Naming
-pub mod Knowing
-pub mod Walking
-pub mod Starting
-pub mod Lines
-pub mod Events
 pub mod Reading
-pub mod Alike
+pub mod Knowing

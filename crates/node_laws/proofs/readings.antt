@@ -1,16 +1,5 @@
-pub mod Silent
-pub mod Doing
-pub mod Replying
 pub mod Turning
-pub mod Stepping
 pub mod Sites
 pub mod Noting
-pub mod Hushed
-pub mod Elsewhere
-pub mod Worlds
-pub mod Events
-pub mod Powers
-pub mod Losses
 pub mod Lines
 pub mod Noticed
-pub mod NoticedWorlds

@@ -1,13 +1,4 @@
-pub mod Ends
 pub mod Creations
-pub mod Knowing
-pub mod Apart
-pub mod Noted
-pub mod Answering
-pub mod Turns
-pub mod Calm
 pub mod Passes
 pub mod Waiting
-pub mod Staying
 pub mod Left
-pub mod Histories

@@ -1,13 +1,3 @@
-pub mod Sides
-pub mod Holding
 pub mod Held
-pub mod Came
-pub mod Begins
-pub mod Growing
-pub mod Memories
 pub mod Roomy
-pub mod Ready
 pub mod Ordered
-pub mod InTurn
-pub mod Whole
-pub mod Events

@@ -1,5 +1,1 @@
-pub mod BareRounds
-pub mod LinkEvents
-pub mod RoundEvents
 pub mod Allowing
-pub mod Ends

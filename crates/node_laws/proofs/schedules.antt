@@ -1,5 +1,3 @@
 pub mod Ranges
 pub mod Examples
-pub mod Ends
-pub mod Wires
 pub mod Few

@@ -1,4 +1,2 @@
-pub mod Calm
 pub mod Left
-pub mod Taking
 pub mod Histories

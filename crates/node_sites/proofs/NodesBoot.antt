@@ -23,7 +23,7 @@ use Rattle.hci_store.specs.Image.{tables_of}
 use Rattle.hci_store.specs.Starting.{ready_writes, ready_state, HasWritten}
 use Rattle.node_machine.specs.Node.{found, boot_writes}
 use Rattle.node_core.specs.Booting.{found_in_memory, IsStartRefused}
-use Rattle.node_laws.proofs.kept.Planned.{planned_whole, planned_cut}
+use Rattle.node_laws.proofs.kept.Reckoned.{planned_cut, planned_whole}
 use Rattle.node_sites.specs.Memories.{IsSoundMemory}
 
 -- ## Reads

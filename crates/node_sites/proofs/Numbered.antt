@@ -23,8 +23,7 @@ use Rattle.node_machine.specs.Controller.{asked_at}
 use Rattle.node_machine.specs.Node.{forgets, is_forgotten, all_owed, is_over, without_notice, after_sessions, synced, steps, begins_with}
 use Rattle.node_machine.specs.Node.NodeInput.{AtEnd, TimePasses}
 use Rattle.node_laws.specs.telling.Telling.{tells_of}
-use Rattle.node_laws.proofs.telling.Walks.{AreSilent, rest, all_do}
-use Rattle.node_laws.proofs.telling.Mute.{AreMute, forgotten_mute, all_owed_mute, all_synced_mute}
+use Rattle.node_laws.proofs.telling.Accounts.{AreMute, AreSilent, all_do, all_owed_mute, all_synced_mute, forgotten_mute, rest}
 use Rattle.node_sites.specs.Numbers.{IsNumbered, AreNumbered, CountsFew, StaysCounted}
 
 end_link : (h : ℕ) (who : Side) → (end_of h who).link ≡ h

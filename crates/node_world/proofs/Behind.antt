@@ -9,7 +9,7 @@ use Rattle.node_world.proofs.Words.{near_end_in, port_at, port_for, put, put_all
 use Rattle.link_wires.proofs.GoingOut.{put_stays}
 use Rattle.node_machine.specs.world.World.{NodeWorld}
 use Rattle.node_laws.specs.telling.Telling.{hosts_in}
-use Rattle.node_laws.proofs.telling.Keeping.{steps_keep}
+use Rattle.node_laws.proofs.telling.Steps.{steps_keep}
 use Rattle.node_laws.proofs.telling.Events.{site_map}
 use Rattle.node_world.proofs.EndsGo.{EndGoes}
 

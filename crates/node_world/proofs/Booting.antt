@@ -22,8 +22,8 @@ use Rattle.node_machine.specs.world.NodeLegal.Last.{CutBehindCommand}
 use Rattle.node_laws.specs.kept.Finds.{Knows}
 use Rattle.node_laws.specs.kept.Books.{WaitsFor}
 use Rattle.node_laws.specs.kept.Worlds.{NodeKeeps}
-use Rattle.node_laws.proofs.kept.Planned.{planned_whole}
-use Rattle.node_laws.proofs.kept.Books.{book_more, closed_book, finds_all}
+use Rattle.node_laws.proofs.kept.Reckoned.{planned_whole}
+use Rattle.node_laws.proofs.kept.Doing.{book_more, closed_book, finds_all}
 use Rattle.node_laws.proofs.kept.Booting.{says, knows_used, knows_formatted, good_found, new_hosts}
 
 waits_anew : (hosts : List ℕ) → AllByRecursion (λ (d : Desk). WaitsFor d.notice) (map new_desk hosts)

@@ -13,7 +13,7 @@ use Rattle.link_laws.specs.messages.Links.{becomes}
 use Rattle.link_laws.specs.entries.Entries.{End as Side, far, pushed_out, wire_with, put_entries, ending_entries}
 use Rattle.link_laws.specs.entries.Entries.Entry.{Emit}
 use Rattle.node_laws.specs.telling.Telling.{hosts_in}
-use Rattle.node_laws.proofs.telling.Parts.{AreAlike}
+use Rattle.node_laws.proofs.telling.Steps.{AreAlike}
 use Rattle.node_world.specs.Controllers.{due_at, has_frames}
 use Rattle.node_world.proofs.GoingOn.{same_stand, silent_same, same_twice, ended_far}
 

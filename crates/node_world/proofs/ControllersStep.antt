@@ -15,8 +15,8 @@ use Rattle.node_world.proofs.ControllersHear.{come_far}
 use Rattle.node_machine.specs.Node.{NodeInput}
 use Rattle.node_machine.specs.world.World.{NodeWorld, after_controller}
 use Rattle.node_laws.specs.telling.Telling.{hosts_in}
-use Rattle.node_laws.proofs.telling.Nodes.{stands, Stands}
-use Rattle.node_laws.proofs.telling.Parts.{AreAlike}
+use Rattle.node_laws.proofs.telling.Events.{Stands, stands}
+use Rattle.node_laws.proofs.telling.Steps.{AreAlike}
 use Rattle.node_world.specs.Controllers.{EndsStep}
 use Rattle.node_world.proofs.HostsBegin.{near_side}
 use Rattle.node_world.proofs.HostsHear.{number_coming}

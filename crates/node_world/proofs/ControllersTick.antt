@@ -11,8 +11,8 @@ use Rattle.node_world.proofs.Words.{work_of}
 use Rattle.node_machine.specs.world.World.{NodeWorld}
 use Rattle.node_machine.proofs.world.Cases.{after_near_tick}
 use Rattle.node_laws.specs.telling.Telling.{IfDue, hosts_in}
-use Rattle.node_laws.proofs.telling.Keeping.{tick_keeps}
-use Rattle.node_laws.proofs.telling.Nodes.{hosts_same}
+use Rattle.node_laws.proofs.telling.Steps.{tick_keeps}
+use Rattle.node_laws.proofs.telling.Events.{hosts_same_of_nodes as hosts_same}
 use Rattle.node_world.specs.Controllers.{EndsStep}
 use Rattle.node_world.proofs.GoingOn.{same_stand, same_twice}
 use Rattle.node_world.proofs.Behind.{each_found, all_far}

@@ -9,10 +9,9 @@ use Rattle.node_world.proofs.Words.{port_at, same_number, site_at, steps, turned
 use Rattle.link_laws.specs.entries.Entries.{End as Side}
 use Rattle.node_machine.specs.world.World.{NodeWorld}
 use Rattle.node_laws.specs.telling.Telling.{hosts_in}
-use Rattle.node_laws.proofs.telling.Parts.{after_coming, IsStep}
+use Rattle.node_laws.proofs.telling.Steps.{Goes, IsStep, after_coming, begun, stepped}
 use Rattle.node_laws.proofs.telling.Accounts.{at_host}
-use Rattle.node_laws.proofs.telling.Steps.{Goes, stepped, begun}
-use Rattle.node_laws.proofs.telling.Nodes.{opened, given, is_so, is_step}
+use Rattle.node_laws.proofs.telling.Events.{given, is_so, is_step, opened}
 use Rattle.node_world.proofs.GoingOn.{GoesOn, goes_on}
 
 -- a node's end of the link l with the host h behind a step of it in which this came there

@@ -17,9 +17,9 @@ use Rattle.node_machine.specs.world.NodeLegal.Last.{NothingYet, CommandLast, Cut
 use Rattle.node_laws.specs.kept.Hosts.{IsFew}
 use Rattle.node_laws.specs.kept.Worlds.{AllKeep, SiteKeeps}
 use Rattle.node_laws.specs.schedules.Ranges.{AreNodeLinesOf, lines_asking}
-use Rattle.node_laws.proofs.kept.Books.{book_more, last_more}
-use Rattle.node_laws.proofs.kept.Kept.{all_keep, are_kept}
-use Rattle.node_laws.proofs.kept.Sites.{site_found}
+use Rattle.node_laws.proofs.kept.Doing.{book_more, last_more}
+use Rattle.node_laws.proofs.kept.Ticking.{all_keep, are_kept}
+use Rattle.node_laws.proofs.kept.Events.{site_found}
 use Rattle.node_laws.proofs.schedules.Few.{are_few}
 use Rattle.node_laws.proofs.schedules.Ranges.{hosts_are, sent_by_hosts}
 use Rattle.lines_told.specs.lines.Below.{memory_behind}

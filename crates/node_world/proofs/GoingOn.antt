@@ -8,7 +8,7 @@ use Rattle.node_world.proofs.Words.{with_controller, with_ended}
 use Rattle.link_laws.specs.machine.Machine.{started, deactivated}
 use Rattle.link_laws.specs.messages.Links.{becomes, silent}
 use Rattle.link_wires.specs.Wires.{WireStandsFor}
-use Rattle.node_laws.proofs.telling.Parts.{after_coming, IsStep}
+use Rattle.node_laws.proofs.telling.Steps.{IsStep, after_coming}
 use Rattle.node_sites.specs.LinksKept.{without_first}
 
 -- ## The same wires

@@ -12,7 +12,7 @@ use Rattle.node_world.proofs.Words.{host_tick, host_work, hosts_of_ends, input_a
 use Rattle.node_world.proofs.Words.{port_for, put, puts_entries, same_number, session_at, steps, ticked_so, took_with, wires_for, work_numbers, work_of}
 use Rattle.link_laws.specs.entries.Entries.{put_entries}
 use Rattle.node_laws.specs.telling.Telling.{is_due}
-use Rattle.node_laws.proofs.telling.Keeping.{Keeps, steps_keep, tick_keeps, begins_keep}
+use Rattle.node_laws.proofs.telling.Steps.{Keeps, begins_keep, steps_keep, tick_keeps}
 use Rattle.node_sites.specs.LinksKept.{without_first}
 use Rattle.node_sites.specs.declared.noted.Noted.{Noted}
 use Rattle.node_sites.specs.WorldNodes.{IsNotedSo}

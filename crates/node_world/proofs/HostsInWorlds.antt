@@ -11,7 +11,7 @@ use Rattle.node_machine.specs.Node.{found as found_at}
 use Rattle.node_machine.specs.world.World.{NodeWorld}
 use Rattle.node_machine.specs.world.World.{links_of}
 use Rattle.node_machine.proofs.world.Cases.{after_host_step}
-use Rattle.node_laws.proofs.telling.Nodes.{site_host}
+use Rattle.node_laws.proofs.telling.Events.{site_host}
 use Rattle.node_world.proofs.HostsBoot.{boot_goes, boot_stops}
 use Rattle.node_world.proofs.HostsAre.{worked, stepped_off, stepped_on, hears_none}
 

@@ -14,7 +14,7 @@ use Rattle.node_laws.specs.schedules.Ranges.{AreNodeLinesOf, asking, lines_askin
 use Rattle.node_laws.specs.answers.Headline.{IsPlayed}
 use Rattle.node_laws.specs.answers.Headline.PlayedHistory.{OfLink, OfNodes}
 use Rattle.node_laws.proofs.schedules.Ranges.{in_range}
-use Rattle.node_laws.proofs.bounds.Lines.{asking-append, asking_few}
+use Rattle.node_laws.proofs.bounds.Paying.{asking-append, asking_few}
 use Rattle.node_laws.proofs.worlds.Schedules.{played_legal}
 use Rattle.lines_told.specs.lines.Below.{is_settling}
 use Rattle.lines_told.specs.lines.Plays.{lines_of_play}

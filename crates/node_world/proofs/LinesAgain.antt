@@ -13,7 +13,7 @@ use Rattle.node_machine.specs.world.World.{NodeWorld}
 use Rattle.node_machine.specs.world.Lines.{goes_on}
 use Rattle.node_machine.specs.world.Lines.LineOutcome.{Occurred}
 use Rattle.node_laws.specs.telling.Telling.{hosts_in}
-use Rattle.node_laws.proofs.telling.Orderly.{hosts_ticked, step_orderly}
+use Rattle.node_laws.proofs.telling.Lasting.{hosts_ticked, step_orderly}
 use Rattle.node_world.proofs.FewInWorlds.{few_behind_step, longer}
 
 -- ## Hosts stay

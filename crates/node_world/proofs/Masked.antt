@@ -9,8 +9,8 @@ use Rattle.std.proofs.lemmas.List.Elements.{recursion_from_All}
 use Rattle.std.proofs.lemmas.Map.Keys.{sorted_head, sorted_tail, sorted_from_strictly_increasing}
 use Rattle.node_world.proofs.Words.{Header, IsHost, IsNodeHeader, has, mask_of}
 use Rattle.gate_admin.specs.View.{hosts_where}
-use Rattle.node_laws.proofs.steps.Masks.{is_in_mask}
-use Rattle.node_laws.proofs.links.Masking.{from_mask}
+use Rattle.node_laws.proofs.steps.StepWalks.{is_in_mask}
+use Rattle.node_laws.proofs.links.Noticing.{from_mask}
 use Rattle.node_world.proofs.LinesFit.{IsAbove, above}
 
 -- ## Rising numbers

@@ -18,12 +18,9 @@ use Rattle.node_machine.specs.world.NodeHistories.{world_after}
 use Rattle.node_laws.specs.kept.Hosts.{AreHosts}
 use Rattle.node_laws.specs.kept.Worlds.{NodeKeeps, SiteKeeps, AllKeep, MayHappen}
 use Rattle.node_laws.proofs.kept.Booting.{boot_lost}
-use Rattle.node_laws.proofs.kept.Sites.{hosts_in, site_found, with_site_twice}
-use Rattle.node_laws.proofs.kept.Worlds.{Goes, controller_goes, host_goes}
-use Rattle.node_laws.proofs.kept.Events.{loses_is, boots_goes, comes_goes, activates_goes, gives_goes, inits_goes, lost_goes, cut_goes, arms_goes}
-use Rattle.node_laws.proofs.kept.Ticking.{ticks_goes}
-use Rattle.node_laws.proofs.kept.Lines.{MayAllHappen, line_may}
-use Rattle.node_laws.proofs.kept.Kept.{all_begin}
+use Rattle.node_laws.proofs.kept.Events.{Goes, activates_goes, arms_goes, boots_goes, comes_goes, controller_goes, cut_goes, gives_goes, host_goes, hosts_in}
+use Rattle.node_laws.proofs.kept.Events.{inits_goes, loses_is, lost_goes, site_found, with_site_twice}
+use Rattle.node_laws.proofs.kept.Ticking.{MayAllHappen, all_begin, line_may, ticks_goes}
 use Rattle.hci_store.proofs.Applying.{sound_has_no_fault}
 use Rattle.node_sites.specs.Memories.{KeepsSome}
 use Rattle.node_world.proofs.Versions.{boots_find_version_02}

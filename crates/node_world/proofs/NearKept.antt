@@ -7,7 +7,7 @@ use Rattle.node_world.proofs.Words.{HaveRoom, HostSite, IsNodePlace, IsOrderly, 
 use Rattle.node_world.proofs.Words.{Site, SitesAre, SitesBecome, StandsAt, TimePasses, Work, WorldBecomes, WorldIs, ending_of, exchanged, host_cut, host_hears}
 use Rattle.node_world.proofs.Words.{host_stepped, host_work, if_accepted, input_of, link_to, port_for, site_at, site_loses, steps, turns_at}
 use Rattle.node_machine.specs.world.World.{NodeWorld}
-use Rattle.node_laws.proofs.telling.Nodes.{site_host}
+use Rattle.node_laws.proofs.telling.Events.{site_host}
 use Rattle.node_world.specs.Controllers.{FewAreCountedAt}
 use Rattle.node_world.proofs.AtHosts.{becomes, from_outside, room_there, site_changes, site_stands}
 use Rattle.node_world.proofs.CountsStay.{acks_of_ports, counts_few_at_end, counts_few_in_tick, few_to}

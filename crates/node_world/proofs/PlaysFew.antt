@@ -22,13 +22,11 @@ use Rattle.node_laws.specs.acked.InTurn.{AcksAtMost, AllAtController, AllAtHost,
 use Rattle.node_laws.specs.rounds.LinkEvents.{link_events_in}
 use Rattle.node_laws.specs.rounds.RoundEvents.{events_on}
 use Rattle.node_laws.specs.rsets.Causes.{FewRsetsOnEach, rsets_by}
-use Rattle.node_laws.proofs.acked.AckedRounds.{IsSound, all_within, each_rounds, good_of, of_goes, sound_many, sound_new, sound_round, sound_step}
-use Rattle.node_laws.proofs.acked.AckedSteps.{step_acks}
+use Rattle.node_laws.proofs.acked.AckedRounds.{IsSound, all_within, each_rounds, far_takes, good_of, near_takes, of_goes, sound_many, sound_new, sound_round}
+use Rattle.node_laws.proofs.acked.AckedRounds.{sound_step, step_acks}
 use Rattle.node_laws.proofs.acked.InTurn.{far_acks, near_acks}
-use Rattle.node_laws.proofs.acked.RoundsInTurn.{far_takes, near_takes}
-use Rattle.node_laws.proofs.links.Playing.{MayHappen, runs_then}
-use Rattle.node_laws.proofs.rounds.Allowing.{on_allowed}
-use Rattle.node_laws.proofs.rounds.RoundEvents.{all_go, takes_pass}
+use Rattle.node_laws.proofs.links.Worlds.{MayHappen, runs_then}
+use Rattle.node_laws.proofs.rounds.Allowing.{all_go, on_allowed, takes_pass}
 use Rattle.node_laws.proofs.rsets.InWorlds.{each_longer, few_behind_step, few_in_new_world}
 use Rattle.lines_told.specs.lines.Plays.{lines_of_play}
 use Rattle.lines_told.proofs.lines.NodeRounds.{round_behind_goes}

@@ -12,8 +12,8 @@ use Rattle.node_world.proofs.Words.{frames_at, site_at, world_round, world_step,
 use Rattle.node_machine.specs.world.World.{NodeWorld}
 use Rattle.node_machine.specs.world.Rounds.{end_takes_all}
 use Rattle.node_laws.specs.telling.Telling.{hosts_in}
-use Rattle.node_laws.proofs.telling.Orderly.{step_orderly}
-use Rattle.node_laws.proofs.rounds.Ends.{ends_of, order_is}
+use Rattle.node_laws.proofs.telling.Lasting.{step_orderly}
+use Rattle.node_laws.proofs.rounds.Allowing.{ends_of, order_is}
 use Rattle.node_world.specs.Rounds.{MayTakeAll, MayTakeInOrder}
 use Rattle.node_world.proofs.CountsStay.{repeats}
 use Rattle.node_world.proofs.FewInWorlds.{few_behind_all, longer}

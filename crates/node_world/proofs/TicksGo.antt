@@ -13,7 +13,7 @@ use Rattle.link_laws.specs.entries.Entries.{End as Side}
 use Rattle.node_machine.specs.Node.{is_late}
 use Rattle.node_machine.specs.world.World.{NodeWorld}
 use Rattle.node_laws.specs.telling.Telling.{hosts_in, IfDue, is_due}
-use Rattle.node_laws.proofs.telling.Ticks.{older, not_late, IfLate, Ticked, ticked}
+use Rattle.node_laws.proofs.telling.Ticks.{IfLate, TickedOfTicks as Ticked, not_late, older, ticked_of_ticks as ticked}
 use Rattle.node_laws.proofs.telling.WorldTicks.{opened, up_late, young_ports}
 use Rattle.node_world.proofs.GoingOn.{ended_same, ended_far}
 

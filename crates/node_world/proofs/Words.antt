@@ -36,9 +36,9 @@ pub use Rattle.link_wires.specs.Notes.{side_of}
 pub use Rattle.node_core.proofs.Between.{kept_alike}
 pub use Rattle.node_core.specs.Running.{RunsAs, between}
 pub use Rattle.node_core.specs.declared.node.Node.{Node}
-pub use Rattle.node_laws.proofs.order.HostsStay.{hosts_stay_behind}
-pub use Rattle.node_laws.proofs.telling.Mute.{AreMute}
-pub use Rattle.node_laws.proofs.telling.Nodes.{host_opened, link_is, swapped}
+pub use Rattle.node_laws.proofs.order.Lines.{hosts_stay_behind}
+pub use Rattle.node_laws.proofs.telling.Accounts.{AreMute}
+pub use Rattle.node_laws.proofs.telling.Events.{host_opened, link_is, swapped}
 pub use Rattle.node_laws.specs.kept.Books.{WouldFind, hosts_of_ends}
 pub use Rattle.node_laws.specs.kept.Hosts.{AreDifferent, IsSentByHost}
 pub use Rattle.node_laws.specs.links.Runs.{IsPlayable}

@@ -31,7 +31,7 @@ use Rattle.node_machine.specs.world.World.{runs_on}
 use Rattle.node_ends.specs.Ends.{has_sent, frame_at, MayStartAt}
 use Rattle.node_ends.specs.Inputs.{frame_said, reset_refusal_at}
 use Rattle.node_laws.specs.kept.Books.{hosts_of_ends}
-use Rattle.node_laws.proofs.telling.Keeping.{Keeps, steps_keep, tick_keeps}
+use Rattle.node_laws.proofs.telling.Steps.{Keeps, steps_keep, tick_keeps}
 use Rattle.node_core.specs.declared.inputs.NodeInput.{NodeInput as ToNode}
 use Rattle.node_core.specs.declared.inputs.NodeInput.TheVariants.{At, Tick as ToTick}
 use Rattle.node_ends.specs.declared.inputs.LinkInput.TheVariants as comes

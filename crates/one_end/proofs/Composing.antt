@@ -7,7 +7,7 @@ use Rattle.swp_base.specs.InMemory.{Memory}
 use Rattle.journal_laws.specs.Planned.{after_planned}
 use Rattle.node_machine.specs.Parts.{Running}
 use Rattle.node_machine.specs.Carrying.{plan_behind}
-use Rattle.node_laws.proofs.kept.Planned.{after_planned-append, planned_whole}
+use Rattle.node_laws.proofs.kept.Reckoned.{after_planned-append, planned_whole}
 use Rattle.node_core.specs.Bringing.{WereMade, Foretells}
 use Rattle.node_core.proofs.Joining.{foretold_parts, made_on}
 use Rattle.lone_laws.specs.alone.Lone.{Lone, LoneCause, does_by_power}

@@ -17,8 +17,8 @@ use Rattle.link_laws.specs.machine.Machine.{new_link_end}
 use Rattle.node_machine.specs.Parts.{Running}
 use Rattle.node_machine.specs.Carrying.{plan_behind}
 use Rattle.node_machine.specs.Node.{found, boot_writes}
-use Rattle.node_laws.proofs.cuts.Filled.{IsFilled, planned_filled}
-use Rattle.node_laws.proofs.kept.Planned.{planned_whole, after_planned-append}
+use Rattle.node_laws.proofs.cuts.Commits.{IsFilled, planned_filled}
+use Rattle.node_laws.proofs.kept.Reckoned.{after_planned-append, planned_whole}
 use Rattle.node_core.specs.Booting.{found_in_memory}
 use Rattle.node_core.specs.Bringing.{WereMade, Foretells}
 use Rattle.lone_laws.specs.alone.Lone.{Lone, role_alone, lone_booted, lone_after}

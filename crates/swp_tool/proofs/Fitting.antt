@@ -28,7 +28,7 @@ use Rattle.node_machine.specs.world.World.{new_world}
 use Rattle.node_machine.specs.world.NodeHistories.{LineStep, NodeHistory, FollowsNodes, NoneIsMisread}
 use Rattle.node_laws.specs.schedules.Ranges.{AreNodeLinesOf, asking, lines_asking}
 use Rattle.node_laws.proofs.schedules.Ranges.{in_range}
-use Rattle.node_laws.proofs.bounds.Lines.{asking-append, asking_few}
+use Rattle.node_laws.proofs.bounds.Paying.{asking-append, asking_few}
 use Rattle.node_laws.proofs.worlds.Schedules.{played_legal}
 use Rattle.node_laws.specs.answers.Headline.{PlayedHistory, IsPlayed}
 use Rattle.node_laws.specs.answers.Headline.PlayedHistory.{OfLink, OfNodes}

@@ -17,7 +17,7 @@ use Rattle.node_machine.specs.world.World.{NodeWorld, new_world}
 use Rattle.node_machine.specs.world.Lines.{misread_in, line_step}
 use Rattle.node_machine.specs.world.NodeHistories.{NoneIsMisread}
 use Rattle.node_laws.specs.schedules.Ranges.{AreNodeLinesOf}
-use Rattle.node_laws.proofs.bounds.Lines.{asking_few}
+use Rattle.node_laws.proofs.bounds.Paying.{asking_few}
 use Rattle.node_laws.proofs.schedules.Ranges.{in_range}
 use Rattle.node_laws.proofs.worlds.Schedules.{played_legal}
 use Rattle.node_laws.specs.answers.Headline.{IsPlayed}

@@ -64,8 +64,8 @@ pub use Rattle.node_laws.proofs.Each.{all_changed, all_map}
 pub use Rattle.node_laws.proofs.acked.AckedRounds.{IsSound, each_amid, each_rounds, sound_new}
 pub use Rattle.node_laws.proofs.answers.OneFact.{some_is}
 pub use Rattle.node_laws.proofs.bounds.Paying.{other_twice}
-pub use Rattle.node_laws.proofs.kept.Lines.{MayAllHappen, few_front, first_none, line_may, world_goes}
-pub use Rattle.node_laws.proofs.order.HostsStay.{hosts_stay, hosts_stay_behind}
+pub use Rattle.node_laws.proofs.kept.Ticking.{MayAllHappen, few_front, first_none, line_may, world_goes}
+pub use Rattle.node_laws.proofs.order.Lines.{hosts_stay, hosts_stay_behind}
 pub use Rattle.node_laws.proofs.rsets.InWorlds.{each_longer, few_behind_step, few_in_new_world}
 pub use Rattle.node_laws.specs.acked.AckedRounds.{AreAckedWithin, amid_round}
 pub use Rattle.node_laws.specs.kept.Hosts.{AreDifferent, AreHosts, IsFew, IsSentByHost}

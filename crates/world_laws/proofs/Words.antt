@@ -103,27 +103,20 @@ pub use Rattle.link_laws.specs.sessions.Sessions.ShdlcLinkEvent.{AtController as
 pub use Rattle.link_laws.specs.sessions.Sessions.ShdlcLinkEvent.{TickWithout as CoreTickWithout}
 pub use Rattle.node_laws.proofs.Cases.{by_list, by_option, by_test}
 pub use Rattle.node_laws.proofs.links.Worlds.{IsFineSite, so_host}
-pub use Rattle.node_laws.proofs.order.HostsStay.{hosts_stay_behind}
-pub use Rattle.node_laws.proofs.order.Lines.{IsSo, history_so, host_number, next_so}
-pub use Rattle.node_laws.proofs.order.Quiet.{far_now, near_now, read_off, up_far, up_near}
-pub use Rattle.node_laws.proofs.order.Sessions.{are_read}
-pub use Rattle.node_laws.proofs.order.Strangers.{IsStrange, step_kept}
+pub use Rattle.node_laws.proofs.order.Lines.{IsSo, IsStrange, history_so, host_number, hosts_stay_behind, next_so, step_kept}
+pub use Rattle.node_laws.proofs.order.Sessions.{are_read, far_now, near_now, read_off, up_far, up_near}
 pub use Rattle.node_laws.proofs.order.Watches.{AreUnstarted, no_cut}
 pub use Rattle.node_laws.proofs.order.Wires.{clear_unstarted, tick_unstarted}
 pub use Rattle.node_laws.proofs.reply_passes.Held.{desks_held, error_held, is_held_among, ports_held}
-pub use Rattle.node_laws.proofs.rounds.Allowing.{ends_allowed, fine_there, on_allowed, round_allowed, rounds_allowed, takes_allowed}
-pub use Rattle.node_laws.proofs.rounds.BareRounds.{after_causes, allowed-append, bare_round_allowed, map-replicate, take_one}
-pub use Rattle.node_laws.proofs.rounds.LinkEvents.{changed_site, site_map, takes_go, ticks_go, world_ticked}
-pub use Rattle.node_laws.proofs.rounds.RoundEvents.{ArePassing, all_go, ends_go, round_goes, rounds_go, takes_pass}
-pub use Rattle.node_laws.proofs.schedules.Ranges.{hosts_are, in_range, playable}
-pub use Rattle.node_laws.proofs.schedules.Wires.{IsFewWires, after_few, run_few}
+pub use Rattle.node_laws.proofs.rounds.Allowing.{ArePassing, after_causes, all_go, allowed-append, bare_round_allowed, changed_site, ends_allowed, ends_go}
+pub use Rattle.node_laws.proofs.rounds.Allowing.{fine_there, map-replicate, on_allowed, round_allowed, round_goes, rounds_allowed, rounds_go, site_map}
+pub use Rattle.node_laws.proofs.rounds.Allowing.{take_one, takes_allowed, takes_go, takes_pass, ticks_go, world_ticked}
+pub use Rattle.node_laws.proofs.schedules.Ranges.{IsFewWires, after_few, hosts_are, in_range, playable, run_few}
 pub use Rattle.node_laws.proofs.telling.Accounts.{untold}
-pub use Rattle.node_laws.proofs.telling.Events.{comes_goes, entries-append, orderly_map}
-pub use Rattle.node_laws.proofs.telling.Lasting.{AllHold, AnyLine, all_lines, behind_lines, boots_may, events_of_steps, front_holds, lines_hold}
-pub use Rattle.node_laws.proofs.telling.Nodes.{controller_stands, controller_tells, given, link_is, site_host, stands, swapped}
-pub use Rattle.node_laws.proofs.telling.Orderly.{step_orderly}
+pub use Rattle.node_laws.proofs.telling.Events.{comes_goes, controller_stands, controller_tells, entries-append, given, host_does_step, link_is, node_is}
+pub use Rattle.node_laws.proofs.telling.Events.{orderly_map, site_host, site_is, stands, swapped}
+pub use Rattle.node_laws.proofs.telling.Lasting.{AllHold, AnyLine, all_lines, behind_lines, boots_may, events_of_steps, front_holds, lines_hold, step_orderly}
 pub use Rattle.node_laws.proofs.telling.WorldTicks.{Ticking, between, between_far, host_turns, near_orderly, near_turns, tick_event, ticking}
-pub use Rattle.node_laws.proofs.telling.Worlds.{host_does_step, node_is, site_is}
 pub use Rattle.node_laws.specs.kept.Hosts.{AreHosts}
 pub use Rattle.node_laws.specs.links.Notices.{IsComing, IsOutside}
 pub use Rattle.node_laws.specs.links.Runs.{ArePlayable, new_line}

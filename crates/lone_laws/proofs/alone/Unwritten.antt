@@ -4,7 +4,7 @@ use Rattle.lone_laws.proofs.Words.{deeds_of, entry_of, entry_written, own_side, 
 use Rattle.trace_model.specs.declared.entry.Entry.TheVariants as entry
 use Rattle.link_laws.specs.entries.Entries.Entry.{Tick}
 use Rattle.node_machine.specs.Parts.Deed.{Ends}
-use Rattle.node_laws.proofs.telling.Mute.{IsPlain, IsMute, AreMute, deeds_mute}
+use Rattle.node_laws.proofs.telling.Accounts.{AreMute, IsMute, IsPlain, deeds_mute}
 use Rattle.node_laws.proofs.readings.Noting.{IsOwnNote, IsBeside, NotesSo, steps_note}
 
 -- nothing is written for an entry

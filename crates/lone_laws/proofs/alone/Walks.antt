@@ -5,10 +5,8 @@ use Rattle.lone_laws.proofs.Words.{Replied, Short, Some, TurnsAscendAlone, [], b
 use Rattle.lone_laws.proofs.Words.{holds_in, is_asked_down, is_done_alone, is_fact, is_reset_alone, is_short_alone, lack_since, list_any, noted_since}
 use Rattle.lone_laws.proofs.Words.{reply_since, sync_due, true, ℕ, ◌++◌, ◌≡◌}
 use Rattle.trace_model.specs.declared.entry.Entry.TheVariants as entry
-use Rattle.node_laws.proofs.answers.Walks.{answers_found, answers_wanted}
-use Rattle.node_laws.proofs.answers.Splits.{at_each, itself, same_at, same_behind}
-use Rattle.node_laws.proofs.answers.Rising.{turns_rise, rise_ascends}
-use Rattle.node_laws.proofs.answers.OneFact.{AllOthers, OnlyFails, all_others_hold, first_found, first_so, first_wanted, heard_so, none_behind}
+use Rattle.node_laws.proofs.answers.OneFact.{AllOthers, OnlyFails, all_others_hold, answers_found, answers_wanted, at_each, first_found, first_so, first_wanted}
+use Rattle.node_laws.proofs.answers.OneFact.{heard_so, itself, none_behind, rise_ascends, same_at, same_behind, turns_rise}
 use Rattle.node_laws.proofs.answers.OneFact.Fact.{Reset}
 use Rattle.lone_laws.proofs.answered.Queued.{are_in_turn}
 

@@ -15,7 +15,7 @@ use Rattle.swp_act.specs.declared.Phase.{Phase}
 use Rattle.swp_act.specs.declared.Phase.TheVariants.{Inactive}
 use Rattle.swp_act.specs.declared.clf.ClfAct.{ClfAct}
 use Rattle.swp_act.specs.Activation.{clf_step}
-use Rattle.node_laws.proofs.worlds.Uiccs.{uicc_sync}
+use Rattle.node_laws.proofs.worlds.Late.{uicc_sync}
 use Rattle.lone_laws.proofs.answered.Mine.{is_own_answer, is_own_cut, to_turn, AnswersOwn, IsDueOwn}
 use Rattle.lone_laws.proofs.answered.Reading.{Read, Alone, core_is}
 use Rattle.lone_laws.proofs.answered.Coming.{comes_there, came_entries, pass_is}

@@ -10,7 +10,7 @@ use Rattle.lone_laws.proofs.Words.{own_view, port_at, refl, same_end, same_end_i
 use Rattle.lone_laws.proofs.Words.{unwrap_or, view_of, with_command, with_port, ℕ, ◌&&◌, ◌++◌, ◌∙◌, ◌∷◌, ◌≡◌}
 use Rattle.trace_model.specs.declared.entry.Entry.TheVariants as entry
 use Rattle.gate_answers.specs.declared.response.Response.TheVariants as response
-use Rattle.node_laws.proofs.views.Setting.SetDeeds.{IsSet as IsSetSo, IsRefused as IsRefusedSo, IsDropped as IsDroppedSo}
+use Rattle.node_laws.proofs.views.Doing.SetDeeds.{IsDropped as IsDroppedSo, IsRefused as IsRefusedSo, IsSet as IsSetSo}
 use Rattle.lone_laws.proofs.answered.Replying.{session_of_end, sent_alone}
 use Rattle.lone_laws.proofs.answered.Told.{entries_of_deeds}
 use Rattle.lone_laws.proofs.answered.Shapes.{IsLoneReply}

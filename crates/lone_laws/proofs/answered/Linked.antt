@@ -5,10 +5,10 @@ use Rattle.lone_laws.proofs.Words.{is_connected_at, is_opened, is_some, is_up, l
 use Rattle.lone_laws.proofs.Words.{port_at, refl, spare, spare_with, spare_with_link, sym, true, view_of, view_with_link, ℕ, ◌&&◌, ◌||◌, ◌∙◌, ◌∷◌, ◌≡◌}
 use mathlib.Core.Bool.{and-false, and-true}
 use Rattle.node_laws.specs.views.Views.{IsSameView}
-use Rattle.node_laws.proofs.views.Viewing.{where_same}
+use Rattle.node_laws.proofs.views.Lines.{where_same}
 use Rattle.node_laws.specs.read_steps.Alike.{KnowsTheSame}
-use Rattle.node_laws.proofs.read_steps.Alike.{same_deeds}
-use Rattle.node_laws.proofs.replies.Turns.{lack_alike}
+use Rattle.node_laws.proofs.read_steps.Knowing.{same_deeds}
+use Rattle.node_laws.proofs.replies.Passes.{lack_alike}
 use Rattle.lone_laws.proofs.answered.Reading.{eqb_same}
 
 module _ (core : Core) (p : Port) (h : ℕ) (host : p.desk.host ≡ h) where

@@ -5,9 +5,8 @@ use Rattle.lone_laws.proofs.Words.{eq-eqb, eqb, eqb-true, false, filter, if◌th
 use Rattle.lone_laws.proofs.Words.{lone_arrival, lone_end, lone_port, lone_work, lpdu_of, map, node_of, not, noted_since, refl, reply_since, session_with}
 use Rattle.lone_laws.proofs.Words.{steps, subst, sym, sync_due, take_while-cons, to_command, true, ℕ, ◌++◌, ◌||◌, ◌∙◌, ◌∷◌, ◌≡◌}
 use Rattle.trace_model.specs.declared.entry.Entry.TheVariants as entry
-use Rattle.node_laws.proofs.telling.Walks.{AreUncut}
-use Rattle.node_laws.proofs.power.Doing.{AreEnds, Fine, IsEndOf, Runs}
-use Rattle.node_laws.proofs.power.Steps.{steps_fine}
+use Rattle.node_laws.proofs.telling.Accounts.{AreUncut}
+use Rattle.node_laws.proofs.power.Steps.{AreEnds, Fine, IsEndOf, Runs, steps_fine}
 
 -- ## Answers of any node
 

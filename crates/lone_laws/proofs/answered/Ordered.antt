@@ -9,7 +9,7 @@ use Rattle.lone_laws.proofs.Words.{unhandled_in, waiting_at, ◌++◌, ◌||◌,
 use Rattle.trace_model.specs.declared.entry.Entry.TheVariants as entry
 use Rattle.node_laws.specs.passes.Passing.{Stays}
 use Rattle.node_laws.specs.passes.Passing.ComesTo.{Begins}
-use Rattle.node_laws.proofs.passes.Behind.{leaves_behind}
+use Rattle.node_laws.proofs.passes.Passing.{leaves_behind}
 use Rattle.lone_laws.proofs.answered.Reading.{eqb_same, Read, read_all, read-append, left_is, held_is, reads_of, nothing_read, Alone}
 use Rattle.lone_laws.proofs.answered.Turning.{own_end, IsHere, alone_here, alone_at, link_is}
 use Rattle.lone_laws.proofs.answered.Stepping.{lone_comes, alone_begins, alone_steps, passed}

@@ -8,8 +8,8 @@ use Rattle.lone_laws.proofs.Words.{not-false, not-true, not_from_false, option_m
 use Rattle.lone_laws.proofs.Words.{view_for, view_of, ℕ, ◌&&◌, ◌∙◌, ◌∷◌, ◌≡◌, ◌≤◌}
 use Rattle.gate_admin.proofs.CreationLemmas.{AllFalse, all_false}
 use Rattle.tables_laws.specs.gate.Rules.{TellsOthers}
-use Rattle.node_laws.proofs.links.Masking.{nobody, from_mask}
-use Rattle.node_laws.proofs.kept.Deciding.{decided_recordable}
+use Rattle.node_laws.proofs.links.Noticing.{from_mask, nobody}
+use Rattle.node_laws.proofs.kept.Stepping.{decided_recordable}
 
 -- ## Deeds of its own
 

@@ -8,7 +8,7 @@ use Rattle.lone_laws.proofs.Words.{lacking, leads_to_link_gate, needs, noted_by_
 use Rattle.lone_laws.proofs.Words.{session_now, spare, spare_since, spare_with_link, subst, sym, takes_entries, takes_up, true, view_with_link, waiting_at}
 use Rattle.lone_laws.proofs.Words.{with_port, ℕ, ◌&&◌, ◌++◌, ◌∙◌, ◌∷◌, ◌≡◌, ◌≤◌}
 use Rattle.trace_model.specs.declared.entry.Entry.TheVariants as entry
-use Rattle.node_laws.proofs.passes.Counts.{taken_at_once}
+use Rattle.node_laws.proofs.passes.Replying.{taken_at_once}
 use Rattle.lone_laws.proofs.answered.Reading.{eqb_same, Read, core_is, Alone}
 use Rattle.lone_laws.proofs.answered.Linked.{one_deeds, one_lack}
 use Rattle.lone_laws.proofs.answered.Turning.{own_end, IsHere, alone_here, link_is}

@@ -18,7 +18,7 @@ use Rattle.lone_laws.proofs.answered.Ordered.{begin_read, start, ended}
 use Rattle.lone_laws.proofs.answered.Told.{same_number}
 use Rattle.lone_laws.proofs.answered.Keeping.{core_of, KeepsAll}
 use Rattle.lone_laws.proofs.answered.Errors.{notes_hold}
-use Rattle.node_laws.proofs.worlds.Causes.{act_asked, asked, frame_asked, tick_asked, up_asked}
+use Rattle.node_laws.proofs.worlds.Ages.{act_asked, asked, frame_asked, tick_asked, up_asked}
 
 -- an entry tells of no reset that was asked for
 abbrev pub IsQuietEntry : Entry → Type 0

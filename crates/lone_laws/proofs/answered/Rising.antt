@@ -4,8 +4,7 @@ use Rattle.lone_laws.proofs.Words.{AllByRecursion, Control, End, Entry, FrameCom
 use Rattle.lone_laws.proofs.Words.{Work, [], ap, arith, by_test, cons_option, if◌then◌else◌, lone_arrival, lpdu_of, map, node_of, refl, steps, subst, sym}
 use Rattle.lone_laws.proofs.Words.{turn_link, ℕ, ◌++◌, ◌==◌, ◌∷◌, ◌≡◌, ◌≤◌}
 use Rattle.trace_model.specs.declared.entry.Entry.TheVariants as entry
-use Rattle.node_laws.proofs.worlds.Hearing.{AreUnanswered, AreUnheard, IsParted, step_parted}
-use Rattle.node_laws.proofs.worlds.Order.{first_heard, parted_for}
+use Rattle.node_laws.proofs.worlds.Late.{AreUnanswered, AreUnheard, IsParted, first_heard, parted_for, step_parted}
 use Rattle.lone_laws.proofs.answered.Ordered.{IsAtEnd}
 
 -- ## Turns

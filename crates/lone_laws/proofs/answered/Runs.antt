@@ -14,8 +14,7 @@ use Rattle.lone_laws.proofs.Words.{turn_at, waiting_at, with_desk, with_refusal,
 use Rattle.trace_model.specs.declared.entry.Entry.TheVariants as entry
 use Rattle.journal_laws.specs.declared.banks.Side.{Side}
 use Rattle.node_machine.specs.Orders.{IsOnOrder}
-use Rattle.node_laws.proofs.kept.HostsReply.{OneOrNone, host_may}
-use Rattle.node_laws.proofs.kept.Replies.{controller_may}
+use Rattle.node_laws.proofs.kept.Stepping.{OneOrNone, controller_may, host_may}
 use Rattle.lone_laws.proofs.answered.Coming.{IsLoneInput, pass_is}
 use Rattle.lone_laws.proofs.answered.Lasting.{LoneKeeps, arrival_nothing, begins_alone, step_is}
 use Rattle.lone_laws.proofs.answered.Finding.{FindsIf, KnowsIf, fault_none, finds_counting, knows_formatted, left_formatted}

@@ -1,12 +1,15 @@
--- In a round of a bare world the ends take frames one after the other, so at most a window of fragments more count as acknowledged at each.
-use Rattle.node_laws.proofs.Words.{AcksAtMost, AllAllowed, AllAtController, AllAtHost, AreTakenInTurn, Controller, Good, Host, IsStart, Link, LinkEvent, List}
-use Rattle.node_laws.proofs.Words.{Reached, [], after_link_events, ap, append-nil, arith, core_of, end_of, event_of, from_start, length, link_after_all, map}
-use Rattle.node_laws.proofs.Words.{map-append, reached, refl, replicate, subst, suc, sym, zero, ℕ, ◌*◌, ◌++◌, ◌∙◌, ◌∷◌, ◌≡◌}
+-- In a round of a bare world a window of fragments more counts as acknowledged at each end at most, and four may indeed.
+use Rattle.node_laws.proofs.Words.{AcksAtMost, AllAllowed, AllAtController, AllAtHost, AreTakenInTurn, AtController, Bare, Controller, Give, GoesOut, Good}
+use Rattle.node_laws.proofs.Words.{Host, IsStart, Link, LinkEvent, List, NoInput, Reached, Step, [], acked_at_controller, after_link_events, ap, append-nil}
+use Rattle.node_laws.proofs.Words.{arith, core_of, end_of, event_of, from_start, happens, length, link_after_all, map, map-append, new_link, reached, refl}
+use Rattle.node_laws.proofs.Words.{replicate, subst, suc, sym, zero, ℕ, ◌*◌, ◌++◌, ◌∙◌, ◌∷◌, ◌≡◌}
 use Rattle.history.specs.Histories.{Cause}
 use Rattle.history.specs.Histories.Cause.{Taken, Ticked}
-use Rattle.node_laws.specs.rounds.BareRounds.{causes_of_round, link_after_round, causes_of_rounds}
-use Rattle.node_laws.proofs.acked.InTurn.{good_after, front_acks}
-use Rattle.node_laws.proofs.rounds.BareRounds.{after_causes, bare_round_allowed}
+use Rattle.node_laws.specs.rounds.BareRounds.{causes_of_round, causes_of_rounds, link_after_round}
+use Rattle.node_laws.proofs.acked.InTurn.{front_acks, good_after}
+use Rattle.node_laws.proofs.rounds.Allowing.{after_causes, bare_round_allowed}
+
+-- ## In a round of a bare world the ends take frames one after the other, so at most a window of fragments more count as acknowledged at each
 
 near_taken : (k h : ℕ) → AllAtController (map event_of (replicate k (Taken (end_of h Controller))))
 near_taken zero h = tt
@@ -16,7 +19,7 @@ far_taken : (k h : ℕ) → AllAtHost (map event_of (replicate k (Taken (end_of 
 far_taken zero h = tt
 far_taken (suc k) h = far_taken k h
 
-pub bare_in_turn : (h : ℕ) (l : Link) → AreTakenInTurn (map event_of (causes_of_round h l))
+bare_in_turn : (h : ℕ) (l : Link) → AreTakenInTurn (map event_of (causes_of_round h l))
 bare_in_turn h l =
     let near : List Cause = replicate (length l.to_controller) (Taken (end_of h Controller)) in
     let k : ℕ = length (link_after_all l near).to_host in
@@ -63,3 +66,16 @@ bare_rounds_acks (suc r) h l k =
     let both : AcksAtMost (4 * suc r) (4 * suc r) l (link_after_all m later) =
     record { controller = omega (arith, c1, c2); host = omega (arith, h1, h2) } in
     subst (AcksAtMost (4 * suc r) (4 * suc r) l) (sym (all-append now later l)) both
+
+-- ## Four fragments more may indeed count as acknowledged in one round
+
+-- the controller's end of a bare link has sent the first four fragments of a message
+abbrev sent_four : Link
+sent_four = happens (new_link Bare Bare) (AtController (Step NoInput (Give (5, replicate 120 7) ∷ []) GoesOut))
+
+-- in the first round they are taken and answered, in the second the answers are taken
+none_at_first : acked_at_controller (link_after_round 1 sent_four) ≡ 0
+none_at_first = refl
+
+four_then : acked_at_controller (link_after_round 1 (link_after_round 1 sent_four)) ≡ 4
+four_then = refl

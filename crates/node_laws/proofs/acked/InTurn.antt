@@ -1,25 +1,428 @@
--- Where the ends of a link take frames one after the other, at most a window of fragments more count as acknowledged at each of them.
-use Rattle.node_laws.proofs.Words.{AcksAtMost, Activate, AllAllowed, AllAtController, AllAtHost, AreSendable, AreTakenInTurn, AsksReset, AtController, AtHost}
-use Rattle.node_laws.proofs.Words.{Bool, CoreEndEvent, CoreLink, CutOff, EndEvent, Ending, GoesOut, Good, Link, LinkEnd, LinkEvent, List, Lose, Message}
-use Rattle.node_laws.proofs.Words.{NextFrame, NoInput, None, NumberedEnd, Option, Reached, Refused, Some, Starts, Step, Stops, TakeNoFrames, TakesNoFrame}
-use Rattle.node_laws.proofs.Words.{TicksWithout, Turn, [], acked_at_controller, after_link_events, ap, append-nil, arith, by_test, core_event, core_here}
-use Rattle.node_laws.proofs.Words.{core_of, core_tick_rest, exchanged, false, happens, is_open, leb-true, length, map, nat_le, packet_count, refl}
-use Rattle.node_laws.proofs.Words.{reset_refusal, safe_reached, steps_at_controller, subst, sym, true, whole_acked, whole_among, window_of, ℕ, ◌++◌, ◌+◌, ◌-◌}
-use Rattle.node_laws.proofs.Words.{◌∙◌, ◌∷◌, ◌≡◌, ◌≤◌}
-use Rattle.link_laws.specs.sessions.Sessions.{ShdlcLinkEvent as CoreLinkEvent}
-use Rattle.link_laws.specs.sessions.Sessions.{shdlc_after as core_after}
-use Rattle.link_laws.specs.sessions.Sessions.ShdlcLinkEvent.{AtController as CoreAtController, AtHost as CoreAtHost}
-use Rattle.link_laws.specs.messages.Links.LinkEvent.{Ticks}
-use Rattle.link_laws.specs.messages.Projection.{core_ending, core_events, core_reset, core_step}
-use Rattle.link_laws.specs.messages.Projection.{is_lost_tick}
+-- How many fragments count as acknowledged at the ends of a link: none more while no end takes a frame, a window where one end acts or both
+-- take turns.
+use Rattle.node_laws.proofs.Words.{AcksAtMost, Activate, Acts, AllAllowed, AllAtController, AllAtHost, AllShdlcAllowed, AreSendable, AreTakenInTurn, AreTurns}
+use Rattle.node_laws.proofs.Words.{AsksReset, AtController, AtHost, Bool, Control, CoreEndEvent, CoreLink, CutOff, Deliver, EndEvent, EndState, Ending, GoesOut}
+use Rattle.node_laws.proofs.Words.{Good, Ignore, Link, LinkEnd, LinkEvent, LinkState, List, Lose, Message, NextFrame, NoInput, None, NumberedEnd, NumberedShdlc}
+use Rattle.node_laws.proofs.Words.{OnWire, Option, Reached, Refused, SafeLink, Session, ShdlcEndEvent, ShdlcLink, ShdlcLinkEvent, ShdlcTurn, Some, Starts, Step}
+use Rattle.node_laws.proofs.Words.{Stops, TakeNoFrames, TakesNoFrame, TicksWithout, Turn, Turns, Up, Waiting, [], acked_at_controller, act_frame}
+use Rattle.node_laws.proofs.Words.{after_link_events, ap, append-nil, arith, by_test, core_event, core_here, core_of, core_tick_rest, ended_session, eqb-true}
+use Rattle.node_laws.proofs.Words.{exchanged, false, frames_of, happens, inl, inr, is_open, is_rset, is_some, is_up, is_waiting, leb-true, length, map}
+use Rattle.node_laws.proofs.Words.{most_frames, nat_le, nat_lt, new_end, no_session, packet_count, refl, reset_refusal, reset_with, runs_timer, safe_reached}
+use Rattle.node_laws.proofs.Words.{shdlc_after, shdlc_aged, shdlc_all_at_controller, shdlc_becomes, shdlc_exchanged, shdlc_happens, shdlc_happens_at_controller}
+use Rattle.node_laws.proofs.Words.{shdlc_number_of, shdlc_put, shdlc_put_all, shdlc_session_of, shdlc_silent, shdlc_ticks_at_controller, shdlc_turned}
+use Rattle.node_laws.proofs.Words.{steps_at_controller, stopped, subst, sym, take_answer, taken, tick_answer, ticked, ticks_if_waiting, ticks_or_cut, took_with}
+use Rattle.node_laws.proofs.Words.{true, whole_acked, whole_among, window_of, with_shdlc_ended, ℕ, ◌++◌, ◌+◌, ◌-◌, ◌==◌, ◌∙◌, ◌∷◌, ◌≡◌, ◌≤◌, ◌⊎◌}
+use Rattle.link_laws.proofs.entries.Stepping.{fetched_acked}
 use Rattle.link_laws.proofs.messages.Project.{Tells}
 use Rattle.link_laws.proofs.messages.Runs.{run, sendable}
-use Rattle.node_laws.proofs.telling.Events.{after-append}
+use Rattle.link_laws.proofs.places.Joined.{ready_cases}
+use Rattle.link_laws.proofs.sessions.Data.{Base, Below, none_ended, of_up}
+use Rattle.link_laws.proofs.sessions.Steps.{safe_event, safe_exchanged}
+use Rattle.link_laws.specs.messages.Links.LinkEvent.{Ticks}
+use Rattle.link_laws.specs.messages.Projection.{core_ending, core_events, core_reset, core_step, is_lost_tick}
+use Rattle.link_laws.specs.sessions.Sessions.{IsTurn, ShdlcLinkEvent as CoreLinkEvent, shdlc_after as core_after, shdlc_turn}
+use Rattle.link_laws.specs.sessions.Sessions.ShdlcEndEvent.{Cut, Lose as CoreLose, Reset, Stop}
+use Rattle.link_laws.specs.sessions.Sessions.ShdlcLinkEvent.{AtController as CoreAtController, AtHost as CoreAtHost, Tick, TickWithout}
+use Rattle.link_laws.specs.sessions.Sessions.ShdlcTurn.{Offer, SetReady}
+use Rattle.shdlc_core.specs.declared.answers.LinkState.TheVariants.{Down}
 use Rattle.node_laws.specs.acked.InTurn.{acked_at_host}
-use Rattle.node_laws.proofs.acked.Alone.{AllNear, AllFar, near_alone, far_alone}
-use Rattle.node_laws.proofs.acked.NoneTaken.{DeliversNone, NoneDelivered, none_added}
+use Rattle.node_laws.proofs.telling.Events.{after-append}
 
--- ## Events seen on the link over fragments
+-- ## While one end of a link alone acts, at most a window of fragments more count as acknowledged at it: those that the other end accepted before
+
+-- ### What stays as the controller's end acts
+
+-- the ended sessions of an end stay, or one more is kept
+abbrev pub AreKept : List (ℕ × Session) → List (ℕ × Session) → Type 0
+AreKept past later = (later ≡ past) ⊎ ((x : ℕ × Session) × (later ≡ x ∷ past))
+
+record ActsAlone (l m : ShdlcLink) : Type 0 where
+  pub host : m.host ≡ l.host
+  pub past : AreKept l.controller.past m.controller.past
+
+stays : (l : ShdlcLink) → ActsAlone l l
+stays l = record { host = refl; past = inl refl }
+
+-- the same with another end, and with other wires
+beside : (l m k : ShdlcLink) → k.host ≡ m.host → k.controller.past ≡ m.controller.past → ActsAlone l m → ActsAlone l k
+beside l m k host past a = record { host = host ∙ a.host; past = go a.past }
+  where
+    go : AreKept l.controller.past m.controller.past → AreKept l.controller.past k.controller.past
+    go (inl q) = inl (past ∙ q)
+    go (inr (x, q)) = inr (x, past ∙ q)
+
+put_beside : (l : ShdlcLink) (c : Control) → ((shdlc_put l c).host ≡ l.host) × ((shdlc_put l c).controller.past ≡ l.controller.past)
+put_beside l c = by_test (is_rset c) (λ q. rw q (refl, refl)) (λ q. rw q (refl, refl))
+
+puts_beside : (cs : List Control) (l : ShdlcLink)
+    → ((shdlc_put_all l cs).host ≡ l.host) × ((shdlc_put_all l cs).controller.past ≡ l.controller.past)
+puts_beside [] l = (refl, refl)
+puts_beside (c ∷ cs) l =
+    let one = put_beside l c in
+    let more = puts_beside cs (shdlc_put l c) in
+    (more.0 ∙ one.0, more.1 ∙ one.1)
+
+becomes_alone : (l m : ShdlcLink) (e : EndState) → ActsAlone l m → ActsAlone l (shdlc_becomes m e)
+becomes_alone l m e a =
+    let p = puts_beside (frames_of most_frames e) m in
+    beside l m (shdlc_becomes m e) p.0 p.1 a
+
+ended_alone : (l : ShdlcLink) (b : Bool) → ActsAlone l (with_shdlc_ended l b)
+ended_alone l false = stays l
+ended_alone l true = record { host = refl; past = inr ((shdlc_number_of l.controller, l.controller.side.session), refl) }
+
+silent_alone : (l : ShdlcLink) (e : EndState) → ActsAlone l (shdlc_silent l e)
+silent_alone l e = go l.controller.side.phase refl
+  where
+    go : (p : LinkState) → l.controller.side.phase ≡ p → ActsAlone l (shdlc_silent l e)
+    go Up q =
+        record { host = rw q refl; past = inr ((shdlc_number_of l.controller, l.controller.side.session), rw q refl) }
+    go Waiting q = record { host = rw q refl; past = inl (rw q refl) }
+    go Down q = record { host = rw q refl; past = inl (rw q refl) }
+
+happens_alone : (l : ShdlcLink) (e : ShdlcEndEvent) → ActsAlone l (shdlc_happens_at_controller l e)
+happens_alone l (Turns ts) = becomes_alone l l (shdlc_turned l.controller.side ts) (stays l)
+happens_alone l (Deliver ts) = go l.to_controller
+  where
+    by : List OnWire → ShdlcLink
+    by [] = l
+    by (x ∷ xs) =
+        let m : ShdlcLink = with_shdlc_ended (record l { to_controller = xs }) (is_some (take_answer l.controller.side x.frame).ended) in
+        shdlc_becomes (record m { controller = record m.controller { took = took_with l.controller.took x } })
+        (shdlc_turned (taken l.controller.side x.frame) ts)
+
+    go : (w : List OnWire) → ActsAlone l (by w)
+    go [] = stays l
+    go (x ∷ xs) =
+        let b : Bool = is_some (take_answer l.controller.side x.frame).ended in
+        let k : ShdlcLink = record l { to_controller = xs } in
+        let m : ShdlcLink = with_shdlc_ended k b in
+        let one : ActsAlone l m = (let z = ended_alone k b in record { host = z.host; past = z.past }) in
+        let n : ShdlcLink = record m { controller = record m.controller { took = took_with l.controller.took x } } in
+        becomes_alone l n (shdlc_turned (taken l.controller.side x.frame) ts) (beside l m n refl refl one)
+happens_alone l (Ignore ts) = go l.controller.side.phase l.to_controller
+  where
+    by : LinkState → List OnWire → ShdlcLink
+    by Down (x ∷ xs) =
+        shdlc_becomes (record l { to_controller = xs; controller = record l.controller { took = took_with l.controller.took x } })
+        (shdlc_turned l.controller.side ts)
+    by _ _ = l
+
+    go : (p : LinkState) (w : List OnWire) → ActsAlone l (by p w)
+    go Down (x ∷ xs) =
+        let n : ShdlcLink = record l { to_controller = xs; controller = record l.controller { took = took_with l.controller.took x } } in
+        becomes_alone l n (shdlc_turned l.controller.side ts) (beside l l n refl refl (stays l))
+    go Down [] = stays l
+    go Up w = stays l
+    go Waiting w = stays l
+happens_alone l (Acts acts ts) =
+    let m : ShdlcLink = shdlc_put_all l (map act_frame acts) in
+    let p = puts_beside (map act_frame acts) l in
+    becomes_alone l m (shdlc_turned l.controller.side ts) (beside l l m p.0 p.1 (stays l))
+happens_alone l CoreLose = record { host = refl; past = inl refl }
+happens_alone l (Reset w ts) =
+    becomes_alone l (with_shdlc_ended l (is_up l.controller.side.phase)) (shdlc_turned (reset_with l.controller.side w) ts)
+    (ended_alone l (is_up l.controller.side.phase))
+happens_alone l Cut = silent_alone l (new_end 4)
+happens_alone l Stop = silent_alone l (stopped l.controller.side)
+
+-- ### Room for acknowledgements
+
+-- the other end accepted so many fragments at most in the session in which the controller's end is up
+abbrev pub HasRoom : ℕ → ShdlcLink → Type 0
+HasRoom b l = l.controller.side.phase ≡ Up → length (shdlc_session_of l.host (shdlc_number_of l.controller)).acc ≤ b
+
+-- how many fragments of its session are acknowledged at the controller's end
+abbrev acked_here : ShdlcLink → ℕ
+acked_here l = l.controller.side.session.acked
+
+-- a window at most was sent and isn't acknowledged, and no more is accepted
+room_first : (kn kf : ℕ) (l : ShdlcLink) → SafeLink kn kf l → HasRoom (acked_here l + 4) l
+room_first kn kf l h up =
+    let n : ℕ = shdlc_number_of l.controller in
+    let r : Session = shdlc_session_of l.host n in
+    let mine : Base l.controller.side.session r =
+    (let P : Session → Type 0 = λ s. Base s r in subst P (of_up l.controller up) (h.n_base n)) in
+    omega (arith, mine.fits, mine.within, mine.most)
+
+-- what is acknowledged was accepted
+room_holds : (kn kf b : ℕ) (l : ShdlcLink) → SafeLink kn kf l → HasRoom b l → acked_here l ≤ b
+room_holds kn kf b l h room = go l.controller.side.phase refl
+  where
+    none : (l.controller.side.phase ≡ Up → ⊥) → acked_here l ≤ b
+    none down = let z = ap (λ (s : Session). s.acked) (h.n_none down) in omega (arith, z)
+
+    go : (p : LinkState) → l.controller.side.phase ≡ p → acked_here l ≤ b
+    go Up up =
+        let n : ℕ = shdlc_number_of l.controller in
+        let r : Session = shdlc_session_of l.host n in
+        let mine : Base l.controller.side.session r =
+        (let P : Session → Type 0 = λ s. Base s r in subst P (of_up l.controller up) (h.n_base n)) in
+        let within = room up in
+        omega (arith, mine.acked, within)
+    go Waiting q = none (λ u. let z = sym q ∙ u in cc)
+    go Down q = none (λ u. let z = sym q ∙ u in cc)
+
+-- the sessions that ended before have lower numbers, too
+below_before : (b : ℕ) (past later : List (ℕ × Session)) → AreKept past later → Below b later → Below b past
+below_before b past later (inl q) h = subst (Below b) q h
+below_before b past later (inr (x, q)) h = let z : Below b (x ∷ past) = subst (Below b) q h in z.1
+
+-- in a session that begins the other end has accepted nothing
+room_then : (kn kf jn jf b : ℕ) (l m : ShdlcLink) → SafeLink kn kf l → SafeLink jn jf m → ActsAlone l m → HasRoom b l → HasRoom b m
+room_then kn kf jn jf b l m h k a room up = go l.controller.side.phase (n == shdlc_number_of l.controller) refl refl
+  where
+    n : ℕ
+    n = shdlc_number_of m.controller
+
+    there : shdlc_session_of m.host n ≡ shdlc_session_of l.host n
+    there = ap (λ (g : NumberedShdlc). shdlc_session_of g n) a.host
+
+    none : ended_session l.controller.past n ≡ no_session
+    none =
+        let z : Below n m.controller.past = rw up at k.n_past in
+        none_ended n n l.controller.past (omega arith) (below_before n l.controller.past m.controller.past a.past z)
+
+    began : shdlc_session_of l.controller n ≡ ended_session l.controller.past n → length (shdlc_session_of m.host n).acc ≤ b
+    began q =
+        let fits = (h.n_base n).fits in
+        let size = ap (λ (s : Session). length s.acc) there in
+        let nothing = ap (λ (s : Session). s.reached) (q ∙ none) in
+        omega (arith, fits, size, nothing)
+
+    go : (p : LinkState) (c : Bool) → l.controller.side.phase ≡ p → (n == shdlc_number_of l.controller) ≡ c → length (shdlc_session_of m.host n).acc ≤ b
+    go Up true p c =
+        let same : n ≡ shdlc_number_of l.controller = eqb-true n (shdlc_number_of l.controller) c in
+        let within = room p in
+        let size = ap (λ (s : Session). length s.acc) (there ∙ ap (λ j. shdlc_session_of l.host j) same) in
+        omega (arith, within, size)
+    go Up false p c = began (rw (p, c) refl)
+    go Waiting c p q = began (rw p refl)
+    go Down c p q = began (rw p refl)
+
+-- ### One end alone
+
+-- all these happen at the controller's end, or at the host's
+abbrev AllNear : List ShdlcLinkEvent → Type 0
+AllNear [] = Unit {0}
+AllNear (CoreAtController e ∷ es) = AllNear es
+AllNear (_ ∷ es) = ⊥
+
+abbrev AllFar : List ShdlcLinkEvent → Type 0
+AllFar [] = Unit {0}
+AllFar (CoreAtHost e ∷ es) = AllFar es
+AllFar (_ ∷ es) = ⊥
+
+near_in_room : (b : ℕ) (es : List ShdlcLinkEvent) (l : ShdlcLink) → AllShdlcAllowed es → AllNear es → SafeLink 0 0 l → HasRoom b l
+    → (acked_here (shdlc_after l es) ≤ b) × ((shdlc_after l es).host ≡ l.host)
+near_in_room b [] l a near h room = (room_holds 0 0 b l h room, refl)
+near_in_room b (CoreAtController e ∷ es) l a near h room =
+    let m : ShdlcLink = shdlc_happens_at_controller l e in
+    let s = safe_event l (CoreAtController e) es a h in
+    let alone : ActsAlone l m = happens_alone l e in
+    let more = near_in_room b es m s.1 near s.0 (room_then 0 0 0 0 b l m h s.0 alone room) in
+    (more.0, more.1 ∙ alone.host)
+near_in_room b (_ ∷ es) l a near h room = absurd near
+
+far_in_room : (b : ℕ) (es : List ShdlcLinkEvent) (l : ShdlcLink) → AllShdlcAllowed es → AllFar es → SafeLink 0 0 l → HasRoom b (shdlc_exchanged l)
+    → (acked_here (shdlc_exchanged (shdlc_after l es)) ≤ b) × ((shdlc_after l es).controller ≡ l.controller)
+far_in_room b [] l a far h room = (room_holds 0 0 b (shdlc_exchanged l) (safe_exchanged 0 0 l h) room, refl)
+far_in_room b (CoreAtHost e ∷ es) l a far h room =
+    let k : ShdlcLink = shdlc_exchanged l in
+    let m : ShdlcLink = shdlc_happens_at_controller k e in
+    let s = safe_event l (CoreAtHost e) es a h in
+    let alone : ActsAlone k m = happens_alone k e in
+    let n : ShdlcLink = shdlc_exchanged m in
+    let more = far_in_room b es n s.1 far s.0
+    (room_then 0 0 0 0 b k m (safe_exchanged 0 0 l h) (safe_exchanged 0 0 n s.0) alone room) in
+    (more.0, more.1 ∙ alone.host)
+far_in_room b (_ ∷ es) l a far h room = absurd far
+
+near_alone : (es : List ShdlcLinkEvent) (l : ShdlcLink) → AllShdlcAllowed es → AllNear es → SafeLink 0 0 l
+    → (acked_here (shdlc_after l es) ≤ acked_here l + 4) × ((shdlc_after l es).host ≡ l.host)
+near_alone es l a near h = near_in_room (acked_here l + 4) es l a near h (room_first 0 0 l h)
+
+far_alone : (es : List ShdlcLinkEvent) (l : ShdlcLink) → AllShdlcAllowed es → AllFar es → SafeLink 0 0 l
+    → (acked_here (shdlc_exchanged (shdlc_after l es)) ≤ acked_here (shdlc_exchanged l) + 4) × ((shdlc_after l es).controller ≡ l.controller)
+far_alone es l a far h =
+    far_in_room (acked_here (shdlc_exchanged l) + 4) es l a far h (room_first 0 0 (shdlc_exchanged l) (safe_exchanged 0 0 l h))
+
+-- ## While no end of a link takes a frame, no more fragments count as acknowledged
+
+-- ### What an end becomes
+
+turn_acked : (e : EndState) (t : ShdlcTurn) → (shdlc_turn e t).session.acked ≡ e.session.acked
+turn_acked e (SetReady r) = ready_cases (λ f. f.session.acked ≡ e.session.acked) e r refl refl refl
+turn_acked e (Offer fragments) = go e.phase refl
+  where
+    go : (p : LinkState) → e.phase ≡ p → (shdlc_turn e (Offer fragments)).session.acked ≡ e.session.acked
+    go Up q = rw q refl
+    go _ q = rw q refl
+
+turned_acked : (ts : List ShdlcTurn) (e : EndState) → (shdlc_turned e ts).session.acked ≡ e.session.acked
+turned_acked [] e = refl
+turned_acked (t ∷ ts) e = turned_acked ts (shdlc_turn e t) ∙ turn_acked e t
+
+becomes_acked : (l : ShdlcLink) (ts : List ShdlcTurn) (e : EndState) → acked_here (shdlc_becomes l (shdlc_turned e ts)) ≡ e.session.acked
+becomes_acked l ts e = fetched_acked most_frames (shdlc_turned e ts) ∙ turned_acked ts e
+
+ticked_acked : (e : EndState) → (ticked e).session.acked ≤ e.session.acked
+ticked_acked e = go e.phase (runs_timer e.session) (nat_lt (e.timer + 1) 10) (nat_lt e.tries 5) refl refl refl refl
+  where
+    go : (p : LinkState) (r a b : Bool) → e.phase ≡ p → runs_timer e.session ≡ r → nat_lt (e.timer + 1) 10 ≡ a → nat_lt e.tries 5 ≡ b
+        → (ticked e).session.acked ≤ e.session.acked
+    go Down r a b p t u v = rw p (omega arith)
+    go Waiting r true b p t u v = rw (p, u) (omega arith)
+    go Waiting r false true p t u v = rw (p, u, v) (omega arith)
+    go Waiting r false false p t u v = rw (p, u, v) (omega arith)
+    go Up false a b p t u v = rw (p, t) (omega arith)
+    go Up true true b p t u v = rw (p, t, u) (omega arith)
+    go Up true false true p t u v = rw (p, t, u, v) (omega arith)
+    go Up true false false p t u v = rw (p, t, u, v) (omega arith)
+
+reset_acked : (e : EndState) (w : ℕ) → (reset_with e w).session.acked ≤ e.session.acked
+reset_acked e w = by_test (is_waiting e) (λ q. rw q (omega arith)) (λ q. rw q (omega arith))
+
+silent_acked : (l : ShdlcLink) (e : EndState) → e.session.acked ≡ 0 → acked_here (shdlc_silent l e) ≡ 0
+silent_acked l e none = go l.controller.side.phase refl
+  where
+    go : (p : LinkState) → l.controller.side.phase ≡ p → acked_here (shdlc_silent l e) ≡ 0
+    go Up q = rw q none
+    go _ q = rw q none
+
+-- ### What happens at the controller's end
+
+abbrev DeliversNone : ShdlcEndEvent → Type 0
+DeliversNone (Deliver ts) = ⊥
+DeliversNone _ = Unit {0}
+
+none_here : (l : ShdlcLink) (e : ShdlcEndEvent) → DeliversNone e → acked_here (shdlc_happens_at_controller l e) ≤ acked_here l
+none_here l (Turns ts) d = let z = becomes_acked l ts l.controller.side in omega (arith, z)
+none_here l (Deliver ts) d = absurd d
+none_here l (Ignore ts) d = go l.controller.side.phase l.to_controller
+  where
+    by : LinkState → List OnWire → ShdlcLink
+    by Down (x ∷ xs) =
+        shdlc_becomes (record l { to_controller = xs; controller = record l.controller { took = took_with l.controller.took x } })
+        (shdlc_turned l.controller.side ts)
+    by _ _ = l
+
+    go : (p : LinkState) (w : List OnWire) → acked_here (by p w) ≤ acked_here l
+    go Down (x ∷ xs) =
+        let n : ShdlcLink = record l { to_controller = xs; controller = record l.controller { took = took_with l.controller.took x } } in
+        let z = becomes_acked n ts l.controller.side in
+        omega (arith, z)
+    go Down [] = omega arith
+    go Up w = omega arith
+    go Waiting w = omega arith
+none_here l (Acts acts ts) d =
+    let z = becomes_acked (shdlc_put_all l (map act_frame acts)) ts l.controller.side in omega (arith, z)
+none_here l CoreLose d = omega arith
+none_here l (Reset w ts) d =
+    let z = becomes_acked (with_shdlc_ended l (is_up l.controller.side.phase)) ts (reset_with l.controller.side w) in
+    let r = reset_acked l.controller.side w in
+    omega (arith, z, r)
+none_here l Cut d = let z = silent_acked l (new_end 4) refl in omega (arith, z)
+none_here l Stop d = let z = silent_acked l (stopped l.controller.side) refl in omega (arith, z)
+
+-- as an end does something, its own acknowledged fragments aren't more, and the other end stays
+record AddsNone (l m : ShdlcLink) : Type 0 where
+  pub acked : acked_here m ≤ acked_here l
+  pub host : m.host ≡ l.host
+
+adds_then : (l m k : ShdlcLink) → AddsNone l m → AddsNone m k → AddsNone l k
+adds_then l m k a b = record { acked = omega (arith, a.acked, b.acked); host = b.host ∙ a.host }
+
+adds_here : (l : ShdlcLink) (e : ShdlcEndEvent) → DeliversNone e → AddsNone l (shdlc_happens_at_controller l e)
+adds_here l e d = record { acked = none_here l e d; host = (happens_alone l e).host }
+
+is_turn : (e : ShdlcEndEvent) → IsTurn e → DeliversNone e
+is_turn (Deliver ts) t = t
+is_turn _ t = tt
+
+turns_add : (es : List ShdlcEndEvent) (l : ShdlcLink) → AreTurns es → AddsNone l (shdlc_all_at_controller l es)
+turns_add [] l a = record { acked = omega arith; host = refl }
+turns_add (e ∷ es) l a =
+    let m : ShdlcLink = shdlc_happens_at_controller l e in
+    adds_then l m (shdlc_all_at_controller m es) (adds_here l e (is_turn e a.0)) (turns_add es m a.1)
+
+tick_adds : (l : ShdlcLink) (ts : List ShdlcTurn) → AddsNone l (shdlc_ticks_at_controller l ts)
+tick_adds l ts =
+    let m : ShdlcLink = with_shdlc_ended l (is_some (tick_answer l.controller.side).ended) in
+    let e : EndState = shdlc_turned (ticked l.controller.side) ts in
+    let z = becomes_acked m ts (ticked l.controller.side) in
+    let t = ticked_acked l.controller.side in
+    record {
+      acked = omega (arith, z, t);
+      host = (becomes_alone l m e (ended_alone l (is_some (tick_answer l.controller.side).ended))).host;
+    }
+
+tick_or_cut_adds : (b : Option (List ShdlcTurn)) (l : ShdlcLink) → AddsNone l (ticks_or_cut b l)
+tick_or_cut_adds (Some ts) l = tick_adds l ts
+tick_or_cut_adds None l =
+    let z = silent_acked l (new_end 4) refl in record { acked = omega (arith, z); host = (silent_alone l (new_end 4)).host }
+
+tick_if_waiting_adds : (l : ShdlcLink) → AddsNone l (ticks_if_waiting l)
+tick_if_waiting_adds l = by_test (is_waiting l.controller.side) (λ q. rw q (tick_adds l [])) (λ q. rw q (record { acked = omega arith; host = refl }))
+
+-- ### What happens on the link
+
+abbrev NoneDelivered : List ShdlcLinkEvent → Type 0
+NoneDelivered [] = Unit {0}
+NoneDelivered (CoreAtController e ∷ es) = DeliversNone e × NoneDelivered es
+NoneDelivered (CoreAtHost e ∷ es) = DeliversNone e × NoneDelivered es
+NoneDelivered (_ ∷ es) = NoneDelivered es
+
+-- at both ends
+record NoneAdded (l m : ShdlcLink) : Type 0 where
+  pub near : acked_here m ≤ acked_here l
+  pub far : acked_here (shdlc_exchanged m) ≤ acked_here (shdlc_exchanged l)
+
+-- first the controller's end does something, then the host's
+both_add : (l m k : ShdlcLink) → AddsNone l m → AddsNone (shdlc_exchanged m) k → NoneAdded l (shdlc_exchanged k)
+both_add l m k a b =
+    let near : acked_here (shdlc_exchanged k) ≡ acked_here m = ap (λ g. g.side.session.acked) b.host in
+    let far : acked_here (shdlc_exchanged m) ≡ acked_here (shdlc_exchanged l) = ap (λ g. g.side.session.acked) a.host in
+    record { near = omega (arith, near, a.acked); far = omega (arith, far, b.acked) }
+
+nothing_added : (l : ShdlcLink) → AddsNone l l
+nothing_added l = record { acked = omega arith; host = refl }
+
+ticks_add : (l near : ShdlcLink) (turns : List ShdlcEndEvent) (d : Option (List ShdlcTurn)) → AreTurns turns → AddsNone l near
+    → NoneAdded l (shdlc_exchanged (ticks_or_cut d (shdlc_exchanged (shdlc_all_at_controller near turns))))
+ticks_add l near turns d a one =
+    let m : ShdlcLink = shdlc_all_at_controller near turns in
+    both_add l m (ticks_or_cut d (shdlc_exchanged m)) (adds_then l near m one (turns_add turns near a)) (tick_or_cut_adds d (shdlc_exchanged m))
+
+event_adds_none : (l : ShdlcLink) (e : ShdlcLinkEvent) (es : List ShdlcLinkEvent) → AllShdlcAllowed (e ∷ es) → NoneDelivered (e ∷ es)
+    → NoneAdded l (shdlc_happens l e) × AllShdlcAllowed es × NoneDelivered es
+event_adds_none l (CoreAtController e) es a d =
+    let m : ShdlcLink = shdlc_happens_at_controller l e in
+    (both_add l m (shdlc_exchanged m) (adds_here l e d.0) (nothing_added (shdlc_exchanged m)), a.1, d.1)
+event_adds_none l (CoreAtHost e) es a d =
+    let k : ShdlcLink = shdlc_exchanged l in
+    (both_add l l (shdlc_happens_at_controller k e) (nothing_added l) (adds_here k e d.0), a.1, d.1)
+event_adds_none l (Tick c turns h) es a d =
+    let old : ShdlcLink = shdlc_aged l in
+    let one : AddsNone l (ticks_or_cut c old) = (let z = tick_or_cut_adds c old in record { acked = z.acked; host = z.host }) in
+    (ticks_add l (ticks_or_cut c old) turns h a.0 one, a.1, d)
+event_adds_none l (TickWithout turns h) es a d =
+    let old : ShdlcLink = shdlc_aged l in
+    let one : AddsNone l (ticks_if_waiting old) = (let z = tick_if_waiting_adds old in record { acked = z.acked; host = z.host }) in
+    (ticks_add l (ticks_if_waiting old) turns h a.0 one, a.1, d)
+
+none_added : (es : List ShdlcLinkEvent) (l : ShdlcLink) → AllShdlcAllowed es → NoneDelivered es → NoneAdded l (shdlc_after l es)
+none_added [] l a d = record { near = omega arith; far = omega arith }
+none_added (e ∷ es) l a d =
+    let one = event_adds_none l e es a d in
+    let more = none_added es (shdlc_happens l e) one.1 one.2 in
+    let near = one.0.near in
+    let far = one.0.far in
+    record { near = omega (arith, near, more.near); far = omega (arith, far, more.far) }
+
+-- ## Where the ends of a link take frames one after the other, at most a window of fragments more count as acknowledged at each of them
+
+-- ### Events seen on the link over fragments
 
 near_map : (es : List CoreEndEvent) → AllNear (map CoreAtController es)
 near_map [] = tt
@@ -121,7 +524,7 @@ none_core (Activate power c id h ∷ es) l t =
     (none_far far (here_none m (Step (Starts id) h.turns h.ending) tt)))
     (none_core es (happens l (Activate power c id h)) t)
 
--- ## How many more are acknowledged
+-- ### How many more are acknowledged
 
 so_of : (near far : ℕ) (l m : Link) (c : CoreLink) → core_of m ≡ c
     → c.controller.side.session.acked ≤ acked_at_controller l + near → c.host.side.session.acked ≤ acked_at_host l + far → AcksAtMost near far l m
@@ -185,14 +588,14 @@ in_turn_acks es l a k t =
     let h : acked_at_host (after_link_events n rest) ≤ acked_at_host l + 4 = omega (arith, a1.host, a2.host, a3.host) in
     subst (AcksAtMost 4 4 l) (sym end) (record { controller = c; host = h })
 
--- ## The first of them
+-- ### The first of them
 
 -- the first of two parts that come after one another is the first of the one, or the one and the first of the other
-data Cut (xs ys front : List LinkEvent) : Type 0 where
-  Within : (more : List LinkEvent) → xs ≡ front ++ more → Cut xs ys front
-  Beyond : (first back : List LinkEvent) → front ≡ xs ++ first → ys ≡ first ++ back → Cut xs ys front
+data CutAt (xs ys front : List LinkEvent) : Type 0 where
+  Within : (more : List LinkEvent) → xs ≡ front ++ more → CutAt xs ys front
+  Beyond : (first back : List LinkEvent) → front ≡ xs ++ first → ys ≡ first ++ back → CutAt xs ys front
 
-cut_at : (xs ys front back : List LinkEvent) → xs ++ ys ≡ front ++ back → Cut xs ys front
+cut_at : (xs ys front back : List LinkEvent) → xs ++ ys ≡ front ++ back → CutAt xs ys front
 cut_at [] ys front back q = Beyond front back refl q
 cut_at (x ∷ xs) ys [] back q = Within (x ∷ xs) refl
 cut_at (x ∷ xs) ys (e ∷ front) back q = go (cut_at xs ys front back (let z : x ∷ (xs ++ ys) ≡ e ∷ (front ++ back) = q in cc))
@@ -200,7 +603,7 @@ cut_at (x ∷ xs) ys (e ∷ front) back q = go (cut_at xs ys front back (let z :
     same : x ≡ e
     same = let z : x ∷ (xs ++ ys) ≡ e ∷ (front ++ back) = q in cc
 
-    go : Cut xs ys front → Cut (x ∷ xs) ys (e ∷ front)
+    go : CutAt xs ys front → CutAt (x ∷ xs) ys (e ∷ front)
     go (Within more p) = Within more (rw same (ap (λ zs. e ∷ zs) p))
     go (Beyond first rest p r) = Beyond first rest (rw same (ap (λ zs. e ∷ zs) p)) r
 
@@ -220,10 +623,10 @@ none_front (AtController e ∷ front) back a = (a.0, none_front front back a.1)
 none_front (AtHost e ∷ front) back a = (a.0, none_front front back a.1)
 none_front (_ ∷ front) back a = none_front front back a
 
-pub in_turn_front : (es front back : List LinkEvent) → es ≡ front ++ back → AreTakenInTurn es → AreTakenInTurn front
+in_turn_front : (es front back : List LinkEvent) → es ≡ front ++ back → AreTakenInTurn es → AreTakenInTurn front
 in_turn_front es front back q t = go (cut_at t.near (t.far ++ t.rest) front back (sym t.parts ∙ q))
   where
-    behind : (first : List LinkEvent) → front ≡ t.near ++ first → Cut t.far t.rest first → AreTakenInTurn front
+    behind : (first : List LinkEvent) → front ≡ t.near ++ first → CutAt t.far t.rest first → AreTakenInTurn front
     behind first p (Within more r) =
         record {
           near = t.near;
@@ -245,7 +648,7 @@ in_turn_front es front back q t = go (cut_at t.near (t.far ++ t.rest) front back
           none_taken = none_front last rest (subst TakeNoFrames z t.none_taken);
         }
 
-    go : Cut t.near (t.far ++ t.rest) front → AreTakenInTurn front
+    go : CutAt t.near (t.far ++ t.rest) front → AreTakenInTurn front
     go (Within more p) =
         record {
           near = front;
@@ -264,7 +667,7 @@ pub front_acks : (es front back : List LinkEvent) (l : Link) → es ≡ front ++
 front_acks es front back l q a k t =
     in_turn_acks front l (allowed_parts front back l (subst (AllAllowed l) q a)).0 k (in_turn_front es front back q t)
 
--- ## Whole messages
+-- ### Whole messages
 
 whole_within : (ms : List Message) (places : ℕ) → AreSendable ms → whole_among ms places ≤ places
 whole_within [] places a = omega arith

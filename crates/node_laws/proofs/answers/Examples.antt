@@ -6,8 +6,7 @@ use Rattle.pipe_table.specs.PipeRows.{lowest_free}
 use Rattle.node_machine.proofs.world.Schedules.{activation_and_first_pipe_lines, parameter_before_opening_lines}
 use Rattle.node_machine.proofs.world.Schedules.{cut_in_first_write_lines, cut_in_second_write_5A_lines, pipes_closed_by_a_cut_lines}
 use Rattle.node_machine.proofs.world.Schedules.{creation_between_hosts_lines, notice_never_answered_lines, relay_and_strangers_lines}
-use Rattle.node_laws.proofs.answers.Walks.{history_of_lines}
-use Rattle.node_laws.proofs.answers.OneFact.{lines_answered}
+use Rattle.node_laws.proofs.answers.OneFact.{history_of_lines, lines_answered}
 
 activation_and_first_pipe : Answered (history_of_lines (2 ∷ []) activation_and_first_pipe_lines)
 unfolding found_from hosts_where lowest_free

@@ -1,19 +1,270 @@
--- What walks over a history find says of each fact of `Answered` whether it holds, and one walk of all of them.
+-- Whether a history is answered is found by walks over it, fact by fact.
+use Rattle.std.proofs.lemmas.Bool.Decides.{nat_tests}
+use Rattle.std.specs.List.{flat_map}
 use Rattle.node_laws.proofs.Words.{AllByRecursion, Answered, AreDifferent, AreDone, AreDue, AreInTurn, AreLeftShort, AreReset, AtEachEntry, AtEachOccurrence}
-use Rattle.node_laws.proofs.Words.{Bool, End, Entry, IsHeldFor, IsReplied, Line, List, Message, Moment, NodeHistory, NodesHearFirst, None, Occurrence, Option}
-use Rattle.node_laws.proofs.Words.{Some, TurnsAscend, [], and_parts, answerer, ap, append-nil, append_assoc, by_test, down_in, drop, due, ends_in, entries_in}
-use Rattle.node_laws.proofs.Words.{eqb-true, false, fold-append, hears, is_answer_of, is_done, is_left_short, is_reset_down, is_reset_due, list_any, map}
-use Rattle.node_laws.proofs.Words.{node_entries, node_of, not, not-true, noted_of_deeds, occurrences_in, oldest, option_map_or, refl, same_end, subst, sym}
-use Rattle.node_laws.proofs.Words.{through, true, true≢false, unhandled_after, unhandled_in, ℕ, ◌&&◌, ◌++◌, ◌==◌, ◌∙◌, ◌∷◌, ◌≡◌}
+use Rattle.node_laws.proofs.Words.{Bool, End, Entry, FollowsNodes, Header, IsAscending, IsHeldFor, IsReplied, Line, List, Message, Moment, NodeHistory}
+use Rattle.node_laws.proofs.Words.{NodeWorld, NodesHearFirst, None, Occurrence, Option, Some, TurnsAscend, [], and_parts, answerer, ap, append-nil}
+use Rattle.node_laws.proofs.Words.{append_assoc, arith, before_turn, by_test, cons_option, down_in, drop, due, ends_in, entries_in, eqb-true, false, filter}
+use Rattle.node_laws.proofs.Words.{filter_map, fold-append, hears, holds_in, if◌then◌else◌, is_answer_of, is_cut_of, is_done, is_left_short, is_none}
+use Rattle.node_laws.proofs.Words.{is_reset_down, is_reset_due, lack_at, lack_of, line_step, list_any, map, nat_lt, new_world, node_entries, node_of, not}
+use Rattle.node_laws.proofs.Words.{not-true, noted_of_deeds, occurrences_in, oldest, option_map_or, refl, reply, same_end, steps_from, subst, sym, through}
+use Rattle.node_laws.proofs.Words.{to_command, true, true≢false, turn_link, unhandled_after, unhandled_in, until, ℕ, ◌&&◌, ◌++◌, ◌==◌, ◌∙◌, ◌∷◌, ◌≡◌, ◌≤◌}
+use Rattle.node_machine.specs.world.Lines.{misread_in}
+use Rattle.node_machine.specs.world.NodeHistories.{NoneIsMisread}
+use Rattle.node_laws.proofs.schedules.Ranges.{ends_same}
+use Rattle.node_laws.proofs.turns.Worlds.{in_turn}
+use Rattle.node_laws.proofs.turns.Passing.{Becomes, Front, Goes, all_left, doing, front_goes}
+use Rattle.node_laws.proofs.worlds.Late.{hear_first}
 use Rattle.trace_model.specs.declared.entry.Entry.TheVariants as entry
-use Rattle.node_laws.proofs.turns.Queues.{Becomes, Front, Goes, all_left, doing, front_goes}
-use Rattle.node_laws.proofs.answers.Rising.{rise_ascends}
-use Rattle.node_laws.proofs.answers.Splits.{same_at_each, at_each, itself, mapped_at, same_behind}
-use Rattle.node_laws.proofs.answers.Walks.{Findings, IsOrderly, all_in_turn, answers_found, answers_wanted, at_entries, at_events, found, held_found}
-use Rattle.node_laws.proofs.answers.Walks.{held_wanted, history_of_lines, is_damage, turn_found, turn_wanted, wanted}
-use Rattle.node_laws.proofs.schedules.Ends.{ends_same}
+use Rattle.trace_model.specs.declared.line.Line.TheVariants as line
 
--- ## Messages have their turns in order
+-- ## That the ends of a node's turns and holds ascend in an event is found by one walk over its entries
+
+-- the end at which a message has its turn, or is held
+abbrev turn_end : Entry → Option End
+turn_end (entry.Turn e pid message) = Some e
+turn_end (entry.Held e need spare) = Some e
+turn_end _ = None
+
+-- an end of the same node with an earlier link
+abbrev is_earlier : End → End → Bool
+is_earlier e f = (node_of f == node_of e) && nat_lt f.link e.link
+
+-- none of these turns is at such an end
+abbrev none_earlier : End → List Entry → Bool
+none_earlier e [] = true
+none_earlier e (x ∷ entries) = not (option_map_or (is_earlier e) (turn_end x) false) && none_earlier e entries
+
+abbrev pub turns_rise : List Entry → Bool
+turns_rise [] = true
+turns_rise (x ∷ entries) = option_map_or (λ e. none_earlier e entries) (turn_end x) true && turns_rise entries
+
+not_below : (a b : ℕ) → not (nat_lt b a) ≡ true → a ≤ b
+not_below a b q = grind (arith, nat_tests)
+
+low : (n : ℕ) (e : End) (entries : List Entry) → node_of e ≡ n → none_earlier e entries ≡ true
+    → AllByRecursion (λ k. e.link ≤ k) (filter_map (turn_link n) entries)
+low n e [] is none = tt
+low n e (x ∷ entries) is none =
+    let both = and_parts (not (option_map_or (is_earlier e) (turn_end x) false)) (none_earlier e entries) none in
+    one x both.0 (low n e entries is both.1) where
+      at : (f : End) → not (is_earlier e f) ≡ true → AllByRecursion (λ k. e.link ≤ k) (filter_map (turn_link n) entries)
+          → AllByRecursion (λ k. e.link ≤ k) (cons_option (if node_of f == n then Some f.link else None) (filter_map (turn_link n) entries))
+      at f p later = by_test (node_of f == n)
+          (λ q. let same : (node_of f == node_of e) ≡ true = subst (λ k. (node_of f == k) ≡ true) (sym is) q in
+          rw q (not_below e.link f.link (subst (λ b. not (b && nat_lt f.link e.link) ≡ true) same p), later))
+          (λ q. rw q later)
+
+      one : (x : Entry) → not (option_map_or (is_earlier e) (turn_end x) false) ≡ true
+          → AllByRecursion (λ k. e.link ≤ k) (filter_map (turn_link n) entries) → AllByRecursion (λ k. e.link ≤ k) (filter_map (turn_link n) (x ∷ entries))
+      one (entry.Turn f pid message) p later = at f p later
+      one (entry.Held f need spare) p later = at f p later
+      one x p later = later
+
+-- where they rise for all nodes, those of each node ascend
+pub rise_ascends : (n : ℕ) (entries : List Entry) → turns_rise entries ≡ true → IsAscending (filter_map (turn_link n) entries)
+rise_ascends n [] rise = tt
+rise_ascends n (x ∷ entries) rise =
+    let both = and_parts (option_map_or (λ e. none_earlier e entries) (turn_end x) true) (turns_rise entries) rise in
+    one x both.0 (rise_ascends n entries both.1) where
+      at : (e : End) → none_earlier e entries ≡ true → IsAscending (filter_map (turn_link n) entries)
+          → IsAscending (cons_option (if node_of e == n then Some e.link else None) (filter_map (turn_link n) entries))
+      at e p later = by_test (node_of e == n) (λ q. rw q (low n e entries (eqb-true (node_of e) n q) p, later)) (λ q. rw q later)
+
+      one : (x : Entry) → option_map_or (λ e. none_earlier e entries) (turn_end x) true ≡ true → IsAscending (filter_map (turn_link n) entries)
+          → IsAscending (filter_map (turn_link n) (x ∷ entries))
+      one (entry.Turn f pid message) p later = at f p later
+      one (entry.Held f need spare) p later = at f p later
+      one x p later = later
+
+-- ## Facts at each place of a list follow from two walks over it that find the same
+
+-- the first element, or this one
+abbrev first_or : {X : Type 0} → X → List X → X
+first_or x [] = x
+first_or x (y ∷ ys) = y
+
+abbrev rest_of : {X : Type 0} → List X → List X
+rest_of [] = []
+rest_of (y ∷ ys) = ys
+
+-- two functions agree at each element of a list
+same_at_each : {X Y : Type 0} (f g : X → Y) (xs : List X) → map f xs ≡ map g xs → AllByRecursion (λ x. f x ≡ g x) xs
+same_at_each f g [] same = tt
+same_at_each f g (x ∷ xs) same = (ap (first_or (f x)) same, same_at_each f g xs (ap rest_of same))
+
+-- ### Walks
+
+module _ {E C X : Type 0} (part : E → List C) where
+  -- what is found at each element, behind the parts of those before it, and before those that are left
+  abbrev pub at_each : (List C → E → List E → X) → List C → List E → List X
+  at_each f before [] = []
+  at_each f before (x ∷ xs) = f before x xs ∷ at_each f (before ++ part x) xs
+
+  module _ (f g : List C → E → List E → X) where
+    at_place : (before : List C) (front back : List E) (x : E) → at_each f before (front ++ (x ∷ back)) ≡ at_each g before (front ++ (x ∷ back))
+        → f (before ++ flat_map part front) x back ≡ g (before ++ flat_map part front) x back
+    at_place before [] back x same = subst (λ l. f l x back ≡ g l x back) (sym (append-nil before)) (ap (first_or (f before x back)) same)
+    at_place before (y ∷ front) back x same =
+        subst (λ l. f l x back ≡ g l x back) (append_assoc before (part y) (flat_map part front))
+        (at_place (before ++ part y) front back x (ap rest_of same))
+
+    pub same_at : (before : List C) (xs front back : List E) (x : E) → at_each f before xs ≡ at_each g before xs → xs ≡ front ++ (x ∷ back)
+        → f (before ++ flat_map part front) x back ≡ g (before ++ flat_map part front) x back
+    same_at before xs front back x same at = at_place before front back x (subst (λ l. at_each f before l ≡ at_each g before l) at same)
+
+-- what is found of what is found
+mapped_at : {E C X Y : Type 0} (part : E → List C) (of : X → Y) (f : List C → E → List E → X) (before : List C) (xs : List E)
+    → map of (at_each part f before xs) ≡ at_each part (λ l x back. of (f l x back)) before xs
+mapped_at part of f before [] = refl
+mapped_at part of f before (x ∷ xs) = ap (λ l. of (f before x xs) ∷ l) (mapped_at part of f (before ++ part x) xs)
+
+-- the part of an element is the element itself
+abbrev pub itself : {E : Type 0} → E → List E
+itself x = x ∷ []
+
+all_itself : {E : Type 0} (xs : List E) → flat_map itself xs ≡ xs
+all_itself [] = refl
+all_itself (x ∷ xs) = ap (λ l. x ∷ l) (all_itself xs)
+
+pub same_behind : {E X : Type 0} (f g : List E → E → List E → X) (before xs front back : List E) (x : E)
+    → at_each itself f before xs ≡ at_each itself g before xs → xs ≡ front ++ (x ∷ back) → f (before ++ front) x back ≡ g (before ++ front) x back
+same_behind f g before xs front back x same at =
+    subst (λ l. f (before ++ l) x back ≡ g (before ++ l) x back) (all_itself front) (same_at itself f g before xs front back x same at)
+
+-- ## One walk over a history finds whether it is answered
+
+-- ### What is found
+
+-- at each event of a history, behind those before it
+abbrev at_events : {X : Type 0} → (List Occurrence → Occurrence → X) → List Occurrence → List X
+at_events f events = at_each itself (λ past o back. f past o) [] events
+
+-- at each entry of an event
+abbrev pub at_entries : {X : Type 0} → (Moment → Entry → List Entry → X) → List Occurrence → Occurrence → List X
+at_entries f past o = at_each itself (λ front x behind. f (record { past = past; cause = o.cause; so_far = front }) x behind) [] o.entries
+
+-- the answers of a node until its next turn
+abbrev pub answers_found : ℕ → List Entry → List Entry
+answers_found n entries = filter (is_answer_of n) (before_turn n entries)
+
+-- those that are wanted
+abbrev pub answers_wanted : ℕ → List Entry → List Entry → List Entry
+answers_wanted n entries answers = if list_any (is_cut_of n) (before_turn n entries) then to_command answers else answers
+
+-- at a turn what lacks, and the answers behind it
+abbrev pub turn_found : List ℕ → Moment → Entry → List Entry → Option (Option (ℕ × ℕ) × List Entry)
+turn_found hosts m (entry.Turn e pid message) behind = Some (lack_of hosts m e (pid, message), answers_found (node_of e) behind)
+turn_found hosts m _ behind = None
+
+abbrev pub turn_wanted : List ℕ → Moment → Entry → List Entry → Option (Option (ℕ × ℕ) × List Entry)
+turn_wanted hosts m (entry.Turn e pid message) behind =
+    Some (None, answers_wanted (node_of e) behind (noted_of_deeds (until m) (node_of e) e.link (reply hosts m e (pid, message))))
+turn_wanted hosts m _ behind = None
+
+-- where a message is noted as held, whether it was so before, and what it lacks
+abbrev pub held_found : List ℕ → Moment → Entry → List Entry → Option (Bool × Option (ℕ × ℕ))
+held_found hosts m (entry.Held e need spare) behind = Some (holds_in (until m) e, lack_at hosts m e)
+held_found hosts m _ behind = None
+
+abbrev pub held_wanted : List ℕ → Moment → Entry → List Entry → Option (Bool × Option (ℕ × ℕ))
+held_wanted hosts m (entry.Held e need spare) behind = Some (false, Some (need, spare))
+held_wanted hosts m _ behind = None
+
+-- at an event
+pub record Findings : Type 0 where
+  pub done : List Bool
+  pub short : List Bool
+  pub due : List (List Entry)
+  pub reset : List Bool
+  pub turns : List (Option (Option (ℕ × ℕ) × List Entry))
+  pub held : List (Option (Bool × Option (ℕ × ℕ)))
+  pub rise : Bool
+
+abbrev pub found : List ℕ → List Occurrence → Occurrence → Findings
+found hosts past o = record {
+  done = map (λ e. is_done (through past o) e) (ends_in hosts);
+  short = map (λ e. is_left_short hosts past o e) (ends_in hosts);
+  due = map (λ n. answers_found n o.entries) (0 ∷ hosts);
+  reset = map (λ e. list_any (is_reset_down e) o.entries) (ends_in hosts);
+  turns = at_entries (turn_found hosts) past o;
+  held = at_entries (held_found hosts) past o;
+  rise = turns_rise o.entries;
+}
+
+abbrev pub wanted : List ℕ → List Occurrence → Occurrence → Findings
+wanted hosts past o = record {
+  done = map (λ e. true) (ends_in hosts);
+  short = map (λ e. true) (ends_in hosts);
+  due = map (λ n. answers_wanted n o.entries (noted_of_deeds (entries_in past ++ down_in o) n n (due hosts past o n))) (0 ∷ hosts);
+  reset = map (λ e. is_reset_due past o e) (ends_in hosts);
+  turns = at_entries (turn_wanted hosts) past o;
+  held = at_entries (held_wanted hosts) past o;
+  rise = true;
+}
+
+-- ### Histories of examples
+
+-- what is known of each history that follows a schedule
+pub record IsOrderly (t : NodeHistory) : Type 0 where
+  pub turns : AreInTurn (node_entries t)
+  pub heard : NodesHearFirst t
+
+abbrev pub is_damage : Line → Bool
+is_damage (line.Damage e places) = true
+is_damage _ = false
+
+-- without damaged frames none is read as another one
+sure : (lines : List Line) → list_any is_damage lines ≡ false → (w : NodeWorld) → NoneIsMisread w lines
+sure [] none w = tt
+sure (line.Damage e places ∷ lines) none w = absurd (true≢false none)
+sure (l ∷ lines) none w = (refl, sure lines none (line_step w l).0)
+
+-- nor where it is found so
+abbrev pub finds_none : NodeWorld → List Line → Bool
+finds_none w [] = true
+finds_none w (l ∷ lines) = is_none (misread_in w l) && finds_none (line_step w l).0 lines
+
+none_is : {X : Type 0} (o : Option X) → is_none o ≡ true → o ≡ None
+none_is None is = refl
+none_is (Some x) is = absurd (true≢false (sym is))
+
+surely : (lines : List Line) (w : NodeWorld) → finds_none w lines ≡ true → NoneIsMisread w lines
+surely [] w found = tt
+surely (l ∷ lines) w found =
+    let both = and_parts (is_none (misread_in w l)) (finds_none (line_step w l).0 lines) found in
+    (none_is (misread_in w l) both.0, surely lines (line_step w l).0 both.1)
+
+-- the header of a world with these hosts
+abbrev pub header_of_hosts : List ℕ → Header
+header_of_hosts hosts = record { hci = true; hosts = record { items = hosts } }
+
+-- the history of these lines
+abbrev pub history_of_lines : List ℕ → List Line → NodeHistory
+history_of_lines hosts lines = record { header = header_of_hosts hosts; steps = steps_from (new_world hosts) lines }
+
+module _ (hosts : List ℕ) (lines : List Line) (different : AreDifferent hosts) (some : AllByRecursion (λ h. (h == 0) ≡ false) hosts) where
+  orderly_if : NoneIsMisread (new_world hosts) lines → IsOrderly (history_of_lines hosts lines)
+  orderly_if is =
+      let follows : FollowsNodes (header_of_hosts hosts) lines (history_of_lines hosts lines) =
+      record { nodes = refl; header_is = refl; steps_are = refl; sure = is }
+      in record {
+        turns = in_turn (header_of_hosts hosts) lines (history_of_lines hosts lines) follows different some;
+        heard = hear_first (header_of_hosts hosts) lines (history_of_lines hosts lines) follows different some;
+      }
+
+all_in_turn : (hosts : List ℕ) (lines : List Line) → list_any is_damage lines ≡ false → AreDifferent hosts
+    → AllByRecursion (λ h. (h == 0) ≡ false) hosts → IsOrderly (history_of_lines hosts lines)
+all_in_turn hosts lines none different some = orderly_if hosts lines different some (sure lines none (new_world hosts))
+
+-- also where frames are damaged
+pub all_in_turn_still : (hosts : List ℕ) (lines : List Line) → finds_none (new_world hosts) lines ≡ true → AreDifferent hosts
+    → AllByRecursion (λ h. (h == 0) ≡ false) hosts → IsOrderly (history_of_lines hosts lines)
+all_in_turn_still hosts lines found different some = orderly_if hosts lines different some (surely lines (new_world hosts) found)
+
+-- ## What walks over a history find says of each fact of `Answered` whether it holds, and one walk of all of them
+
+-- ### Messages have their turns in order
 
 -- at a turn the first message that came and had none
 abbrev pub first_found : List Entry → Entry → List Entry → Option (Option Message)
@@ -77,10 +328,10 @@ first_so t _ behind same = tt
 abbrev AreFoundInTurn : List Entry → Type 0
 AreFoundInTurn t = at_each itself first_found [] t ≡ at_each itself first_wanted [] t
 
-in_turn : (t : List Entry) → AreFoundInTurn t → AreInTurn t
-in_turn t same = firsts_in_turn t (λ front back x at. first_so front x back (same_behind first_found first_wanted [] t front back x same at))
+in_turn_of_one_fact : (t : List Entry) → AreFoundInTurn t → AreInTurn t
+in_turn_of_one_fact t same = firsts_in_turn t (λ front back x at. first_so front x back (same_behind first_found first_wanted [] t front back x same at))
 
--- ## Nothing comes behind an answer
+-- ### Nothing comes behind an answer
 
 abbrev none_heard : ℕ → List Entry → Bool
 none_heard n [] = true
@@ -102,7 +353,7 @@ heard_so x behind known n answers = by (answerer x) known answers where
   by None q is = absurd (true≢false (sym is))
   by (Some k) q is = none_hears n behind (subst (λ j. none_heard j behind ≡ true) (eqb-true k n is) q)
 
--- ## Facts
+-- ### Facts
 
 -- the facts of `Answered`
 pub data Fact : Type 0 where
@@ -137,7 +388,7 @@ abbrev Unless : Bool → Type 0 → Type 0
 Unless true X = Unit {0}
 Unless false X = X
 
--- ## One fact alone
+-- ### One fact alone
 
 module _ (Found : Fact → Type 0) where
   abbrev One : Fact → Fact → Type 0
@@ -171,7 +422,7 @@ module _ (Holds : Fact → Type 0) where
     all_others_hold f all Ascending q = one_holds f Ascending all.7 q
     all_others_hold f all Heard q = one_holds f Heard all.8 q
 
--- ## Of a history of nodes
+-- ### Of a history of nodes
 
 module _ (t : NodeHistory) where
   abbrev hosts : List ℕ
@@ -224,7 +475,7 @@ module _ (t : NodeHistory) where
   IsFound Heard = AgreeAtEntries (λ m x behind. none_behind x behind) (λ m x behind. true)
 
   found_holds : (g : Fact) → IsFound g → FactOf g
-  found_holds InTurn q = in_turn (node_entries t) q
+  found_holds InTurn q = in_turn_of_one_fact (node_entries t) q
   found_holds Replied q =
       λ past back o front behind x at inside.
       turn_so (record { past = past; cause = o.cause; so_far = front }) x behind
@@ -264,7 +515,7 @@ module _ (t : NodeHistory) where
   pub others_hold : (f : Fact) → AllOthers IsFound f → (g : Fact) → is_fact f g ≡ false → FactOf g
   others_hold f all = all_others_hold FactOf IsFound found_holds f all
 
--- ## All at once
+-- ### All at once
 
 -- one walk finds what is wanted
 abbrev pub IsFoundAnswered : NodeHistory → Type 0

@@ -6,7 +6,7 @@ use Rattle.journal_laws.specs.Records.{found_from}
 use Rattle.gate_admin.specs.View.{hosts_where}
 use Rattle.pipe_table.specs.PipeRows.{lowest_free}
 use Rattle.node_laws.proofs.answers.OneFact.{RefusedByOnly, others_hold}
-use Rattle.node_laws.proofs.answers.OneFact.Fact.{InTurn, Done, Short, Ascending, Heard}
+use Rattle.node_laws.proofs.answers.OneFact.Fact.{Ascending, Done, Heard, InTurn, Short}
 use Rattle.node_laws.proofs.answers.Wrong.{is_empty, told, begins}
 use Rattle.node_laws.proofs.answers.WrongWorlds.{descends, got, host_alone, host_takes, ok, told_of_two, unheard}
 

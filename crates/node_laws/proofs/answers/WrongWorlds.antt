@@ -9,7 +9,7 @@ use Rattle.hci_tables.specs.declared.command.Command.TheVariants as command
 use Rattle.journal_laws.specs.Records.{found_from}
 use Rattle.gate_admin.specs.View.{hosts_where}
 use Rattle.pipe_table.specs.PipeRows.{lowest_free}
-use Rattle.node_laws.proofs.answers.Walks.{header_of_hosts}
+use Rattle.node_laws.proofs.answers.OneFact.{header_of_hosts}
 use Rattle.node_laws.proofs.answers.Wrong.{is_empty, told, boot, comes_up, begins, takes, ticks, held_without_message, sent_unasked, reset_untimely}
 
 -- a host boots, and its end comes up

@@ -1,45 +1,158 @@
--- In each pass of the controller no more commands are noted than came of causes.
-use Rattle.node_laws.proofs.Words.{Acked, Active, AllByRecursion-append, AreCausedSo, AreDifferent, AreHosts, AsksReset, AtEnd, Bool, Comes, ComesTo}
-use Rattle.node_laws.proofs.Words.{Controller, Core, Down, End, Entry, GaveUp, Got, Happening, HasEnds, Host, IfItRuns, IsFrontOf, LinkInput, List, Message}
-use Rattle.node_laws.proofs.Words.{NextFrame, NoInput, NodeInput, NodeWorld, None, Noted, NumberedEnd, Occurrence, Port, Report, Reset, Running, Site, Some}
-use Rattle.node_laws.proofs.Words.{Start, Starts, Stop, Stops, Takes, TimePasses, Work, [], after_input, aged, aged_entries, all_aged, all_come, ap, append-nil}
-use Rattle.node_laws.proofs.Words.{append_assoc, arith, arrival, as_it_ticks, by_option, comes_to, comes_to_pass, commands_by_events, commands_noted, cond}
-use Rattle.node_laws.proofs.Words.{cond_both, controller_begins, controller_work, deeds_of, end_c, entries_for, entries_in, eqb, false, flat_map}
-use Rattle.node_laws.proofs.Words.{flat_map-append, forgets, frames_noted, goes_through_ends, good_of, got_in, handles, has_come_so, has_freed, has_synced}
-use Rattle.node_laws.proofs.Words.{have_turns, holds_back, hosts_in, hosts_of_ends, if_so, input_at, input_of, is_late, lack, length, length-map, lets_go}
-use Rattle.node_laws.proofs.Words.{link_to, map, nat_lt, near_end_in, needs, new_world, noted_by_deeds, option_map_or, option_to_list, other_end, owed_in_step}
-use Rattle.node_laws.proofs.Words.{own_side, passes, refl, report, sent_in, site_at, steps, subst, sym, syncs_in, told, told_at, told_late, told_of_coming}
-use Rattle.node_laws.proofs.Words.{told_of_late, true, true≢false, unless_cut, whole_acked, wires_for, with_older, world_behind, world_step, ℕ, ◌++◌, ◌+◌, ◌∙◌}
-use Rattle.node_laws.proofs.Words.{◌∷◌, ◌≡◌, ◌≤◌}
+-- In the turns of a pass, in whatever order, no more commands are noted than are paid for, nor than came of causes.
+use Rattle.std.proofs.lemmas.List.Elements.{filter-append}
+use Rattle.node_laws.proofs.Words.{Acked, Active, AllByRecursion-append, AreCausedSo, AreDifferent, AreHosts, AreInTurn, AsksReset, AtEnd, Bool, Comes, ComesTo}
+use Rattle.node_laws.proofs.Words.{Controller, Core, Down, End, Entry, GaveUp, Gets, Got, Happening, HasEnds, Host, IfItRuns, IsFrontOf, LinkInput, List}
+use Rattle.node_laws.proofs.Words.{Message, NextFrame, NoInput, NodeInput, NodeWorld, None, Noted, NumberedEnd, Occurrence, Option, Port, Report, Reset}
+use Rattle.node_laws.proofs.Words.{Running, Saying, Site, Some, Start, Starts, Stop, Stops, Takes, TimePasses, Work, [], after_input, aged, aged_entries}
+use Rattle.node_laws.proofs.Words.{all_aged, all_come, ap, append-nil, append_assoc, arith, arrival, as_it_ticks, at_end, by_option, by_test, comes_to}
+use Rattle.node_laws.proofs.Words.{comes_to_pass, commands_by_events, commands_noted, cond, cond_both, cons_option, controller_begins, controller_work}
+use Rattle.node_laws.proofs.Words.{deeds_of, end_c, end_of_node, entries_for, entries_in, eqb, false, filter_map-append, flat_map, flat_map-append, forgets}
+use Rattle.node_laws.proofs.Words.{frames_noted, goes_through_ends, good_of, got_in, got_in_session, handles, has_come_so, has_freed, has_synced, have_turns}
+use Rattle.node_laws.proofs.Words.{holds_back, hosts_in, hosts_of_ends, if_so, if◌then◌else◌, input_at, input_of, is_good, is_late, lack, length, length-map}
+use Rattle.node_laws.proofs.Words.{lets_go, link_to, map, nat_lt, near_end_in, needs, new_world, noted_by_deeds, option_map_or, option_to_list, other_end}
+use Rattle.node_laws.proofs.Words.{owed_in_step, own_side, passes, port_at, refl, report, said, said_of, same_end, sent_by, sent_in, site_at, steps, subst, sym}
+use Rattle.node_laws.proofs.Words.{syncs_in, takes_up, told, told_at, told_late, told_of_coming, told_of_late, true, true≢false, unless_cut, whole_acked}
+use Rattle.node_laws.proofs.Words.{wires_for, with_older, world_behind, world_step, ℕ, ◌++◌, ◌+◌, ◌∙◌, ◌∷◌, ◌≡◌, ◌≤◌}
 use Rattle.link_laws.specs.entries.Entries.{End as Side}
 use Rattle.link_laws.specs.entries.Entries.Entry.{Up}
-use Rattle.node_laws.proofs.kept.Sites.{hosts_same as sites_same}
-use Rattle.node_laws.proofs.telling.Lasting.{occurs}
-use Rattle.node_laws.proofs.telling.Mute.{all_owed_mute, all_synced_mute}
-use Rattle.node_laws.proofs.steps.StepWalks.{unless, got_at}
-use Rattle.node_laws.proofs.passes.Before.{before_entries}
-use Rattle.node_laws.proofs.passes.Passing.{handles_entries, holds_notes, lets_notes, own_held}
-use Rattle.node_laws.proofs.order.Lines.{IsSo, of_none, next_so}
-use Rattle.node_laws.proofs.order.Ordered.{in_order_so}
-use Rattle.node_laws.proofs.turns.Coming.{IsNoGot, AreNoGots, notes_still, so_none, ended_none, tries_none}
-use Rattle.node_laws.proofs.turns.Lines.{AllWait}
-use Rattle.node_laws.proofs.turns.Queues.{Goes, goes-append}
-use Rattle.node_laws.proofs.reply_passes.Ordered.{deeds_still}
-use Rattle.node_laws.proofs.telling.Frames.{wires_all}
-use Rattle.node_laws.proofs.telling.Nodes.{hosts_same}
+use Rattle.node_laws.proofs.bounds.Paying.{AreFronts, PaidSo, few_committed, other_twice, paid_so}
+use Rattle.node_laws.proofs.bounds.Turns.{IsNoSent, Owes, costs, costs-append, less, node_holds, noted, notes_free, pays, pays-append}
+use Rattle.node_laws.proofs.bounds.SessionsNoted.{begun_owes, handled, held, marked, syncs_told}
+use Rattle.node_laws.proofs.bounds.Worlds.{all_took, arrival_free, begins_so, came_from, controller_side, ticks_told, told_once, world_holds}
+use Rattle.node_laws.proofs.kept.Events.{hosts_same as sites_same}
+use Rattle.node_laws.proofs.order.Lines.{IsSo, next_so, of_none}
+use Rattle.node_laws.proofs.order.Sessions.{in_order_so}
+use Rattle.node_laws.proofs.passes.InSteps.{before_entries}
+use Rattle.node_laws.proofs.passes.Passing.{comes_so, handles_entries, holds_notes, lets_notes, own_held}
 use Rattle.node_laws.proofs.readings.Sites.{comes_outside, near_end_side}
-use Rattle.node_laws.proofs.turns.Works.{Leaves, aged_none, arrival_still, flat_leaves, sites_is, still_leaves}
-use Rattle.node_laws.proofs.reply_passes.InTurn.{near_goes, turns_in_order}
-use Rattle.node_laws.proofs.bounds.Costs.{IsNoSent, costs, costs-append, pays-append, notes_free}
-use Rattle.node_laws.proofs.bounds.Holding.{node_holds}
-use Rattle.node_laws.proofs.bounds.Deeds.{Owes, less}
-use Rattle.node_laws.proofs.bounds.Works.{syncs_told, begun_owes}
-use Rattle.node_laws.proofs.bounds.Worlds.{world_holds, begins_so, controller_side, arrival_free, told_once, ticks_told, came_from, all_took}
-use Rattle.node_laws.proofs.bounds.Causes.{PaidSo, paid_so}
-use Rattle.node_laws.proofs.bounds.Passes.{NoGets, gets-append, still_gets, fronts_more, pass_few}
-use Rattle.node_laws.proofs.bounds.Paying.{AreFronts, other_twice}
+use Rattle.node_laws.proofs.reply_passes.Ordered.{deeds_still, near_goes, turns_in_order}
+use Rattle.node_laws.proofs.steps.StepWalks.{got_at, holds_of_step_walks as holds, lets, unless}
+use Rattle.node_laws.proofs.telling.Ticks.{wires_all}
+use Rattle.node_laws.proofs.telling.Lasting.{occurs}
+use Rattle.node_laws.proofs.telling.Accounts.{all_owed_mute, all_synced_mute, deeds_mute}
+use Rattle.node_laws.proofs.telling.Events.{hosts_same_of_nodes as hosts_same}
+use Rattle.node_laws.proofs.turns.Passing.{AreNoGots, AreStill, Goes, IsNoGot, ended_none, goes-append, notes_still, so_none, tries_none}
+use Rattle.node_laws.proofs.turns.Worlds.{AllWait}
+use Rattle.node_laws.proofs.turns.Passing.Doing.{Adds, Nothing}
+use Rattle.node_laws.proofs.turns.Nodes.{Leaves, aged_none, arrival_still, flat_leaves, sites_is, still_leaves}
+use Rattle.trace_model.specs.declared.entry.Entry.TheVariants as entry
 
--- ## Nothing comes
+-- ## In the turns of a pass too, in whatever order the ends have them, no more commands are noted than are paid for
+
+-- ### What is paid
+
+-- over turns, in whatever order
+comes_owe : (side : Side) (all : ℕ) (w v : Work) → Owes side 0 all w → ComesTo w v → Owes side 0 all v
+comes_owe side all w v a c = comes_so (Owes side 0 all) (record {
+  handled = λ u h m messages b on waiting room still. handled side all h m u b;
+  held = λ u h m messages short b on waiting lacks.
+      holds (Owes side 0 all) (held side all) (λ k flag x d. marked side all 0 k flag x d)
+      (λ k need spare x d. noted side all 0 0 (entry.Held (end_of_node x.core k) need spare ∷ []) x (omega arith) d) h short u b;
+  let_go = λ u h b on waiting. lets (Owes side 0 all) (held side all) h u b;
+}) w a v c
+
+-- ### What came
+
+-- no message comes by these
+abbrev NoGets : List Entry → Type 0
+NoGets es = (e : End) (n : ℕ) → got_in es e n ≡ []
+
+gets-append : (s t : List Entry) → NoGets s → NoGets t → NoGets (s ++ t)
+gets-append s t a b e n =
+    filter_map-append (λ x. got_in_session n (said_of e x)) s t ∙ (ap (λ z. z ++ got_in t e n) (a e n) ∙ b e n)
+
+-- it tells of no message that came
+abbrev IsNoGet : Saying → Type 0
+IsNoGet (Gets k m) = ⊥
+IsNoGet _ = Unit {0}
+
+abbrev SaysNoGet : Option (End × Saying) → Type 0
+SaysNoGet None = Unit {0}
+SaysNoGet (Some (f, saying)) = IsNoGet saying
+
+said_none : (b : Bool) (n : ℕ) (saying : Saying) → IsNoGet saying → got_in_session n (if b then Some saying else None) ≡ None
+said_none false n saying none = refl
+said_none true n (Gets k m) none = absurd none
+said_none true n _ none = refl
+
+ungot : (n : ℕ) (f : End) (o : Option (End × Saying)) → SaysNoGet o → got_in_session n (at_end f o) ≡ None
+ungot n f None none = refl
+ungot n f (Some (g, saying)) none = said_none (same_end g f) n saying none
+
+-- what leaves the messages that wait at an end brings none there
+still_gets : (e : End) (es : List Entry) (n : ℕ) → AreStill e es → got_in es e n ≡ []
+still_gets e [] n a = refl
+still_gets e (entry.Got f k pid m ∷ es) n a = by_test (same_end f e)
+    (λ q. let no : Adds (pid, m) ≡ Nothing = rw q at a.0 in absurd (cc no))
+    (λ q. rw q (still_gets e es n a.1))
+still_gets e (x ∷ es) n a =
+    ap (λ o. cons_option o (got_in es e n)) (ungot n e (said x) tt) ∙ still_gets e es n a.1
+
+-- a turn tells of none that came
+turn_gets : (f : End) (pid : ℕ) (m : List ℕ) → NoGets (entry.Turn f pid m ∷ [])
+turn_gets f pid m e n = refl
+
+-- behind a node as its pass begins nothing came
+record Behind (w v : Work) : Type 0 where
+  es : List Entry
+  is : v.entries ≡ w.entries ++ es
+  none : NoGets es
+
+more : (w u v : Work) (fs : List Entry) → Behind w u → v.entries ≡ u.entries ++ fs → NoGets fs → Behind w v
+more w u v fs a is none = record {
+  es = a.es ++ fs;
+  is = is ∙ (ap (λ z. z ++ fs) a.is ∙ append_assoc w.entries a.es fs);
+  none = gets-append a.es fs a.none none;
+}
+
+comes_behind : (w v : Work) → ComesTo w v → Behind w v
+comes_behind w v c = comes_so (Behind w) (record {
+  handled = λ u h m messages b on waiting room still.
+      more w u (handles h m (deeds_of u.core u.ports h m) u) _ b (handles_entries h m (deeds_of u.core u.ports h m) u)
+      (gets-append (entry.Turn (end_of_node u.core h) m.0 m.1 ∷ []) (noted_by_deeds h (deeds_of u.core u.ports h m) (takes_up h m u))
+      (turn_gets (end_of_node u.core h) m.0 m.1)
+      (λ e n. still_gets e (noted_by_deeds h (deeds_of u.core u.ports h m) (takes_up h m u)) n
+      (deeds_still e h (deeds_of u.core u.ports h m) (takes_up h m u) (deeds_mute u.core u.ports h m))));
+  held = λ u h m messages short b on waiting lacks.
+      more w u (holds_back h short u) (own_held h short u) b (holds_notes h short u).entries (held_gets u h short);
+  let_go = λ u h b on waiting. more w u (lets_go h u) [] b (lets_notes h u).entries (λ e n. refl);
+}) w (record { es = []; is = sym (append-nil w.entries); none = λ e n. refl }) v c
+  where
+    held_gets : (u : Work) (h : ℕ) (short : ℕ × ℕ) → NoGets (own_held h short u)
+    held_gets u h short e n = by_test (option_map_or (λ (p : Port). p.desk.holds) (port_at u.ports h) false) (λ q. rw q refl) (λ q. rw q refl)
+
+-- ### Fronts stay fronts
+
+front_more : (xs ys zs : List Message) → IsFrontOf xs ys → IsFrontOf xs (ys ++ zs)
+front_more xs ys zs a = (a.0 ++ zs, sym (append_assoc xs a.0 zs) ∙ ap (λ l. l ++ zs) a.1)
+
+fronts_more : (t es : List Entry) → NoGets es → AreFronts t → AreFronts (t ++ es)
+fronts_more t es none fronts e n =
+    let got : got_in (t ++ es) e n ≡ got_in t e n =
+    filter_map-append (λ x. got_in_session n (said_of e x)) t es ∙ (ap (λ z. got_in t e n ++ z) (none e n) ∙ append-nil (got_in t e n)) in
+    let sent : good_of (sent_in (t ++ es) (other_end e) n) ≡ good_of (sent_in t (other_end e) n) ++ good_of (sent_in es (other_end e) n) =
+    ap good_of (filter_map-append (λ x. sent_by n (said_of (other_end e) x)) t es)
+    ∙ filter-append (λ (m : Message). is_good m.1) (sent_in t (other_end e) n) (sent_in es (other_end e) n) in
+    subst (λ z. IsFrontOf z (good_of (sent_in (t ++ es) (other_end e) n))) (sym got)
+    (subst (IsFrontOf (got_in t e n)) (sym sent)
+    (front_more (got_in t e n) (good_of (sent_in t (other_end e) n)) (good_of (sent_in es (other_end e) n)) (fronts e n)))
+
+-- ### In a pass
+
+-- Where what was noted before a step is paid for, with what the node keeps, and messages are in order as its pass begins and have their turns
+-- in order, as many commands are noted as are paid for.
+pass_few : (side : Side) (t : List Entry) (before here all : ℕ) (w v : Work) → costs t + before ≤ pays t + all → here ≤ before → Owes side 0 here w
+    → ComesTo w v → AreFronts (t ++ w.entries) → AreInTurn (t ++ v.entries) → commands_noted (t ++ v.entries) ≤ all
+pass_few side t before here all w v paid most begun reached fronts turned =
+    let b : Behind w v = comes_behind w v reached in
+    let later : AreFronts (t ++ v.entries) =
+    subst AreFronts (append_assoc t w.entries b.es ∙ ap (λ z. t ++ z) (sym b.is)) (fronts_more (t ++ w.entries) b.es b.none fronts) in
+    let ps = pays-append t v.entries in
+    few_committed all (t ++ v.entries) turned later (omega (arith, paid, most, (comes_owe side here w v begun reached).owes, costs-append t v.entries, ps))
+
+-- ## In each pass of the controller no more commands are noted than came of causes
+
+-- ### Nothing comes
 
 notes_get : (h : ℕ) (notes : List Noted) → AreNoGots notes → NoGets (entries_for h notes)
 notes_get h notes none e n = still_gets e (entries_for h notes) n (notes_still e h notes none)
@@ -59,7 +172,7 @@ flat_gets f one [] = λ e n. refl
 flat_gets f one (x ∷ xs) = gets-append (f x) (flat_map f xs) (one x) (flat_gets f one xs)
 
 -- an input that brings no message, at any end
-abbrev pub BringsNone : NodeInput → Type 0
+abbrev BringsNone : NodeInput → Type 0
 BringsNone input = (p : Port) → option_map_or (λ i. (report p.side i).got) (input_at input p) [] ≡ []
 
 brings : (b : Bool) (i : LinkInput) (p : Port) → (report p.side i).got ≡ [] → option_map_or (λ j. (report p.side j).got) (cond b (Some i) None) [] ≡ []
@@ -100,7 +213,7 @@ module _ (input : NodeInput) (w : Work) (none : BringsNone input) where
       (λ e n. still_gets e (noted_by_deeds 0 (syncs_in input w) (has_freed input w)) n
       (deeds_still e 0 (syncs_in input w) (has_freed input w) (all_synced_mute w.core input w.ports))) (owed_none (has_synced input w).cut))))
 
--- ## A step notes more than its beginning
+-- ### A step notes more than its beginning
 
 record Extends (w v : Work) : Type 0 where
   es : List Entry
@@ -126,7 +239,7 @@ module _ (w : Work) where
   pass_extends =
       unless (Extends w) passes w (λ v b. going (map (λ (p : Port). p.desk.host) v.ports) v b) (record { es = []; is = sym (append-nil w.entries) })
 
--- ## The controller
+-- ### The controller
 
 module _ (hosts : List ℕ) (most : length hosts ≤ 7) (all : ℕ) (os : List Occurrence) (w : NodeWorld) (a : PaidSo hosts all os w) (r : Running)
     (runs : w.controller ≡ Some r) where
@@ -184,7 +297,7 @@ module _ (hosts : List ℕ) (most : length hosts ≤ 7) (all : ℕ) (os : List O
         (begun_none (AtEnd h i) (controller_begins w r h comes) none first) before
 
     -- whatever comes to the controller's end of this link
-    pub comes_fronts : (comes : Comes) (i : LinkInput) → input_of (link_to w.sites h) comes ≡ Some i
+    comes_fronts : (comes : Comes) (i : LinkInput) → input_of (link_to w.sites h) comes ≡ Some i
         → AreFronts (entries_in os ++ (comes_to_pass (AtEnd h i) (controller_begins w r h comes)).entries)
     comes_fronts NextFrame i seen = taken_fronts i seen
     comes_fronts (AsksReset window) i seen = by i cc where
@@ -201,7 +314,7 @@ module _ (hosts : List ℕ) (most : length hosts ≤ 7) (all : ℕ) (os : List O
           (quiet Stops Stop (λ p. brings (eqb p.desk.host h) Stop p refl) (λ e n. refl))
     comes_fronts NoInput i seen = absurd (cc seen)
 
-    pub comes_few : (comes : Comes) (i : LinkInput) → input_of (link_to w.sites h) comes ≡ Some i → (v : Work)
+    comes_few : (comes : Comes) (i : LinkInput) → input_of (link_to w.sites h) comes ≡ Some i → (v : Work)
         → ComesTo (comes_to_pass (AtEnd h i) (controller_begins w r h comes)) v → commands_noted (entries_in os ++ v.entries) ≤ all
     comes_few comes i seen v reached =
         let near_ends : ℕ → NumberedEnd = λ j. near_end_in (link_to w.sites j) (comes_to h comes j) in
@@ -262,7 +375,7 @@ module _ (hosts : List ℕ) (most : length hosts ≤ 7) (all : ℕ) (os : List O
   old_any : (e : End) → (q : List Message) × Goes e [] since q
   old_any e = let z = any e in (z.0, goes-append e (entries_in os) (all_aged w).1 [] z.0 z.0 z.1 (quiet_ends e z.0))
 
-  pub ticks_few : (v : Work) → ComesTo (comes_to_pass TimePasses (as_it_ticks w r)) v → commands_noted (since ++ v.entries) ≤ all
+  ticks_few : (v : Work) → ComesTo (comes_to_pass TimePasses (as_it_ticks w r)) v → commands_noted (since ++ v.entries) ≤ all
   ticks_few v reached =
       let near_ends : ℕ → NumberedEnd = λ k. (link_to (all_aged w).0.sites k).controller in
       let start : Work = as_it_ticks w r in
@@ -288,7 +401,7 @@ module _ (hosts : List ℕ) (most : length hosts ≤ 7) (all : ℕ) (os : List O
           (wires_all IsNoSent (λ w c. tt) Controller Host s.link.to_controller s.link.to_host) in
           omega (arith, first, gone_free sites, costs-append (gone s) (flat_map gone sites))
 
--- ## Behind events
+-- ### Behind events
 
 module _ (hosts : List ℕ) (events : List Occurrence) (are : AreHosts hosts) (most : length hosts ≤ 7) (caused : AreCausedSo (new_world hosts) events)
     (w : NodeWorld) (is : world_behind (new_world hosts) events ≡ w) (r : Running) (runs : w.controller ≡ Some r) where

@@ -1,39 +1,278 @@
--- No session that is noted of a link has a greater number than how many RSETs were put on the link until then.
-use Rattle.node_laws.proofs.Words.{Acked, Activate, AllByRecursion, AsksReset, AtController, AtHost, Bool, Comes, Control, Controller, Cut, CutOff, EndEvent}
-use Rattle.node_laws.proofs.Words.{Ending, Give, GoesOut, Got, HasTick, Host, IsStart, Link, LinkEnd, LinkEvent, LinkInput, List, Lose, Loss, NextFrame}
-use Rattle.node_laws.proofs.Words.{NoInput, Node, NumberedEnd, OnWire, Report, Reset, Restarted, Sent, Start, Starts, Step, Stop, Stops, Take, TicksWithout}
-use Rattle.node_laws.proofs.Words.{TooMany, Turn, [], after_input, after_link_events, aged, aged_entries, all_at_controller, arith, by_list, by_option, by_test}
-use Rattle.node_laws.proofs.Words.{deactivated, ended_by, ending_entries, entries, entries_for, entries_of_events, entry_of, event_entries, exchanged, false}
-use Rattle.node_laws.proofs.Words.{far, finished, first_lost, frames_out, give_refusal, happens, happens_at_controller, has_input, has_restarted, has_taken}
-use Rattle.node_laws.proofs.Words.{here_entries, input_entries, is_rset, is_some, is_up, left_after, length, nat_lt, new_link_end, number_of, pushed_out, put}
-use Rattle.node_laws.proofs.Words.{put_all, put_entries, puts_entries, refl, renewed, report, rest_entries, restart_entries, sent_all, silent, started}
-use Rattle.node_laws.proofs.Words.{step_entries, steps_at_controller, taken_entries, tick_entries, ticks_at_controller, told, told_of, took_with, true, turn}
-use Rattle.node_laws.proofs.Words.{turn_entries, turn_entry, turned, whole_acked, wire_with, with_ended, ℕ, ◌++◌, ◌∷◌, ◌≡◌, ◌≤◌}
-use Rattle.registry.proofs.ValueLemmas.{AllByRecursion-append as each_append}
+-- What a node notes in a step is paid for, and the numbers of sessions that are noted are no greater than how many RSETs were made.
+use Rattle.node_laws.proofs.Words.{Acked, Activate, AllByRecursion, AreHosts, ArePlayable, AsksReset, AtController, AtEnd, AtHost, Bool, Comes, Commits}
+use Rattle.node_laws.proofs.Words.{Control, Controller, Core, Creation, Cut, CutOff, Deed, EndEvent, Ending, Entry, FetchMessage, FollowsNodes, Give, GoesOut}
+use Rattle.node_laws.proofs.Words.{Got, HasTick, Header, Hold, Host, IsLine, IsLinkTold, IsStart, Line, Link, LinkEnd, LinkEvent, LinkInput, List, Lose, Loss}
+use Rattle.node_laws.proofs.Words.{Message, NextFrame, NoInput, Node, NodeHistory, NodeInput, None, NumberedEnd, Occurrence, OnWire, Option, Port, Releases}
+use Rattle.node_laws.proofs.Words.{Report, Reset, Response, Restarted, Sent, Site, Some, Start, Starts, Step, Stop, Stops, Sync, Take, TicksWithout, TimePasses}
+use Rattle.node_laws.proofs.Words.{TooMany, Turn, Work, [], after_input, after_link_events, after_sessions, after_turn, aged, aged_entries, all_at_controller}
+use Rattle.node_laws.proofs.Words.{all_come, all_done, all_owed, ap, arith, asked_at, begins_with, by_list, by_option, by_test, comes_to_pass, cond, cond_both}
+use Rattle.node_laws.proofs.Words.{controller_deeds, deactivated, deeds_of, end_of, end_of_node, end_view, ended_by, ending_entries, entries, entries_for}
+use Rattle.node_laws.proofs.Words.{entries_in, entries_of_events, entry_of, eqb, event_entries, event_of, exchanged, false, far, filter, filter_map, finds_room}
+use Rattle.node_laws.proofs.Words.{finished, first_lost, flat_map, forgets, forgotten, frames_out, give_refusal, goes_through_ends, handles, happens}
+use Rattle.node_laws.proofs.Words.{happens_at_controller, has_come, has_input, has_restarted, has_taken, have_turns, here_entries, host_deeds, input_at}
+use Rattle.node_laws.proofs.Words.{input_entries, is_forgotten, is_kept_sync, is_late, is_over, is_over_at, is_rset, is_some, is_up, lack, left_after, length}
+use Rattle.node_laws.proofs.Words.{length-map, link_after_all, list_any, map, nat_lt, needs, new_line, new_link_end, new_world, not, noting, number_of}
+use Rattle.node_laws.proofs.Words.{occurrences_in, of_link, option_map, option_map_or, owed, own_side, own_view, passes, port_at, pushed_out, put, put_all}
+use Rattle.node_laws.proofs.Words.{put_entries, puts_entries, refl, renewed, report, reset_late, rest_entries, restart_entries, sent_all, silent, site_at}
+use Rattle.node_laws.proofs.Words.{started, step_entries, steps, steps_at_controller, subst, sym, synced, taken_entries, tick_entries, ticks_at_controller}
+use Rattle.node_laws.proofs.Words.{times_out, told, told_at, told_late, told_of, took_with, true, turn, turn_at, turn_entries, turn_entry, turned, unless_cut}
+use Rattle.node_laws.proofs.Words.{view_of, whole_acked, wire_with, with_desk, with_ended, with_older, without_notice, world_behind, ℕ, ◌&&◌, ◌++◌, ◌+◌, ◌==◌}
+use Rattle.node_laws.proofs.Words.{◌∙◌, ◌∷◌, ◌≡◌, ◌≤◌}
+use Rattle.history.proofs.RsetsInBareWorlds.{numbers_in_bare}
+use Rattle.history.proofs.legal.Ordered.{IsRun, is_run, run_entries}
+use Rattle.history.proofs.legal.Runs.{link_events}
+use Rattle.history.specs.BareRsets.{rsets_by_all_bare}
+use Rattle.history.specs.Follows.{Follows, host_of}
+use Rattle.history.specs.Histories.{Cause, History, all_entries, all_events, causes_of}
+use Rattle.history.specs.Steps.{bare_link, link_after}
+use Rattle.link_laws.proofs.messages.RsetNumbers.{aged_numbered, all_numbered, event_numbered, exchanged_numbered, here_numbered, number_low, silent_numbered}
+use Rattle.link_laws.proofs.messages.RsetNumbers.{start_numbered, steps_numbered, tick_numbered, took_low}
+use Rattle.link_laws.specs.entries.Entries.{End, End as Side, Entry as LinkEntry, trace}
+use Rattle.link_laws.specs.entries.Entries.Entry.{Tick, Up}
 use Rattle.link_laws.specs.messages.Links.{with_controller}
+use Rattle.link_laws.specs.messages.Links.IsStart.{IsBare}
 use Rattle.link_laws.specs.messages.Links.LinkEvent.{Ticks}
-use Rattle.link_laws.specs.entries.Entries.{End, Entry}
-use Rattle.link_laws.specs.entries.Entries.Entry.{Up, Tick}
-use Rattle.link_laws.specs.messages.Rsets.{HasLowNumbers}
-use Rattle.node_laws.specs.bounds.Resets.{NotedWithin, AreNotedWithin, SessionWithin, AreSessionsWithin}
-use Rattle.node_laws.proofs.telling.Reported.{told_all}
-use Rattle.link_laws.proofs.messages.RsetNumbers.{number_low, exchanged_numbered, aged_numbered, silent_numbered, took_low}
-use Rattle.link_laws.proofs.messages.RsetNumbers.{steps_numbered, tick_numbered, here_numbered, all_numbered, event_numbered, start_numbered}
+use Rattle.link_laws.specs.messages.Rsets.{HasLowNumbers, NumbersWithin}
+use Rattle.registry.proofs.ValueLemmas.{AllByRecursion-append as each_append, AllByRecursion-filter as each_filter}
+use Rattle.trace_model.specs.Lines.{IsLineOf}
+use Rattle.node_laws.specs.bounds.Resets.{AreNotedWithin, AreSessionsWithin, NotedWithin, SessionWithin}
+use Rattle.node_laws.specs.rsets.Causes.{NumbersWithinOnEach, happened_in, rsets_by_all}
+use Rattle.node_laws.proofs.bounds.Turns.{Owes, all_owe, answer_free, controller_pays, core_holds, costs, costs-append, ended, holds_at, host_pays}
+use Rattle.node_laws.proofs.bounds.Turns.{is_host_side, kept, less, map_less, message_cost, noted, notice_holds, ported, stays_at, told_free}
+use Rattle.node_laws.proofs.bounds.Turns.{turned as turned_of_deeds, weights, weights-append, with_less}
+use Rattle.node_laws.proofs.bounds.Syncs.{sync_told}
+use Rattle.node_laws.proofs.order.Lines.{history_so}
+use Rattle.node_laws.proofs.rsets.InWorlds.{numbers_behind}
+use Rattle.node_laws.proofs.steps.StepWalks.{got_at, holds_of_step_walks as holds, lets, sessions_node, unless}
+use Rattle.node_laws.proofs.telling.Shapes.{told_all}
+use Rattle.gate_answers.specs.declared.response.Response.TheVariants as response
+use Rattle.trace_model.specs.declared.entry.Entry.TheVariants as entry
 
--- ## Lists
+-- ## What a node notes in a step is paid for by the messages that have their turns, and by what it kept
 
-within_more : (m n : ℕ) → m ≤ n → (x : Entry) → NotedWithin m x → NotedWithin n x
+-- ### Turns
+
+module _ (side : Side) (all : ℕ) where
+  -- what a message pays at an end of this side
+  abbrev turn_pay : Message → ℕ
+  turn_pay m = message_cost (not (is_host_side side)) m.0 m.1
+
+  pay_is : (h : ℕ) (m : Message) (s : Side) → message_cost (not (end_of h s).at_host) m.0 m.1 ≡ message_cost (not (is_host_side s)) m.0 m.1
+  pay_is h m Controller = refl
+  pay_is h m Host = refl
+
+  pub marked : (left h : ℕ) (flag : Bool) (w : Work) → Owes side left all w → Owes side left all (with_desk h (λ d. record d { holds = flag }) w)
+  marked left h flag w a =
+      let f : Port → Port = λ p. record p { desk = record p.desk { holds = flag } } in
+      ended side all left left h f w (omega (arith, with_less h f (λ p. omega arith) w.ports)) a
+
+  pub held : (h : ℕ) (flag : Bool) (w : Work) → Owes side 0 all w → Owes side 0 all (turn_at h (Hold flag) w)
+  held h flag w a = turned_of_deeds side all 0 h (Hold flag) w (λ m is. cc is) a
+
+module _ (side : Side) (all : ℕ) (core : Core) (ports : List Port) (h : ℕ) (m : Message) (v : Work) (side_is : own_side core ≡ side) (core_is : v.core ≡ core)
+    (same : holds_at h v.ports ≡ holds_at h ports) (a : Owes side (turn_pay side all m) all v) where
+  deeds_pay : Owes side 0 all (all_done h (deeds_of core ports h m) v)
+  deeds_pay = by_test (eqb core.node 0)
+      (λ q. rw q (subst (λ s. Goal s true) (sym (ap (λ c. cond c Controller Host) q) ∙ side_is) (controller_pays all core ports h m v same) a))
+      (λ q. rw q (subst (λ s. Goal s false) (sym (ap (λ c. cond c Controller Host) q) ∙ side_is) (far (port_at ports h)) a)) where
+        by : Bool → List Deed
+        by true = controller_deeds (view_of core ports) h m
+        by false = option_map_or (λ e. host_deeds (own_view core) e m) (option_map end_view (port_at ports h)) []
+
+        Goal : Side → Bool → Type 0
+        Goal s b = Owes s (turn_pay s all m) all v → Owes s 0 all (all_done h (by b) v)
+
+        far : (o : Option Port) → Owes Host (message_cost false m.0 m.1) all v
+            → Owes Host 0 all (all_done h (option_map_or (λ e. host_deeds (own_view core) e m) (option_map end_view o) []) v)
+        far None b = less Host all (message_cost false m.0 m.1) 0 v (omega arith) b
+        far (Some p) b = host_pays all core h m p v core_is b
+
+module _ (side : Side) (all : ℕ) where
+  pub handled : (h : ℕ) (m : Message) (w : Work) → Owes side 0 all w → Owes side 0 all (handles h m (deeds_of w.core w.ports h m) w)
+  handled h m w a =
+      let es : List Entry = entry.Turn (end_of_node w.core h) m.0 m.1 ∷ [] in
+      let pays_it : message_cost (not (end_of_node w.core h).at_host) m.0 m.1 ≡ turn_pay side all m =
+      pay_is side all h m (own_side w.core) ∙ ap (λ s. turn_pay s all m) a.side_is in
+      let told : Owes side (turn_pay side all m) all (noting es w) = noted side all (turn_pay side all m) 0 es w (omega (arith, pays_it)) a in
+      let fetched : Work = turn_at h FetchMessage (noting es w) in
+      let f : Port → Port = λ p. record p { desk = record p.desk { holds = false } } in
+      deeds_pay side all w.core w.ports h m (with_desk h (λ d. record d { holds = false }) fetched) a.side_is refl
+      (stays_at h f (λ p. refl) (λ p. refl) fetched.ports ∙ stays_at h (after_turn FetchMessage) (λ p. refl) (λ p. refl) w.ports)
+      (marked side all (turn_pay side all m) h false fetched (turned_of_deeds side all (turn_pay side all m) h FetchMessage (noting es w) (λ m is. cc is) told))
+
+  having : (h : ℕ) (messages : List Message) (w : Work) → Owes side 0 all w → Owes side 0 all (have_turns h messages w)
+  having h [] w a = lets (Owes side 0 all) (held side all) h w a
+  having h (m ∷ messages) w a = by_option (lack w.ports (needs h deeds))
+      (λ q. rw q (unless (Owes side 0 all) (have_turns h messages) (handles h m deeds w) (λ v b. having h messages v b) (handled h m w a)))
+      (λ short q. rw q (holds (Owes side 0 all) (held side all) (λ k flag v b. marked side all 0 k flag v b)
+      (λ k need spare v b. noted side all 0 0 (entry.Held (end_of_node v.core k) need spare ∷ []) v (omega arith) b) h short w a)) where
+        deeds : List Deed
+        deeds = deeds_of w.core w.ports h m
+
+  going : (hosts : List ℕ) (w : Work) → Owes side 0 all w → Owes side 0 all (goes_through_ends hosts w)
+  going [] w a = a
+  going (h ∷ hosts) w a =
+      unless (Owes side 0 all) (goes_through_ends hosts) (have_turns h (got_at h w) w) (λ v b. going hosts v b) (having h (got_at h w) w a)
+
+-- ### What is done outside turns
+
+releases_weigh : (side : Side) (cs : List Creation) → weights side (map (λ (c : Creation). Releases c.asker) cs) ≡ 0
+releases_weigh side [] = refl
+releases_weigh side (c ∷ cs) = let rest = releases_weigh side cs in omega (arith, rest)
+
+forgotten_weigh : (side : Side) (ports : List Port) → weights side (forgotten ports) ≡ 0
+forgotten_weigh side ports = releases_weigh side (filter (λ (c : Creation). is_over_at ports c.asker) (filter_map asked_at ports))
+
+owed_weigh : (side : Side) (r : Response) (o : Option Creation) → weights side (owed r o) ≡ 0
+owed_weigh side r None = refl
+owed_weigh side r (Some c) = let none = answer_free (is_host_side side) 1 r [] in omega (arith, none)
+
+flat_weigh : {X : Type 0} (side : Side) (f : X → List Deed) → ((x : X) → weights side (f x) ≡ 0) → (xs : List X) → weights side (flat_map f xs) ≡ 0
+flat_weigh side f one [] = refl
+flat_weigh side f one (x ∷ xs) =
+    omega (arith, weights-append side (f x) (flat_map f xs), one x, flat_weigh side f one xs)
+
+all_owed_weigh : (side : Side) (ports : List Port) → weights side (all_owed ports) ≡ 0
+all_owed_weigh side ports =
+    let ended : List Port = filter (λ p. p.ended) ports in
+    let late : List Port = filter (λ p. p.late) ports in
+    let both =
+    weights-append side (flat_map (λ p. owed response.NotConnected (asked_at p)) ended) (flat_map (λ p. owed response.Timeout (asked_at p)) late) in
+    let first = flat_weigh side (λ p. owed response.NotConnected (asked_at p)) (λ p. owed_weigh side response.NotConnected (asked_at p)) ended in
+    let rest = flat_weigh side (λ p. owed response.Timeout (asked_at p)) (λ p. owed_weigh side response.Timeout (asked_at p)) late in
+    omega (arith, both, first, rest)
+
+-- how many ends tell of an identifier of a UICC
+abbrev pub syncs_told : NodeInput → List Port → ℕ
+syncs_told input [] = 0
+syncs_told input (p ∷ ports) = option_map_or (λ i. sync_told (report p.side i).sync) (input_at input p) 0 + syncs_told input ports
+
+-- each costs one command at most
+synced_weighs : (side : Side) (core : Core) (input : NodeInput) (p : Port)
+    → weights side (synced core input p) ≤ option_map_or (λ i. sync_told (report p.side i).sync) (input_at input p) 0
+synced_weighs side core input p = by_option (input_at input p)
+    (λ q. rw q (omega arith))
+    (λ i q. rw q (by_option (report p.side i).sync
+    (λ q. rw q (omega arith))
+    (λ id q. rw q (cond_both (not (is_kept_sync core.tables.syncs p.desk.host id) && finds_room core (Sync p.desk.host id))
+    (Commits (Sync p.desk.host id) ∷ []) []
+    (λ deeds. weights side deeds ≤ 1) (λ _. omega arith) (λ _. omega arith)))))
+
+all_synced : (side : Side) (core : Core) (input : NodeInput) (ports : List Port) → weights side (flat_map (synced core input) ports) ≤ syncs_told input ports
+all_synced side core input [] = omega arith
+all_synced side core input (p ∷ ports) =
+    let rest = all_synced side core input ports in
+    omega (arith, weights-append side (synced core input p) (flat_map (synced core input) ports), synced_weighs side core input p, rest)
+
+-- ### What comes
+
+told_costs : (core : Core) (p : Port) (o : Option LinkInput) → costs (told_at core p o) ≡ 0
+told_costs core p None = refl
+told_costs core p (Some i) = told_free p.desk.host (own_side core) p.session (report p.side i) (whole_acked (after_input p.side i))
+
+late_costs : (core : Core) (p : Port) → costs (told_late core p) ≡ 0
+late_costs core p = cond_both (is_late p) (told_at core p (Some (Reset None))) [] (λ es. costs es ≡ 0) (λ _. told_costs core p (Some (Reset None))) (λ _. refl)
+
+pub flat_costs : {X : Type 0} (f : X → List Entry) → ((x : X) → costs (f x) ≡ 0) → (xs : List X) → costs (flat_map f xs) ≡ 0
+flat_costs f one [] = refl
+flat_costs f one (x ∷ xs) =
+    let both = costs-append (f x) (flat_map f xs) in let first = one x in let rest = flat_costs f one xs in omega (arith, both, first, rest)
+
+come_desk : (p : Port) (o : Option LinkInput) → notice_holds (has_come p o).desk.notice ≤ notice_holds p.desk.notice
+come_desk p None = omega arith
+come_desk p (Some i) = omega arith
+
+older_desk : (p : Port) → notice_holds (with_older p).desk.notice ≤ notice_holds p.desk.notice
+older_desk p = by_option p.desk.notice (λ q. rw q (omega arith)) (λ n q. rw q (omega arith))
+
+late_desk : (p : Port) → notice_holds (reset_late p).desk.notice ≤ notice_holds p.desk.notice
+late_desk p =
+    cond_both (is_late p) _ p (λ (q : Port). notice_holds q.desk.notice ≤ notice_holds p.desk.notice) (λ _. omega arith) (λ _. omega arith)
+
+forgets_desk : (ports : List Port) (p : Port) → notice_holds (forgets ports p).desk.notice ≤ notice_holds p.desk.notice
+forgets_desk ports p =
+    cond_both (is_forgotten ports (asked_at p)) _ p (λ (q : Port). notice_holds q.desk.notice ≤ notice_holds p.desk.notice)
+    (λ _. by_option p.desk.notice (λ q. rw q (omega arith)) (λ n q. rw q (omega arith))) (λ _. omega arith)
+
+without_desk : (p : Port) → notice_holds (without_notice p).desk.notice ≤ notice_holds p.desk.notice
+without_desk p = cond_both (is_over p) _ p (λ (q : Port). notice_holds q.desk.notice ≤ notice_holds p.desk.notice) (λ _. omega arith) (λ _. omega arith)
+
+sessions_hold : (core : Core) (ports : List Port) → core_holds (after_sessions core ports) ≤ core_holds core
+sessions_hold core ports =
+    cond_both (list_any is_over ports) _ core (λ (c : Core). core_holds c ≤ core_holds core) (λ _. omega arith) (λ _. omega arith)
+
+-- ### Steps
+
+module _ (side : Side) (all : ℕ) where
+  mapped : (left : ℕ) (f : Port → Port) → ((p : Port) → notice_holds (f p).desk.notice ≤ notice_holds p.desk.notice) → (w : Work) → Owes side left all w
+      → Owes side left all (record w { ports = map f w.ports })
+  mapped left f less w a = ported side all left (map f w.ports) w (length-map w.ports f) (map_less f less w.ports) a
+
+  timed : (left : ℕ) (input : NodeInput) (w : Work) → Owes side left all w → Owes side left all (times_out input w)
+  timed left (AtEnd h i) w a = a
+  timed left TimePasses w a =
+      let older : List Port = map with_older w.ports in
+      let v : Work = record w { ports = map reset_late older } in
+      noted side all left left (flat_map (told_late w.core) older) v (omega (arith, flat_costs (told_late w.core) (late_costs w.core) older))
+      (mapped left reset_late late_desk (record w { ports = older }) (mapped left with_older older_desk w a))
+
+  before_pass : (left : ℕ) (freed syncs owing : List Deed) (w : Work) → weights side freed ≡ 0 → weights side syncs ≤ left → weights side owing ≡ 0
+      → Owes side left all w → Owes side 0 all (unless_cut (all_done 0 owing) (all_done 0 syncs (all_done 0 freed w)))
+  before_pass left freed syncs owing w f s o a =
+      let first : Owes side left all (all_done 0 freed w) =
+      all_owe side all left 0 freed w (less side all left (left + weights side freed) w (omega (arith, f)) a) in
+      let kept_ids : Owes side 0 all (all_done 0 syncs (all_done 0 freed w)) =
+      all_owe side all 0 0 syncs (all_done 0 freed w) (less side all left (0 + weights side syncs) (all_done 0 freed w) (omega (arith, s)) first) in
+      unless (Owes side 0 all) (all_done 0 owing) (all_done 0 syncs (all_done 0 freed w))
+      (λ v b. all_owe side all 0 0 owing v (less side all 0 (0 + weights side owing) v (omega (arith, o)) b)) kept_ids
+
+  -- As its pass begins a node owes nothing that it didn't keep before the step, but for the identifiers that its ends tell of.
+  pub begun_owes : (input : NodeInput) (w : Work) → Owes side (syncs_told input w.ports) all w → Owes side 0 all (comes_to_pass input w)
+  begun_owes input w a =
+      let k : ℕ = syncs_told input w.ports in
+      let begun : Work = record w { ports = map (λ p. has_come p (input_at input p)) w.ports } in
+      let none = flat_costs (λ p. told_at w.core p (input_at input p)) (λ p. told_costs w.core p (input_at input p)) w.ports in
+      let told : Owes side k all (all_come input w) =
+      noted side all k k (flat_map (λ p. told_at w.core p (input_at input p)) w.ports) begun (omega (arith, none))
+      (mapped k (λ p. has_come p (input_at input p)) (λ p. come_desk p (input_at input p)) w a) in
+      let came : Work = times_out input (all_come input w) in
+      let syncs : List Deed = flat_map (synced w.core input) w.ports in
+      let left : List Port = map (forgets came.ports) came.ports in
+      let core : Core = after_sessions came.core came.ports in
+      let less_core = sessions_hold came.core came.ports in
+      let cored : Owes side k all (record came { core = core }) =
+      kept side all k k core came (sessions_node came.core came.ports) (omega (arith, less_core)) (timed k input (all_come input w) told) in
+      let begins : Owes side k all (record came { core = core; ports = map without_notice left }) =
+      mapped k without_notice without_desk (record came { core = core; ports = left })
+      (mapped k (forgets came.ports) (forgets_desk came.ports) (record came { core = core }) cored) in
+      before_pass k (forgotten came.ports) syncs (all_owed left) (record came { core = core; ports = map without_notice left })
+      (forgotten_weigh side came.ports) (all_synced side w.core input w.ports) (all_owed_weigh side left) begins
+
+  -- nor does it behind the step
+  pub steps_owe : (input : NodeInput) (w : Work) → Owes side (syncs_told input w.ports) all w → Owes side 0 all (steps input w)
+  steps_owe input w a =
+      unless (Owes side 0 all) passes (comes_to_pass input w) (λ v b. going side all (map (λ (p : Port). p.desk.host) v.ports) v b) (begun_owes input w a)
+
+  -- what a host does of itself owes what its deeds cost
+  pub begins_owe : (h : ℕ) (deeds : List Deed) (w : Work) → Owes side (weights side deeds) all w → Owes side 0 all (begins_with h deeds w)
+  begins_owe h deeds w a = all_owe side all 0 h deeds w (less side all (weights side deeds) (0 + weights side deeds) w (omega arith) a)
+
+-- ## No session that is noted of a link has a greater number than how many RSETs were put on the link until then
+
+-- ### Lists
+
+within_more : (m n : ℕ) → m ≤ n → (x : LinkEntry) → NotedWithin m x → NotedWithin n x
 within_more m n q (Up who k) a = omega (arith, q, a)
 within_more m n q (Acked who k count) a = omega (arith, q, a)
 within_more m n q (Got who k message) a = omega (arith, q, a)
 within_more m n q (Sent who k message) a = omega (arith, q, a)
 within_more m n q _ a = tt
 
-pub more : (m n : ℕ) (t : List Entry) → m ≤ n → AreNotedWithin m t → AreNotedWithin n t
+more : (m n : ℕ) (t : List LinkEntry) → m ≤ n → AreNotedWithin m t → AreNotedWithin n t
 more m n [] q a = tt
 more m n (x ∷ t) q a = (within_more m n q x a.0, more m n t q a.1)
 
--- ## What comes, and turns
+-- ### What comes, and turns
 
 told_within : (n : ℕ) (who : End) (k : ℕ) (r : Report) (acked : ℕ) → k ≤ n → AreNotedWithin n (told who k r acked)
 told_within n who k r acked q = told_all (NotedWithin n) who k acked q tt (λ t. tt) q (λ m. q) (λ c. tt) r
@@ -50,7 +289,7 @@ turns_within n who k [] e q = tt
 turns_within n who k (t ∷ ts) e q =
     each_append (NotedWithin n) (turn_entry who k e t) (turn_entries who k (turn e t) ts) (turn_within n who k e t q) (turns_within n who k ts (turn e t) q)
 
--- ## Frames
+-- ### Frames
 
 lost_within : (n : ℕ) (who : End) (why : Loss) (wire : List OnWire) → AreNotedWithin n (first_lost who why wire)
 lost_within n who why [] = tt
@@ -73,7 +312,7 @@ aged_within : (n : ℕ) (who : End) (wire : List OnWire) → AreNotedWithin n (a
 aged_within n who [] = tt
 aged_within n who (x ∷ wire) = by_test (nat_lt x.age 4) (λ q. rw q (aged_within n who wire)) (λ q. rw q (tt, aged_within n who wire))
 
--- ## Steps of the near end
+-- ### Steps of the near end
 
 rest_within : (n : ℕ) (who : End) (l : Link) (e : LinkEnd) (ts : List Turn) (ending : Ending) → number_of l.controller ≤ n
     → AreNotedWithin n (rest_entries who l e ts ending)
@@ -143,7 +382,7 @@ here_within : (who : End) (l : Link) (e : EndEvent) → HasLowNumbers l → AreN
 here_within who l (Step comes ts ending) a = step_within who l comes ts ending a
 here_within who l (Lose why) a = lost_within l.resets who why l.to_controller
 
--- ## The numbers grow
+-- ### The numbers grow
 
 put_grows : (l : Link) (c : Control) → l.resets ≤ (put l c).resets
 put_grows l c = by_test (is_rset c) (λ q. rw q (omega arith)) (λ q. rw q (omega arith))
@@ -208,7 +447,7 @@ events_grow : (events : List LinkEvent) (l : Link) → l.resets ≤ (after_link_
 events_grow [] l = omega arith
 events_grow (e ∷ es) l = let z = events_grow es (happens l e) in let o = event_grows l e in omega (arith, z, o)
 
--- ## Events
+-- ### Events
 
 all_within : (es : List EndEvent) (who : End) (l : Link) → HasLowNumbers l → AreNotedWithin (all_at_controller l es).resets (entries_of_events who l es)
 all_within [] who l a = tt
@@ -223,13 +462,13 @@ tick_within : (n : ℕ) (who : End) (l : Link) (node : Node) → l.resets ≤ n 
 tick_within n who l node q a = more l.resets n (tick_entries who l node) q (input_within who l HasTick node.turns node.ending a)
 
 -- what is noted of frames that are too old, and behind it
-behind_aged : (n : ℕ) (l : Link) (t : List Entry) → AreNotedWithin n t
+behind_aged : (n : ℕ) (l : Link) (t : List LinkEntry) → AreNotedWithin n t
     → AreNotedWithin n (aged_entries Controller l.to_controller ++ (aged_entries Host l.to_host ++ t))
 behind_aged n l t a =
     each_append (NotedWithin n) (aged_entries Controller l.to_controller) _ (aged_within n Controller l.to_controller)
     (each_append (NotedWithin n) (aged_entries Host l.to_host) t (aged_within n Host l.to_host) a)
 
-pub event_within : (l : Link) (e : LinkEvent) → HasLowNumbers l → AreNotedWithin (happens l e).resets (event_entries l e)
+event_within : (l : Link) (e : LinkEvent) → HasLowNumbers l → AreNotedWithin (happens l e).resets (event_entries l e)
 event_within l (AtController e) a =
     more l.resets (happens_at_controller l e).resets (here_entries Controller l e) (here_grows l e) (here_within Controller l e a)
 event_within l (AtHost e) a =
@@ -268,7 +507,7 @@ event_within l (Activate power c id h) a =
     (more near.resets n (step_entries Host (exchanged near) (Starts id) h.turns h.ending) y
     (step_within Host (exchanged near) (Starts id) h.turns h.ending (exchanged_numbered near (steps_numbered l (Starts power) c.turns c.ending a))))
 
-pub events_within : (events : List LinkEvent) (l : Link) → HasLowNumbers l → AreNotedWithin (after_link_events l events).resets (entries l events)
+events_within : (events : List LinkEvent) (l : Link) → HasLowNumbers l → AreNotedWithin (after_link_events l events).resets (entries l events)
 events_within [] l a = tt
 events_within (e ∷ es) l a =
     let m : Link = happens l e in
@@ -279,9 +518,9 @@ events_within (e ∷ es) l a =
 pub run_within : (l : Link) → IsStart l → (events : List LinkEvent) → AreNotedWithin (after_link_events l events).resets (entries l events)
 run_within l start events = events_within events l (start_numbered l start)
 
--- ## As entries of a transcript
+-- ### As entries of a transcript
 
-one_entry : (h n : ℕ) (x : Entry) → NotedWithin n x → AreSessionsWithin n (entry_of h x)
+one_entry : (h n : ℕ) (x : LinkEntry) → NotedWithin n x → AreSessionsWithin n (entry_of h x)
 one_entry h n (Up who k) a = (a, tt)
 one_entry h n (Acked who k count) a = (a, tt)
 one_entry h n (Got who k m) a = (a, tt)
@@ -291,6 +530,60 @@ one_entry h n (Restarted who) a = tt
 one_entry h n (Cut who) a = tt
 one_entry h n _ a = (tt, tt)
 
-pub entries_within : (h n : ℕ) (t : List Entry) → AreNotedWithin n t → AreSessionsWithin n (entries_for h t)
+entries_within : (h n : ℕ) (t : List LinkEntry) → AreNotedWithin n t → AreSessionsWithin n (entries_for h t)
 entries_within h n [] a = tt
 entries_within h n (x ∷ t) a = each_append (SessionWithin n) (entry_of h x) (entries_for h t) (one_entry h n x a.0) (entries_within h n t a.1)
+
+-- ## The sessions that histories note have numbers no greater than two for each tick and one for each reset that was asked for
+
+-- ### Histories of nodes
+
+found : (n h : ℕ) (s : Site) (sites : List Site) → NumbersWithinOnEach n sites → site_at sites h ≡ Some s → NumbersWithin n s.link
+found n h s [] a q = cc
+found n h s (x ∷ sites) a q = by_test (x.host == h)
+    (λ r. let is : Some x ≡ Some s = rw r at q in
+    let one : x ≡ s = cc in
+    subst (λ (y : Site). NumbersWithin n y.link) one a.0)
+    (λ r. found n h s sites a.1 (rw r at q))
+
+-- what is told of a link on which few RSETs were put
+told_in_histories : (n h : ℕ) (l : Link) (t : List Entry) → l.resets ≤ n → IsLinkTold h l t → AreSessionsWithin n (of_link h t)
+told_in_histories n h l t few told =
+    let events : List LinkEvent = told.events in
+    let end : Link = after_link_events new_line events in
+    let noted : AreNotedWithin n (entries new_line events) =
+    more end.resets n (entries new_line events) (omega (arith, few, ap (λ (m : Link). m.resets) told.run.is)) (run_within new_line IsLine events) in
+    let all : AreSessionsWithin n (entries_for h (entries new_line events)) = entries_within h n (entries new_line events) noted in
+    subst (AreSessionsWithin n) (sym told.told) (each_filter (SessionWithin n) _ (entries_for h (entries new_line events)) all)
+
+pub sessions_in_history : (header : Header) (lines : List Line) (t : NodeHistory) → FollowsNodes header lines t → AreHosts header.hosts.items
+    → ArePlayable lines → (front back : List Occurrence) → occurrences_in t ≡ front ++ back → (h : ℕ) (s : Site)
+    → site_at (world_behind (new_world header.hosts.items) front).sites h ≡ Some s
+    → AreSessionsWithin (rsets_by_all (happened_in front)) (of_link h (entries_in front))
+sessions_in_history header lines t follows are playable front back q h s there =
+    let n : ℕ = rsets_by_all (happened_in front) in
+    let few = found n h s (world_behind (new_world header.hosts.items) front).sites (numbers_behind header.hosts.items front) there in
+    told_in_histories n h s.link (entries_in front) few.resets ((history_so header lines t follows are playable front back q).each h s there).told
+
+-- ### Histories of a bare world
+
+after_causes : (causes : List Cause) (l : Link) → after_link_events l (map event_of causes) ≡ link_after_all l causes
+after_causes [] l = refl
+after_causes (c ∷ causes) l = after_causes causes (link_after l c)
+
+-- both ends are up in session 0 from the start
+traced : (n : ℕ) (events : List LinkEvent) → AreNotedWithin n (entries bare_link events) → AreNotedWithin n (trace bare_link events)
+traced n events a = (omega arith, (omega arith, a))
+
+pub sessions_in_bare_history : (header : Header) (lines : List Line) (t : History) → AllByRecursion (IsLineOf header) lines → Follows header lines t
+    → AreSessionsWithin (rsets_by_all_bare (causes_of (all_events t))) (all_entries t)
+sessions_in_bare_history header lines t valid follows =
+    let run : IsRun (host_of header) t = is_run header lines t valid follows in
+    let events : List LinkEvent = link_events (all_events t) in
+    let n : ℕ = rsets_by_all_bare (causes_of (all_events t)) in
+    let few = (numbers_in_bare (causes_of (all_events t))).resets in
+    let same = ap (λ (m : Link). m.resets) (after_causes (causes_of (all_events t)) bare_link) in
+    let noted : AreNotedWithin n (entries bare_link events) =
+    more (after_link_events bare_link events).resets n (entries bare_link events) (omega (arith, few, same)) (run_within bare_link IsBare events) in
+    subst (AreSessionsWithin n) (sym (run_entries (host_of header) t.opening (all_events t) run.opening run.events))
+    (entries_within (host_of header) n (trace bare_link events) (traced n events noted))

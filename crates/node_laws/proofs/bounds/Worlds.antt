@@ -15,20 +15,16 @@ use Rattle.node_laws.proofs.Words.{site_lost, site_ticked, site_unticked, steps,
 use Rattle.node_laws.proofs.Words.{with_node, with_site, work_of, world_step, world_ticks, ℕ, ◌&&◌, ◌*◌, ◌++◌, ◌+◌, ◌==◌, ◌∙◌, ◌∷◌, ◌≡◌, ◌≤◌}
 use Rattle.std.proofs.lemmas.List.{length-append}
 use Rattle.link_laws.specs.entries.Entries.{End as Side}
-use Rattle.node_laws.proofs.telling.Nodes.{hosts_same, link_is, site_host}
-use Rattle.node_laws.proofs.telling.Worlds.{site_is}
-use Rattle.node_laws.proofs.links.Ends.{here_host}
-use Rattle.node_laws.proofs.telling.Events.{comes_goes}
+use Rattle.node_laws.proofs.telling.Events.{comes_goes, hosts_same_of_nodes as hosts_same, link_is, site_host, site_is}
+use Rattle.node_laws.proofs.links.Sites.{here_host}
 use Rattle.node_laws.proofs.telling.WorldTicks.{aged_orderly, near_orderly}
-use Rattle.node_laws.proofs.telling.Frames.{arrival_all, ending_all, lost_all, wires_all}
-use Rattle.node_laws.proofs.bounds.Costs.{IsNoSent, costs, costs-append, far_most, notes_free, pays, pays-append, worth}
-use Rattle.node_laws.proofs.bounds.Holding.{core_holds, desks_are, desks_hold, node_holds, notice_holds, ports_hold}
-use Rattle.node_laws.proofs.bounds.Deeds.{Owes, less, weights}
-use Rattle.node_laws.proofs.bounds.Syncs.{far_tells, input_sync, near_tells, sync_frame, sync_told}
-use Rattle.node_laws.proofs.bounds.Links.{FirstOnce, start_by, taken_by}
-use Rattle.node_laws.proofs.bounds.Calm.{IsCalm, IsResting, all_resting, link_holds, near_holds, near_tick_holds, still_rest, ticked_holds, ticked_host}
-use Rattle.node_laws.proofs.bounds.Calm.{aged_holds, far_cut_holds, far_holds, far_tick_holds, lost_holds, near_tick_host}
-use Rattle.node_laws.proofs.bounds.Works.{begins_owe, flat_costs, steps_owe, syncs_told}
+use Rattle.node_laws.proofs.telling.Ticks.{arrival_all, ending_all, lost_all, wires_all}
+use Rattle.node_laws.proofs.bounds.Turns.{IsNoSent, Owes, core_holds, costs, costs-append, desks_are, desks_hold, far_most, less, node_holds, notes_free}
+use Rattle.node_laws.proofs.bounds.Turns.{notice_holds, pays, pays-append, ports_hold, weights, worth}
+use Rattle.node_laws.proofs.bounds.Syncs.{FirstOnce, IsCalm, IsResting, aged_holds, all_resting, far_cut_holds, far_holds, far_tells, far_tick_holds}
+use Rattle.node_laws.proofs.bounds.Syncs.{input_sync, link_holds, lost_holds, near_holds, near_tells, near_tick_holds, near_tick_host, start_by, still_rest}
+use Rattle.node_laws.proofs.bounds.Syncs.{sync_frame, sync_told, taken_by, ticked_holds, ticked_host}
+use Rattle.node_laws.proofs.bounds.SessionsNoted.{begins_owe, flat_costs, steps_owe, syncs_told}
 use Rattle.node_laws.proofs.readings.Sites.{near_end_side}
 
 -- ## What nodes keep

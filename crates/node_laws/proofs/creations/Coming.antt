@@ -1,26 +1,82 @@
--- What comes to the ends of a controller: with the session of its asker a creation is neither read nor kept any more.
-use Rattle.node_laws.proofs.Words.{AllByRecursion, AreDifferent, AtEnd, Bool, Controller, Creation, Entry, IsComing, IsFresh, IsOutside, IsPlain, IsProperBook}
-use Rattle.node_laws.proofs.Words.{IsShut, LinkEnd, LinkInput, List, NodeInput, None, Notice, Option, Port, Reset, Some, Tick, TimePasses, Up, Work, []}
-use Rattle.node_laws.proofs.Words.{after_input, all_come, ap, append_assoc, asked_at, book_in, by_option, by_test, cond, ended_by, eqb, eqb-false, eqb-true}
-use Rattle.node_laws.proofs.Words.{false, flat_map, has_come, input_at, is_late, is_over, is_over_at, is_some, map, nat_le, ne_eqb, not, option_map}
-use Rattle.node_laws.proofs.Words.{option_map_or, or-false, or-true, own_side, port_at, refl, report, reset_late, subst, sym, times_out, told, told_at}
-use Rattle.node_laws.proofs.Words.{told_late, true, true≢false, whole_acked, with_older, ℕ, ◌&&◌, ◌++◌, ◌||◌, ◌∙◌, ◌∷◌, ◌≡◌}
-use Rattle.node_laws.proofs.links.Staying.{stays_up}
-use Rattle.node_laws.proofs.links.Noticing.{UpAt, at_all, at_host, outside as from_outside}
-use Rattle.node_laws.proofs.links.Blocks.{IsWithin, input_within}
-use Rattle.node_laws.proofs.kept.Books.{book_more, plain_fold}
-use Rattle.node_laws.proofs.kept.Plainly.{plain_entries, plain_flat, hosts_map}
+-- What comes to the ends of a controller, and its whole step: the creation that a host asked for stays the one that is read.
+use Rattle.node_laws.proofs.Words.{ActEvent, ActFrame, ActStart, ActStop, ActTake, ActTick, AllByRecursion, AreDifferent, AreProper, AtEnd, Bool, Clt, Commits}
+use Rattle.node_laws.proofs.Words.{Control, Controller, Core, Creation, Deed, Entry, HciTables, I, IfAwaited, IsAwaited, IsComing, IsFresh, IsHost, IsOutside}
+use Rattle.node_laws.proofs.Words.{IsPlain, IsProperBook, IsProperCommand, IsReadSo, IsShut, LinkEnd, LinkInput, LinkState, List, NodeInput, None, Notice}
+use Rattle.node_laws.proofs.Words.{Option, Port, Release, Releases, Reset, Response, Rset, S, Sends, Some, Start, Stop, Sync, Take, Tick, TimePasses, Ua, Up}
+use Rattle.node_laws.proofs.Words.{Work, [], act_answer, activated, after_input, after_sessions, all_come, all_done, all_owed, answer_of, answers_and_passes}
+use Rattle.node_laws.proofs.Words.{ap, append-nil, append_assoc, arith, asked_at, book_in, by_list, by_option, by_test, cases_Bool, commit, cond, ended_by, eqb}
+use Rattle.node_laws.proofs.Words.{eqb-false, eqb-true, false, filter, filter_map, finds_room, flat_map, forgets, forgotten, had_tick, has_come, heard, inl}
+use Rattle.node_laws.proofs.Words.{input_at, inr, is_faulty, is_forgotten, is_kept_sync, is_late, is_open, is_over, is_over_at, is_response, is_some, length}
+use Rattle.node_laws.proofs.Words.{map, moved, nat_le, ne_eqb, not, option_map, option_map_or, or-false, or-true, owed, own_side, passes, port_at, put_down}
+use Rattle.node_laws.proofs.Words.{refl, report, reset_late, reset_refusal, role_after, steps, stopped, subst, sym, synced, take_answer, taken, tick_answer}
+use Rattle.node_laws.proofs.Words.{ticked, times_out, told, told_at, told_late, took, true, true≢false, turn_at, unless_cut, whole_acked, with_act, with_older}
+use Rattle.node_laws.proofs.Words.{without_notice, ℕ, ◌&&◌, ◌++◌, ◌+◌, ◌-◌, ◌||◌, ◌∙◌, ◌∷◌, ◌≡◌, ◌⊎◌}
+use Rattle.registry.proofs.ValueLemmas.{AllByRecursion-append as all_joined}
+use Rattle.swp_base.specs.declared.control_frames.Act.{Act}
+use Rattle.node_laws.proofs.creations.Outcomes.{Asked, Parts, asked_map, asked_of, ended_of, forgot, late_of, owed_parts, owes, owes-append, stays, waits}
+use Rattle.node_laws.proofs.creations.Doing.{EndAt, EndHas, Fine, Good, IsOff, IsOn, ask_more, commits, flat_same, many, on_is, pays_then, reading, released}
+use Rattle.node_laws.proofs.creations.Doing.{then, then_fine, told_same}
+use Rattle.node_laws.proofs.creations.Turning.{passes_good}
+use Rattle.node_laws.proofs.kept.Doing.{book_more, hosts_map, plain_entries, plain_flat, plain_fold}
+use Rattle.node_laws.proofs.links.Blocks.{IsWithin, input_within, moved_aside}
+use Rattle.node_laws.proofs.links.Noticing.{UpAt, at_all, at_host, outside as from_outside, stays_up}
+use Rattle.node_laws.proofs.notices.Turning.{controller_side, reads}
+use Rattle.node_laws.proofs.notices.Near.{asks}
+use Rattle.node_laws.proofs.notices.Steps.{flat_reads, input_shut, late_elsewhere, reset_ends, sessions_tables, told_elsewhere, told_here}
 use Rattle.node_laws.proofs.readings.Noticed.{up_is}
-use Rattle.node_laws.proofs.notices.Reading.{reads}
-use Rattle.node_laws.proofs.notices.Far.{asks}
-use Rattle.node_laws.proofs.notices.Doing.{controller_side}
-use Rattle.node_laws.proofs.notices.Shut.{input_shut}
-use Rattle.node_laws.proofs.notices.Stepping.{flat_reads, told_elsewhere, told_here, late_elsewhere, reset_ends}
-use Rattle.node_laws.proofs.creations.Asks.{Asked, asked_of, waits, asked_map}
-use Rattle.node_laws.proofs.creations.Reading.{ask_more, told_same, flat_same}
-use Rattle.node_laws.proofs.creations.Asides.{input_aside}
-use Rattle.node_laws.proofs.creations.Doing.{EndHas, IsOn, reading}
-use Rattle.node_laws.proofs.steps.Ports.{at_port, come_host, late_host}
+use Rattle.node_laws.proofs.steps.StepWalks.{at_port, come_host, forgets_host, late_host, sessions_node, without_host}
+use Rattle.node_laws.proofs.telling.Steps.{forgets_same, without_same}
+use Rattle.gate_answers.specs.declared.response.Response.TheVariants as response
+
+-- ## What comes to an end leaves the blocks that are set aside there
+
+down_aside : (b : Bool) (e : LinkEnd) → (put_down b e).aside ≡ e.aside
+down_aside false e = refl
+down_aside true e = go e.shdlc.phase refl where
+  go : (p : LinkState) → e.shdlc.phase ≡ p → (put_down true e).aside ≡ e.aside
+  go Up q = rw q refl
+  go _ q = rw q refl
+
+act_aside : (o : Option Act) (e : LinkEnd) → (with_act o e).aside ≡ e.aside
+act_aside None e = refl
+act_aside (Some act) e = refl
+
+activated_aside : (e : LinkEnd) (event : ActEvent) → (activated e event).aside ≡ e.aside
+activated_aside e event =
+    act_aside (act_answer e.role event).send (record (put_down (act_answer e.role event).ended_link e) { role = role_after e.role event })
+    ∙ down_aside (act_answer e.role event).ended_link e
+
+heard_aside : (e : LinkEnd) (c : Control) (b : Bool) → (cond b (heard e c) e).aside ≡ e.aside
+heard_aside e c false = refl
+heard_aside e c true = by_test (is_faulty (taken e.shdlc c).session)
+    (λ q. rw q (down_aside true e))
+    (λ q. rw q (moved_aside e (is_some (take_answer e.shdlc c).ended) (taken e.shdlc c)))
+
+took_aside : (e : LinkEnd) (c : Control) → (took e c).aside ≡ e.aside
+took_aside e (ActFrame act again) = activated_aside e (ActTake act again)
+took_aside e Clt = refl
+took_aside e (I ns nr info) = heard_aside e (I ns nr info) (is_open e.role)
+took_aside e (S kind nr) = heard_aside e (S kind nr) (is_open e.role)
+took_aside e (Rset w caps) = heard_aside e (Rset w caps) (is_open e.role)
+took_aside e Ua = heard_aside e Ua (is_open e.role)
+
+tick_aside : (e : LinkEnd) → (had_tick e).aside ≡ e.aside
+tick_aside e = by_test (is_open e.role)
+    (λ o. rw o (moved_aside e (is_some (tick_answer e.shdlc).ended) (ticked e.shdlc)))
+    (λ o. rw o (activated_aside e ActTick))
+
+reset_aside : (e : LinkEnd) (window : Option ℕ) → (after_input e (Reset window)).aside ≡ e.aside
+reset_aside e window = by_option (reset_refusal e) (λ q. rw q (moved_aside e _ _)) (λ why q. rw q refl)
+
+pub input_aside : (e : LinkEnd) (i : LinkInput) → IsComing i → (after_input e i).aside ≡ e.aside
+input_aside e (Take c) is = took_aside e c
+input_aside e Tick is = tick_aside e
+input_aside e (Reset window) is = reset_aside e window
+input_aside e (Start value) is = activated_aside (moved e true (stopped e.shdlc)) (ActStart value)
+input_aside e Stop is = activated_aside (moved e true (stopped e.shdlc)) ActStop
+input_aside e _ is = absurd is
+
+-- ## What comes to the ends of a controller: with the session of its asker a creation is neither read nor kept any more
 
 -- whether the session of the end with a host has ended
 pub over_at : (ports : List Port) (x : ℕ) → AreDifferent (map (λ (p : Port). p.desk.host) ports)
@@ -57,7 +113,7 @@ module _ (n : ℕ) (l : List Creation) (p : Port) (fresh : IsFresh p) where
   come_over : (i : LinkInput) → is_over (has_come p (Some i)) ≡ is_some (ended_by p.side i)
   come_over i = ap (λ c. is_some (ended_by p.side i) || c) fresh.1 ∙ or-false (is_some (ended_by p.side i))
 
-  pub come_is : (o : Option LinkInput) (r : Option (List ℕ)) → ((i : LinkInput) → o ≡ Some i → IsComing i) → EndHas n l p.side
+  come_is : (o : Option LinkInput) (r : Option (List ℕ)) → ((i : LinkInput) → o ≡ Some i → IsComing i) → EndHas n l p.side
       → IsCome n l r (option_map_or (λ i. cond (is_some (ended_by p.side i)) None r) o r) (Some (has_come p o))
   come_is None r coming a = (record { within = a.within; aside = a.aside; up = λ off some. a.up some }, ap (λ b. cond b None r) (sym not_over))
   come_is (Some i) r coming a = (
@@ -117,7 +173,7 @@ late_is n l q r s fresh up shut a = go (is_late q) refl where
       ) in
       subst (λ z. IsCome n l r z (Some (reset_late q))) (sym gone) (subst (λ z. IsCome n l r None (Some z)) (sym is) here)
 
-pub late_flag : (q : Port) → q.late ≡ false → (reset_late q).late ≡ true → (reset_late q).ended ≡ false
+late_flag : (q : Port) → q.late ≡ false → (reset_late q).late ≡ true → (reset_late q).ended ≡ false
 late_flag q fresh = by_test (is_late q)
     (λ e. rw e (λ z. not_of q.ended (second (option_map_or (λ (n : Notice). nat_le 100 n.age) q.desk.notice false) (not q.ended) e)))
     (λ e. rw e (λ z. absurd (true≢false (sym z ∙ fresh)))) where
@@ -229,11 +285,11 @@ module _ (x : ℕ) (before : List Entry) (hosts : List ℕ) (asked : Asked) (n :
       }
 
   module _ (up : UpAt (port_at w.ports x)) (shut : AllByRecursion (λ (p : Port). IsShut p.side) w.ports) where
-    abbrev ticked : List Port
-    ticked = map (come TimePasses tt) w.ports
+    abbrev ticked_of_coming : List Port
+    ticked_of_coming = map (come TimePasses tt) w.ports
 
     abbrev olds : List Port
-    olds = map with_older ticked
+    olds = map with_older ticked_of_coming
 
     abbrev late : List Entry
     late = flat_map (told_late w.core) olds
@@ -242,7 +298,7 @@ module _ (x : ℕ) (before : List Entry) (hosts : List ℕ) (asked : Asked) (n :
     first = asks x (noted TimePasses tt) r
 
     old_hosts : map (λ (p : Port). p.desk.host) olds ≡ hosts
-    old_hosts = hosts_map with_older (λ q. refl) ticked ∙ come_hosts TimePasses tt
+    old_hosts = hosts_map with_older (λ q. refl) ticked_of_coming ∙ come_hosts TimePasses tt
 
     last_hosts : map (λ (p : Port). p.desk.host) (map reset_late olds) ≡ hosts
     last_hosts = hosts_map reset_late late_host olds ∙ old_hosts
@@ -258,7 +314,8 @@ module _ (x : ℕ) (before : List Entry) (hosts : List ℕ) (asked : Asked) (n :
         (subst (IsCome n list r (option_map_or (λ (p : Port). reads x (told_late w.core p) first) (port_at olds x) first))
         (sym (at_all olds x reset_late late_host))
         (subst (λ o. IsCome n list r (option_map_or (λ (p : Port). reads x (told_late w.core p) first) o first) (option_map reset_late o))
-        (sym (at_all ticked x with_older (λ q. refl) ∙ ap (option_map with_older) (at_all w.ports x (come TimePasses tt) (λ q. come_host q (Some Tick)))))
+        (sym (at_all ticked_of_coming x with_older (λ q. refl)
+        ∙ ap (option_map with_older) (at_all w.ports x (come TimePasses tt) (λ q. come_host q (Some Tick)))))
         (by_option (port_at w.ports x)
         (λ e. rw e (let b = rw e at (subst (IsCome n list r first) (at_all w.ports x (come TimePasses tt) (λ q. come_host q (Some Tick)))
         (come_at TimePasses tt)) in
@@ -289,10 +346,310 @@ module _ (x : ℕ) (before : List Entry) (hosts : List ℕ) (asked : Asked) (n :
       core = refl;
       on = a.on;
       hosts_are = last_hosts;
-      asked_are = asked_map reset_late late_host reset_asked olds ∙ (asked_map with_older (λ q. refl) older_asked ticked ∙ come_asks TimePasses tt);
+      asked_are = asked_map reset_late late_host reset_asked olds ∙ (asked_map with_older (λ q. refl) older_asked ticked_of_coming ∙ come_asks TimePasses tt);
       book = book_plain (w.entries ++ noted TimePasses tt) late (plain_flat (told_late w.core) plain_late olds) (come_book TimePasses tt);
       read = ask_more x before (w.entries ++ noted TimePasses tt) late ∙ (ap (asks x late) (ask_more x before w.entries (noted TimePasses tt))
           ∙ (last_at.1 ∙ ap (λ b. cond b None r) (sym (over_is (map reset_late olds) last_hosts))));
       end = last_at.0;
       flags = flags_last w.ports fresh;
     }
+
+-- ## A whole step of a controller: the creation that a host asked for stays the one that is read
+
+pub answer_response : (r : Response) → is_response (answer_of r []) ≡ true
+answer_response response.Ok = refl
+answer_response _ = refl
+
+-- ### What is due
+
+abbrev AllAwaited : List Port → Type 0
+AllAwaited ports = AllByRecursion (λ (p : Port). IfAwaited (asked_at p)) ports
+
+pub due_ports : (ports : List Port) → AllByRecursion (λ (e : ℕ × Option Creation). IfAwaited e.1) (asked_of ports) → AllAwaited ports
+due_ports [] a = tt
+due_ports (p ∷ ports) a = (a.0, due_ports ports a.1)
+
+pub ports_due : (ports : List Port) → AllAwaited ports → AllByRecursion (λ (e : ℕ × Option Creation). IfAwaited e.1) (asked_of ports)
+ports_due [] a = tt
+ports_due (p ∷ ports) a = (a.0, ports_due ports a.1)
+
+due_map : (f : Port → Port) → ((p : Port) → IfAwaited (asked_at p) → IfAwaited (asked_at (f p))) → (ports : List Port) → AllAwaited ports
+    → AllAwaited (map f ports)
+due_map f one [] a = tt
+due_map f one (p ∷ ports) a = (one p a.0, due_map f one ports a.1)
+
+forgets_due : (all : List Port) (p : Port) → IfAwaited (asked_at p) → IfAwaited (asked_at (forgets all p))
+forgets_due all p a = by_test (is_forgotten all (asked_at p)) (λ e. rw e (by_option p.desk.notice (λ q. rw q tt) (λ n q. rw q tt))) (λ e. rw e a)
+
+without_due : (p : Port) → IfAwaited (asked_at p) → IfAwaited (asked_at (without_notice p))
+without_due p a = by_test (is_over p) (λ e. rw e tt) (λ e. rw e a)
+
+owed_due : (test : Port → Bool) (ports : List Port) → AllAwaited ports → AllByRecursion IsAwaited (filter_map asked_at (filter test ports))
+owed_due test [] a = tt
+owed_due test (p ∷ ports) a = by_test (test p) refl (owed_due test ports a.1) where
+  by_test : (b : Bool) → test p ≡ b → AllByRecursion IsAwaited (filter_map asked_at (filter test ports))
+      → AllByRecursion IsAwaited (filter_map asked_at (filter test (p ∷ ports)))
+  by_test false e later = rw e later
+  by_test true e later = by_creation (asked_at p) refl a.0 where
+    by_creation : (o : Option Creation) → asked_at p ≡ o → IfAwaited o → AllByRecursion IsAwaited (filter_map asked_at (filter test (p ∷ ports)))
+    by_creation None q due = rw (e, q) later
+    by_creation (Some c) q due = rw (e, q) (due, later)
+
+-- ### What stays of an end
+
+pub forgets_ended : (all : List Port) (p : Port) → (forgets all p).ended ≡ p.ended
+forgets_ended all p = by_test (is_forgotten all (asked_at p)) (λ e. rw e refl) (λ e. rw e refl)
+
+flags_left : (all ports : List Port) → AreFlagged ports → AreFlagged (map (forgets all) ports)
+flags_left all [] f = tt
+flags_left all (p ∷ ports) f = ((λ z. forgets_ended all p ∙ f.0 (sym (forgets_same all p).late ∙ z)), flags_left all ports f.1)
+
+-- the creations of this asker among those that are forgotten
+freed_are : (x : ℕ) (all ports : List Port) → owes x (filter (λ (c : Creation). is_over_at all c.asker) (filter_map asked_at ports))
+    ≡ cond (is_over_at all x) (waits x (asked_of ports)) []
+freed_are x all [] = by_test (is_over_at all x) (λ q. rw q refl) (λ q. rw q refl)
+freed_are x all (p ∷ ports) = by_creation (asked_at p) refl (freed_are x all ports) where
+  l : List Creation
+  l = filter (λ (c : Creation). is_over_at all c.asker) (filter_map asked_at ports)
+
+  w : List Creation
+  w = waits x (asked_of ports)
+
+  Goal : Type 0
+  Goal = owes x (filter (λ (c : Creation). is_over_at all c.asker) (filter_map asked_at (p ∷ ports)))
+      ≡ cond (is_over_at all x) (waits x (asked_of (p ∷ ports))) []
+
+  by_creation : (o : Option Creation) → asked_at p ≡ o → owes x l ≡ cond (is_over_at all x) w [] → Goal
+  by_creation None q later = rw q later
+  by_creation (Some c) q later = by_asker (cases_Bool (eqb c.asker x)) (cases_Bool (is_over_at all c.asker)) where
+    by_asker : (eqb c.asker x ≡ true) ⊎ (eqb c.asker x ≡ false) → (is_over_at all c.asker ≡ true) ⊎ (is_over_at all c.asker ≡ false) → Goal
+    by_asker (inl is) (inl over) =
+        let here : is_over_at all x ≡ true = ap (is_over_at all) (sym (eqb-true c.asker x is)) ∙ over in
+        rw (q, over, is, here) (ap (λ k. c ∷ k) (later ∙ ap (λ b. cond b w []) here))
+    by_asker (inl is) (inr off) =
+        let here : is_over_at all x ≡ false = ap (is_over_at all) (sym (eqb-true c.asker x is)) ∙ off in
+        rw (q, off, here) (later ∙ ap (λ b. cond b w []) here)
+    by_asker (inr else) (inl over) = rw (q, over, else) later
+    by_asker (inr else) (inr off) = rw (q, off, else) later
+
+module _ (x : ℕ) (before : List Entry) (hosts : List ℕ) where
+  -- blocks are freed, one after another
+  pub frees : (asked : Asked) (owing : List Creation) (j : ℕ) (cs : List Creation) (w : Work) → IsOn x before hosts asked owing (length (owes x cs) + j) w
+      → IsOn x before hosts asked owing j (all_done 0 (map (λ (c : Creation). Releases c.asker) cs) w)
+  frees asked owing j [] w a = subst (λ n. IsOn x before hosts asked owing n w) (omega arith) a
+  frees asked owing j (c ∷ cs) w a =
+      let u : Work = turn_at c.asker Release w in
+      let n : ℕ = length (owes x (c ∷ cs)) + j in
+      let first : IsOn x before hosts asked owing (cond (eqb c.asker x) (n - 1) n) u = released x before hosts asked owing n c.asker w a in
+      let less : cond (eqb c.asker x) (n - 1) n ≡ length (owes x cs) + j = by_test (eqb c.asker x) (λ e. rw e (omega arith)) (λ e. rw e refl) in
+      let next : IsOn x before hosts asked owing (length (owes x cs) + j) u = subst (λ k. IsOn x before hosts asked owing k u) less first in
+      subst (IsOn x before hosts asked owing j) (sym (on_is x before hosts (all_done 0 (map (λ (c : Creation). Releases c.asker) cs)) u next.on))
+      (frees asked owing j cs u next)
+
+  -- identifiers are kept
+  abbrev IsKept : Deed → Type 0
+  IsKept (Commits c) = IsProperCommand c
+  IsKept _ = ⊥
+
+  kept_append : (ds es : List Deed) → AllByRecursion IsKept ds → AllByRecursion IsKept es → AllByRecursion IsKept (ds ++ es)
+  kept_append ds es a b = all_joined IsKept ds es a b
+
+  synced_kept : (core : Core) (input : NodeInput) (p : Port) → AllByRecursion IsKept (synced core input p)
+  synced_kept core input p = by_option (input_at input p)
+      (λ q. rw q tt)
+      (λ i q. by_option (report p.side i).sync
+      (λ e. rw (q, e) tt)
+      (λ id e. rw (q, e) (by_test (not (is_kept_sync core.tables.syncs p.desk.host id) && finds_room core (Sync p.desk.host id))
+      (λ q. rw q ((tt, tt)))
+      (λ q. rw q tt))))
+
+  pub all_kept : (core : Core) (input : NodeInput) (ports : List Port) → AllByRecursion IsKept (flat_map (synced core input) ports)
+  all_kept core input [] = tt
+  all_kept core input (p ∷ ports) =
+      kept_append (synced core input p) (flat_map (synced core input) ports) (synced_kept core input p) (all_kept core input ports)
+
+  pub keeps_all : (asked : Asked) (owing : List Creation) (deeds : List Deed) (w : Work) → AllByRecursion IsKept deeds → Good x before hosts asked owing w
+      → Good x before hosts asked owing (all_done 0 deeds w) ⊎ IsOff x before hosts (all_done 0 deeds w)
+  keeps_all asked owing [] w may a = inl a
+  keeps_all asked owing (Commits c ∷ deeds) w may a =
+      let R : Work → Type 0 = λ v. Good x before hosts asked owing v ⊎ IsOff x before hosts v in
+      then x before hosts R asked owing (many x before hosts asked owing) (all_done 0 deeds) (commit c w)
+      (commits x before hosts asked owing (many x before hosts asked owing) c w may.0 a) (λ lost. inr lost)
+      (λ b. keeps_all asked owing deeds (commit c w) may.1 b)
+  keeps_all asked owing (d ∷ deeds) w may a = absurd may.0
+
+  -- ### What is owed
+
+  pub pays_all : (asked : Asked) (r : Response) (ports : List Port) (owing : List Creation) (rest : List Deed) (w : Work)
+      → Good x before hosts asked (filter_map asked_at ports ++ owing) w
+      → ((v : Work) → Good x before hosts asked owing v → Fine x before hosts (all_done 0 rest v))
+      → Fine x before hosts (all_done 0 (flat_map (λ p. owed r (asked_at p)) ports ++ rest) w)
+  pays_all asked r [] owing rest w a next = next w a
+  pays_all asked r (p ∷ ports) owing rest w a next = by_creation (λ v b. pays_all asked r ports owing rest v b next) (asked_at p) refl where
+    later : List Deed
+    later = flat_map (λ p. owed r (asked_at p)) ports ++ rest
+
+    by_creation : ((v : Work) → Good x before hosts asked (filter_map asked_at ports ++ owing) v → Fine x before hosts (all_done 0 later v))
+        → (o : Option Creation) → asked_at p ≡ o → Fine x before hosts (all_done 0 (flat_map (λ p. owed r (asked_at p)) (p ∷ ports) ++ rest) w)
+    by_creation more None q =
+        let same : flat_map (λ p. owed r (asked_at p)) (p ∷ ports) ++ rest ≡ later = rw q refl in
+        subst (λ d. Fine x before hosts (all_done 0 d w)) (sym same) (more w (rw q at a))
+    by_creation more (Some c) q =
+        let same : flat_map (λ p. owed r (asked_at p)) (p ∷ ports) ++ rest ≡ Releases c.asker ∷ Sends c.asker (1, answer_of r []) ∷ later = rw q refl in
+        subst (λ d. Fine x before hosts (all_done 0 d w)) (sym same)
+        (pays_then x before hosts (Fine x before hosts) 0 asked (filter_map asked_at ports ++ owing) c (answer_of r []) later w (answer_response r)
+        (omega arith) (rw q at a)
+        (λ v d. more v d))
+
+  -- ### Steps
+
+  module _ (all : AllByRecursion IsHost hosts) (different : AreDifferent hosts) (asked : Asked) (w : Work) (a : Good x before hosts asked [] w)
+      (fresh : AllByRecursion IsFresh w.ports) where
+    abbrev n : ℕ
+    n = many x before hosts asked []
+
+    module _ (v : Work) (c : HasCome x before hosts asked n w a different fresh v) where
+      abbrev left : List Port
+      left = map (forgets v.ports) v.ports
+
+      abbrev begun : Work
+      begun = record v { core = after_sessions v.core v.ports; ports = map without_notice left }
+
+      abbrev now : Asked
+      now = asked_of (map without_notice left)
+
+      abbrev owing : List Creation
+      owing = filter_map asked_at (filter (λ (p : Port). p.ended) left) ++ filter_map asked_at (filter (λ (p : Port). p.late) left)
+
+      abbrev over : Bool
+      over = is_over_at v.ports x
+
+      left_are : waits x (asked_of left) ≡ cond over [] (waits x asked)
+      left_are = forgot x v.ports v.ports ∙ ap (λ l. cond over [] (waits x l)) c.asked_are
+
+      parts : Parts x left
+      parts = owed_parts x left (flags_left v.ports v.ports c.flags)
+
+      in_parts : waits x now ++ owes x owing ≡ stays x left ++ (ended_of x left ++ late_of x left)
+      in_parts = ap (λ l. waits x now ++ l) (owes-append x (filter_map asked_at (filter (λ (p : Port). p.ended) left))
+          (filter_map asked_at (filter (λ (p : Port). p.late) left)))
+
+      tables : (after_sessions v.core v.ports).tables ≡ w.core.tables
+      tables = sessions_tables v.core v.ports ∙ ap (λ (k : Core). k.tables) c.core
+
+      due_left : AllAwaited left
+      due_left = due_map (forgets v.ports) (forgets_due v.ports) v.ports
+          (due_ports v.ports (subst (AllByRecursion (λ (e : ℕ × Option Creation). IfAwaited e.1)) (sym c.asked_are) a.due))
+
+      read_left : IsReadSo (reading x before hosts v) (waits x (asked_of left))
+      read_left = subst (λ l. IsReadSo (reading x before hosts v) l) (sym left_are) (subst (λ r. IsReadSo r (cond over [] (waits x asked))) (sym c.read)
+          (by_test over (λ q. rw q tt) (λ q. rw q (subst (IsReadSo (reading x before hosts w)) (append-nil (waits x asked)) a.read))))
+
+      same_length : length (waits x now ++ owes x owing) ≡ length (cond over [] (waits x asked))
+      same_length = ap length in_parts ∙ (parts.many ∙ ap length left_are)
+
+      -- where a creation waits or is owed the session of its asker goes on
+      some_waits : (waits x now ++ owes x owing ≡ [] → ⊥) → (over ≡ false) × (waits x asked ++ [] ≡ [] → ⊥)
+      some_waits some = by_test over
+          (λ e. absurd (some (empty (waits x now ++ owes x owing) [] (same_length ∙ ap (λ b. length (cond b [] (waits x asked))) e) refl)))
+          (λ e. (
+            e,
+            (λ z. some (empty (waits x now ++ owes x owing) (waits x asked) (same_length ∙ ap (λ b. length (cond b [] (waits x asked))) e)
+                (sym (append-nil (waits x asked)) ∙ z))),
+          )) where
+            empty : (l m : List Creation) → length l ≡ length m → m ≡ [] → l ≡ []
+            empty [] m e z = refl
+            empty (d ∷ l) m e z = absurd (omega (arith, e, ap length z))
+
+      end_at : (o : Option Port) → port_at v.ports x ≡ o → ComeAt n (waits x asked ++ []) o
+          → EndAt n (waits x now ++ owes x owing) (option_map without_notice (option_map (forgets v.ports) o))
+      end_at None e z = (
+        z.0,
+        (by_list (waits x now ++ owes x owing)
+            (λ q. rw q refl)
+            (λ d l q. rw q (absurd (omega (arith, (rw q at (same_length ∙ none over))))))),
+      )
+        where
+          none : (b : Bool) → length (cond b [] (waits x asked)) ≡ 0
+          none true = refl
+          none false = ap length (sym (append-nil (waits x asked)) ∙ z.1)
+      end_at (Some p) e z =
+          let q : Port = without_notice (forgets v.ports p) in
+          let side : q.side ≡ p.side = (without_same (forgets v.ports p)).side ∙ (forgets_same v.ports p).side in
+          subst (EndHas n (waits x now ++ owes x owing)) (sym side) (record {
+            within = z.within;
+            aside = z.aside;
+            up = λ some.
+                let so = some_waits some in
+                z.up (sym (ap (λ o. option_map_or is_over o false) e) ∙ (sym (over_at v.ports x (subst AreDifferent (sym c.hosts_are) different)) ∙ so.0)) so.1;
+          })
+
+      pub begins : IsOn x before hosts now owing n begun
+      begins = record {
+        on = c.on;
+        node = sessions_node v.core v.ports ∙ (ap (λ (k : Core). k.node) c.core ∙ a.node);
+        asked_are = refl;
+        hosts_are = hosts_map without_notice without_host left ∙ (hosts_map (forgets v.ports) (forgets_host v.ports) v.ports ∙ c.hosts_are);
+        due = ports_due (map without_notice left) (due_map without_notice without_due left due_left);
+        owed_due = all_joined IsAwaited (filter_map asked_at (filter (λ (p : Port). p.ended) left)) (filter_map asked_at (filter (λ (p : Port). p.late) left))
+            (owed_due (λ (p : Port). p.ended) left due_left) (owed_due (λ (p : Port). p.late) left due_left);
+        rows = subst (λ (t : HciTables). AreProper t.rows) (sym tables) a.rows;
+        book = c.book;
+        read = subst (IsReadSo (reading x before hosts v)) (sym in_parts) (parts.read (reading x before hosts v) read_left);
+        end = subst (EndAt n (waits x now ++ owes x owing)) (sym (at_all left x without_notice without_host
+            ∙ ap (option_map without_notice) (at_all v.ports x (forgets v.ports) (forgets_host v.ports)))) (end_at (port_at v.ports x) refl c.end);
+      }
+
+      abbrev freed : List Creation
+      freed = filter (λ (c : Creation). is_over_at v.ports c.asker) (filter_map asked_at v.ports)
+
+      -- as many blocks are freed as creations are forgotten
+      pub shared : n ≡ length (owes x freed) + many x before hosts now owing
+      shared = by_test over
+          (λ e. let f : length (owes x freed) ≡ length (waits x asked) = ap length freed_is ∙ ap (λ b. length (cond b (waits x asked) [])) e in
+          let z : many x before hosts now owing ≡ 0 = same_length ∙ ap (λ b. length (cond b [] (waits x asked))) e in
+          omega (arith, all_are, f, z))
+          (λ e. let f : length (owes x freed) ≡ 0 = ap length freed_is ∙ ap (λ b. length (cond b (waits x asked) [])) e in
+          let z : many x before hosts now owing ≡ length (waits x asked) = same_length ∙ ap (λ b. length (cond b [] (waits x asked))) e in
+          omega (arith, all_are, f, z)) where
+            freed_is : owes x freed ≡ cond over (waits x asked) []
+            freed_is = freed_are x v.ports v.ports ∙ ap (λ l. cond over (waits x l) []) c.asked_are
+
+            all_are : n ≡ length (waits x asked)
+            all_are = ap length (append-nil (waits x asked))
+
+      goes_on : (syncs : List Deed) → AllByRecursion IsKept syncs
+          → Fine x before hosts (answers_and_passes (forgotten v.ports) syncs (all_owed left) begun)
+      goes_on syncs may =
+          let u : Work = all_done 0 (forgotten v.ports) begun in
+          let first : Good x before hosts now owing u =
+          frees now owing (many x before hosts now owing) freed begun (subst (λ k. IsOn x before hosts now owing k begun) shared begins) in
+          let s : Work = all_done 0 syncs u in
+          let synced_so = keeps_all now owing syncs u may first in
+          let answered : Fine x before hosts (unless_cut (all_done 0 (all_owed left)) s) =
+          then x before hosts (Fine x before hosts) now owing (many x before hosts now owing) (all_done 0 (all_owed left)) s synced_so (λ lost. inr lost)
+          (λ b. pay s b) in
+          then_fine x before hosts passes (unless_cut (all_done 0 (all_owed left)) s) answered
+          (λ l b. passes_good x before hosts different l (unless_cut (all_done 0 (all_owed left)) s) all b)
+        where
+          lates : List Port
+          lates = filter (λ (p : Port). p.late) left
+
+          second : List Deed
+          second = flat_map (λ p. owed response.Timeout (asked_at p)) lates
+
+          pay : (s : Work) → Good x before hosts now owing s → Fine x before hosts (all_done 0 (all_owed left) s)
+          pay s b =
+              pays_all now response.NotConnected (filter (λ (p : Port). p.ended) left) (filter_map asked_at lates) second s b
+              (λ y d. subst (λ l. Fine x before hosts (all_done 0 l y)) (append-nil second)
+              (pays_all now response.Timeout lates [] [] y (subst (λ l. Good x before hosts now l y) (sym (append-nil (filter_map asked_at lates))) d)
+              (λ z e. inl (record { asked = now; good = e }))))
+
+    pub steps_good : (input : NodeInput) → IsOutside input → UpAt (port_at w.ports x) → AllByRecursion (λ (p : Port). IsShut p.side) w.ports
+        → Fine x before hosts (steps input w)
+    steps_good (AtEnd h i) outside up shut =
+        goes_on (times_out (AtEnd h i) (all_come (AtEnd h i) w)) (came_near x before hosts asked n w a different fresh h i outside)
+        (flat_map (synced w.core (AtEnd h i)) w.ports) (all_kept w.core (AtEnd h i) w.ports)
+    steps_good TimePasses outside up shut =
+        goes_on (times_out TimePasses (all_come TimePasses w)) (came_tick x before hosts asked n w a different fresh up shut)
+        (flat_map (synced w.core TimePasses) w.ports) (all_kept w.core TimePasses w.ports)

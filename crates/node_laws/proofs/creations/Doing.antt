@@ -1,26 +1,91 @@
 -- A controller does the deeds of a message: the creation that a host asked for stays the one that is read.
-use Rattle.node_laws.proofs.Words.{AllByRecursion, AreProper, Book, Bool, Command, Controller, Core, Creation, Desk, Entry, FetchMessage, Give, Hold, IfAwaited}
-use Rattle.node_laws.proofs.Words.{IsAnswered, IsAwaited, IsProperBook, IsProperCommand, IsReadSo, LinkEnd, List, Message, None, Option, Port, Release, Removed}
-use Rattle.node_laws.proofs.Words.{SetAside, Some, Turn, Up, Work, [], after_turn, ap, append-nil, append_assoc, ap₂, arith, asked_at, asking_in, body_of}
-use Rattle.node_laws.proofs.Words.{book_after, book_in, by_option, by_test, cases_Bool, changed_if, commit, commit_writes, cond, creation_in, done, entries_for}
-use Rattle.node_laws.proofs.Words.{eq-eqb, eqb, eqb-true, fails_within, false, fold, give_refusal, in_use, inl, inr, is_response, le-ltb, length, map, need}
-use Rattle.node_laws.proofs.Words.{noted_of, notified, noting, option_map, option_map_or, own_side, port_at, refl, sent_unless, spare, subst, sym, true}
-use Rattle.node_laws.proofs.Words.{true≢false, turn, turn_at, turn_entry, unless_cut, with_desk, with_port, ℕ, ◌&&◌, ◌++◌, ◌+◌, ◌-◌, ◌/◌, ◌∙◌, ◌∷◌, ◌≡◌, ◌≤◌}
-use Rattle.node_laws.proofs.Words.{◌⊎◌}
-use Rattle.trace_model.specs.declared.entry.Entry.TheVariants as entry
-use Rattle.node_laws.proofs.links.Noticing.{turn-phase, at_all, at_host}
+use Rattle.node_laws.proofs.Words.{AllByRecursion, AreProper, Asks, Book, Bool, Command, Commits, Controller, Core, Creation, Deed, Desk, Drops, Entry}
+use Rattle.node_laws.proofs.Words.{FetchMessage, Give, Hold, IfAwaited, IsAnswered, IsAwaited, IsNoticeOf, IsProperBook, IsProperCommand, IsReadSo, LinkEnd}
+use Rattle.node_laws.proofs.Words.{LinkInput, List, Message, None, Noted, Option, PipeRow, Port, Refused, Release, Releases, Removed, SaysOk, Sends, SetAside}
+use Rattle.node_laws.proofs.Words.{SetsErrors, Some, Tells, Turn, Up, Waits, Work, [], after_input, after_turn, agreed, all_done, and-false, answer_of, ap}
+use Rattle.node_laws.proofs.Words.{append-nil, append_assoc, ap₂, arith, asked_at, asking_after, asking_in, body_of, book_after, book_in, by_option, by_test}
+use Rattle.node_laws.proofs.Words.{cases_Bool, changed_if, commit, commit_writes, cond, count_of, creation_in, done, drop, end_c, end_of, end_of_node, ended_by}
+use Rattle.node_laws.proofs.Words.{ends_of, entries_for, eq-eqb, eqb, eqb-true, fails_within, false, flat_map, fold, fold-append, give_refusal, in_use, inl}
+use Rattle.node_laws.proofs.Words.{inr, is_response, is_some, le-ltb, length, list_any, map, nat_lt, need, noted_of, notified, noting, option_map}
+use Rattle.node_laws.proofs.Words.{option_map_or, or-false, own_side, port_at, refl, report, same_end, sent_unless, spare, subst, sym, take, told_at, true}
+use Rattle.node_laws.proofs.Words.{true≢false, turn, turn_at, turn_entry, unless_cut, whole_acked, with_desk, with_port, ℕ, ◌&&◌, ◌++◌, ◌+◌, ◌-◌, ◌/◌, ◌∙◌, ◌∷◌}
+use Rattle.node_laws.proofs.Words.{◌≡◌, ◌≤◌, ◌⊎◌}
+use Rattle.node_laws.proofs.creations.Outcomes.{Asked, LeavesAsked, Split, asked_else, asked_here, asked_of, asked_set, asked_with, both_empty, left_same}
+use Rattle.node_laws.proofs.creations.Outcomes.{none_read, one_of, owed_length, owed_read, owes, proper_apply, proper_command, read_none, set_asked, waits}
+use Rattle.node_laws.proofs.kept.Doing.{book_command, book_more, plain_entries, plain_fold}
 use Rattle.node_laws.proofs.links.Blocks.{IsWithin, turn_within}
-use Rattle.node_laws.proofs.kept.Books.{plain_fold, book_command, book_more}
-use Rattle.node_laws.proofs.kept.Plainly.{plain_entries}
-use Rattle.node_laws.proofs.notices.Far.{asks}
-use Rattle.node_laws.proofs.notices.Doing.{controller_side, else_same}
-use Rattle.node_laws.proofs.creations.Rows.{proper_apply, proper_command}
-use Rattle.node_laws.proofs.creations.Asks.{Asked, asked_of, one_of, waits, owes, set_asked, read_none, none_read, both_empty, asked_with, asked_set, Split}
-use Rattle.node_laws.proofs.creations.Asks.{left_same, owed_read, owed_length}
-use Rattle.node_laws.proofs.creations.Reading.{ask_more, sent_asks, answer_asks}
-use Rattle.node_laws.proofs.steps.Ports.{changed_host}
+use Rattle.node_laws.proofs.links.Noticing.{at_all, at_host, turn-phase}
+use Rattle.node_laws.proofs.notices.Turning.{controller_side, else_same, reads, reads_append, same_near, told_reads}
+use Rattle.node_laws.proofs.notices.Near.{asking_more, asks, far_asks, quiet_far}
+use Rattle.node_laws.proofs.readings.Turning.{rest_quiet, told_rest}
+use Rattle.node_laws.proofs.steps.StepWalks.{changed_host}
+use Rattle.gate_answers.specs.declared.response.Response.TheVariants as response
+use Rattle.trace_model.specs.declared.entry.Entry.TheVariants as entry
 
--- ## One end
+-- ## What is read of a creation that a host asked for, over what a controller notes
+
+module _ (x : ℕ) where
+  asks_append : (xs ys : List Entry) (r : Option (List ℕ)) → asks x (xs ++ ys) r ≡ asks x ys (asks x xs r)
+  asks_append xs ys r = fold-append (asking_after x) r xs ys
+
+  -- what is read behind more entries
+  pub ask_more : (before now es : List Entry) → asking_in (before ++ (now ++ es)) x ≡ asks x es (asking_in (before ++ now) x)
+  ask_more before now es = ap (λ l. asking_in l x) (sym (append_assoc before now es)) ∙ asking_more x (before ++ now) es
+
+  -- with the session of its link a creation is read no more
+  told_asks : (core : Core) (p : Port) (i : LinkInput) (r : Option (List ℕ)) → own_side core ≡ Controller
+      → asks x (told_at core p (Some i)) r ≡ cond (eqb p.desk.host x && is_some (ended_by p.side i)) None r
+  told_asks core p i r side = rw side (by_option (ended_by p.side i)
+      (λ q. rw q (quiet r ∙ ap (λ b. cond b None r) (sym (and-false (eqb p.desk.host x)))))
+      (λ cause q. rw q (quiet (cond (same_end (end_of p.desk.host Controller) (end_c x)) None r))))
+    where
+      rest : List Noted
+      rest = told_rest Controller p.session (whole_acked (after_input p.side i)) (report p.side i)
+
+      quiet : (c : Option (List ℕ)) → asks x (entries_for p.desk.host rest) c ≡ c
+      quiet c =
+          far_asks x (entries_for p.desk.host rest) (quiet_far p.desk.host rest (rest_quiet Controller p.session (whole_acked (after_input p.side i))
+          (report p.side i))) c
+
+  -- what is told of an input tells of creations what it tells of notices
+  pub told_same : (core : Core) (p : Port) (o : Option LinkInput) (r : Option (List ℕ)) → own_side core ≡ Controller
+      → asks x (told_at core p o) r ≡ reads x (told_at core p o) r
+  told_same core p None r side = refl
+  told_same core p (Some i) r side = told_asks core p i r side ∙ sym (told_reads x core p i r side)
+
+  pub flat_same : (f : Port → List Entry) → ((p : Port) (r : Option (List ℕ)) → asks x (f p) r ≡ reads x (f p) r) → (ports : List Port)
+      → (r : Option (List ℕ)) → asks x (flat_map f ports) r ≡ reads x (flat_map f ports) r
+  flat_same f one [] r = refl
+  flat_same f one (p ∷ ports) r =
+      asks_append (f p) (flat_map f ports) r ∙ (ap (asks x (flat_map f ports)) (one p r) ∙ (flat_same f one ports (reads x (f p) r)
+      ∙ sym (reads_append x (f p) (flat_map f ports) r)))
+
+  -- ### Messages
+
+  -- no response to this host on pipe 01, or nothing is read
+  sent_asks : (k n : ℕ) (m : Message) (o : Option Refused) (r : Option (List ℕ)) → ((eqb k x && eqb m.0 1 && is_response m.1) ≡ true → r ≡ None)
+      → asks x (entries_for k (sent_unless o Controller n m)) r ≡ r
+  sent_asks k n m (Some why) r none = refl
+  sent_asks k n m None r none =
+      ap (λ b. cond (b && eqb m.0 1 && is_response m.1) None r) (same_near k x) ∙ by_test (eqb k x && eqb m.0 1 && is_response m.1)
+      (λ q. rw q (sym ((rw q at none) refl)))
+      (λ q. rw q refl)
+
+  -- the answer
+  answer_asks : (k n : ℕ) (message : List ℕ) (r : Option (List ℕ)) → eqb k x ≡ true → is_response message ≡ true
+      → asks x (entries_for k (sent_unless None Controller n (1, message))) r ≡ None
+  answer_asks k n message r here is = rw (here, is) refl
+
+  -- a host is asked for a creation of this one, or of another one
+  asked_reads : (to : ℕ) (message : List ℕ) (c : Creation) (r : Option (List ℕ)) → IsNoticeOf c message
+      → asks x (entry.Ask to message ∷ []) r ≡ cond (eqb c.asker x) (Some message) r
+  asked_reads to message c r is =
+      ap (λ b. cond b (Some message) r) (ap (λ (m : List ℕ). list_any (λ y. eqb y x) (take 1 (drop 1 m))) is.message_is
+      ∙ (or-false (eqb is.row.creator x) ∙ ap (λ n. eqb n x) is.asker))
+
+-- ## A controller does the deeds of a message: the creation that a host asked for stays the one that is read
+
+-- ### One end
 
 -- so many blocks are set aside at an end, which is up while one of these creations waits
 pub record EndHas (n : ℕ) (l : List Creation) (e : LinkEnd) : Type 0 where
@@ -72,7 +137,7 @@ module _ (x : ℕ) where
       ∙ (ap (option_map (λ (p : Port). changed_if (eqb p.desk.host k) g p)) e
       ∙ ap (λ b. Some (changed_if b g p)) (eq-eqb p.desk.host k (at_host ports x p e ∙ sym (eqb-true k x here))))
 
-pub hosts_with : (k : ℕ) (g : Port → Port) (ports : List Port) → ((p : Port) → (g p).desk.host ≡ p.desk.host)
+hosts_with : (k : ℕ) (g : Port → Port) (ports : List Port) → ((p : Port) → (g p).desk.host ≡ p.desk.host)
     → map (λ (p : Port). p.desk.host) (with_port k g ports) ≡ map (λ (p : Port). p.desk.host) ports
 hosts_with k g [] host = refl
 hosts_with k g (p ∷ ports) host = ap₂ (λ h l. h ∷ l) (changed_host (eqb p.desk.host k) g p host) (hosts_with k g ports host)
@@ -82,7 +147,7 @@ due_set : (k : ℕ) (o : Option Creation) (asked : Asked) → IfAwaited o → Al
 due_set k o [] may a = tt
 due_set k o (e ∷ asked) may a = (by_test (eqb e.0 k) (λ q. rw q may) (λ q. rw q a.0), due_set k o asked may a.1)
 
-pub plain_of : (core : Core) (t : Turn) (o : Option Port) (b : Book) → fold (book_after 0) b (option_map_or (noted_of core t) o []) ≡ b
+plain_of : (core : Core) (t : Turn) (o : Option Port) (b : Book) → fold (book_after 0) b (option_map_or (noted_of core t) o []) ≡ b
 plain_of core t None b = refl
 plain_of core t (Some p) b =
     plain_fold 0 b (entries_for p.desk.host (turn_entry (own_side core) p.session p.side t)) (plain_entries p.desk.host (turn_entry (own_side core) p.session
@@ -113,7 +178,7 @@ takes_short e answer up short room =
     one_block : (n : ℕ) → n ≤ 32 → (n + 31) / 32 ≤ 1
     one_block n q = omega (arith, q)
 
--- ## A step
+-- ### A step
 
 module _ (x : ℕ) (before : List Entry) (hosts : List ℕ) where
   abbrev pub reading : Work → Option (List ℕ)
@@ -145,7 +210,7 @@ module _ (x : ℕ) (before : List Entry) (hosts : List ℕ) where
   abbrev pub Good : Asked → List Creation → Work → Type 0
   Good asked owed w = IsOn asked owed (many asked owed) w
 
-  abbrev pub Stands : Asked → List Creation → Work → Type 0
+  abbrev Stands : Asked → List Creation → Work → Type 0
   Stands asked owed w = Good asked owed w ⊎ IsOff w
 
   -- one thing after another, unless the power is cut
@@ -173,7 +238,7 @@ module _ (x : ℕ) (before : List Entry) (hosts : List ℕ) where
   }
 
   -- ends are changed that keep their hosts and creations
-  pub alters_so : (asked : Asked) (owed : List Creation) (n m k : ℕ) (g : Port → Port) (w : Work) → ((p : Port) → (g p).desk.host ≡ p.desk.host)
+  alters_so : (asked : Asked) (owed : List Creation) (n m k : ℕ) (g : Port → Port) (w : Work) → ((p : Port) → (g p).desk.host ≡ p.desk.host)
       → ((p : Port) → asked_at (g p) ≡ asked_at p) → EndAt m (waits x asked ++ owes x owed) (port_at (with_port k g w.ports) x)
       → IsOn asked owed n w → IsOn asked owed m (record w { ports = with_port k g w.ports })
   alters_so asked owed n m k g w host same end a = record {
@@ -197,7 +262,7 @@ module _ (x : ℕ) (before : List Entry) (hosts : List ℕ) where
       alters_so asked owed n n k g w host same (end_map x n (waits x asked ++ owes x owed) k g w.ports host one a.end) a
 
   -- hosts are asked for other ones
-  pub sets : (asked : Asked) (owed later : List Creation) (n k : ℕ) (g : Port → Port) (o : Option Creation) (w : Work)
+  sets : (asked : Asked) (owed later : List Creation) (n k : ℕ) (g : Port → Port) (o : Option Creation) (w : Work)
       → ((p : Port) → ((g p).desk.host ≡ p.desk.host) × (asked_at (g p) ≡ o) × ((g p).side ≡ p.side)) → IfAwaited o → AllByRecursion IsAwaited later
       → IsReadSo (reading w) (waits x (set_asked k o asked) ++ owes x later)
       → length (waits x asked ++ owes x owed) ≡ length (waits x (set_asked k o asked) ++ owes x later)
@@ -226,7 +291,7 @@ module _ (x : ℕ) (before : List Entry) (hosts : List ℕ) where
       (alters asked owed n k (after_turn t) w (λ p. refl) (λ p. refl) (λ p z. plain_has n (waits x asked ++ owes x owed) p.side t is z) a)
 
   -- no response on pipe 01 to a host whose creation waits
-  pub gives : (asked : Asked) (owed : List Creation) (n k : ℕ) (m : Message) (w : Work)
+  gives : (asked : Asked) (owed : List Creation) (n k : ℕ) (m : Message) (w : Work)
       → ((eqb k x && eqb m.0 1 && is_response m.1) ≡ true → waits x asked ++ owes x owed ≡ []) → IsOn asked owed n w → IsOn asked owed n (turn_at k (Give m) w)
   gives asked owed n k m w none a =
       turns asked owed n k (Give m) w tt
@@ -240,7 +305,7 @@ module _ (x : ℕ) (before : List Entry) (hosts : List ℕ) where
   desks asked owed n k f w host notice a =
       alters asked owed n k (λ p. record p { desk = f p.desk }) w (λ p. host p.desk) (λ p. ap creation_in (notice p.desk)) (λ p z. z) a
 
-  -- ## Blocks
+  -- ### Blocks
 
   pub released : (asked : Asked) (owed : List Creation) (n k : ℕ) (w : Work) → IsOn asked owed n w
       → IsOn asked owed (cond (eqb k x) (n - 1) n) (turn_at k Release w)
@@ -380,10 +445,10 @@ module _ (x : ℕ) (before : List Entry) (hosts : List ℕ) where
     by_asker (inl here) = here_so here
     by_asker (inr off) = else_so off
 
-  -- ## Notices
+  -- ### Notices
 
   -- a host is told
-  pub tells : (asked : Asked) (owed : List Creation) (n k : ℕ) (message : List ℕ) (w : Work) → is_response message ≡ false → set_asked k None asked ≡ asked
+  tells : (asked : Asked) (owed : List Creation) (n k : ℕ) (message : List ℕ) (w : Work) → is_response message ≡ false → set_asked k None asked ≡ asked
       → IsOn asked owed n w → IsOn asked owed n (notified k Removed message w)
   tells asked owed n k message w off same a =
       subst (λ l. IsOn l owed n (notified k Removed message w)) same
@@ -401,7 +466,7 @@ module _ (x : ℕ) (before : List Entry) (hosts : List ℕ) where
           last_of false b d z = absurd (true≢false (sym z))
 
   -- a notice that is about no creation is answered
-  pub heard : (asked : Asked) (k : ℕ) (w : Work) → Split asked k None → Good asked [] w → Good (set_asked k None asked) [] (done k IsAnswered w)
+  heard : (asked : Asked) (k : ℕ) (w : Work) → Split asked k None → Good asked [] w → Good (set_asked k None asked) [] (done k IsAnswered w)
   heard asked k w s a =
       let same : waits x asked ++ [] ≡ waits x (set_asked k None asked) ++ [] = ap (λ l. l ++ []) (sym (left_same x asked k s)) in
       subst (λ n. IsOn (set_asked k None asked) [] n (done k IsAnswered w)) (ap length same)
@@ -409,7 +474,7 @@ module _ (x : ℕ) (before : List Entry) (hosts : List ℕ) where
       (subst (IsReadSo (reading w)) same a.read) (ap length same) a)
 
   -- that of a creation is answered: its asker is owed an answer
-  pub done_so : (asked : Asked) (k : ℕ) (c : Creation) (w : Work) → Split asked k (Some c) → IsAwaited c → Good asked [] w
+  done_so : (asked : Asked) (k : ℕ) (c : Creation) (w : Work) → Split asked k (Some c) → IsAwaited c → Good asked [] w
       → Good (set_asked k None asked) (c ∷ []) (done k IsAnswered w)
   done_so asked k c w s due a =
       let l : List Creation = waits x (set_asked k None asked) in
@@ -421,7 +486,7 @@ module _ (x : ℕ) (before : List Entry) (hosts : List ℕ) where
       (subst (IsReadSo (reading w)) nil (owed_read x asked k (reading w) c s (subst (IsReadSo (reading w)) (append-nil (waits x asked)) a.read)))
       long a)
 
-  -- ## Commits
+  -- ### Commits
 
   pub commits : (asked : Asked) (owed : List Creation) (n : ℕ) (c : Command) (w : Work) → IsProperCommand c → IsOn asked owed n w
       → IsOn asked owed n (commit c w) ⊎ IsOff (commit c w)
@@ -452,3 +517,216 @@ module _ (x : ℕ) (before : List Entry) (hosts : List ℕ) where
         book : IsProperBook (book_in (before ++ noted.entries) 0)
         book = subst IsProperBook (sym (ap (λ l. book_in l 0) (sym (append_assoc before w.entries (entry.Command w.core.node c ∷ [])))
             ∙ book_command (before ++ w.entries) w.core.node 0 c a.node)) (proper_command c (book_in (before ++ w.entries) 0) may a.book)
+
+-- ## All that a controller does on one message: the creation that a host asked for stays the one that is read
+
+-- a block is to spare at an end that is up
+abbrev pub HasBlock : Option Port → Type 0
+HasBlock None = ⊥
+HasBlock (Some p) = (p.side.shdlc.phase ≡ Up) × (nat_lt 0 (spare p.side) ≡ true)
+
+aside_more : (e : LinkEnd) → nat_lt 0 (spare e) ≡ true → turn e SetAside ≡ record e { aside = e.aside + 1 }
+aside_more e q = rw q refl
+
+is_answer : (row : PipeRow) → is_response (answer_of response.Ok (ends_of row)) ≡ true
+is_answer row = refl
+
+proper_due : (c : Creation) → IsAwaited c → IsProperCommand c.command
+proper_due c due = subst IsProperCommand (sym due.command) due.proper
+
+module _ (x : ℕ) (before : List Entry) (hosts : List ℕ) where
+  -- the creations of a controller that runs are read, and none is owed an answer
+  pub record Still (w : Work) : Type 0 where
+    pub asked : Asked
+    pub good : Good x before hosts asked [] w
+
+  abbrev pub Fine : Work → Type 0
+  Fine w = Still w ⊎ IsOff x before hosts w
+
+  pub then : (R : Work → Type 0) (asked : Asked) (owed : List Creation) (n : ℕ) (f : Work → Work) (w : Work)
+      → IsOn x before hosts asked owed n w ⊎ IsOff x before hosts w → (IsOff x before hosts w → R w) → (IsOn x before hosts asked owed n w → R (f w))
+      → R (unless_cut f w)
+  then R asked owed n f w (inl a) lost next = subst R (sym (on_is x before hosts f w a.on)) (next a)
+  then R asked owed n f w (inr a) lost next = subst R (sym (off_is x before hosts f w a.off)) (lost a)
+
+  pub then_fine : (f : Work → Work) (w : Work) → Fine w → ((asked : Asked) → Good x before hosts asked [] w → Fine (f w)) → Fine (unless_cut f w)
+  then_fine f w (inl a) next = subst Fine (sym (on_is x before hosts f w a.good.on)) (next a.asked a.good)
+  then_fine f w (inr a) next = subst Fine (sym (off_is x before hosts f w a.off)) (inr a)
+
+  -- ### Deeds that leave the creations
+
+  errors_set : (asked : Asked) (owed : List Creation) (n k errors : ℕ) (w : Work) → IsOn x before hosts asked owed n w
+      → IsOn x before hosts asked owed n (done k (SetsErrors errors) w)
+  errors_set asked owed n k errors w a = desks x before hosts asked owed n k (λ d. record d { errors = errors }) w (λ d. refl) (λ d. refl) a
+
+  pub leaves : (k : ℕ) (asked : Asked) (deeds : List Deed) (w : Work) → AllByRecursion (LeavesAsked x asked) deeds → Good x before hosts asked [] w
+      → Fine (all_done k deeds w)
+  leaves k asked [] w may a = inl (record { asked = asked; good = a })
+  leaves k asked (Commits c ∷ deeds) w may a =
+      then Fine asked [] (many x before hosts asked []) (all_done k deeds) (commit c w)
+      (commits x before hosts asked [] (many x before hosts asked []) c w may.0 a)
+      (λ lost. inr lost) (λ b. leaves k asked deeds (commit c w) may.1 b)
+  leaves k asked (Sends to m ∷ deeds) w may a =
+      then Fine asked [] (many x before hosts asked []) (all_done k deeds) (turn_at to (Give m) w)
+      (inl (gives x before hosts asked [] (many x before hosts asked []) to m w (λ z. ap (λ l. l ++ []) (may.0 z)) a))
+      (λ lost. inr lost) (λ b. leaves k asked deeds (turn_at to (Give m) w) may.1 b)
+  leaves k asked (SaysOk ∷ deeds) w may a =
+      then Fine asked [] (many x before hosts asked []) (all_done k deeds) (done k SaysOk w)
+      (inl (notes x before hosts asked [] (many x before hosts asked []) (entry.AnyOk w.core.node (count_of w.core.journal) ∷ []) w (λ b. refl) refl a))
+      (λ lost. inr lost) (λ b. leaves k asked deeds (done k SaysOk w) may.1 b)
+  leaves k asked (Tells to message ∷ deeds) w may a =
+      then Fine asked [] (many x before hosts asked []) (all_done k deeds) (notified to Removed message w)
+      (inl (tells x before hosts asked [] (many x before hosts asked []) to message w may.0.0 may.0.1 a))
+      (λ lost. inr lost) (λ b. leaves k asked deeds (notified to Removed message w) may.1 b)
+  leaves k asked (Drops pid ∷ deeds) w may a =
+      then Fine asked [] (many x before hosts asked []) (all_done k deeds) (done k (Drops pid) w)
+      (inl (notes x before hosts asked [] (many x before hosts asked []) (entry.Dropped (end_of_node w.core k) pid ∷ []) w (λ b. refl) refl a))
+      (λ lost. inr lost) (λ b. leaves k asked deeds (done k (Drops pid) w) may.1 b)
+  leaves k asked (SetsErrors errors ∷ deeds) w may a =
+      then Fine asked [] (many x before hosts asked []) (all_done k deeds) (done k (SetsErrors errors) w)
+      (inl (errors_set asked [] (many x before hosts asked []) k errors w a))
+      (λ lost. inr lost) (λ b. leaves k asked deeds (done k (SetsErrors errors) w) may.1 b)
+  leaves k asked (_ ∷ deeds) w may a = absurd may.0
+
+  -- ### Answers
+
+  -- an answer that is owed is given
+  pub pays_then : (R : Work → Type 0) (k : ℕ) (asked : Asked) (owed : List Creation) (c : Creation) (answer : List ℕ) (rest : List Deed) (w : Work)
+      → is_response answer ≡ true → length answer ≤ 32 → Good x before hosts asked (c ∷ owed) w
+      → ((v : Work) → Good x before hosts asked owed v → R (all_done k rest v)) → R (all_done k (Releases c.asker ∷ Sends c.asker (1, answer) ∷ rest) w)
+  pays_then R k asked owed c answer rest w is short a next =
+      let v : Work = turn_at c.asker Release w in
+      let u : Work = turn_at c.asker (Give (1, answer)) v in
+      let paid : Good x before hosts asked owed u = pays x before hosts asked owed c answer w is short a in
+      subst R (sym (on_is x before hosts (all_done k (Sends c.asker (1, answer) ∷ rest)) v a.on ∙ on_is x before hosts (all_done k rest) u paid.on))
+      (next u paid)
+
+  says_ok : (k : ℕ) (asked : Asked) (w : Work) → Good x before hosts asked [] w → Fine (all_done k (SaysOk ∷ []) w)
+  says_ok k asked w a = leaves k asked (SaysOk ∷ []) w (tt, tt) a
+
+  -- the notice of a creation is answered
+  pub agrees : (k : ℕ) (asked : Asked) (c : Creation) (flag : Bool) (w : Work) → Split asked k (Some c) → IsAwaited c → Good x before hosts asked [] w
+      → Fine (all_done k (agreed flag c) w)
+  agrees k asked c true w s due a =
+      let v : Work = done k IsAnswered w in
+      let new : Asked = set_asked k None asked in
+      let n : ℕ = many x before hosts new (c ∷ []) in
+      let first : Good x before hosts new (c ∷ []) v = done_so x before hosts asked k c w s due a in
+      let rest : List Deed = Releases c.asker ∷ Sends c.asker (1, c.answer) ∷ SaysOk ∷ [] in
+      subst Fine (sym (on_is x before hosts (all_done k (Commits c.command ∷ rest)) v first.on))
+      (then Fine new (c ∷ []) n (all_done k rest) (commit c.command v) (commits x before hosts new (c ∷ []) n c.command v (proper_due c due) first)
+      (λ lost. inr lost)
+      (λ b. pays_then Fine k new [] c c.answer (SaysOk ∷ []) (commit c.command v) (subst (λ m. is_response m ≡ true) (sym due.answer) (is_answer due.row))
+      (subst (λ (m : List ℕ). length m ≤ 32) (sym due.answer) (omega arith)) b (λ u d. says_ok k new u d)))
+  agrees k asked c false w s due a =
+      let v : Work = done k IsAnswered w in
+      let new : Asked = set_asked k None asked in
+      let first : Good x before hosts new (c ∷ []) v = done_so x before hosts asked k c w s due a in
+      subst Fine (sym (on_is x before hosts (all_done k (Releases c.asker ∷ Sends c.asker (1, answer_of response.NotOk []) ∷ [])) v first.on))
+      (pays_then Fine k new [] c (answer_of response.NotOk []) [] v refl (omega arith) first (λ u d. inl (record { asked = new; good = d })))
+
+  pub hears : (k : ℕ) (asked : Asked) (w : Work) → Split asked k None → Good x before hosts asked [] w → Fine (all_done k (IsAnswered ∷ []) w)
+  hears k asked w s a =
+      let v : Work = done k IsAnswered w in
+      let first : Good x before hosts (set_asked k None asked) [] v = heard x before hosts asked k w s a in
+      subst Fine (sym (on_is x before hosts (all_done k []) v first.on)) (inl (record { asked = set_asked k None asked; good = first }))
+
+  -- ### A creation is asked for
+
+  module _ (asked : Asked) (to : ℕ) (notice : List ℕ) (c : Creation) (due : IsAwaited c) (is_notice_of : IsNoticeOf c notice) (w : Work)
+      (free : eqb c.asker x ≡ true → waits x asked ≡ []) (block : eqb c.asker x ≡ true → HasBlock (port_at w.ports x))
+      (a : Good x before hosts asked [] w) where
+    abbrev u : Work
+    u = turn_at c.asker SetAside w
+
+    abbrev v : Work
+    v = noting (entry.Ask to notice ∷ []) u
+
+    abbrev n : ℕ
+    n = many x before hosts asked []
+
+    abbrev m : ℕ
+    m = many x before hosts asked (c ∷ [])
+
+    abbrev last : List Creation
+    last = waits x asked ++ owes x (c ∷ [])
+
+    here_is : eqb c.asker x ≡ true → last ≡ c ∷ []
+    here_is e = ap (λ b. waits x asked ++ (cond b (c ∷ []) [] ++ [])) e ∙ ap (λ l. l ++ (c ∷ [])) (free e)
+
+    else_is : eqb c.asker x ≡ false → last ≡ waits x asked ++ []
+    else_is e = ap (λ b. waits x asked ++ (cond b (c ∷ []) [] ++ [])) e
+
+    set_here : (l : List Creation) → eqb c.asker x ≡ true → (o : Option Port) → port_at w.ports x ≡ o → HasBlock o → EndAt n (waits x asked ++ []) o
+        → EndAt m l (port_at (with_port c.asker (after_turn SetAside) w.ports) x)
+    set_here l e None q z b = absurd z
+    set_here l e (Some p) q z b =
+        let one : m ≡ n + 1 = ap length (here_is e) ∙ ap (λ k. length (k ++ []) + 1) (sym (free e)) in
+        subst (EndAt m l) (sym (at_here x c.asker (after_turn SetAside) w.ports p (λ j. refl) e q)) (record {
+          within = turn_within p.side SetAside b.within;
+          aside = ap (λ (k : LinkEnd). k.aside) (aside_more p.side z.1) ∙ (ap (λ k. k + 1) b.aside ∙ sym one);
+          up = λ some. turn-phase p.side SetAside ∙ z.0;
+        })
+
+    set_end : (l : List Creation) → (eqb c.asker x ≡ false → l ≡ waits x asked ++ []) → EndAt m l (port_at (with_port c.asker (after_turn SetAside) w.ports) x)
+    set_end l same = by_test (eqb c.asker x)
+        (λ e. set_here l e (port_at w.ports x) refl (block e) a.end)
+        (λ e. subst (λ k. EndAt k l (port_at (with_port c.asker (after_turn SetAside) w.ports) x)) (sym (ap length (else_is e)))
+        (subst (λ k. EndAt n k (port_at (with_port c.asker (after_turn SetAside) w.ports) x)) (sym (same e))
+        (subst (EndAt n (waits x asked ++ [])) (sym (else_same c.asker x (after_turn SetAside) w.ports (λ j. refl) e)) a.end)))
+
+    silent : (o : Option Port) (r : Option (List ℕ)) → asks x (option_map_or (noted_of w.core SetAside) o []) r ≡ r
+    silent None r = refl
+    silent (Some p) r = refl
+
+    first : IsOn x before hosts asked [] m u
+    first =
+        notes x before hosts asked [] m (option_map_or (noted_of w.core SetAside) (port_at w.ports c.asker) [])
+        (record w { ports = with_port c.asker (after_turn SetAside) w.ports })
+        (plain_of w.core SetAside (port_at w.ports c.asker)) (silent (port_at w.ports c.asker) (reading x before hosts w))
+        (alters_so x before hosts asked [] n m c.asker (after_turn SetAside) w (λ p. refl) (λ p. refl) (set_end (waits x asked ++ []) (λ e. refl)) a)
+
+    read_now : reading x before hosts v ≡ cond (eqb c.asker x) (Some notice) (reading x before hosts u)
+    read_now = ask_more x before u.entries (entry.Ask to notice ∷ []) ∙ asked_reads x to notice c (reading x before hosts u) is_notice_of
+
+    second : Good x before hosts asked (c ∷ []) v
+    second = record {
+      on = first.on;
+      node = first.node;
+      asked_are = first.asked_are;
+      hosts_are = first.hosts_are;
+      due = first.due;
+      owed_due = (due, tt);
+      rows = first.rows;
+      book = subst IsProperBook (sym (ap (λ l. book_in l 0) (sym (append_assoc before u.entries (entry.Ask to notice ∷ [])))
+          ∙ book_more (before ++ u.entries) (entry.Ask to notice ∷ []) 0)) first.book;
+      read = by_test (eqb c.asker x)
+          (λ e. subst (λ r. IsReadSo r last) (sym (read_now ∙ ap (λ b. cond b (Some notice) (reading x before hosts u)) e))
+          (subst (IsReadSo (Some notice)) (sym (here_is e)) is_notice_of))
+          (λ e. subst (λ r. IsReadSo r last) (sym (read_now ∙ ap (λ b. cond b (Some notice) (reading x before hosts u)) e))
+          (subst (IsReadSo (reading x before hosts u)) (sym (else_is e)) first.read));
+      end = set_end last else_is;
+    }
+
+    -- the notice is no response
+    no_answer : (eqb to x && true && is_response notice) ≡ true → last ≡ []
+    no_answer z = absurd (true≢false (sym (third (eqb to x) (is_response notice) z) ∙ ap is_response is_notice_of.message_is)) where
+      third : (a b : Bool) → (a && true && b) ≡ true → b ≡ true
+      third true b e = e
+      third false b e = absurd (true≢false (sym e))
+
+    pub asks_one : (k : ℕ) → Split asked to None → Fine (all_done k (Asks to notice c ∷ []) w)
+    asks_one k s =
+        let new : Asked = set_asked to (Some c) asked in
+        let given : Work = turn_at to (Give (1, notice)) v in
+        let third : Good x before hosts asked (c ∷ []) given = gives x before hosts asked (c ∷ []) m to (1, notice) v no_answer second in
+        let same : last ≡ waits x new ++ [] = by_test (eqb c.asker x)
+        (λ e. here_is e ∙ sym (ap (λ l. l ++ []) (asked_here x asked to c s e (free e))))
+        (λ e. else_is e ∙ sym (ap (λ l. l ++ []) (asked_else x asked to c s e))) in
+        let told : Work = notified to (Waits c) notice v in
+        let fourth : IsOn x before hosts new [] m told =
+        sets x before hosts asked (c ∷ []) [] m to (λ p. record p { desk = record p.desk { notice = Some (record { about = Waits c; age = 0 }) } })
+        (Some c) given
+        (λ p. (refl, refl, refl)) due tt (subst (IsReadSo (reading x before hosts given)) same third.read) (ap length same) third in
+        let good : Good x before hosts new [] told = subst (λ j. IsOn x before hosts new [] j told) (ap length same) fourth in
+        subst Fine (sym (on_is x before hosts (all_done k []) told good.on)) (inl (record { asked = new; good = good }))

@@ -1,34 +1,49 @@
--- What is read of creations over whatever happens.
-use Rattle.node_laws.proofs.Words.{AllByRecursion, AllKeep, AreAwaited, AreHosts, AreProper, AsksReset, AtController, AtEnd, Bare, Bool, Broken, Comes}
-use Rattle.node_laws.proofs.Words.{Controller, CutOff, Deed, Desk, End, Entry, GoesOut, HasEnds, HasSetAside, HciTables, Host, IfAwaited, IfHostNode}
-use Rattle.node_laws.proofs.Words.{IfNoticedUp, IfRuns, IsHost, IsProperBook, IsReadSo, IsShut, KeepsNotices, Link, LinkInput, List, Loss, Memory, NextFrame}
-use Rattle.node_laws.proofs.Words.{NoInput, NodeWorld, None, NumberedEnd, Option, Port, Reset, Role, Running, RunsSo, Site, Some, Starts, Step, Stops, Take}
-use Rattle.node_laws.proofs.Words.{Tick, TimePasses, Turn, Work, [], after_controller, after_host, after_input, after_planned, aged, all_aged, ap, append-nil}
-use Rattle.node_laws.proofs.Words.{arrival, asking_in, begins_with, book_in, boot_found, boot_writes, boot_written, boots, by_boot, by_counts, by_host, by_list}
-use Rattle.node_laws.proofs.Words.{by_loss, by_memory, by_option, by_power, by_running, by_test, comes_at, comes_to, cond, cons_option, controller_cut}
-use Rattle.node_laws.proofs.Words.{controller_ticks, controller_work, count_of, counts, creation_in, creations_at, creations_of, deactivated, ending_of}
-use Rattle.node_laws.proofs.Words.{entries_for, eqb, eqb-true, errors_all, exchanged, false, filter_map, find, first_lost, flat_map, found, frame_lost}
-use Rattle.node_laws.proofs.Words.{frames_noted, happens, has_come, has_taken, host_cut, host_does, host_work, hosts_in, input_at, input_of, is_late_at}
-use Rattle.node_laws.proofs.Words.{is_waiting, link_after_controller, link_to, links_of, loses_power_at, map, memory_at, near_end_in, new_desk, new_link_end}
-use Rattle.node_laws.proofs.Words.{node_at, not, option_map_or, port_at, port_for, refl, renewed, runs_on, seen_from, sent_all, site_at, site_lost, started}
-use Rattle.node_laws.proofs.Words.{steps, steps_at_controller, subst, sym, ticked_so, true, turned, turns_at, wires_for, with_error, with_memory, with_node}
-use Rattle.node_laws.proofs.Words.{with_site, work_of, written_off, ℕ, ◌&&◌, ◌++◌, ◌∙◌, ◌∷◌, ◌≡◌}
-use Rattle.trace_model.specs.declared.entry.Entry.TheVariants as entry
-use Rattle.node_laws.proofs.telling.Events.{site_map}
-use Rattle.node_laws.proofs.telling.Nodes.{link_is, site_host}
-use Rattle.node_laws.proofs.readings.NoticedWorlds.{ending_is, far_side, lost_side, side_map, side_with}
-use Rattle.node_laws.proofs.readings.Sites.{comes_outside, lost_quiet, near_end_side}
-use Rattle.node_laws.proofs.notices.Own.{AreOwn}
-use Rattle.node_laws.proofs.notices.Far.{AreFar, IsFarWork, all_do, asking_more, far-append, far_flat, quiet_far, steps_far}
-use Rattle.node_laws.proofs.notices.Sites.{AreGood, arrival_quiet, frames_quiet, good_at, link_shut}
+-- What is read of creations over whatever happens in a world, and over the events of a schedule.
+use Rattle.node_laws.proofs.Words.{Activates, AllByRecursion, AllKeep, AreAwaited, AreHosts, AreProper, Arms, AsksReset, AtController, AtEnd, Bare, Bool, Boots}
+use Rattle.node_laws.proofs.Words.{Broken, Clf, Comes, Controller, CutOff, Deed, Desk, End, Ending, Entry, FollowsNodes, Gives, GoesOut, Happening, HasEnds}
+use Rattle.node_laws.proofs.Words.{HasSetAside, HciTables, Header, Host, IfAwaited, IfHostNode, IfItRuns, IfNoticedUp, IfRuns, Inits, IsCut, IsFew, IsHost}
+use Rattle.node_laws.proofs.Words.{IsProperBook, IsReadSo, IsSentByHost, IsShut, KeepsCreations, KeepsNotices, Line, LineStep, Link, LinkEnd, LinkInput, List}
+use Rattle.node_laws.proofs.Words.{Loses, Loss, MayBoot, MayHappen, Memory, NextFrame, NoInput, NodeHistory, NodeWorld, None, NumberedEnd, Occurrence, Option}
+use Rattle.node_laws.proofs.Words.{Port, Reset, Resets, Role, Running, RunsSo, Site, Some, Starts, Step, Stops, Take, Takes, Tick, Ticks, TimePasses, Turn}
+use Rattle.node_laws.proofs.Words.{Work, [], activates, after_controller, after_host, after_input, after_planned, aged, aged_entries, all_aged, ap, append-nil}
+use Rattle.node_laws.proofs.Words.{append_assoc, arrival, asking_in, beginning, begins_with, book_in, boot_found, boot_writes, boot_written, boots, by_boot}
+use Rattle.node_laws.proofs.Words.{by_coming, by_controller, by_counts, by_host, by_list, by_loss, by_memory, by_option, by_power, by_running, by_test}
+use Rattle.node_laws.proofs.Words.{comes_at, comes_to, commands_in, cond, cond_both, cons_option, controller_cut, controller_does, controller_ticks}
+use Rattle.node_laws.proofs.Words.{controller_work, count_of, counts, creation_in, creations_at, creations_of, deactivated, end_c, end_h, ending_of}
+use Rattle.node_laws.proofs.Words.{entries_for, entries_in, eqb, eqb-true, errors_all, exchanged, false, filter_map, find, first_lost, flat_map}
+use Rattle.node_laws.proofs.Words.{flat_map-append, found, frame_lost, frames_noted, happenings, happens, has_come, has_input, has_taken, host_cut, host_does}
+use Rattle.node_laws.proofs.Words.{host_work, hosts_in, hosts_tick, input_at, input_of, is_late_at, is_waiting, length, link_after_controller, link_to}
+use Rattle.node_laws.proofs.Words.{links_of, loses_power_at, map, memory_at, near_end_in, new_clf, new_desk, new_link_end, new_site, new_world, node_at}
+use Rattle.node_laws.proofs.Words.{node_entries, not, occurrences_in, occurrences_of, option_map_or, port_at, port_for, refl, refusal_in, renewed, replicate}
+use Rattle.node_laws.proofs.Words.{runs_on, seen_from, sending, sent_all, site_at, site_lost, started, steps, steps_at_controller, subst, sym, ticked_so}
+use Rattle.node_laws.proofs.Words.{ticks_at_controller, true, true≢false, turned, turns_at, wires_for, with_error, with_memory, with_node, with_site, work_of}
+use Rattle.node_laws.proofs.Words.{world_after, world_behind, world_step, world_ticks, written_off, ℕ, ◌&&◌, ◌++◌, ◌-◌, ◌^◌, ◌∙◌, ◌∷◌, ◌≡◌, ◌≤◌}
 use Rattle.node_laws.specs.creations.Creations.{of_asker}
-use Rattle.node_laws.proofs.creations.Rows.{proper_found}
-use Rattle.node_laws.proofs.creations.Near.{IsBegun, Reads, begun_at, far_book, far_reading, new_ready, none_side, step_reads}
-use Rattle.node_laws.proofs.creations.Sides.{after_tick, near_made, near_side, tick_made, tick_side}
-use Rattle.node_laws.proofs.kept.Books.{book_more}
-use Rattle.node_laws.proofs.turns.Works.{site_none}
+use Rattle.node_laws.proofs.creations.Coming.{input_aside}
+use Rattle.node_laws.proofs.creations.HostSides.{event_none, new_none}
+use Rattle.node_laws.proofs.creations.Knowing.{IsBegun, Reads, begun_at, far_book, far_reading, new_ready, none_side, step_reads}
+use Rattle.node_laws.proofs.creations.Outcomes.{new_proper, proper_found}
+use Rattle.node_laws.proofs.creations.Turning.{after_tick, near_made, near_side, tick_made, tick_side}
+use Rattle.node_laws.proofs.kept.Doing.{book_more}
+use Rattle.node_laws.proofs.kept.Ticking.{MayAllHappen, all_begin, few_front, line_may, world_goes}
+use Rattle.node_laws.proofs.links.Blocks.{IsWithin, input_within, sent_within}
+use Rattle.node_laws.proofs.notices.Events.{begins_read, event_read}
+use Rattle.node_laws.proofs.notices.Near.{AreFar, AreGood, AreOwn, IsFarWork, all_do, all_tick, arrival_quiet, asking_more, beginning_own}
+use Rattle.node_laws.proofs.notices.Near.{comes_reads as notices_come, far-append, far_flat, frames_quiet, good_at, good_map, link_shut, quiet_far, sending_own}
+use Rattle.node_laws.proofs.notices.Near.{steps_far}
+use Rattle.node_laws.proofs.notices.Steps.{here_shut, ticks_shut}
+use Rattle.node_laws.proofs.readings.Noticed.{ending_is, far_side, hosts_tick_side, lost_side, side_map, side_with}
+use Rattle.node_laws.proofs.readings.Turning.{IsQuiet}
+use Rattle.node_laws.proofs.readings.Sites.{comes_outside, lost_quiet, near_end_side}
+use Rattle.node_laws.proofs.telling.Events.{link_is, site_host, site_map}
+use Rattle.node_laws.proofs.telling.Ticks.{wires_all}
+use Rattle.node_laws.proofs.telling.Lasting.{AllMay, boots_may, history_holds, lines_last}
+use Rattle.node_laws.proofs.turns.Nodes.{site_none}
+use Rattle.trace_model.specs.declared.entry.Entry.TheVariants as entry
 
--- ## Beside the controller
+-- ## What is read of creations over whatever happens
+
+-- ### Beside the controller
 
 -- The controller's creations and its ends stay as others act, and what is noted tells of neither.
 pub record Beside (w v : NodeWorld) (es : List Entry) : Type 0 where
@@ -37,7 +52,7 @@ pub record Beside (w v : NodeWorld) (es : List Entry) : Type 0 where
   pub due : AreAwaited w.controller → AreAwaited v.controller
   pub sides : (n : ℕ) → (link_to v.sites n).controller.side ≡ (link_to w.sites n).controller.side
 
-pub beside_reads : (t : List Entry) (w v : NodeWorld) (es : List Entry) → Reads t w → Beside w v es → Reads (t ++ es) v
+beside_reads : (t : List Entry) (w v : NodeWorld) (es : List Entry) → Reads t w → Beside w v es → Reads (t ++ es) v
 beside_reads t w v es a b = record {
   book = far_book t es b.far a.book;
   due = b.due a.due;
@@ -51,7 +66,7 @@ beside_reads t w v es a b = record {
 abbrev pub BesideBy : NodeWorld → NodeWorld × List Entry → Type 0
 BesideBy w p = Beside w p.0 p.1
 
-pub stays : (w : NodeWorld) → Beside w w []
+stays : (w : NodeWorld) → Beside w w []
 stays w = record { far = tt; creations = λ x. refl; due = λ a. a; sides = λ n. refl }
 
 sites_beside : (w : NodeWorld) (h : ℕ) (f : Site → Site) (es : List Entry) → AreFar es → ((s : Site) → (f s).host ≡ s.host)
@@ -83,12 +98,12 @@ pub begins_beside : (w : NodeWorld) (h : ℕ) (deeds : List Deed) → AreGood w.
     → BesideBy w (host_does w h NoInput (begins_with h deeds))
 begins_beside w h deeds good own = host_beside w h NoInput (begins_with h deeds) good (λ k b. all_do h deeds k own b)
 
-pub memory_beside : (w : NodeWorld) (n : ℕ) (m : Memory) → Beside w (with_memory n m w) []
+memory_beside : (w : NodeWorld) (n : ℕ) (m : Memory) → Beside w (with_memory n m w) []
 memory_beside w n m =
     by_memory (λ v. Beside w v []) n w m (λ e. record { far = tt; creations = λ x. refl; due = λ a. a; sides = λ k. refl })
     (λ e. sites_beside w n (λ (s : Site). record s { memory = m }) [] tt (λ s. refl) (λ s. refl))
 
--- ## Losses
+-- ### Losses
 
 creations_counted : (h : ℕ) (desks : List Desk) (x : ℕ) → creations_at (with_error h desks) x ≡ creations_at desks x
 creations_counted h desks x = ap (λ l. of_asker x l) (go desks) where
@@ -123,7 +138,7 @@ lost_beside w e why =
       sides = λ n. side_with e.link (site_lost e why) (λ s. refl) (λ s. lost_side e why s.link) w.sites n;
     })
 
--- ## Power
+-- ### Power
 
 none_asked : (hosts : List ℕ) (x : ℕ) → creations_at (map new_desk hosts) x ≡ []
 none_asked [] x = refl
@@ -141,7 +156,7 @@ cut_ends (s ∷ sites) n = by_test (eqb s.host n)
     (λ is. rw is (new_ready (sent_all s.link.controller.side).role))
     (λ off. rw off (cut_ends sites n))
 
-pub cut_reads : (t : List Entry) (w : NodeWorld) (n : ℕ) → Reads t w → Reads (t ++ entry.Cut n ∷ []) (loses_power_at n w)
+cut_reads : (t : List Entry) (w : NodeWorld) (n : ℕ) → Reads t w → Reads (t ++ entry.Cut n ∷ []) (loses_power_at n w)
 cut_reads t w n a =
     by_power (Reads (t ++ entry.Cut n ∷ [])) n w
     (λ e. subst (λ m. Reads (t ++ entry.Cut m ∷ []) (controller_cut w)) (sym (eqb-true n 0 e)) near)
@@ -176,7 +191,7 @@ runs_reads t w n k hosts content a off =
           (subst (λ o. HasSetAside (creations_of o x) (link_to w.sites x).controller.side) none (a.ends x));
     }
 
-pub boots_reads : (t : List Entry) (w : NodeWorld) (n : ℕ) → Reads t w → node_at w n ≡ None → Reads (t ++ (boots w n).1) (boots w n).0
+boots_reads : (t : List Entry) (w : NodeWorld) (n : ℕ) → Reads t w → node_at w n ≡ None → Reads (t ++ (boots w n).1) (boots w n).0
 boots_reads t w n a stands =
     by_boot (λ p. Reads (t ++ p.1) p.0) w n (cut_reads t (boot_written w n) n still)
     (runs_reads t (boot_written w n) n (count_of (boot_found w n).core.journal) (links_of w n) (memory_at w n).content still (written_off w n stands))
@@ -185,7 +200,7 @@ boots_reads t w n a stands =
     still = subst (λ l. Reads l (boot_written w n)) (append-nil t)
         (beside_reads t w (boot_written w n) [] a (memory_beside w n (after_planned (boot_writes (memory_at w n).content) (memory_at w n))))
 
--- ## The controller acts
+-- ### The controller acts
 
 -- an end of a controller that lost its power in a tick is new
 tick_new : (l : Link) (late : Bool) (ts : List Turn)
@@ -257,7 +272,7 @@ module _ (hosts : List ℕ) (are : AreHosts hosts) (t : List Entry) (w : NodeWor
   step_new l NoInput ts i e = absurd (cc e)
 
   module _ (r : Running) (runs : w.controller ≡ Some r) (has : HasEnds 0 (hosts_in w.sites) r) (ups : IfNoticedUp w.sites (Some r)) where
-    pub near_step : (h : ℕ) (comes : Comes) (i : LinkInput) → input_of (link_to w.sites h) comes ≡ Some i
+    near_step : (h : ℕ) (comes : Comes) (i : LinkInput) → input_of (link_to w.sites h) comes ≡ Some i
         → Reads (t ++ (after_controller w h comes (controller_work w r h comes (steps (AtEnd h i)))).1)
         (after_controller w h comes (controller_work w r h comes (steps (AtEnd h i)))).0
     near_step h comes i input =
@@ -329,7 +344,7 @@ module _ (hosts : List ℕ) (are : AreHosts hosts) (t : List Entry) (w : NodeWor
                   ∙ ap sent_all (sym made.is)))),
             )
 
-    pub near_tick : (es : List Entry) → Reads (t ++ es) w → Reads ((t ++ es) ++ (controller_ticks (all_aged w).0).1) (controller_ticks (all_aged w).0).0
+    near_tick : (es : List Entry) → Reads (t ++ es) w → Reads ((t ++ es) ++ (controller_ticks (all_aged w).0).1) (controller_ticks (all_aged w).0).0
     near_tick es before =
         rw runs
         (step_reads (t ++ es) w r runs has notices.orderly.different all_hosts ups shut_at
@@ -394,3 +409,214 @@ module _ (hosts : List ℕ) (are : AreHosts hosts) (t : List Entry) (w : NodeWor
                   ∙ (tick_side (aged s.link) (turns_at k x) p side b.late b.up (subst IsShut (sym b.side) (shut_at x))
                   ∙ (ap (λ ts. sent_all (turned (after_tick p).side ts)) (turns_of k x made.port made.here) ∙ ap sent_all (sym made.is))))),
             )
+
+-- ## What a world keeps of the creations that wait over each event
+
+nothing : (t : List Entry) (w : NodeWorld) → Reads t w → Reads (t ++ []) w
+nothing t w a = subst (λ l. Reads l w) (sym (append-nil t)) a
+
+-- ### Time
+
+aged_far : (w : NodeWorld) → AreFar (all_aged w).1
+aged_far w = far_flat (λ (s : Site). entries_for s.host (aged_entries Controller s.link.to_controller ++ aged_entries Host s.link.to_host))
+    (λ s. quiet_far s.host (aged_entries Controller s.link.to_controller ++ aged_entries Host s.link.to_host)
+    (wires_all IsQuiet (λ w c. tt) Controller Host s.link.to_controller s.link.to_host)) w.sites
+
+-- an end of a controller that doesn't run has a tick
+tick_ready : (e : LinkEnd) → HasSetAside [] e → HasSetAside [] (sent_all (after_input e Tick))
+tick_ready e a =
+    let b : IsWithin (sent_all (after_input e Tick)) =
+    sent_within (after_input e Tick) (input_within e Tick (record { room = a.room; forgot = a.forgot })) in
+    record { room = b.room; forgot = b.forgot; aside = input_aside e Tick tt ∙ a.aside; up = λ some. absurd (some refl) }
+
+off_ends : (sites : List Site) (n : ℕ) → HasSetAside [] (link_to sites n).controller.side
+    → HasSetAside [] (link_to (map (λ (s : Site). record s { link = ticks_at_controller s.link [] GoesOut }) sites) n).controller.side
+off_ends [] n a = a
+off_ends (s ∷ sites) n a = by_test (eqb s.host n)
+    (λ is. let b : HasSetAside [] s.link.controller.side = rw is at a in rw is (tick_ready s.link.controller.side b))
+    (λ off. let b : HasSetAside [] (link_to sites n).controller.side = rw off at a in rw off (off_ends sites n b))
+
+ticked_good : (k : Work) (sites : List Site) → AreGood sites
+    → AreGood (map (λ (s : Site). record s { link = ticked_so s.link (is_late_at k s.host) (turns_at k s.host) (ending_of k) }) sites)
+ticked_good k sites a =
+    good_map (λ (s : Site). record s { link = ticked_so s.link (is_late_at k s.host) (turns_at k s.host) (ending_of k) })
+    (λ s b. record {
+      host = b.host;
+      node = b.node;
+      shut = ticked_shut s.link (is_late_at k s.host) (turns_at k s.host) (ending_of k) b.shut;
+    }) sites a
+  where
+    ticked_shut : (l : Link) (late : Bool) (ts : List Turn) (ending : Ending) → IsShut l.controller.side → IsShut (ticked_so l late ts ending).controller.side
+    ticked_shut l late ts ending b =
+        cond_both (late && not (is_waiting l.controller.side.shdlc)) (has_input l (Reset None) ts ending) (ticks_at_controller l ts ending)
+        (λ (m : Link). IsShut m.controller.side) (λ _. here_shut l (Step (AsksReset None) ts ending) b) (λ _. ticks_shut l ts ending b)
+
+pub aged_good : (w : NodeWorld) → AreGood w.sites → AreGood (all_aged w).0.sites
+aged_good w a = good_map (λ (s : Site). record s { link = aged s.link }) (λ s b. record { host = b.host; node = b.node; shut = b.shut }) w.sites a
+
+pub near_good : (w : NodeWorld) → AreGood w.sites → AreGood (controller_ticks w).0.sites
+near_good w a = by_option w.controller
+    (λ e. rw e (good_map (λ (s : Site). record s { link = ticks_at_controller s.link [] GoesOut })
+    (λ s b. record { host = b.host; node = b.node; shut = ticks_shut s.link [] GoesOut b.shut }) w.sites a))
+    (λ r e. rw e (ticked_good (steps TimePasses (work_of r w.memory.plan (λ h. (link_to w.sites h).controller) [])) w.sites a))
+
+module _ (hosts : List ℕ) (are : AreHosts hosts) (t : List Entry) (w : NodeWorld) (kept : AllKeep hosts t w) (notices : KeepsNotices t w) (a : Reads t w) where
+  controller_ticked : Reads (t ++ ((all_aged w).1 ++ (controller_ticks (all_aged w).0).1)) (controller_ticks (all_aged w).0).0
+  controller_ticked =
+      subst (λ l. Reads l (controller_ticks old).0) (append_assoc t es (controller_ticks old).1)
+      (by_node w.controller refl notices.orderly.controller notices.up)
+    where
+      old : NodeWorld
+      old = (all_aged w).0
+
+      es : List Entry
+      es = (all_aged w).1
+
+      still : Reads (t ++ es) w
+      still = beside_reads t w w es a (record { far = aged_far w; creations = λ x. refl; due = λ d. d; sides = λ n. refl })
+
+      alone : NodeWorld
+      alone = record old { sites = map (λ (s : Site). record s { link = ticks_at_controller s.link [] GoesOut }) old.sites }
+
+      by_node : (o : Option Running) → w.controller ≡ o → IfItRuns 0 (hosts_in w.sites) o → IfNoticedUp w.sites o
+          → Reads ((t ++ es) ++ (controller_ticks old).1) (controller_ticks old).0
+      by_node (Some r) e has up = near_tick hosts are t w kept notices a r e has up es still
+      by_node None e has up =
+          rw e (nothing (t ++ es) alone (record {
+            book = still.book;
+            due = still.due;
+            read = still.read;
+            ends = λ x. subst (λ o. HasSetAside (creations_of o x) (link_to alone.sites x).controller.side) (sym e)
+                (off_ends old.sites x (subst (HasSetAside []) (sym (side_map (λ (s : Site). record s { link = aged s.link }) (λ s. refl) (λ s. refl) w.sites x))
+                (subst (λ o. HasSetAside (creations_of o x) (link_to w.sites x).controller.side) e (still.ends x))));
+          }))
+
+  ticks_reads : Reads (t ++ (world_ticks w).1) (world_ticks w).0
+  ticks_reads =
+      let old : NodeWorld × List Entry = all_aged w in
+      let near : NodeWorld × List Entry = controller_ticks old.0 in
+      let far : List Site × List Entry = hosts_tick near.0.sites in
+      let hosts_so = all_tick near.0.sites (near_good old.0 (aged_good w notices.sites)) in
+      subst (λ l. Reads l (record near.0 { sites = far.0 }))
+      (append_assoc t (old.1 ++ near.1) far.1 ∙ ap (λ l. t ++ l) (append_assoc old.1 near.1 far.1))
+      (beside_reads (t ++ (old.1 ++ near.1)) near.0 (record near.0 { sites = far.0 }) far.1 controller_ticked
+      (record { far = hosts_so.1; creations = λ x. refl; due = λ d. d; sides = hosts_tick_side near.0.sites }))
+
+  -- ### What comes
+
+  near_reads : (h : ℕ) (comes : Comes) (i : LinkInput) → input_of (link_to w.sites h) comes ≡ Some i
+      → Reads (t ++ (controller_does w h comes (steps (AtEnd h i))).1) (controller_does w h comes (steps (AtEnd h i))).0
+  near_reads h comes i input =
+      by_controller (λ p. Reads (t ++ p.1) p.0) w h comes (steps (AtEnd h i)) (nothing t w a)
+      (λ r e. near_step hosts are t w kept notices a r e (subst (IfItRuns 0 (hosts_in w.sites)) e notices.orderly.controller)
+      (subst (IfNoticedUp w.sites) e notices.up) h comes i input)
+
+  comes_reads : (e : End) (comes : Comes) → Reads (t ++ (comes_at w e comes).1) (comes_at w e comes).0
+  comes_reads e comes = by_test e.at_host
+      (λ b. beside_reads t w (comes_at w e comes).0 (comes_at w e comes).1 a (far_beside w e comes notices.sites b))
+      (λ b. by_coming (λ p. Reads (t ++ p.1) p.0) w e comes (nothing t w a) (λ i at q. absurd (true≢false (sym at ∙ b)))
+      (λ i at q. near_reads e.link comes i q))
+
+  activates_reads : (h sync power : ℕ) → Reads (t ++ (activates w h sync power).1) (activates w h sync power).0
+  activates_reads h sync power =
+      let near : NodeWorld × List Entry = comes_at w (end_c h) (Starts power) in
+      let far : NodeWorld × List Entry = comes_at near.0 (end_h h) (Starts sync) in
+      let good = notices_come t w notices.orderly notices.up (record { sites = notices.sites; reads_so = notices.controller }) (end_c h) (Starts power) in
+      subst (λ l. Reads l far.0) (append_assoc t near.1 far.1)
+      (beside_reads (t ++ near.1) near.0 far.0 far.1 (comes_reads (end_c h) (Starts power)) (far_beside near.0 (end_h h) (Starts sync) good.sites refl))
+
+  -- ### Events
+
+  by_host_of_worlds : (h : ℕ) (p : NodeWorld × List Entry) → Beside w p.0 p.1 → Reads (t ++ p.1) p.0
+  by_host_of_worlds h p b = beside_reads t w p.0 p.1 a b
+
+  event_reads : (c : Happening) → MayBoot w c → Reads (t ++ (world_step w c).1) (world_step w c).0
+  event_reads (Boots n) may = boots_reads t w n a may
+  event_reads (IsCut n) may = cut_reads t w n a
+  event_reads (Gives e m) may = by_host_of_worlds e.link _ (begins_beside w e.link (sending e.link m) notices.sites (sending_own e.link m))
+  event_reads (Inits e identity pipes) may =
+      by_host_of_worlds e.link _ (begins_beside w e.link (beginning identity pipes) notices.sites (beginning_own identity pipes))
+  event_reads (Takes e) may = comes_reads e NextFrame
+  event_reads (Loses e why) may = by_host_of_worlds e.link _ (lost_beside w e why)
+  event_reads Ticks may = ticks_reads
+  event_reads (Resets e window) may = comes_reads e (AsksReset window)
+  event_reads (Activates h sync power) may = activates_reads h sync power
+  event_reads (Arms n plan) may = by_host_of_worlds n _ (memory_beside w n (record (memory_at w n) { plan = Some plan }))
+
+so_far : (hosts : List ℕ) (t : List Entry) (w : NodeWorld) → KeepsCreations hosts t w → Reads t w
+so_far hosts t w a = record { book = a.book; due = a.due; read = a.read; ends = a.ends }
+
+pub event_keeps : (hosts : List ℕ) (t : List Entry) (w : NodeWorld) (c : Happening) → AreHosts hosts → KeepsCreations hosts t w → MayBoot w c → MayHappen w c
+    → ((n : ℕ) → length (commands_in t n) ≤ 2 ^ 32 - 1) → KeepsCreations hosts (t ++ (world_step w c).1) (world_step w c).0
+event_keeps hosts t w c are a boots may few =
+    let b : Reads (t ++ (world_step w c).1) (world_step w c).0 = event_reads hosts are t w a.kept a.notices (so_far hosts t w a) c boots in
+    record {
+      kept = (world_goes hosts are t w c a.kept may few).keep;
+      notices = event_read t w c a.notices boots;
+      book = b.book;
+      due = b.due;
+      read = b.read;
+      ends = b.ends;
+      hosts_aside = event_none t w c a.notices (near_good (all_aged w).0 (aged_good w a.notices.sites)) a.hosts_aside;
+    }
+
+-- ### The beginning
+
+new_ends : (content hosts : List ℕ) (n : ℕ) → HasSetAside [] (link_to (map (new_site content) hosts) n).controller.side
+new_ends content [] n = new_ready Bare
+new_ends content (h ∷ hosts) n = by_test (eqb h n) (λ is. rw is (new_ready (Clf new_clf))) (λ off. rw off (new_ends content hosts n))
+
+pub begin_keeps : (hosts : List ℕ) → AreHosts hosts → KeepsCreations hosts [] (new_world hosts)
+begin_keeps hosts are = record {
+  kept = all_begin hosts;
+  notices = begins_read hosts are;
+  book = new_proper;
+  due = tt;
+  read = λ x. tt;
+  ends = λ x. new_ends (replicate 65536 255) hosts x;
+  hosts_aside = new_none (replicate 65536 255) hosts;
+}
+
+-- ## What is read of creations over the events of a schedule
+
+-- what may happen to nodes and their memories
+abbrev May : NodeWorld → Happening → Type 0
+May w c = MayBoot w c × MayHappen w c
+
+both_may : (causes : List Happening) (w : NodeWorld) → AllMay MayBoot w causes → MayAllHappen w causes → AllMay May w causes
+both_may [] w a b = tt
+both_may (c ∷ causes) w a b = ((a.0, b.0), both_may causes (world_step w c).0 a.1 b.1)
+
+module _ (hosts : List ℕ) (are : AreHosts hosts) where
+  -- while no node has more commands than a journal counts
+  abbrev Holds : List Entry → NodeWorld → Type 0
+  Holds t w = IsFew t → KeepsCreations hosts t w
+
+  lasts : (t : List Entry) (w : NodeWorld) (c : Happening) → Holds t w → May w c → Holds (t ++ (world_step w c).1) (world_step w c).0
+  lasts t w c holds may few =
+      event_keeps hosts t w c are (holds (few_front t (world_step w c).1 few)) may.0 may.1 (λ n. few t (world_step w c).1 n refl)
+
+  lines_may : (w : NodeWorld) (l : Line) → IsSentByHost l → refusal_in w l ≡ None → AllMay May w (happenings w l)
+  lines_may w l sent none = both_may (happenings w l) w (boots_may w l tt none) (line_may hosts are w l sent none)
+
+  begins : Holds [] (new_world hosts)
+  begins few = begin_keeps hosts are
+
+pub history_keeps : (header : Header) (lines : List Line) (t : NodeHistory) → FollowsNodes header lines t → AreHosts header.hosts.items
+    → AllByRecursion IsSentByHost lines → IsFew (node_entries t) → (front back : List Occurrence) → occurrences_in t ≡ front ++ back
+    → KeepsCreations header.hosts.items (entries_in front) (world_behind (new_world header.hosts.items) front)
+history_keeps header lines t follows are sent few front back q =
+    let hosts : List ℕ = header.hosts.items in
+    history_holds (λ u w. IsFew u → KeepsCreations hosts u w) May IsSentByHost (lasts hosts are) (lines_may hosts are) header lines t follows (begins hosts are)
+    sent front back q
+    (few_front (entries_in front) (entries_in back) (subst IsFew (ap entries_in q ∙ flat_map-append (λ (o : Occurrence). o.entries) front back) few))
+
+pub schedule_keeps : (header : Header) (lines : List Line) (t : NodeHistory) → FollowsNodes header lines t → AreHosts header.hosts.items
+    → AllByRecursion IsSentByHost lines → IsFew (node_entries t)
+    → KeepsCreations header.hosts.items (node_entries t) (world_after (new_world header.hosts.items) lines)
+schedule_keeps header lines t follows are sent few =
+    let hosts : List ℕ = header.hosts.items in
+    let H : List Entry → NodeWorld → Type 0 = λ u w. IsFew u → KeepsCreations hosts u w in
+    subst (λ l. H l (world_after (new_world hosts) lines))
+    (ap (λ (steps : List LineStep). entries_in (flat_map (λ (s : LineStep). occurrences_of s.outcome) steps)) (sym follows.steps_are))
+    (lines_last H May IsSentByHost (lasts hosts are) (lines_may hosts are) lines [] (new_world hosts) (begins hosts are) sent) few

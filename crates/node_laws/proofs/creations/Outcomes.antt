@@ -1,15 +1,511 @@
--- What a message of a host does to the creations that wait at a controller.
-use Rattle.node_laws.proofs.Words.{AllByRecursion, Answer, AreDifferent, AreProper, Ask, Asks, Bool, Command, Commit, Commits, Core, Creation, Decision, Deed}
-use Rattle.node_laws.proofs.Words.{Drops, GoesToFree, IsAnswered, IsAwaited, IsNoticeOf, IsProperCommand, LinkView, List, Message, None, Notice, Option}
-use Rattle.node_laws.proofs.Words.{PipeRow, Port, SaysOk, Sends, SetsErrors, Some, Tells, [], agreed, answer_of, ap, ap₂, asked_at, asks_for, body_in}
-use Rattle.node_laws.proofs.Words.{by_option, by_test, cases_Bool, commit_deeds, cond, controller_deeds, controller_holds, creation_in, decided, decision_deeds}
-use Rattle.node_laws.proofs.Words.{eqb, eqb-true, false, finds_room, gates, goes_through, has, has_link, has_notice, hosts_where, identity_served, inl, inr}
-use Rattle.node_laws.proofs.Words.{is_response, is_some, link_deeds, link_served, map, own_gate, own_view, port_at, refl, subst, sym, true, true≢false}
-use Rattle.node_laws.proofs.Words.{view_for, view_of, ℕ, ◌&&◌, ◌∙◌, ◌∷◌, ◌≡◌, ◌⊎◌}
-use Rattle.gate_answers.specs.declared.response.Response.TheVariants as response
+-- The creations that wait at a controller, by who asked, and what a message of a host does to them.
+use Rattle.node_laws.proofs.Words.{AllByRecursion, Answer, AreDifferent, AreProper, Ask, Asks, Book, Bool, Clear, Command, Commit, Commits, Core, Create}
+use Rattle.node_laws.proofs.Words.{Creation, Decision, Deed, Delete, Drops, GoesToFree, HciTables, IsAnswered, IsAwaited, IsNoticeOf, IsProper, IsProperBook}
+use Rattle.node_laws.proofs.Words.{IsProperCommand, IsReadSo, LinkView, List, Message, None, Notice, Ok, Option, PipeRow, Port, SaysOk, Sends, Set, SetOpened}
+use Rattle.node_laws.proofs.Words.{SetsErrors, Some, Sync, Tells, [], after_commands, agreed, all_append, all_false, answer_of, ap, append-nil, append_assoc}
+use Rattle.node_laws.proofs.Words.{apply, ap₂, arith, asked_at, asks_for, body_in, by_option, by_test, carried_out, cases_Bool, changed_if, closing}
+use Rattle.node_laws.proofs.Words.{commit_deeds, commits_and_tells, cond, cond_both, controller_deeds, controller_holds, creation_in, creations_at, decided}
+use Rattle.node_laws.proofs.Words.{decided_holds, decision_deeds, dest_in, ends_of, eqb, eqb-false, eqb-true, false, far_end, far_end_of, filter, filter_map}
+use Rattle.node_laws.proofs.Words.{finds_room, first_of, forgets, gates, goes_through, has, has_link, has_notice, header_of, hosts_where, identity_served, inl}
+use Rattle.node_laws.proofs.Words.{inr, is_none, is_opened, is_over_at, is_response, is_some, length, length-append, link_deeds, link_served, ltb, map, ne_eqb}
+use Rattle.node_laws.proofs.Words.{new_book, new_row, no_tables, not, not-false, opening, option_and_then, or_parts, own_gate, own_view, param_in, pid_of}
+use Rattle.node_laws.proofs.Words.{pipe_at, port_at, refl, relayed_to, subst, sym, take, tests_of_pipe, tests_to_create, told_of_clearing, told_of_deletion}
+use Rattle.node_laws.proofs.Words.{true, true≢false, view_for, view_of, with_command, with_found, with_port, without_notice, ℕ, ◌&&◌, ◌++◌, ◌||◌, ◌∙◌, ◌∷◌, ◌≡◌}
+use Rattle.node_laws.proofs.Words.{◌⊎◌}
+use Rattle.gate_admin.proofs.CreationLemmas.{AllFalse}
+use Rattle.gate_admin.specs.Decide.{created, dest_gate_in, tests_to_open}
+use Rattle.hci_tables.specs.Tables.{with_static}
+use Rattle.hcp_packet.specs.declared.MessageKind.TheVariants.{Command as IsCommand}
 use Rattle.node_machine.proofs.Walks.{IsServed}
-use Rattle.node_laws.proofs.creations.Asks.{Asked, asked_of, waits, set_asked, none_waits}
-use Rattle.node_laws.proofs.creations.Deciding.{IsAskFor, Suits, AsksNobody, decided_suits, nobody_asked}
+use Rattle.pipe_table.specs.PipeRows.{all_closed, as_opened, joins_host, with_opened}
+use Rattle.registry.proofs.ValueLemmas.{AllByRecursion-filter, AllByRecursion-take}
+use Rattle.sorted_rows.specs.Rows.{rows_before, rows_behind}
+use Rattle.tables_laws.proofs.gate.Decisions.{unless}
+use Rattle.gate_answers.specs.declared.response.Response.TheVariants as response
+
+-- ## The creations that wait at the ends of a controller, by the hosts of the ends, and those of one asker among them
+
+-- the creation for which each host is asked
+abbrev pub Asked : Type 0
+Asked = List (ℕ × Option Creation)
+
+abbrev pub asked_of : List Port → Asked
+asked_of ports = map (λ (p : Port). (p.desk.host, asked_at p)) ports
+
+abbrev one_asked : ℕ → Option Creation → ℕ × Option Creation
+one_asked h o = (h, o)
+
+-- those of one asker
+abbrev pub one_of : ℕ → Option Creation → List Creation
+one_of x None = []
+one_of x (Some c) = cond (eqb c.asker x) (c ∷ []) []
+
+abbrev pub waits : ℕ → Asked → List Creation
+waits x [] = []
+waits x (e ∷ asked) = one_of x e.1 ++ waits x asked
+
+abbrev pub owes : ℕ → List Creation → List Creation
+owes x [] = []
+owes x (c ∷ owed) = one_of x (Some c) ++ owes x owed
+
+-- the host k is asked for this one from now on, or for none
+abbrev pub set_asked : ℕ → Option Creation → Asked → Asked
+set_asked k o asked = map (λ (e : ℕ × Option Creation). cond (eqb e.0 k) (e.0, o) e) asked
+
+-- ### One creation is read
+
+pub read_none : (r : Option (List ℕ)) (l : List Creation) → l ≡ [] → IsReadSo r l → r ≡ None
+read_none None l e k = refl
+read_none (Some m) [] e k = absurd k
+read_none (Some m) (c ∷ l) e k = absurd (cc e)
+
+pub none_read : (l : List Creation) → l ≡ [] → IsReadSo None l
+none_read [] e = tt
+none_read (c ∷ l) e = absurd (cc e)
+
+empty_length : {X : Type 0} (l : List X) → length l ≡ 0 → l ≡ []
+empty_length [] e = refl
+empty_length (x ∷ l) e = absurd (omega (arith, e))
+
+pub both_empty : {X : Type 0} (a b : List X) → a ++ b ≡ [] → (a ≡ []) × (b ≡ [])
+both_empty [] b e = (refl, e)
+both_empty (x ∷ a) b e = absurd (cc e)
+
+-- one that is read is read wherever it stands
+put_in : (r : Option (List ℕ)) (c : Creation) (w a b : List Creation) → length (a ++ b) ≡ length w → IsReadSo r (c ∷ w) → IsReadSo r (a ++ (c ∷ b))
+put_in None c w a b same k = absurd k
+put_in (Some m) c (d ∷ w) a b same k = absurd k
+put_in (Some m) c [] a b same k =
+    let none = both_empty a b (empty_length (a ++ b) same) in
+    subst (λ l. IsReadSo (Some m) (l ++ (c ∷ b))) (sym none.0) (subst (λ l. IsReadSo (Some m) (c ∷ l)) (sym none.1) k)
+
+moves : (r : Option (List ℕ)) (a b c : List Creation) → IsReadSo r (a ++ (c ++ b)) → IsReadSo r ((a ++ b) ++ c)
+moves r [] b [] k = subst (IsReadSo r) (sym (append-nil b)) k
+moves None [] b (c ∷ cs) k = absurd k
+moves (Some m) [] [] (c ∷ []) k = k
+moves (Some m) [] (b ∷ bs) (c ∷ []) k = absurd k
+moves (Some m) [] b (c ∷ d ∷ cs) k = absurd k
+moves None (a ∷ more) b c k = absurd k
+moves (Some m) (a ∷ []) [] [] k = k
+moves (Some m) (a ∷ []) b (c ∷ cs) k = absurd k
+moves (Some m) (a ∷ []) (b ∷ bs) [] k = absurd k
+moves (Some m) (a ∷ z ∷ more) b c k = absurd k
+
+moved_length : (a b c : List Creation) → length ((a ++ b) ++ c) ≡ length (a ++ (c ++ b))
+moved_length a b c =
+    omega (arith, length-append (a ++ b) c, length-append a b, length-append a (c ++ b), length-append c b)
+
+-- ### Lists
+
+waits-append : (x : ℕ) (ls bs : Asked) → waits x (ls ++ bs) ≡ waits x ls ++ waits x bs
+waits-append x [] bs = refl
+waits-append x (e ∷ ls) bs = ap (λ l. one_of x e.1 ++ l) (waits-append x ls bs) ∙ sym (append_assoc (one_of x e.1) (waits x ls) (waits x bs))
+
+pub owes-append : (x : ℕ) (ls bs : List Creation) → owes x (ls ++ bs) ≡ owes x ls ++ owes x bs
+owes-append x [] bs = refl
+owes-append x (c ∷ ls) bs = ap (λ l. one_of x (Some c) ++ l) (owes-append x ls bs) ∙ sym (append_assoc (one_of x (Some c)) (owes x ls) (owes x bs))
+
+one_else : (x : ℕ) (c : Creation) → eqb c.asker x ≡ false → one_of x (Some c) ≡ []
+one_else x c e = rw e refl
+
+one_here : (x : ℕ) (c : Creation) → eqb c.asker x ≡ true → one_of x (Some c) ≡ c ∷ []
+one_here x c e = rw e refl
+
+-- what a desk keeps and what is read of it
+pub desks_wait : (x : ℕ) (ports : List Port) → creations_at (map (λ (p : Port). p.desk) ports) x ≡ waits x (asked_of ports)
+desks_wait x [] = refl
+desks_wait x (p ∷ ports) = by_option (creation_in p.desk.notice)
+    (λ e. rw e (desks_wait x ports))
+    (λ c e. by_test (eqb c.asker x) (λ is. rw (e, is) (ap (λ l. c ∷ l) (desks_wait x ports))) (λ off. rw (e, off) (desks_wait x ports)))
+
+-- ### Ends
+
+pub asked_map : (f : Port → Port) → ((p : Port) → (f p).desk.host ≡ p.desk.host) → ((p : Port) → asked_at (f p) ≡ asked_at p) → (ports : List Port)
+    → asked_of (map f ports) ≡ asked_of ports
+asked_map f host same [] = refl
+asked_map f host same (p ∷ ports) =
+    ap₂ (λ h o. (h, o) ∷ asked_of (map f ports)) (host p) (same p) ∙ ap (λ l. (p.desk.host, asked_at p) ∷ l) (asked_map f host same ports)
+
+pub asked_with : (k : ℕ) (g : Port → Port) → ((p : Port) → (g p).desk.host ≡ p.desk.host) → ((p : Port) → asked_at (g p) ≡ asked_at p) → (ports : List Port)
+    → asked_of (with_port k g ports) ≡ asked_of ports
+asked_with k g host same ports = asked_map (λ p. changed_if (eqb p.desk.host k) g p) (λ p. by_test (eqb p.desk.host k)
+    (λ q. rw q (host p))
+    (λ q. rw q refl)) (λ p. by_test (eqb p.desk.host k) (λ q. rw q (same p)) (λ q. rw q refl)) ports
+
+pub asked_set : (k : ℕ) (g : Port → Port) (o : Option Creation) → ((p : Port) → (g p).desk.host ≡ p.desk.host) → ((p : Port) → asked_at (g p) ≡ o)
+    → (ports : List Port) → asked_of (with_port k g ports) ≡ set_asked k o (asked_of ports)
+asked_set k g o host new [] = refl
+asked_set k g o host new (p ∷ ports) = ap₂ (λ e l. e ∷ l) (by_test (eqb p.desk.host k)
+    (λ q. rw q (ap₂ one_asked (host p) (new p)))
+    (λ q. rw q refl)) (asked_set k g o host new ports)
+
+hosts_asked : (ports : List Port) → map (λ (e : ℕ × Option Creation). e.0) (asked_of ports) ≡ map (λ (p : Port). p.desk.host) ports
+hosts_asked [] = refl
+hosts_asked (p ∷ ports) = ap (λ l. p.desk.host ∷ l) (hosts_asked ports)
+
+-- one host is asked for this
+pub record Split (asked : Asked) (k : ℕ) (o : Option Creation) : Type 0 where
+  pub key : ℕ
+  pub front : Asked
+  pub back : Asked
+  pub is : asked ≡ front ++ ((key, o) ∷ back)
+  pub set : (n : Option Creation) → set_asked k n asked ≡ front ++ ((key, n) ∷ back)
+
+others_stay : (k : ℕ) (n : Option Creation) (asked : Asked) → AllByRecursion (λ (h : ℕ). eqb h k ≡ false) (map (λ (e : ℕ × Option Creation). e.0) asked)
+    → set_asked k n asked ≡ asked
+others_stay k n [] a = refl
+others_stay k n (e ∷ asked) a = ap₂ (λ h l. h ∷ l) (by_test (eqb e.0 k)
+    (λ q. rw q (absurd (true≢false (rw q at a.0))))
+    (λ q. rw q refl)) (others_stay k n asked a.1)
+
+pub split_at : (ports : List Port) (k : ℕ) (p : Port) → AreDifferent (map (λ (p : Port). p.desk.host) ports) → port_at ports k ≡ Some p
+    → Split (asked_of ports) k (asked_at p)
+split_at [] k p d e = absurd (cc e)
+split_at (q ∷ ports) k p d e = by_test (eqb q.desk.host k)
+    (λ is. let same : Some q ≡ Some p = rw is at e in
+    let one : q ≡ p = cc in
+    let off : AllByRecursion (λ (h : ℕ). eqb h k ≡ false) (map (λ (p : Port). p.desk.host) ports) =
+    subst (λ n. AllByRecursion (λ (h : ℕ). eqb h n ≡ false) (map (λ (p : Port). p.desk.host) ports)) (eqb-true q.desk.host k is) d.0 in
+    record {
+      key = q.desk.host;
+      front = [];
+      back = asked_of ports;
+      is = ap (λ o. (q.desk.host, o) ∷ asked_of ports) (ap asked_at one);
+      set = λ n. ap (λ b. cond b (q.desk.host, n) (q.desk.host, asked_at q) ∷ set_asked k n (asked_of ports)) is
+          ∙ ap (λ l. (q.desk.host, n) ∷ l) (others_stay k n (asked_of ports)
+          (subst (AllByRecursion (λ (h : ℕ). eqb h k ≡ false)) (sym (hosts_asked ports)) off));
+    })
+    (λ off. let found : Split (asked_of ports) k (asked_at p) = split_at ports k p d.1 (rw off at e) in
+    record {
+      key = found.key;
+      front = (q.desk.host, asked_at q) ∷ found.front;
+      back = found.back;
+      is = ap (λ l. (q.desk.host, asked_at q) ∷ l) found.is;
+      set = λ n. ap (λ b. cond b (q.desk.host, n) (q.desk.host, asked_at q) ∷ set_asked k n (asked_of ports)) off
+          ∙ ap (λ l. (q.desk.host, asked_at q) ∷ l) (found.set n);
+    })
+
+-- ### What becomes of the creations of one asker
+
+module _ (x : ℕ) (asked : Asked) (k : ℕ) where
+  in_parts : (o n : Option Creation) (s : Split asked k o) → waits x (set_asked k n asked) ≡ waits x s.front ++ (one_of x n ++ waits x s.back)
+  in_parts o n s = ap (waits x) (s.set n) ∙ waits-append x s.front ((s.key, n) ∷ s.back)
+
+  was_parts : (o : Option Creation) (s : Split asked k o) → waits x asked ≡ waits x s.front ++ (one_of x o ++ waits x s.back)
+  was_parts o s = ap (waits x) s.is ∙ waits-append x s.front ((s.key, o) ∷ s.back)
+
+  -- a host is asked for none any more
+  pub left_same : (s : Split asked k None) → waits x (set_asked k None asked) ≡ waits x asked
+  left_same s = in_parts None None s ∙ sym (was_parts None s)
+
+  -- the creation that it was asked for is owed
+  pub owed_read : (r : Option (List ℕ)) (c : Creation) → Split asked k (Some c) → IsReadSo r (waits x asked)
+      → IsReadSo r (waits x (set_asked k None asked) ++ one_of x (Some c))
+  owed_read r c s kept =
+      subst (λ l. IsReadSo r (l ++ one_of x (Some c))) (sym (in_parts (Some c) None s))
+      (moves r (waits x s.front) (waits x s.back) (one_of x (Some c)) (subst (IsReadSo r) (was_parts (Some c) s) kept))
+
+  pub owed_length : (c : Creation) → Split asked k (Some c) → length (waits x (set_asked k None asked) ++ one_of x (Some c)) ≡ length (waits x asked)
+  owed_length c s =
+      ap (λ l. length (l ++ one_of x (Some c))) (in_parts (Some c) None s)
+      ∙ moved_length (waits x s.front) (waits x s.back) (one_of x (Some c)) ∙ ap length (sym (was_parts (Some c) s))
+
+  -- a host is asked for one by another asker
+  pub asked_else : (c : Creation) → Split asked k None → eqb c.asker x ≡ false → waits x (set_asked k (Some c) asked) ≡ waits x asked
+  asked_else c s off = in_parts None (Some c) s ∙ (ap (λ l. waits x s.front ++ (l ++ waits x s.back)) (one_else x c off) ∙ sym (was_parts None s))
+
+  -- or by this one
+  pub asked_here : (c : Creation) → Split asked k None → eqb c.asker x ≡ true → waits x asked ≡ [] → waits x (set_asked k (Some c) asked) ≡ c ∷ []
+  asked_here c s is none =
+      let or_parts = both_empty (waits x s.front) (waits x s.back) (sym (was_parts None s) ∙ none) in
+      in_parts None (Some c) s
+      ∙ (ap (λ l. waits x s.front ++ (l ++ waits x s.back)) (one_here x c is)
+      ∙ (ap (λ l. l ++ (c ∷ waits x s.back)) or_parts.0 ∙ ap (λ l. c ∷ l) or_parts.1))
+
+-- one that asks for none
+pub none_waits : (x : ℕ) (ports : List Port) → asks_for ports x ≡ false → waits x (asked_of ports) ≡ []
+none_waits x [] e = refl
+none_waits x (p ∷ ports) e = by_option (asked_at p)
+    (λ q. rw q (none_waits x ports (rw q at e)))
+    (λ c q. let two = or_parts (eqb c.asker x) (asks_for ports x) (rw q at e) in
+    rw q (ap (λ l. l ++ waits x (asked_of ports)) (one_else x c two.0) ∙ none_waits x ports two.1))
+
+-- ### Sessions that ended
+
+module _ (x : ℕ) where
+  -- with the session of its asker a creation is forgotten
+  forgot_one : (all : List Port) (p : Port) → one_of x (asked_at (forgets all p)) ≡ cond (is_over_at all x) [] (one_of x (asked_at p))
+  forgot_one all p = go (asked_at p) refl where
+    both : (l : List Creation) (b : Bool) → cond b l l ≡ l
+    both l true = refl
+    both l false = refl
+
+    go : (o : Option Creation) → asked_at p ≡ o → one_of x (asked_at (forgets all p)) ≡ cond (is_over_at all x) [] (one_of x (asked_at p))
+    go None e =
+        let same : forgets all p ≡ p = rw e refl in
+        ap (λ (q : Port). one_of x (asked_at q)) same
+        ∙ (ap (one_of x) e ∙ (sym (both [] (is_over_at all x)) ∙ ap (λ o. cond (is_over_at all x) [] (one_of x o)) (sym e)))
+    go (Some c) e = by_notice p.desk.notice refl where
+      by_notice : (n : Option Notice) → p.desk.notice ≡ n → one_of x (asked_at (forgets all p)) ≡ cond (is_over_at all x) [] (one_of x (asked_at p))
+      by_notice None q = let z : None ≡ Some c = rw q at e in absurd (cc z)
+      by_notice (Some n) q = by_test (is_over_at all c.asker)
+          (λ z. let gone : asked_at (forgets all p) ≡ None = rw (e, z, q) refl in
+          ap (one_of x) gone ∙ here true z)
+          (λ z. let same : forgets all p ≡ p = rw (e, z) refl in
+          ap (λ (r : Port). one_of x (asked_at r)) same ∙ (ap (one_of x) e ∙ here false z)) where
+            here : (b : Bool) → is_over_at all c.asker ≡ b → cond b [] (one_of x (Some c)) ≡ cond (is_over_at all x) [] (one_of x (asked_at p))
+            here b z = by_test (eqb c.asker x)
+                (λ is. ap (λ d. cond d [] (one_of x (Some c))) (sym z ∙ ap (is_over_at all) (eqb-true c.asker x is))
+                ∙ ap (λ o. cond (is_over_at all x) [] (one_of x o)) (sym e))
+                (λ off. ap (cond b []) (one_else x c off)
+                ∙ (both [] b ∙ (sym (both [] (is_over_at all x)) ∙ ap (cond (is_over_at all x) []) (sym (one_else x c off) ∙ ap (one_of x) (sym e)))))
+
+  pub forgot : (all ports : List Port) → waits x (asked_of (map (forgets all) ports)) ≡ cond (is_over_at all x) [] (waits x (asked_of ports))
+  forgot all [] = by_test (is_over_at all x) (λ q. rw q refl) (λ q. rw q refl)
+  forgot all (p ∷ ports) = ap₂ (λ a b. a ++ b) (forgot_one all p) (forgot all ports) ∙ by_test (is_over_at all x) (λ q. rw q refl) (λ q. rw q refl)
+
+  -- of the others those of ends whose sessions ended are owed an answer
+  abbrev pub stays : List Port → List Creation
+  stays ports = waits x (asked_of (map without_notice ports))
+
+  abbrev pub ended_of : List Port → List Creation
+  ended_of ports = owes x (filter_map asked_at (filter (λ (p : Port). p.ended) ports))
+
+  abbrev pub late_of : List Port → List Creation
+  late_of ports = owes x (filter_map asked_at (filter (λ (p : Port). p.late) ports))
+
+  pub record Parts (ports : List Port) : Type 0 where
+    pub many : length (stays ports ++ (ended_of ports ++ late_of ports)) ≡ length (waits x (asked_of ports))
+    pub read : (r : Option (List ℕ)) → IsReadSo r (waits x (asked_of ports)) → IsReadSo r (stays ports ++ (ended_of ports ++ late_of ports))
+
+  parts_more : (p : Port) (ports : List Port) → (p.late ≡ true → p.ended ≡ false) → Parts ports → Parts (p ∷ ports)
+  parts_more p ports flag later = by_creation (asked_at p) refl where
+    k : List Creation
+    k = stays ports
+
+    e : List Creation
+    e = ended_of ports
+
+    l : List Creation
+    l = late_of ports
+
+    w : List Creation
+    w = waits x (asked_of ports)
+
+    -- nothing of it is of this asker
+    same : stays (p ∷ ports) ≡ k → ended_of (p ∷ ports) ≡ e → late_of (p ∷ ports) ≡ l → waits x (asked_of (p ∷ ports)) ≡ w → Parts (p ∷ ports)
+    same s t u v = record {
+      many = ap₂ (λ a b. length (a ++ b)) s (ap₂ (λ a b. a ++ b) t u) ∙ (later.many ∙ ap length (sym v));
+      read = λ r q. subst (IsReadSo r) (ap₂ (λ a b. a ++ b) (sym s) (ap₂ (λ a b. a ++ b) (sym t) (sym u))) (later.read r (subst (IsReadSo r) v q));
+    }
+
+    -- one is
+    placed : (c : Creation) (a b : List Creation) → a ++ b ≡ k ++ (e ++ l) → stays (p ∷ ports) ++ (ended_of (p ∷ ports) ++ late_of (p ∷ ports)) ≡ a ++ (c ∷ b)
+        → waits x (asked_of (p ∷ ports)) ≡ c ∷ w → Parts (p ∷ ports)
+    placed c a b is to v = record {
+      many = ap length to ∙ (omega (arith, length-append a (c ∷ b), length-append a b, ap length is, later.many) ∙ ap length (sym v));
+      read = λ r q. subst (IsReadSo r) (sym to) (put_in r c w a b (ap length is ∙ later.many) (subst (IsReadSo r) v q));
+    }
+
+    by_creation : (o : Option Creation) → asked_at p ≡ o → Parts (p ∷ ports)
+    by_creation None q = by p.ended p.late refl refl where
+      by : (b c : Bool) → p.ended ≡ b → p.late ≡ c → Parts (p ∷ ports)
+      by true true s t = same (rw s refl) (rw (s, q) refl) (rw (t, q) refl) (rw q refl)
+      by true false s t = same (rw s refl) (rw (s, q) refl) (rw t refl) (rw q refl)
+      by false true s t = same (rw (s, t) refl) (rw s refl) (rw (t, q) refl) (rw q refl)
+      by false false s t = same (rw (s, t, q) refl) (rw s refl) (rw t refl) (rw q refl)
+    by_creation (Some c) q = by_asker (cases_Bool (eqb c.asker x)) where
+      by_asker : (eqb c.asker x ≡ true) ⊎ (eqb c.asker x ≡ false) → Parts (p ∷ ports)
+      by_asker (inl is) = by p.ended p.late refl refl where
+        by : (b d : Bool) → p.ended ≡ b → p.late ≡ d → Parts (p ∷ ports)
+        by true true s t = absurd (true≢false (sym s ∙ flag t))
+        by true false s t =
+            placed c k (e ++ l) refl (rw (s, t, q, is) refl) (rw (q, is) refl)
+        by false true s t =
+            placed c (k ++ e) l (append_assoc k e l)
+            (ap₂ (λ a b. a ++ b) (let z : stays (p ∷ ports) ≡ k = rw (s, t) refl in z)
+            (let z : ended_of (p ∷ ports) ++ late_of (p ∷ ports) ≡ e ++ (c ∷ l) = rw (s, t, q, is) refl in z)
+            ∙ sym (append_assoc k e (c ∷ l)))
+            (rw (q, is) refl)
+        by false false s t = placed c [] (k ++ (e ++ l)) refl (rw (s, t, q, is) refl) (rw (q, is) refl)
+      by_asker (inr off) = by p.ended p.late refl refl where
+        by : (b d : Bool) → p.ended ≡ b → p.late ≡ d → Parts (p ∷ ports)
+        by true true s t = same (rw s refl) (rw (s, q, off) refl) (rw (t, q, off) refl) (rw (q, off) refl)
+        by true false s t = same (rw s refl) (rw (s, q, off) refl) (rw t refl) (rw (q, off) refl)
+        by false true s t = same (rw (s, t) refl) (rw s refl) (rw (t, q, off) refl) (rw (q, off) refl)
+        by false false s t = same (rw (s, t, q, off) refl) (rw s refl) (rw t refl) (rw (q, off) refl)
+
+  pub owed_parts : (ports : List Port) → AllByRecursion (λ (p : Port). p.late ≡ true → p.ended ≡ false) ports → Parts ports
+  owed_parts [] a = record { many = refl; read = λ r k. k }
+  owed_parts (p ∷ ports) a = parts_more p ports a.0 (owed_parts ports a.1)
+
+-- ## No pipe of a controller leads to its administration gate, but pipe 01 of each host
+
+all_same : {X : Type 0} (P : X → Type 0) (f : X → X) → ((x : X) → P x → P (f x)) → (xs : List X) → AllByRecursion P xs → AllByRecursion P (map f xs)
+all_same P f one [] a = tt
+all_same P f one (x ∷ xs) a = (one x a.0, all_same P f one xs a.1)
+
+set_proper : (opened : Bool) (row : PipeRow) → IsProper row → IsProper (as_opened opened row)
+set_proper opened row a = record { host = a.host; two = a.two; gate = a.gate }
+
+pub proper_apply : (t : HciTables) (c : Command) → IsProperCommand c → AreProper t.rows → AreProper (apply t c).rows
+proper_apply t (Create row) may a =
+    all_append IsProper (rows_before pid_of row.pid t.rows) (as_opened false row ∷ rows_behind pid_of row.pid t.rows)
+    (AllByRecursion-filter IsProper (λ r. ltb r.pid row.pid) t.rows a)
+    (set_proper false row may, AllByRecursion-filter IsProper (λ r. ltb row.pid r.pid) t.rows a)
+proper_apply t (Delete pid) may a = AllByRecursion-filter IsProper (λ row. not (eqb row.pid pid)) t.rows a
+proper_apply t (Clear host) may a = AllByRecursion-filter IsProper (λ row. not (joins_host row host)) t.rows a
+proper_apply t (SetOpened host pid opened) may a =
+    cond_both (ltb pid 2) (record t { statics = with_static t.statics host pid opened }) (record t { rows = with_opened t.rows pid opened })
+    (λ u. AreProper u.rows) (λ static. a)
+    (λ dynamic. all_same IsProper (λ row. cond (eqb row.pid pid) (as_opened opened row) row)
+    (λ row b. cond_both (eqb row.pid pid) (as_opened opened row) row IsProper (λ here. set_proper opened row b) (λ other. b)) t.rows a)
+proper_apply t (Set host gate param value) may a = a
+proper_apply t (Sync host id) may a = a
+
+proper_after : (t : HciTables) (commands : List Command) → AllByRecursion IsProperCommand commands → AreProper t.rows
+    → AreProper (after_commands t commands).rows
+proper_after t [] may a = a
+proper_after t (c ∷ commands) may a = proper_after (apply t c) commands may.1 (proper_apply t c may.0 a)
+
+proper_closed : (rows : List PipeRow) → AreProper rows → AreProper (all_closed rows)
+proper_closed rows a = all_same IsProper (as_opened false) (set_proper false) rows a
+
+-- ### What is read
+
+pub new_proper : IsProperBook new_book
+new_proper = record { commands = tt; tables = tt }
+
+pub proper_command : (c : Command) (b : Book) → IsProperCommand c → IsProperBook b → IsProperBook (with_command c b)
+proper_command c b may a = record {
+  commands = all_append IsProperCommand b.commands (c ∷ []) a.commands (may, tt);
+  tables = proper_apply b.tables c may a.tables;
+}
+
+pub proper_found : (k : ℕ) (b : Book) → IsProperBook b → IsProperBook (with_found k b)
+proper_found k b a =
+    let first : AllByRecursion IsProperCommand (take k b.commands) = AllByRecursion-take IsProperCommand k b.commands a.commands in
+    record {
+      commands = first;
+      tables =
+          proper_closed (after_commands no_tables (take k b.commands)).rows (proper_after no_tables (take k b.commands) first tt);
+    }
+
+-- ### Look-ups
+
+proper_at : (rows : List PipeRow) (pid : ℕ) (row : PipeRow) → AreProper rows → pipe_at rows pid ≡ Some row → IsProper row
+proper_at [] pid row a e = absurd (cc e)
+proper_at (r ∷ rows) pid row a e =
+    cond_both (eqb r.pid pid) (Some r) (pipe_at rows pid) (λ o. o ≡ Some row → IsProper row)
+    (λ same is. let one : r ≡ row = cc in subst IsProper one a.0) (λ other found. proper_at rows pid row a.1 found) e
+
+-- ## What a controller decides on a command: it makes pipes that lead to no administration gate, and asks for those that come on pipe 01 alone
+
+-- a host is asked for this creation by this notice
+record IsAskFor (h : ℕ) (notice : List ℕ) (row : PipeRow) : Type 0 where
+  pub creator : row.creator ≡ h
+  pub proper : IsProper row
+  pub notice_is : notice ≡ 18 ∷ ends_of row
+
+-- what is committed makes proper pipes, nobody is told by a response, and what is asked for is so
+abbrev Suits : ℕ → Decision → Type 0
+Suits h (Answer answer) = Unit {0}
+Suits h (Commit c answer tell notice) = IsProperCommand c × (is_response notice.items ≡ false)
+Suits h (Ask dest notice c answer) = (row : PipeRow) × (c ≡ Create row) × (answer.items ≡ answer_of response.Ok (ends_of row)) × IsAskFor h notice.items row
+
+-- nobody is asked
+abbrev AsksNobody : Decision → Type 0
+AsksNobody (Ask dest notice c answer) = ⊥
+AsksNobody _ = Unit {0}
+
+-- a pipe to the controller itself leads to gate 04 or 05
+gate_fine : (gate : ℕ) → not (eqb gate 4 || eqb gate 5) ≡ false → eqb gate 0 ≡ false
+gate_fine gate e = by_test (eqb gate 4)
+    (λ is. ap (λ n. eqb n 0) (eqb-true gate 4 is))
+    (λ off. ap (λ n. eqb n 0) (eqb-true gate 5 (not-false (eqb gate 5) (rw off at e))))
+
+module _ (v : LinkView) (h : ℕ) (host : eqb h 0 ≡ false) where
+  tells_suit : (c : Command) (told notice : List ℕ) → IsProperCommand c → is_response notice ≡ false
+      → Suits h (commits_and_tells c told notice)
+  tells_suit c [] notice may e = (may, refl)
+  tells_suit c (y ∷ told) notice may e = (may, e)
+
+  created_proper : (body : List ℕ) (pid : ℕ) → eqb (dest_in body) h ≡ false
+      → (eqb (dest_in body) 0 && not (eqb (dest_gate_in body) 4 || eqb (dest_gate_in body) 5)) ≡ false → IsProper (created h body pid)
+  created_proper body pid other gate = record {
+    host = host;
+    two = ne_eqb h (dest_in body) (λ s. eqb-false (dest_in body) h other (sym s));
+    gate = λ e. gate_fine (dest_gate_in body) (rw e at gate);
+  }
+
+  decided_suits : (t : HciTables) (pipe instruction : ℕ) (body : List ℕ) → Suits h (decided t v h pipe instruction body)
+  unfolding AllFalse
+  decided_suits t pipe instruction body =
+      let row : PipeRow = new_row t v h body in
+      let proper : first_of (tests_to_create t v h body) ≡ None → IsProper row =
+      λ passed. let none = all_false (tests_to_create t v h body) passed in created_proper body row.pid none.1.1.0 none.1.1.1.0 in
+      decided_holds (Suits h) t v h pipe body instruction (λ r value. tt) (λ _. record {
+        opens = (tt, refl);
+        closes = (tt, refl);
+        sets = λ _. (tt, refl);
+        makes = λ passed controller. (proper passed, refl);
+        asks = λ passed other. (row, refl, refl, record { creator = refl; proper = proper passed; notice_is = refl });
+        deletes = λ _. tells_suit (Delete (param_in body)) (told_of_deletion t v h (param_in body)) (19 ∷ param_in body ∷ []) tt refl;
+        clears = λ _. tells_suit (Clear h) (told_of_clearing t v h) (21 ∷ h ∷ []) tt refl;
+      })
+
+  -- no pipe but 01 leads to the administration gate
+  far_proper : (o : Option PipeRow) → ((row : PipeRow) → o ≡ Some row → IsProper row) → (end : ℕ × ℕ)
+      → option_and_then (far_end_of h) o ≡ Some end → eqb end.0 0 ≡ true → eqb end.1 0 ≡ false
+  far_proper None proper end e zero_is = absurd (cc e)
+  far_proper (Some row) proper end e zero_is = by_test (eqb row.creator h)
+      (λ own. let same : Some (row.dest, row.dest_gate) ≡ Some end = rw own at e in
+      let is : (row.dest, row.dest_gate) ≡ end = cc in
+      ap (λ (p : ℕ × ℕ). eqb p.1 0) (sym is) ∙ of.gate (ap (λ (p : ℕ × ℕ). eqb p.0 0) is ∙ zero_is))
+      (λ off. by_test (eqb row.dest h)
+      (λ here. let same : Some (row.creator, row.creator_gate) ≡ Some end = rw (off, here) at e in
+      let is : (row.creator, row.creator_gate) ≡ end = cc in
+      absurd (true≢false (sym zero_is ∙ (ap (λ (p : ℕ × ℕ). eqb p.0 0) (sym is) ∙ of.host))))
+      (λ none. absurd (cc (rw (off, none) at e)))) where
+        of : IsProper row
+        of = proper row refl
+
+  far_end_proper : (t : HciTables) (pipe : ℕ) (end : ℕ × ℕ) → AreProper t.rows → eqb pipe 1 ≡ false → far_end t h pipe ≡ Some end → eqb end.0 0 ≡ true
+      → eqb end.1 0 ≡ false
+  far_end_proper t pipe end proper off e zero_is = by_test (eqb pipe 0)
+      (λ static. let same : Some (0, 6) ≡ Some end = rw static at e in
+      let is : (0, 6) ≡ end = cc in
+      ap (λ (p : ℕ × ℕ). eqb p.1 0) (sym is))
+      (λ dynamic. far_proper (pipe_at t.rows pipe) (λ row here. proper_at t.rows pipe row proper here) end (rw (dynamic, off) at e) zero_is)
+
+  is_through : (t : HciTables) (m : Message) (instruction : ℕ) → header_of m.1 ≡ Ok (IsCommand, instruction) → AreProper t.rows → eqb m.0 1 ≡ false
+      → relayed_to t h m ≡ None → cond (goes_through t h m.0 instruction) (own_gate t h m.0) None ≡ None
+      → is_opened t h m.0 ≡ true → is_none (far_end t h m.0) ≡ false → eqb instruction 3 ≡ false → eqb instruction 4 ≡ false → ⊥
+  is_through t m instruction command proper off none gate opened there three four = by_option (far_end t h m.0)
+      (λ e. let z : true ≡ false = rw e at there in true≢false z)
+      (λ end e. by_test (eqb end.0 0)
+      (λ is. cc (rw (opened, three, four, e, is, far_end_proper t m.0 end proper off e is) at gate))
+      (λ other. cc (rw (opened, command, three, four, e, other) at none)))
+
+  nobody_asked : (t : HciTables) (m : Message) (instruction : ℕ) (body : List ℕ) → header_of m.1 ≡ Ok (IsCommand, instruction) → AreProper t.rows
+      → eqb m.0 1 ≡ false → relayed_to t h m ≡ None → cond (goes_through t h m.0 instruction) (own_gate t h m.0) None ≡ None
+      → AsksNobody (decided t v h m.0 instruction body)
+  unfolding AllFalse
+  nobody_asked t m instruction body command proper off none gate =
+      unless AsksNobody (first_of (tests_of_pipe t h m.0 instruction)) (carried_out t v h m.0 instruction body) (λ r. tt) (λ passed.
+      let tests = all_false (tests_of_pipe t h m.0 instruction) passed in
+      cond_both (eqb instruction 3) (opening t h m.0 body) _ AsksNobody
+      (λ _. unless AsksNobody (first_of (tests_to_open body)) _ (λ r. tt) (λ _. cond_both (is_opened t h m.0) _ _ AsksNobody (λ _. tt) (λ _. tt)))
+      (λ three. cond_both (eqb instruction 4) (closing h m.0 body) _ AsksNobody
+      (λ _. unless AsksNobody (first_of (tests_to_open body)) _ (λ r. tt) (λ _. tt))
+      (λ four. absurd (is_through t m instruction command proper off none gate
+      (opens (is_opened t h m.0) (rw three at tests.1.0)) tests.0 three four))))
+    where
+      opens : (b : Bool) → (not b && true) ≡ false → b ≡ true
+      opens true e = refl
+      opens false e = absurd (true≢false e)
+
+-- ## What a message of a host does to the creations that wait at a controller
 
 -- a host that asks for none is asked by this
 pub record IsAskedSo (ports : List Port) (h to : ℕ) (notice : List ℕ) (c : Creation) : Type 0 where
@@ -94,7 +590,7 @@ module _ (x : ℕ) where
         (λ q. rw q ((one_sent pipe answer.0 free, tt)))
         (λ errors q. rw q ((tt, (one_sent pipe answer.0 free, tt))))
 
-    -- ## A message
+    -- ### A message
 
     off_one : (a b c : Bool) → b ≡ false → (a && b && c) ≡ true → waits x (asked_of ports) ≡ []
     off_one a b c off e = absurd (true≢false (sym (three a b c e).1 ∙ off))
@@ -126,10 +622,10 @@ module _ (x : ℕ) where
           agrees = λ flag p c reply here waits room. IsDone p c flag here waits refl;
         })
 
--- ## Hosts that are told
+-- ### Hosts that are told
 
 -- a host without a notice is asked for nothing
-pub unasked : (ports : List Port) (k : ℕ) → has_notice ports k ≡ false → AreDifferent (map (λ (p : Port). p.desk.host) ports)
+unasked : (ports : List Port) (k : ℕ) → has_notice ports k ≡ false → AreDifferent (map (λ (p : Port). p.desk.host) ports)
     → set_asked k None (asked_of ports) ≡ asked_of ports
 unasked [] k none d = refl
 unasked (p ∷ ports) k none d = go (cases_Bool (eqb p.desk.host k)) (unasked ports k) where

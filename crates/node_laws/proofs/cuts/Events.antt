@@ -1,28 +1,312 @@
--- What whatever happens leaves of what is known of each node, and how its entries come.
-use Rattle.node_laws.proofs.Words.{Activates, AllByRecursion, AllKeep, AreHosts, Arms, AsksReset, AtEnd, Bool, Boots, Comes, Controller, Core, EachIsAsRead}
-use Rattle.node_laws.proofs.Words.{End, Entry, FindsExactly, Gives, Happening, Host, Inits, IsAllowedStill, IsCut, IsCutAsPlanned, IsHost, IsOnOrder, List}
-use Rattle.node_laws.proofs.Words.{Loses, Loss, MayBeDone, MayHappen, Memory, Message, NextFrame, NoInput, NodeWorld, None, Option, Orders, Plan, Reckoning}
-use Rattle.node_laws.proofs.Words.{Resets, Running, Sends, Site, SiteKeeps, Some, Starts, Takes, Ticks, [], activates, after_planned, ap, arith, beginning}
-use Rattle.node_laws.proofs.Words.{begins_with, begun_by, boot_writes, boots, by_coming, by_list, by_loss, by_test, changed_if, comes_at, commands_in, cond}
-use Rattle.node_laws.proofs.Words.{cond_both, count_of, counts, end_c, end_h, eq-eqb, eqb, eqb-false, eqb-true, fails_within, false, first_lost, fold, found}
-use Rattle.node_laws.proofs.Words.{frame_lost, host_does, inl, inr, is_command_message, is_some, length, link_to, links_of, loses_power_at, memory_at, ne_eqb}
-use Rattle.node_laws.proofs.Words.{node_at, reckoned, reckoned_within, refl, sending, site_at, site_lost, steps, subst, sym, true, with_memory, with_node}
-use Rattle.node_laws.proofs.Words.{world_step, ℕ, ◌&&◌, ◌++◌, ◌-◌, ◌^◌, ◌∙◌, ◌∷◌, ◌≡◌, ◌≤◌}
-use Rattle.trace_model.specs.declared.entry.Entry.TheVariants as entry
-use Rattle.node_laws.proofs.kept.Asking.{same_new}
-use Rattle.node_laws.proofs.kept.Plainly.{plain_entries}
-use Rattle.node_laws.proofs.kept.Doing.{all_fine}
-use Rattle.node_laws.proofs.kept.Stepping.{steps_fine}
-use Rattle.node_laws.proofs.kept.Sites.{site_found}
-use Rattle.node_laws.proofs.kept.Events.{comes_goes, no_order}
-use Rattle.node_laws.proofs.kept.Reckoned.{IsNothingFor, other_idles}
+-- What a boot, a cut, a plan or anything else leaves of what is known of each node, the one that is changed and the others.
+use Rattle.node_laws.proofs.Words.{Activates, AllByRecursion, AllKeep, AreHosts, Arms, AsksReset, AtController, AtEnd, Book, Bool, BootFinds, Boots, Comes}
+use Rattle.node_laws.proofs.Words.{Controller, Core, CutOff, EachIsAsRead, End, Entry, FindsBy, FindsExactly, Gives, Happening, HciTables, Host, IfRuns, Inits}
+use Rattle.node_laws.proofs.Words.{IsAllowedStill, IsCut, IsCutAsPlanned, IsHost, IsOnOrder, List, Loses, Loss, MayBeDone, MayHappen, Memory, Message}
+use Rattle.node_laws.proofs.Words.{NextFrame, NoInput, NodeWorld, None, Option, Orders, Plan, Reckoning, Resets, Running, RunsSo, Sends, Site, SiteKeeps, Some}
+use Rattle.node_laws.proofs.Words.{Starts, Step, Takes, Ticks, [], activates, after_commands, after_planned, ap, append-nil, arith, beginning, begins_with}
+use Rattle.node_laws.proofs.Words.{begun_by, book_in, boot_writes, boots, by_coming, by_list, by_loss, by_option, by_test, cases_Bool, changed_if, close}
+use Rattle.node_laws.proofs.Words.{comes_at, commands_in, cond, cond_both, controller_cut, count_of, counts, current, end_c, end_h, eq-eqb, eqb, eqb-false}
+use Rattle.node_laws.proofs.Words.{eqb-true, fails_within, false, first_lost, fold, format_writes, found, frame_lost, happens, host_cut, host_does, inl, inr}
+use Rattle.node_laws.proofs.Words.{is_command_message, is_some, length, link_to, links_of, loses_power_at, map, memory_at, min, ne_eqb, no_tables, node_at}
+use Rattle.node_laws.proofs.Words.{none_within, option_map_or, reckoned, reckoned_within, refl, sending, site_at, site_lost, started_state, state_of, steps}
+use Rattle.node_laws.proofs.Words.{subst, sym, take, true, true≢false, with_found, with_memory, with_node, with_site, world_step, ℕ, ◌&&◌, ◌++◌, ◌-◌, ◌^◌, ◌∙◌}
+use Rattle.node_laws.proofs.Words.{◌∷◌, ◌≡◌, ◌≤◌, ◌⊎◌}
+use Rattle.hci_store.proofs.Starting.{counted}
+use Rattle.journal_laws.specs.Writes.{IsCut as IsCutInWrites}
 use Rattle.node_laws.specs.cuts.Histories.{IsBootedBy}
-use Rattle.node_laws.proofs.cuts.Standing.{Stands, exact_idle, stands_same}
-use Rattle.node_laws.proofs.cuts.Worlds.{ExactAt, IsThere, StandsAt, controller_exact, host_exact, none_exact, plain_exact}
-use Rattle.node_laws.proofs.cuts.Powers.{armed_stands, boot_cut, boot_found, boot_run, booting, cut_stands}
-use Rattle.node_laws.proofs.cuts.Places.{IsNowAt, IsSameAt, now_loses, now_memory, now_node, runs_of, same_loses, same_memory, same_node, same_then}
-use Rattle.node_laws.proofs.cuts.Ticking.{exact_both, ticks_exact}
+use Rattle.node_laws.proofs.cuts.Standing.{Stands, all_found, book_then, exact_idle, stands_same, still_booted}
+use Rattle.node_laws.proofs.cuts.Ticking.{ExactAt, IsThere, StandsAt, controller_exact, exact_both, host_exact, memory_far, node_far, none_exact, plain_exact}
+use Rattle.node_laws.proofs.cuts.Ticking.{ticks_exact, with_here, with_there}
+use Rattle.node_laws.proofs.kept.Doing.{all_fine, closed_book, plain_entries, same_new}
+use Rattle.node_laws.proofs.kept.Booting.{left_formatted, says}
+use Rattle.node_laws.proofs.kept.Reckoned.{IsNothingFor, finds_closed, other_idles, planned_cut, used_of}
+use Rattle.node_laws.proofs.kept.Events.{comes_goes, loses_is, no_order, site_found}
+use Rattle.node_laws.proofs.kept.Stepping.{steps_fine}
+use Rattle.node_laws.proofs.telling.Events.{site_map}
 use Rattle.node_laws.proofs.turns.Worlds.{counts_power}
+use Rattle.trace_model.specs.declared.entry.Entry.TheVariants as entry
+
+-- ## A node of a world that is changed, and the others, which stay
+
+-- this node has the same as before
+record IsSameAt (n : ℕ) (w v : NodeWorld) : Type 0 where
+  pub memory : memory_at v n ≡ memory_at w n
+  pub node : node_at v n ≡ node_at w n
+  pub there : IsThere v n
+
+same_then : (n : ℕ) (w v u : NodeWorld) → IsSameAt n w v → IsSameAt n v u → IsSameAt n w u
+same_then n w v u a b = record { memory = b.memory ∙ a.memory; node = b.node ∙ a.node; there = b.there }
+
+-- the controller is changed, and links are
+record ChangesNear (w v : NodeWorld) : Type 0 where
+  change : Site → Site
+  sites : v.sites ≡ map change w.sites
+  host : (s : Site) → (change s).host ≡ s.host
+  memory : (s : Site) → (change s).memory ≡ s.memory
+  node : (s : Site) → (change s).node ≡ s.node
+
+-- a host is changed
+record ChangesFar (k : ℕ) (w v : NodeWorld) : Type 0 where
+  change : Site → Site
+  host : (s : Site) → (change s).host ≡ s.host
+  is : v ≡ record w { sites = with_site k change w.sites }
+
+same_far : (n : ℕ) (w v : NodeWorld) (s x : Site) → eqb n 0 ≡ false → site_at w.sites n ≡ Some s → site_at v.sites n ≡ Some x → x.memory ≡ s.memory
+    → x.node ≡ s.node → IsSameAt n w v
+same_far n w v s x off was is memory node = record {
+  memory = memory_far v n x off is ∙ memory ∙ sym (memory_far w n s off was);
+  node = node_far v n x off is ∙ node ∙ sym (node_far w n s off was);
+  there = inr (off, (x, is));
+}
+
+same_at : (k n : ℕ) (w v : NodeWorld) → (k ≡ n → ⊥) → (k ≡ 0 → ChangesNear w v) → (eqb k 0 ≡ false → ChangesFar k w v) → IsThere w n → IsSameAt n w v
+same_at k n w v other near far there = by_number (cases_Bool (eqb k 0)) there where
+  by_number : (eqb k 0 ≡ true) ⊎ (eqb k 0 ≡ false) → IsThere w n → IsSameAt n w v
+  by_number (inl is) (inl zero_is) = absurd (other (eqb-true k 0 is ∙ sym zero_is))
+  by_number (inl is) (inr host) =
+      let a : ChangesNear w v = near (eqb-true k 0 is) in
+      let s : Site = host.1.0 in
+      same_far n w v s (a.change s) host.0 host.1.1 (ap (λ l. site_at l n) a.sites ∙ site_map a.change a.host w.sites n s host.1.1) (a.memory s) (a.node s)
+  by_number (inr off) (inl zero_is) =
+      let a : ChangesFar k w v = far off in
+      subst (IsSameAt n w) (sym a.is)
+      (subst (λ j. IsSameAt j w (record w { sites = with_site k a.change w.sites })) (sym zero_is) (record { memory = refl; node = refl; there = inl refl }))
+  by_number (inr off) (inr host) =
+      let a : ChangesFar k w v = far off in
+      let s : Site = host.1.0 in
+      subst (IsSameAt n w) (sym a.is)
+      (same_far n w (record w { sites = with_site k a.change w.sites }) s s host.0 host.1.1
+      (with_there a.change a.host w.sites k n s (ne_eqb k n other) host.1.1) refl refl)
+
+same_sites : (sites : List Site) → sites ≡ map (λ (s : Site). s) sites
+same_sites [] = refl
+same_sites (s ∷ sites) = ap (λ l. s ∷ l) (same_sites sites)
+
+-- ### A memory, a node that runs, and power that is lost
+
+abbrev with_its : Memory → Site → Site
+with_its m s = record s { memory = m }
+
+abbrev running_so : Running → Site → Site
+running_so q s = record s { node = Some q }
+
+memory_is : (w : NodeWorld) (k : ℕ) (m : Memory) → eqb k 0 ≡ false → with_memory k m w ≡ record w { sites = with_site k (with_its m) w.sites }
+memory_is w k m off = rw off refl
+
+node_is : (w : NodeWorld) (k : ℕ) (q : Running) → eqb k 0 ≡ false → with_node k q w ≡ record w { sites = with_site k (running_so q) w.sites }
+node_is w k q off = rw off refl
+
+same_memory : (k n : ℕ) (w : NodeWorld) (m : Memory) → (k ≡ n → ⊥) → IsThere w n → IsSameAt n w (with_memory k m w)
+same_memory k n w m other =
+    same_at k n w (with_memory k m w) other
+    (λ z. subst (λ j. ChangesNear w (with_memory j m w)) (sym z)
+    (record { change = λ s. s; sites = same_sites w.sites; host = λ s. refl; memory = λ s. refl; node = λ s. refl }))
+    (λ off. record { change = with_its m; host = λ s. refl; is = memory_is w k m off })
+
+same_node : (k n : ℕ) (w : NodeWorld) (q : Running) → (k ≡ n → ⊥) → IsThere w n → IsSameAt n w (with_node k q w)
+same_node k n w q other =
+    same_at k n w (with_node k q w) other
+    (λ z. subst (λ j. ChangesNear w (with_node j q w)) (sym z)
+    (record { change = λ s. s; sites = same_sites w.sites; host = λ s. refl; memory = λ s. refl; node = λ s. refl }))
+    (λ off. record { change = running_so q; host = λ s. refl; is = node_is w k q off })
+
+same_loses : (k n : ℕ) (w : NodeWorld) → (k ≡ n → ⊥) → IsThere w n → IsSameAt n w (loses_power_at k w)
+same_loses k n w other =
+    same_at k n w (loses_power_at k w) other
+    (λ z. subst (λ j. ChangesNear w (loses_power_at j w)) (sym z) (record {
+      change = λ (s : Site). record s { link = happens s.link (AtController (Step NoInput [] CutOff)) };
+      sites = refl;
+      host = λ s. refl;
+      memory = λ s. refl;
+      node = λ s. refl;
+    }))
+    (λ off. record { change = host_cut; host = λ s. refl; is = loses_is w k off })
+
+-- ### The node itself
+
+-- this node has this memory and runs so
+record IsNowAt (n : ℕ) (v : NodeWorld) (m : Memory) (node : Option Running) : Type 0 where
+  pub memory : memory_at v n ≡ m
+  pub running : node_at v n ≡ node
+  pub there : IsThere v n
+
+now_far : (k : ℕ) (w : NodeWorld) (s : Site) (f : Site → Site) → ((x : Site) → (f x).host ≡ x.host) → eqb k 0 ≡ false → site_at w.sites k ≡ Some s
+    → IsNowAt k (record w { sites = with_site k f w.sites }) (f s).memory (f s).node
+now_far k w s f host off here =
+    let found : site_at (with_site k f w.sites) k ≡ Some (f s) = with_here f host w.sites k s here in
+    let v : NodeWorld = record w { sites = with_site k f w.sites } in
+    record { memory = memory_far v k (f s) off found; running = node_far v k (f s) off found; there = inr (off, (f s, found)) }
+
+now_near : (k : ℕ) (v : NodeWorld) → k ≡ 0 → IsNowAt k v v.memory v.controller
+now_near k v z = subst (λ j. IsNowAt j v v.memory v.controller) (sym z) (record { memory = refl; running = refl; there = inl refl })
+
+now_memory : (k : ℕ) (w : NodeWorld) (m : Memory) → IsThere w k → IsNowAt k (with_memory k m w) m (node_at w k)
+now_memory k w m (inl z) = subst (λ j. IsNowAt j (with_memory j m w) m (node_at w j)) (sym z) (now_near 0 (record w { memory = m }) refl)
+now_memory k w m (inr far) =
+    subst (λ v. IsNowAt k v m (node_at w k)) (sym (memory_is w k m far.0))
+    (subst (IsNowAt k (record w { sites = with_site k (with_its m) w.sites }) m) (sym (node_far w k far.1.0 far.0 far.1.1))
+    (now_far k w far.1.0 (with_its m) (λ x. refl) far.0 far.1.1))
+
+now_node : (k : ℕ) (w : NodeWorld) (q : Running) → IsThere w k → IsNowAt k (with_node k q w) (memory_at w k) (Some q)
+now_node k w q (inl z) = subst (λ j. IsNowAt j (with_node j q w) (memory_at w j) (Some q)) (sym z) (now_near 0 (record w { controller = Some q }) refl)
+now_node k w q (inr far) =
+    subst (λ v. IsNowAt k v (memory_at w k) (Some q)) (sym (node_is w k q far.0))
+    (subst (λ m. IsNowAt k (record w { sites = with_site k (running_so q) w.sites }) m (Some q)) (sym (memory_far w k far.1.0 far.0 far.1.1))
+    (now_far k w far.1.0 (running_so q) (λ x. refl) far.0 far.1.1))
+
+now_loses : (k : ℕ) (w : NodeWorld) → IsThere w k → IsNowAt k (loses_power_at k w) (memory_at w k) None
+now_loses k w (inl z) = subst (λ j. IsNowAt j (loses_power_at j w) (memory_at w j) None) (sym z) (now_near 0 (controller_cut w) refl)
+now_loses k w (inr far) =
+    subst (λ v. IsNowAt k v (memory_at w k) None) (sym (loses_is w k far.0))
+    (subst (λ m. IsNowAt k (record w { sites = with_site k host_cut w.sites }) m None) (sym (memory_far w k far.1.0 far.0 far.1.1))
+    (now_far k w far.1.0 host_cut (λ x. refl) far.0 far.1.1))
+
+-- ### What it keeps
+
+-- a node that runs, with links to some hosts
+runs_of : (hosts : List ℕ) (are : AreHosts hosts) (t : List Entry) (v : NodeWorld) (n : ℕ) (q : Running) → AllKeep hosts t v → IsThere v n
+    → node_at v n ≡ Some q → (links : List ℕ) × RunsSo n links (memory_at v n).content t q
+runs_of hosts are t v n q all (inl z) running =
+    subst (λ j. (links : List ℕ) × RunsSo j links (memory_at v j).content t q) (sym z)
+    (hosts, subst (IfRuns 0 hosts v.memory.content t) (subst (λ j. node_at v j ≡ Some q) z running) all.controller.runs)
+runs_of hosts are t v n q all (inr far) running =
+    let s : Site = far.1.0 in
+    let known = site_found (SiteKeeps t) IsHost v.sites n s all.sites (subst (AllByRecursion IsHost) (sym all.hosts_are) are.all) far.1.1 in
+    let was : s.node ≡ Some q = sym (node_far v n s far.0 far.1.1) ∙ running in
+    let here : RunsSo s.host (s.host ∷ []) s.memory.content t q = subst (IfRuns s.host (s.host ∷ []) s.memory.content t) was known.0.runs in (
+      n ∷ [],
+      subst (λ m. RunsSo n (n ∷ []) m.content t q) (sym (memory_far v n s far.0 far.1.1))
+          (subst (λ j. RunsSo j (j ∷ []) s.memory.content t q) known.2 here),
+    )
+
+-- ## What a boot, a cut or a plan leaves of what is known of each node
+
+-- a boot whose writes are cut leaves what it would have found
+finds_cut : (m : Memory) (t : HciTables) (many : ℕ) → BootFinds m.content t many → fails_within (length (boot_writes m.content)) m.plan ≡ true
+    → BootFinds (after_planned (boot_writes m.content) m).content t many
+finds_cut m t many f fails = by_option (current m.content)
+    (λ is. let cut = planned_cut (boot_writes m.content) m fails in
+    left_formatted m.content t many f is cut.0 (after_planned (boot_writes m.content) m).content
+    (subst (λ w. IsCutInWrites cut.0 w m.content (after_planned (boot_writes m.content) m).content) (ap (λ p. option_map_or (λ _. []) p format_writes) is)
+    cut.1))
+    (λ side is. absurd (true≢false (sym fails ∙ ap (λ p. fails_within (length (option_map_or (λ _. []) p format_writes)) m.plan) is ∙ none_within m.plan)))
+
+-- only a boot that formats can be cut
+blank_then : (m : Memory) → fails_within (length (boot_writes m.content)) m.plan ≡ true → current m.content ≡ None
+blank_then m fails = by_option (current m.content)
+    (λ is. is)
+    (λ side is. absurd (true≢false (sym fails ∙ ap (λ p. fails_within (length (option_map_or (λ _. []) p format_writes)) m.plan) is ∙ none_within m.plan)))
+
+least : (lost : Bool) (many all : ℕ) → FindsBy lost many all → many ≤ all
+least true many all is = omega (arith, is)
+least false many all is = omega (arith, is)
+
+module _ (n : ℕ) (t : List Entry) (r : Reckoning) (m : Memory) where
+  -- as a boot of the node begins
+  abbrev booting : Reckoning
+  booting = record r { memory = after_planned (boot_writes r.memory.content) r.memory }
+
+  booting_memory : r.memory ≡ m → booting.memory ≡ after_planned (boot_writes m.content) m
+  booting_memory is = ap (λ (x : Memory). after_planned (boot_writes x.content) x) is
+
+  uncut_is : fold (reckoned n) booting (entry.Cut n ∷ []) ≡ record booting { runs = false; due = false }
+  uncut_is = ap (λ b. cond b (record booting { runs = false; due = false }) booting) (eq-eqb n n refl)
+
+  boot_cut : (node : Option Running) → Stands n t r m node → fails_within (length (boot_writes m.content)) m.plan ≡ true
+      → Stands n (t ++ entry.Cut n ∷ []) (fold (reckoned n) booting (entry.Cut n ∷ [])) (after_planned (boot_writes m.content) m) None
+  boot_cut node s fails = subst (λ x. Stands n (t ++ entry.Cut n ∷ []) x (after_planned (boot_writes m.content) m) None) (sym uncut_is) (record {
+    runs_is = refl;
+    book_is = ap (λ (x : Reckoning). x.book) (sym uncut_is) ∙ book_then n t booting (entry.Cut n ∷ []) s.book_is;
+    memory_is = booting_memory s.memory_is;
+    none_due = refl;
+    none_lost = λ on. absurd (true≢false (sym on));
+    many = s.many;
+    which = s.which;
+    finds = finds_cut m (after_commands no_tables (take s.many r.book.commands)) (min s.many (2 ^ 32 - 1)) s.finds fails;
+    used = λ on.
+        absurd (true≢false (sym (s.used (sym (still_booted n t (entry.Cut n ∷ []) refl) ∙ on)) ∙ ap is_some (blank_then m fails)));
+  })
+
+  boot_found : (links : List ℕ) (node : Option Running) → Stands n t r m node → length r.book.commands ≤ 2 ^ 32 - 1
+      → FindsExactly r (count_of (found n links m.content).core.journal)
+  boot_found links node s few = subst (λ k. FindsBy r.lost k (length r.book.commands)) (sym now) s.which where
+    now : count_of (found n links m.content).core.journal ≡ s.many
+    now =
+        counted m.content (state_of m.content) (started_state (state_of m.content)) (says m.content (after_commands no_tables (take s.many r.book.commands))
+        (min s.many (2 ^ 32 - 1)) s.finds) refl
+        ∙ s.finds.keeps.count_is ∙ small s.many (length r.book.commands) (least r.lost s.many (length r.book.commands) s.which) few
+      where
+        small : (x l : ℕ) → x ≤ l → l ≤ 2 ^ 32 - 1 → min x (2 ^ 32 - 1) ≡ x
+        small x l a b = omega (arith, a, b)
+
+  boot_run : (links : List ℕ) (k : ℕ) (node : Option Running) (q : Running) → Stands n t r m node
+      → RunsSo n links (after_planned (boot_writes m.content) m).content (t ++ entry.Booted n k ∷ []) q
+      → Stands n (t ++ entry.Booted n k ∷ []) (fold (reckoned n) booting (entry.Booted n k ∷ [])) (after_planned (boot_writes m.content) m) (Some q)
+  boot_run links k node q s runs = record {
+    runs_is = ap (λ (x : Reckoning). x.runs) booted_is;
+    book_is = book;
+    memory_is = ap (λ (x : Reckoning). x.memory) booted_is ∙ booting_memory s.memory_is;
+    none_due = ap (λ (x : Reckoning). x.due) booted_is ∙ s.none_due;
+    none_lost = λ on. none;
+    many = length now.book.commands;
+    which = subst (λ b. FindsBy b (length now.book.commands) (length now.book.commands)) (sym none) refl;
+    finds = all_found content now.book.commands
+        (subst (λ x. BootFinds content (after_commands no_tables now.book.commands) x)
+        (runs.count_is ∙ ap (λ (b : Book). min (length b.commands) (2 ^ 32 - 1)) (sym book))
+        (finds_closed content q.core.tables (after_commands no_tables now.book.commands) (count_of q.core.journal) runs.knows.finds
+        (ap close runs.tables_are ∙ closed_book (t ++ entry.Booted n k ∷ []) n
+        ∙ ap (λ (b : Book). close (after_commands no_tables b.commands)) (sym book))));
+    used = λ on. used_of content q.core.journal q.core.tables runs.knows;
+  }
+    where
+      now : Reckoning
+      now = fold (reckoned n) booting (entry.Booted n k ∷ [])
+
+      content : List ℕ
+      content = (after_planned (boot_writes m.content) m).content
+
+      book : now.book ≡ book_in (t ++ entry.Booted n k ∷ []) n
+      book = book_then n t booting (entry.Booted n k ∷ []) s.book_is
+
+      booted_is : fold (reckoned n) booting (entry.Booted n k ∷ []) ≡ record booting { runs = true; book = with_found k r.book; lost = false }
+      booted_is = ap (λ b. cond b (record booting { runs = true; book = with_found k r.book; lost = false }) booting) (eq-eqb n n refl)
+
+      none : now.lost ≡ false
+      none = ap (λ (x : Reckoning). x.lost) booted_is
+
+  -- the power of the node is cut while it runs
+  cut_stands : (q : Running) → Stands n t r m (Some q) → Stands n (t ++ entry.Cut n ∷ []) (fold (reckoned n) r (entry.Cut n ∷ [])) m None
+  cut_stands q s = subst (λ x. Stands n (t ++ entry.Cut n ∷ []) x m None) (sym cut_is) (record {
+    runs_is = refl;
+    book_is = ap (λ (x : Reckoning). x.book) (sym cut_is) ∙ book_then n t r (entry.Cut n ∷ []) s.book_is;
+    memory_is = s.memory_is;
+    none_due = refl;
+    none_lost = λ on. absurd (true≢false (sym on));
+    many = s.many;
+    which = s.which;
+    finds = s.finds;
+    used = λ on. s.used (sym (still_booted n t (entry.Cut n ∷ []) refl) ∙ on);
+  }) where
+    cut_is : fold (reckoned n) r (entry.Cut n ∷ []) ≡ record r { runs = false; due = false }
+    cut_is = ap (λ b. cond b (record r { runs = false; due = false }) r) (eq-eqb n n refl)
+
+  -- a write of its memory is to fail
+  armed_stands : (plan : Plan) (node : Option Running) → Stands n t r m node
+      → Stands n (t ++ []) (record r { memory = record r.memory { plan = Some plan } }) (record m { plan = Some plan }) node
+  armed_stands plan node s = subst (λ l. Stands n l (record r { memory = record r.memory { plan = Some plan } }) (record m { plan = Some plan }) node)
+      (sym (append-nil t)) (record {
+        runs_is = s.runs_is;
+        book_is = s.book_is;
+        memory_is = ap (λ (x : Memory). record x { plan = Some plan }) s.memory_is;
+        none_due = s.none_due;
+        none_lost = s.none_lost;
+        many = s.many;
+        which = s.which;
+        finds = s.finds;
+        used = s.used;
+      })
+
+-- ## What whatever happens leaves of what is known of each node, and how its entries come
 
 -- how the entries of an event come, and what is known of the node after it
 pub record GoesExactly (n : ℕ) (t : List Entry) (r : Reckoning) (c : Happening) (p : NodeWorld × List Entry) : Type 0 where
@@ -35,7 +319,7 @@ so_or_so : (P : Bool → Type 0) → P true → P false → (b : Bool) → P b
 so_or_so P here there true = here
 so_or_so P here there false = there
 
--- ## Boots that are noted
+-- ### Boots that are noted
 
 -- none is where the node doesn't boot
 none_booted : (P : Type 0) (n : ℕ) (r : Reckoning) (before behind : List Entry) (many : ℕ) → EachIsAsRead n r (before ++ (entry.Booted n many ∷ behind)) → P
@@ -54,7 +338,7 @@ none_in_cut P k n many [] behind is = absurd (cc is)
 none_in_cut P k n many (e ∷ []) behind is = absurd (cc is)
 none_in_cut P k n many (e ∷ f ∷ before) behind is = absurd (cc is)
 
--- ## What happens to no memory from outside
+-- ### What happens to no memory from outside
 
 usual : (n : ℕ) (t : List Entry) (r : Reckoning) (c : Happening) (p : NodeWorld × List Entry) → begun_by n c r ≡ r
     → (EachIsAsRead n r p.1 × ((fold (reckoned n) r p.1).due ≡ false) → IsCutAsPlanned n r c p.1) → ExactAt n t r p → GoesExactly n t r c p
@@ -66,7 +350,7 @@ usual n t r c p same planned a = record {
 }
 
 module _ (hosts : List ℕ) (are : AreHosts hosts) (n : ℕ) where
-  -- ## Steps
+  -- ### Steps
 
   comes_exact : (t : List Entry) (r : Reckoning) (w : NodeWorld) (e : End) (comes : Comes) → AllKeep hosts t w → IsThere w n → StandsAt n t r w
       → ExactAt n t r (comes_at w e comes)
@@ -111,7 +395,7 @@ module _ (hosts : List ℕ) (are : AreHosts hosts) (n : ℕ) where
       all_fine x.host (x.host ∷ []) x.memory before h (beginning identity pipes) work (Some work.core.journal) k refl refl work.ports
       (same_new work.ports) (λ z. (tt, (tt, tt)))) there stands
 
-  -- ## Losses
+  -- ### Losses
 
   lost_exact : (t : List Entry) (r : Reckoning) (w : NodeWorld) (e : End) (why : Loss) → IsThere w n → StandsAt n t r w → ExactAt n t r (frame_lost w e why)
   lost_exact t r w e why there stands =
@@ -139,7 +423,7 @@ module _ (hosts : List ℕ) (are : AreHosts hosts) (n : ℕ) where
         far : Site → Site
         far s = record (site_lost e why s) { node = counts why e.link s.node }
 
-  -- ## Power
+  -- ### Power
 
   -- where this node has the same as before, and nothing is noted of it
   same_exact : (t : List Entry) (r : Reckoning) (w v : NodeWorld) (es : List Entry) → IsSameAt n w v → AllByRecursion (IsNothingFor n) es → StandsAt n t r w
@@ -199,7 +483,7 @@ module _ (hosts : List ℕ) (are : AreHosts hosts) (n : ℕ) where
       (same_exact t r w (with_memory k (record (memory_at w k) { plan = Some plan }) w) []
       (same_memory k n w (record (memory_at w k) { plan = Some plan }) (eqb-false k n other) there) tt stands))
 
-  -- ## Boots
+  -- ### Boots
 
   module _ (w : NodeWorld) (k : ℕ) where
     abbrev memory : Memory
@@ -295,7 +579,7 @@ module _ (hosts : List ℕ) (are : AreHosts hosts) (n : ℕ) where
       (ap (λ b. cond b (record r { memory = after_planned (boot_writes r.memory.content) r.memory }) r) other) (λ z. rw other z.0)
       (boots_other t r w k (eqb-false k n other) there stands))
 
-  -- ## Whatever happens
+  -- ### Whatever happens
 
   node_there : (w : NodeWorld) (h : ℕ) (x : Site) (q : Running) → IsHost h → site_at w.sites h ≡ Some x → x.node ≡ Some q → node_at w h ≡ Some q
   node_there w h x q host here running =

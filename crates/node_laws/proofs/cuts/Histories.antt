@@ -1,26 +1,45 @@
--- What is known of each node at each event of a history.
-use Rattle.node_laws.proofs.Words.{AllByRecursion, AllKeep, AreHosts, Arms, Book, Bool, Boots, CutBehindCommand, EachIsAsRead, Entry, FindsBy}
-use Rattle.node_laws.proofs.Words.{FindsCommands, FindsExactly, FollowsNodes, Happening, Header, IsAsRead, IsCut, IsCutAsPlanned, IsFew, IsNodeOf, IsSentByHost}
-use Rattle.node_laws.proofs.Words.{IsSome, Line, LineStep, List, MayHappen, Memory, NodeHistory, NodeWorld, None, Occurrence, Option, Reckoning, Side, Site}
-use Rattle.node_laws.proofs.Words.{Some, [], after_planned, ap, append-nil, append_assoc, arith, begun_by, body_of, book_in, boot_writes, by_test, commands_in}
-use Rattle.node_laws.proofs.Words.{cond, cond-false, cond-true, cond_both, current, entries_in, eqb, eqb-true, false, flat_map, fold, fold-append}
-use Rattle.node_laws.proofs.Words.{format_writes, fresh, happenings, inl, inr, is_open_beside, last_in, length, list_any, list_any-append, map, memory_at}
-use Rattle.node_laws.proofs.Words.{new_book, new_memory, new_site, new_world, node_at, node_entries, occurrences_in, occurrences_of, option_map_or, reckoned}
-use Rattle.node_laws.proofs.Words.{reckoned_within, reckoning_in, reckoning_of, record_fits, refl, replicate, site_at, state_of, subst, suc, sym, true}
-use Rattle.node_laws.proofs.Words.{true≢false, with_event, with_found, with_written, world_behind, world_step, ℕ, ◌++◌, ◌-◌, ◌^◌, ◌||◌, ◌∙◌, ◌∷◌, ◌≡◌, ◌≤◌}
+-- What is known of each node at each event of a history, and how many writes its commands make.
 use Rattle.std.proofs.lemmas.Grind.{flat_map-append}
-use Rattle.trace_model.specs.declared.entry.Entry.TheVariants as entry
-use Rattle.node_laws.proofs.kept.Lines.{MayAllHappen, line_may, world_goes}
-use Rattle.node_laws.proofs.kept.Kept.{all_begin, blank_finds, are_kept}
-use Rattle.node_laws.proofs.telling.Lasting.{AllMay, AreCaused, lines_caused}
+use Rattle.node_laws.proofs.Words.{AllByRecursion, AllKeep, AreHosts, Arms, Book, Bool, Boots, Command, CutBehindCommand, EachIsAsRead, Entry, FindsBy}
+use Rattle.node_laws.proofs.Words.{FindsCommands, FindsExactly, FollowsNodes, Happening, HciTables, Header, IsAsRead, IsCut, IsCutAsPlanned, IsFew, IsNodeOf}
+use Rattle.node_laws.proofs.Words.{IsSentByHost, IsSome, Line, LineStep, List, MayHappen, Memory, NodeHistory, NodeWorld, None, Occurrence, Option, Reckoning}
+use Rattle.node_laws.proofs.Words.{Side, Site, Some, State, [], after_planned, ap, append-nil, append_assoc, arith, begun_by, body_of, book_in, boot_writes}
+use Rattle.node_laws.proofs.Words.{by_test, commands_in, commit_writes, cond, cond-false, cond-true, cond_both, current, entries_in, eqb, eqb-true, false}
+use Rattle.node_laws.proofs.Words.{flat_map, fold, fold-append, format_writes, fresh, happenings, inl, inr, is_open_beside, last_in, length, list_any}
+use Rattle.node_laws.proofs.Words.{list_any-append, map, memory_at, new_book, new_memory, new_site, new_world, node_at, node_entries, occurrences_in}
+use Rattle.node_laws.proofs.Words.{occurrences_of, option_map_or, reckoned, reckoned_within, reckoning_in, reckoning_of, record_fits, refl, replicate, site_at}
+use Rattle.node_laws.proofs.Words.{state_of, subst, suc, sym, true, true≢false, with_event, with_found, with_written, world_behind, world_step, writes_of, ℕ}
+use Rattle.node_laws.proofs.Words.{◌++◌, ◌-◌, ◌^◌, ◌||◌, ◌∙◌, ◌∷◌, ◌≡◌, ◌≤◌}
 use Rattle.node_laws.specs.cuts.Histories.{AreCutAsPlanned, AreFoundExactly, BootsWriteSo, CommandsWriteSo, KeptExactly, MemoriesHold, StandsInMemories}
 use Rattle.node_laws.specs.cuts.Histories.{boots_it}
-use Rattle.node_laws.proofs.cuts.Counting.{two_writes, snapshot_writes}
-use Rattle.node_laws.proofs.cuts.Standing.{FindsMany, Stands, book_then}
-use Rattle.node_laws.proofs.cuts.Worlds.{IsThere, StandsAt, memory_far, node_far}
 use Rattle.node_laws.proofs.cuts.Events.{GoesExactly, event_exact}
+use Rattle.node_laws.proofs.cuts.Standing.{FindsMany, Stands, book_then}
+use Rattle.node_laws.proofs.cuts.Ticking.{IsThere, StandsAt, memory_far, node_far}
+use Rattle.node_laws.proofs.kept.Ticking.{MayAllHappen, all_begin, are_kept, blank_finds, line_may, world_goes}
+use Rattle.node_laws.proofs.telling.Lasting.{AllMay, AreCaused, lines_caused}
+use Rattle.trace_model.specs.declared.entry.Entry.TheVariants as entry
 
--- ## The beginning
+-- ## How many writes a command makes
+
+pub two_writes : (c : Command) (r : Reckoning) → record_fits (state_of r.memory.content) (body_of c) ≡ true → length (writes_of c r) ≡ 2
+two_writes c r is = rw is refl
+
+-- with a snapshot
+more : (s : State) (t : HciTables) (c : Command) → record_fits s (body_of c) ≡ false → (side : Side) → s.in_use ≡ Some side → (b : Bool) → s.beside ≡ b
+    → length (commit_writes s t (body_of c)) ≡ cond b 5 4
+more s t c full side used true open_gate = rw full (rw used (rw open_gate refl))
+more s t c full side used false closed = rw full (rw used (rw closed refl))
+
+pub snapshot_writes : (c : Command) (r : Reckoning) → record_fits (state_of r.memory.content) (body_of c) ≡ false → IsSome (current r.memory.content)
+    → length (writes_of c r) ≡ cond (is_open_beside r.memory.content) 5 4
+snapshot_writes c r full some = by_bank (current r.memory.content) refl some where
+  by_bank : (o : Option Side) → current r.memory.content ≡ o → IsSome o → length (writes_of c r) ≡ cond (is_open_beside r.memory.content) 5 4
+  by_bank None is used = absurd (true≢false (sym used))
+  by_bank (Some side) is used = more (state_of r.memory.content) r.book.tables c full side is (is_open_beside r.memory.content) refl
+
+-- ## What is known of each node at each event of a history
+
+-- ### The beginning
 
 begins : (n : ℕ) → Stands n [] (reckoning_of false new_book (new_memory (replicate 65536 255))) (new_memory (replicate 65536 255)) None
 begins n = record {
@@ -63,7 +82,7 @@ node_begins hosts n is = by_test (eqb n 0)
       blank : Reckoning
       blank = reckoning_of false new_book (new_memory (replicate 65536 255))
 
--- ## Events
+-- ### Events
 
 entries-append : (xs ys : List Occurrence) → entries_in (xs ++ ys) ≡ entries_in xs ++ entries_in ys
 entries-append xs ys = flat_map-append (λ (o : Occurrence). o.entries) xs ys
@@ -160,7 +179,7 @@ module _ (hosts : List ℕ) (are : AreHosts hosts) (n : ℕ) where
       }
 
   -- behind some more of them
-  pub known_behind : (more : List Occurrence) (front : List Occurrence) (w : NodeWorld) (events : List Occurrence) → IsKnown front w (more ++ events)
+  known_behind : (more : List Occurrence) (front : List Occurrence) (w : NodeWorld) (events : List Occurrence) → IsKnown front w (more ++ events)
       → IsKnown (front ++ more) (world_behind w more) events
   known_behind [] front w events k = subst (λ f. IsKnown f w events) (sym (append-nil front)) k
   known_behind (o ∷ more) front w events k =
@@ -168,7 +187,7 @@ module _ (hosts : List ℕ) (are : AreHosts hosts) (n : ℕ) where
       (known_behind more (front ++ o ∷ []) (world_step w o.cause).0 events (next_known front w o (more ++ events) k))
 
   -- an event of them
-  pub event_is : (front : List Occurrence) (w : NodeWorld) (o : Occurrence) (events : List Occurrence) → IsKnown front w (o ∷ events)
+  event_is : (front : List Occurrence) (w : NodeWorld) (o : Occurrence) (events : List Occurrence) → IsKnown front w (o ∷ events)
       → IsCutAsPlanned n (reckoning_in front n) o.cause o.entries
       × ((before behind : List Entry) (many : ℕ) → o.entries ≡ before ++ (entry.Booted n many ∷ behind)
       → FindsExactly (reckoned_within n o.cause (reckoning_in front n) before) many)
@@ -186,7 +205,7 @@ begun_book n (Arms k plan) r = cond_both (eqb k n) (record r { memory = record r
     (λ (x : Reckoning). x.book ≡ r.book) (λ _. refl) (λ _. refl)
 begun_book n _ r = refl
 
--- ## Schedules
+-- ### Schedules
 
 may_all : (causes : List Happening) (w : NodeWorld) → MayAllHappen w causes → AllMay MayHappen w causes
 may_all [] w may = tt

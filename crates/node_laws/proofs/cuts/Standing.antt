@@ -1,19 +1,151 @@
--- What is known of a node by what is read of it, and what an event of one node leaves of that.
-use Rattle.node_laws.proofs.Words.{AllByRecursion, Book, Bool, BootFinds, Command, EachIsAsRead, Entry, FindsBy, IsSome, List, Memory, Option, Port, Reckoning}
-use Rattle.node_laws.proofs.Words.{Running, Some, StillRuns, Work, Write, [], after_commands, after_planned, ap, append-nil, append_assoc, arith, body_of}
-use Rattle.node_laws.proofs.Words.{book_after, book_in, by_test, close, commands_in, commit, commit_writes, cond, count_of, current, eq-eqb, fails_within}
-use Rattle.node_laws.proofs.Words.{false, fold, inl, inr, is_some, length, length-append, list_any, list_any-append, map, min, ne_eqb, no_tables, not}
-use Rattle.node_laws.proofs.Words.{opens_gate, or-false, reckoned, reckoning_of, refl, runs_on, subst, suc, sym, take, true, true≢false, with_written}
-use Rattle.node_laws.proofs.Words.{writes_of, ℕ, ◌&&◌, ◌++◌, ◌-◌, ◌^◌, ◌||◌, ◌∙◌, ◌∷◌, ◌≡◌}
+-- A commit in a step of a node, and what is known of the node by what is read of it.
 use Rattle.std.proofs.Math.Seq.{take-append_seam, take-length}
-use Rattle.trace_model.specs.declared.entry.Entry.TheVariants as entry
-use Rattle.node_laws.specs.kept.Books.{HasLostIn}
-use Rattle.node_laws.proofs.kept.Books.{book_more, closed_book}
-use Rattle.node_laws.proofs.kept.Commits.{finds_closed, used_of, planned_used}
-use Rattle.node_laws.proofs.kept.Doing.{GoesOn_or_lost}
-use Rattle.node_laws.proofs.kept.Reckoned.{IsNothingFor, fold_book, fold_more, idle_fold, idle_each, each_more, writes_are, reckoned_command}
+use Rattle.std.proofs.lemmas.Bool.Decides.{nat_tests}
+use Rattle.node_laws.proofs.Words.{AllByRecursion, Book, Bool, BootFinds, Command, EachIsAsRead, Entry, FindsBy, FindsRoom, IsCommand, IsSome, List, Memory}
+use Rattle.node_laws.proofs.Words.{None, Option, Plan, Port, Reckoning, Running, Some, StillRuns, Work, Write, [], after_commands, after_planned, and_parts, ap}
+use Rattle.node_laws.proofs.Words.{append-nil, append_assoc, apply, arith, body_of, book_after, book_in, both_ways, by_option, by_test, cases_Bool, close}
+use Rattle.node_laws.proofs.Words.{commands_in, commit, commit_writes, committed, cond, count_of, current, eq-eqb, fails_within, false, fold, inl, inr, is_next}
+use Rattle.node_laws.proofs.Words.{is_opened_gate, is_some, leb-true, length, length-append, list_any, list_any-append, loses_power, map, memory_after, min}
+use Rattle.node_laws.proofs.Words.{nat_le, ne_eqb, no_tables, not, noting, one_more, opens_gate, or-false, overwritten, plan_after, plan_on, reckoned}
+use Rattle.node_laws.proofs.Words.{reckoning_of, refl, runs_on, slice_index, subst, suc, sym, take, torn_bytes, true, true≢false, with_written, writes_of, ℕ}
+use Rattle.node_laws.proofs.Words.{◌&&◌, ◌++◌, ◌+◌, ◌-◌, ◌==◌, ◌^◌, ◌||◌, ◌∙◌, ◌∷◌, ◌≡◌, ◌≤◌, ◌⊎◌}
 use Rattle.node_laws.specs.cuts.Histories.{is_boot_of}
-use Rattle.node_laws.proofs.cuts.Steps.{plan_at, step_opened, step_closed}
+use Rattle.node_laws.specs.kept.Books.{HasLostIn}
+use Rattle.node_laws.proofs.cuts.Commits.{planned_closed, planned_opened}
+use Rattle.node_laws.proofs.kept.Doing.{GoesOn_or_lost, book_command, book_more, closed_book, closed_command}
+use Rattle.node_laws.proofs.kept.Reckoned.{IsNothingFor, commit_count, each_more, finds_closed, fold_book, fold_more, idle_each, idle_fold, planned_used}
+use Rattle.node_laws.proofs.kept.Reckoned.{reckoned_command, used_of, writes_are}
+use Rattle.trace_model.specs.declared.entry.Entry.TheVariants as entry
+
+-- ## A commit of a node in a step: the plan from the beginning of the step decides what a boot finds
+
+-- ### The plan
+
+abbrev farther : ℕ → Plan → Option Plan
+farther n p = Some (record { nth = p.nth + n; fill = p.fill })
+
+spent : (m : Memory) (at : ℕ) (bytes : List ℕ) → is_next m.plan ≡ true → (memory_after m at bytes).plan ≡ None
+spent m at bytes next =
+    ap (λ b. (cond b (record m { content = overwritten m.content at (torn_bytes m.plan (length bytes)); plan = None; faults = one_more m.faults })
+    (record m { content = overwritten m.content at bytes; plan = plan_after m.plan })).plan) next
+
+one_before : (o : Option Plan) (p : Plan) (n : ℕ) → 1 ≤ p.nth → is_next o ≡ false → plan_after o ≡ farther n p → o ≡ farther (suc n) p
+one_before None p n low later is = absurd (cc)
+one_before (Some q) p n low later is =
+    let nearer : Some (record q { nth = q.nth - 1 }) ≡ farther n p = sym (ap (λ b. cond b None (Some (record q { nth = q.nth - 1 }))) later) ∙ is in
+    let same : record q { nth = q.nth - 1 } ≡ record { nth = p.nth + n; fill = p.fill } = cc in
+    let filling : q.fill ≡ p.fill = ap (λ (x : Plan). x.fill) same in
+    let filled : Some q ≡ Some (record { nth = q.nth; fill = p.fill }) = ap (λ f. Some (record { nth = q.nth; fill = f })) filling in
+    filled ∙ ap (λ k. Some (record { nth = k; fill = p.fill })) (omega (arith, ap (λ (x : Plan). x.nth) same, low))
+
+-- a plan that is left behind writes was planned before them
+plan_before : (writes_of_steps : List Write) (m : Memory) (p : Plan) → 1 ≤ p.nth → (after_planned writes_of_steps m).plan ≡ Some p
+    → m.plan ≡ farther (length writes_of_steps) p
+plan_before [] m p low is = is ∙ ap (λ k. Some (record { nth = k; fill = p.fill })) (omega arith)
+plan_before (w ∷ writes_of_steps) m p low is =
+    by_next (cases_Bool (is_next m.plan)) (λ left. plan_before writes_of_steps (memory_after m w.at w.bytes) p low left)
+  where
+    here : (b : Bool) → is_next m.plan ≡ b → (cond b (memory_after m w.at w.bytes) (after_planned writes_of_steps (memory_after m w.at w.bytes))).plan ≡ Some p
+    here b next = sym (ap (λ b. (cond b (memory_after m w.at w.bytes) (after_planned writes_of_steps (memory_after m w.at w.bytes))).plan) next) ∙ is
+
+    none_left : (memory_after m w.at w.bytes).plan ≡ Some p → (memory_after m w.at w.bytes).plan ≡ None → ⊥
+    none_left some none = cc
+
+    by_next : (is_next m.plan ≡ true) ⊎ (is_next m.plan ≡ false)
+        → ((after_planned writes_of_steps (memory_after m w.at w.bytes)).plan ≡ Some p
+        → (memory_after m w.at w.bytes).plan ≡ farther (length writes_of_steps) p)
+        → m.plan ≡ farther (length (w ∷ writes_of_steps)) p
+    by_next (inl next) behind = absurd (none_left (here true next) (spent m w.at w.bytes next))
+    by_next (inr later) behind =
+        one_before m.plan p (length writes_of_steps) low later (sym (plan_on m w.at w.bytes later) ∙ behind (here false later))
+
+same_last : (x a b l : ℕ) → l ≡ a + b → (x + a == l) ≡ (x == b)
+same_last x a b l all = grind (arith, nat_tests)
+
+-- ### A step
+
+module _ (n : ℕ) (hosts : List ℕ) (old : Memory) (before : List Entry) (c : Command) (w : Work) (r : StillRuns n hosts old before w) (may : IsCommand c)
+    (room : FindsRoom w.core.journal c) (cut : (commit c w).cut ≡ true) where
+  abbrev writes_of_steps : List Write
+  writes_of_steps = commit_writes w.core.journal w.core.tables (body_of c)
+
+  abbrev seen : List Entry
+  seen = before ++ w.entries
+
+  abbrev lost : Work
+  lost = loses_power writes_of_steps (noting (entry.Command w.core.node c ∷ []) w)
+
+  fails : fails_within (length writes_of_steps) w.plan ≡ true
+  fails = by_test (fails_within (length writes_of_steps) w.plan)
+      (λ fails. fails)
+      (λ none. let on : (commit c w).cut ≡ false = rw none r.on in
+      absurd (both_ways (commit c w).cut on cut))
+
+  is_lost : commit c w ≡ lost
+  is_lost = rw fails refl
+
+  now : fails_within (length writes_of_steps) r.memory.plan ≡ true
+  now = ap (fails_within (length writes_of_steps)) (sym r.plan_is) ∙ fails
+
+  memory_is : (after_planned (commit c w).writes old).content ≡ (after_planned writes_of_steps r.memory).content
+  memory_is = ap (λ (v : Work). (after_planned v.writes old).content) is_lost ∙ ap (λ (m : Memory). m.content) (r.written writes_of_steps)
+
+  plan_at : opens_gate (length (commit c w).writes) old.plan ≡ opens_gate (length writes_of_steps) r.memory.plan
+  plan_at = ap (λ (v : Work). opens_gate (length v.writes) old.plan) is_lost ∙ by_option r.memory.plan
+      (λ is. absurd (true≢false (sym (sym (ap (fails_within (length writes_of_steps)) is) ∙ now))))
+      (λ p is. let sides = and_parts (nat_le 1 p.nth) (nat_le p.nth (length writes_of_steps)) (sym (ap (fails_within (length writes_of_steps)) is) ∙ now) in
+      ap (opens_gate (length (w.writes ++ writes_of_steps)))
+      (plan_before w.writes old p (leb-true 1 p.nth sides.0)
+      ((ap (λ l. (after_planned l old).plan) (sym (append-nil w.writes)) ∙ ap (λ (m : Memory). m.plan) (r.written [])) ∙ is))
+      ∙ ap (λ b. b && is_opened_gate (slice_index p.fill 0)) (same_last p.nth (length w.writes) (length writes_of_steps) (length (w.writes ++ writes_of_steps))
+      (length-append w.writes writes_of_steps))
+      ∙ ap (opens_gate (length writes_of_steps)) (sym is))
+
+  -- what is read then
+  commands_are_of_steps : commands_in (before ++ (commit c w).entries) n ≡ commands_in seen n ++ c ∷ []
+  commands_are_of_steps =
+      ap (λ (v : Work). commands_in (before ++ v.entries) n) is_lost
+      ∙ ap (λ l. commands_in (before ++ l) n) (append_assoc w.entries (entry.Command w.core.node c ∷ []) (entry.Cut w.core.node ∷ []))
+      ∙ ap (λ l. commands_in l n) (sym (append_assoc before w.entries (entry.Command w.core.node c ∷ entry.Cut w.core.node ∷ [])))
+      ∙ ap (λ (b : Book). b.commands) (book_more seen (entry.Command w.core.node c ∷ entry.Cut w.core.node ∷ []) n
+      ∙ sym (book_more seen (entry.Command w.core.node c ∷ []) n) ∙ book_command seen w.core.node n c r.number)
+
+  count_then : count_of (committed w.core.journal w.core.tables (body_of c)) ≡ min (length (commands_in seen n ++ c ∷ [])) (2 ^ 32 - 1)
+  count_then =
+      commit_count r.memory.content w.core.journal w.core.tables c r.knows r.sorted r.recordable may room
+      ∙ more (count_of w.core.journal) (length (commands_in seen n)) (length (commands_in seen n ++ c ∷ [])) r.count_is
+      (length-append (commands_in seen n) (c ∷ []))
+    where
+      more : (x l k : ℕ) → x ≡ min l (2 ^ 32 - 1) → k ≡ l + 1 → min (x + 1) (2 ^ 32 - 1) ≡ min k (2 ^ 32 - 1)
+      more x l k a b = omega arith
+
+  abbrev new : List ℕ
+  new = (after_planned (commit c w).writes old).content
+
+  abbrev FindsAll : List Command → Type 0
+  FindsAll commands = BootFinds new (after_commands no_tables commands) (min (length commands) (2 ^ 32 - 1))
+
+  pub step_opened : opens_gate (length (commit c w).writes) old.plan ≡ true → FindsAll (commands_in (before ++ (commit c w).entries) n)
+  step_opened opens =
+      let found = planned_opened r.memory w.core.journal w.core.tables c r.knows r.sorted r.recordable may room now (sym plan_at ∙ opens) in
+      let closed = ap (λ t. close (apply t c)) r.tables_are ∙ closed_command (book_in seen n) c (closed_book seen n) in
+      subst FindsAll (sym commands_are_of_steps)
+      (subst (λ x. BootFinds x (after_commands no_tables (commands_in seen n ++ c ∷ [])) (min (length (commands_in seen n ++ c ∷ [])) (2 ^ 32 - 1)))
+      (sym memory_is)
+      (subst (λ k. BootFinds (after_planned writes_of_steps r.memory).content (after_commands no_tables (commands_in seen n ++ c ∷ [])) k) count_then
+      (finds_closed (after_planned writes_of_steps r.memory).content (apply w.core.tables c) (after_commands no_tables (commands_in seen n ++ c ∷ []))
+      (count_of (committed w.core.journal w.core.tables (body_of c))) found closed)))
+
+  pub step_closed : opens_gate (length (commit c w).writes) old.plan ≡ false → FindsAll (commands_in seen n)
+  step_closed opens =
+      let found = planned_closed r.memory w.core.journal w.core.tables c r.knows r.sorted r.recordable may room now (sym plan_at ∙ opens) in
+      subst (λ x. BootFinds x (after_commands no_tables (commands_in seen n)) (min (length (commands_in seen n)) (2 ^ 32 - 1))) (sym memory_is)
+      (subst (λ k. BootFinds (after_planned writes_of_steps r.memory).content (after_commands no_tables (commands_in seen n)) k) r.count_is
+      (finds_closed (after_planned writes_of_steps r.memory).content w.core.tables (after_commands no_tables (commands_in seen n)) (count_of w.core.journal)
+      found
+      (ap close r.tables_are ∙ closed_book seen n)))
+
+-- ## What is known of a node by what is read of it, and what an event of one node leaves of that
 
 -- A boot would find so many of these commands.
 abbrev pub FindsMany : List ℕ → List Command → ℕ → Type 0
@@ -52,10 +184,10 @@ less_found : (content : List ℕ) (commands : List Command) (c : Command)
 less_found content commands c finds =
     subst (λ l. BootFinds content (after_commands no_tables l) (min (length commands) (2 ^ 32 - 1))) (sym (take-append_seam commands (c ∷ []))) finds
 
-pub one_more : (commands : List Command) (c : Command) → suc (length commands) ≡ length (commands ++ c ∷ [])
-one_more commands c = omega (arith, length-append commands (c ∷ []))
+one_more_of_standing : (commands : List Command) (c : Command) → suc (length commands) ≡ length (commands ++ c ∷ [])
+one_more_of_standing commands c = omega (arith, length-append commands (c ∷ []))
 
--- ## Boots
+-- ### Boots
 
 nothing_boots : (n : ℕ) (r : Reckoning) (e : Entry) → IsNothingFor n e → is_boot_of n e ≡ false
 nothing_boots n r (entry.Booted m k) x = ne_eqb m n (x.as_read r)
@@ -71,7 +203,7 @@ pub still_booted : (n : ℕ) (t es : List Entry) → list_any (is_boot_of n) es 
 still_booted n t es none =
     list_any-append (is_boot_of n) t es ∙ ap (λ b. list_any (is_boot_of n) t || b) none ∙ or-false (list_any (is_boot_of n) t)
 
--- ## Nothing of the node
+-- ### Nothing of the node
 
 pub exact_idle : (n : ℕ) (t : List Entry) (r : Reckoning) (es : List Entry) (m : Memory) (node : Option Running) → Stands n t r m node
     → AllByRecursion (IsNothingFor n) es → Exact n t r es m node
@@ -115,7 +247,7 @@ exact_then n t r xs ys k later each b = record {
       (subst (λ x. Stands n ((t ++ xs) ++ ys) x k later) (sym (fold_more n r xs ys)) b.stands);
 }
 
--- ## A step of the node
+-- ### A step of the node
 
 module _ (n : ℕ) (links : List ℕ) (t : List Entry) (m : Memory) (q : Running) (r : Reckoning) (s : Stands n t r m (Some q)) where
   abbrev start : Reckoning
@@ -275,7 +407,7 @@ module _ (n : ℕ) (links : List ℕ) (t : List Entry) (m : Memory) (q : Running
         (λ closed. let less = step_closed n l.hosts m t c work l.ran l.may l.room cut (gate ∙ closed) in (
           length before_it.book.commands,
           subst (λ b. FindsBy b (length before_it.book.commands) (length (before_it.book.commands ++ c ∷ []))) (sym (lost_is false closed))
-              (one_more before_it.book.commands c),
+              (one_more_of_standing before_it.book.commands c),
           less_found left before_it.book.commands c
               (subst (λ x. BootFinds x (after_commands no_tables before_it.book.commands) (min (length before_it.book.commands) (2 ^ 32 - 1))) left_is
               (subst (λ l2. BootFinds (after_planned (commit c work).writes m).content (after_commands no_tables l2) (min (length l2) (2 ^ 32 - 1)))

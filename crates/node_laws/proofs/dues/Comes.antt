@@ -1,53 +1,366 @@
--- Something comes to an end of the controller: in this event it answers before its first turn exactly what is due.
-use Rattle.node_laws.proofs.Words.{AllByRecursion, AnswersSo, AreDifferent, AreHosts, AreNamed, AreNotOf, AreSessionsRead, AsksReset, AtEnd, Bare, Bool, Comes}
-use Rattle.node_laws.proofs.Words.{Command, Controller, Creation, Desk, End, Entry, Happening, HasEnds, HasRoomForAll, HciTables, IfRuns, IsClf, IsDueAt}
-use Rattle.node_laws.proofs.Words.{IsFresh, IsNamed, IsNoAnswer, IsOrderly, IsUpNow, Link, LinkEnd, LinkInput, LinkState, List, NextFrame, NoInput, NodeWorld}
-use Rattle.node_laws.proofs.Words.{None, NumberedEnd, Occurrence, OnWire, Option, Port, ReadsBetween, Reset, Response, Running, RunsSo, Site, Some, Start}
-use Rattle.node_laws.proofs.Words.{Starts, Stop, Stops, Take, Work, [], after_controller, age_in, all_append, all_flat, ap, append-nil, ap₂, arrival, asking_in}
-use Rattle.node_laws.proofs.Words.{begun_at, by_option, by_test, comes_to, cond, controller_begins, controller_does, creation_read, down_in, due, end_c, end_of}
-use Rattle.node_laws.proofs.Words.{ended_by, ends_session, entries_for, entries_in, eqb, false, filter, flat_map, flat_map-append, frames_noted, goes_down}
-use Rattle.node_laws.proofs.Words.{has_come, has_come_so, hosts_in, hosts_of_ends, input_at, input_of, is_answer_of, is_late_in, is_of_node, is_over}
-use Rattle.node_laws.proofs.Words.{is_own_reset, is_some, is_tick, link_to, list_any, lpdu_of, near_end_in, new_link, new_sync, node_of, not, noted_of_deeds}
-use Rattle.node_laws.proofs.Words.{notice_in, number_now, option_map_or, or-false, owed, owed_in, port_at, port_for, refl, report, same_end, session_now}
-use Rattle.node_laws.proofs.Words.{session_of_port, site_at, steps, still_asked, subst, sym, synced, syncs_in, tables_in, told_of_coming, true, true≢false}
-use Rattle.node_laws.proofs.Words.{wires_for, ℕ, ◌&&◌, ◌++◌, ◌==◌, ◌||◌, ◌∙◌, ◌∷◌, ◌≡◌}
-use Rattle.trace_model.specs.declared.entry.Entry.TheVariants as entry
-use Rattle.gate_answers.specs.declared.response.Response.TheVariants as response
-use Rattle.node_laws.proofs.telling.Nodes.{Stands, hosts_same, link_is, stands}
+-- Something comes to an end of the controller, an identifier, too: in this event it answers before its first turn exactly what is due.
+use Rattle.std.proofs.lemmas.Bool.{lt-leb}
+use Rattle.node_laws.proofs.Words.{ActStart, ActStop, ActTake, ActTick, AllByRecursion, AnswersSo, AreDifferent, AreHosts, AreNamed, AreNotOf, AreSessionsRead}
+use Rattle.node_laws.proofs.Words.{AsksReset, AtEnd, Bare, Bool, Clf, Comes, Command, Commits, Control, Controller, Core, Creation, Cut, CutOff, Deed, Desk}
+use Rattle.node_laws.proofs.Words.{End, Ending, Entry, Err, GoesOut, Happening, HasEnds, HasRoomForAll, HciTables, Host, IfRuns, Inactive, IsClf, IsDueAt}
+use Rattle.node_laws.proofs.Words.{IsFresh, IsNamed, IsNoAnswer, IsOrderly, IsUpNow, Link, LinkEnd, LinkInput, LinkState, List, Loss, LpduRow, NextFrame}
+use Rattle.node_laws.proofs.Words.{NoInput, NodeInput, NodeWorld, None, Noted, NumberedEnd, Occurrence, Ok, OnWire, Option, Phase, Port, PowerMode}
+use Rattle.node_laws.proofs.Words.{ReadsBetween, Ready, Report, Reset, Response, Restarted, Result, Role, Running, RunsSo, Site, Some, Start, Starts, Stop}
+use Rattle.node_laws.proofs.Words.{Stops, Sync, SyncId, Take, Tick, Ticked, TimePasses, TooMany, Took, Uicc, Work, [], act_out, after_controller, age_in}
+use Rattle.node_laws.proofs.Words.{aged_entries, all_append, all_flat, and_right, ap, append-nil, ap₂, arith, arrival, asking_in, begun_at, by_option, by_test}
+use Rattle.node_laws.proofs.Words.{clf_step, comes_to, cond, cond_both, controller_begins, controller_does, creation_read, down_in, due, end_c, end_of}
+use Rattle.node_laws.proofs.Words.{ended_by, ending_entries, ending_of, ends_session, entries_for, entries_in, eq-eqb, eqb, eqb-true, false, far, filter, find}
+use Rattle.node_laws.proofs.Words.{finds_room, first_lost, flat_map, flat_map-append, frames_noted, frames_out, goes_down, has_come, has_come_so, hosts_in}
+use Rattle.node_laws.proofs.Words.{hosts_of_ends, inl, input_at, input_of, inr, is_answer_of, is_kept_sync, is_late_in, is_of_node, is_open, is_over}
+use Rattle.node_laws.proofs.Words.{is_own_reset, is_some, is_tick, is_within, kind_number, length, link_to, list_any, lpdu_of, lpdu_row_of, nat_le, nat_lt}
+use Rattle.node_laws.proofs.Words.{near_end_in, new_link, new_sync, node_of, not, noted_of_deeds, notice_in, number_now, option_map_or, or-false, owed, owed_in}
+use Rattle.node_laws.proofs.Words.{port_at, port_for, pushed_out, put, put_entries, puts_entries, read_by, refl, report, same_end, session_now, session_of_port}
+use Rattle.node_laws.proofs.Words.{site_at, steps, still_asked, subst, sym, synced, syncs_in, table, tables_in, told, told_of_coming, true, true≢false}
+use Rattle.node_laws.proofs.Words.{wire_with, wires_for, ℕ, ◌%◌, ◌&&◌, ◌*◌, ◌++◌, ◌+◌, ◌/◌, ◌==◌, ◌||◌, ◌∙◌, ◌∷◌, ◌≡◌, ◌≤◌, ◌⊎◌}
+use Rattle.link_laws.specs.entries.Entries.{End as Side}
+use Rattle.swp_act.specs.declared.clf.ClfAct.{ClfAct}
+use Rattle.swp_base.specs.declared.control_frames.Act.{Act}
+use Rattle.swp_lpdu.specs.Controls.{control_of}
+use Rattle.swp_lpdu.specs.declared.LpduFault.{LpduFault}
+use Rattle.node_laws.proofs.creations.Knowing.{far_reading}
+use Rattle.node_laws.proofs.dues.Freed.{IsElse, any_cause, come_found, come_none, come_so, ends_at, same_port}
+use Rattle.node_laws.proofs.dues.Steps.{links_mute, near_due, none_due, one_command}
+use Rattle.node_laws.proofs.kept.Stepping.{synced_other, ticked_sync}
 use Rattle.node_laws.proofs.links.Noticing.{at_host}
-use Rattle.node_laws.proofs.passes.InSteps.{IsBehind, step_notes, IsOfStep}
+use Rattle.node_laws.proofs.notices.Turning.{controller_side, notice_more}
+use Rattle.node_laws.proofs.notices.Near.{AreFar, arrival_quiet, far_reads}
+use Rattle.node_laws.proofs.passes.InSteps.{IsBehind, IsOfStep, coming_all, step_notes}
 use Rattle.node_laws.proofs.passes.Replying.{session_in}
 use Rattle.node_laws.proofs.power.Events.{controller_part}
-use Rattle.node_laws.proofs.power.Parts.{AreOwn, part_own}
-use Rattle.node_laws.proofs.power.Steps.{steps_fine}
-use Rattle.node_laws.proofs.readings.Sites.{near_end_side}
-use Rattle.node_laws.proofs.creations.Near.{far_reading}
-use Rattle.node_laws.proofs.notices.Doing.{controller_side}
-use Rattle.node_laws.proofs.notices.Far.{AreFar, far_reads}
-use Rattle.node_laws.proofs.notices.Reading.{notice_more}
-use Rattle.node_laws.proofs.notices.Sites.{arrival_quiet}
-use Rattle.node_laws.proofs.steps.Ports.{at_port}
-use Rattle.node_laws.proofs.dues.Ended.{any_cause, ends_at}
-use Rattle.node_laws.proofs.dues.Freed.{IsElse, come_found, come_none, come_so, same_port}
-use Rattle.node_laws.proofs.dues.Near.{near_due}
-use Rattle.node_laws.proofs.dues.Noted.{one_command}
-use Rattle.node_laws.proofs.dues.Steps.{links_mute}
-use Rattle.node_laws.proofs.dues.Syncs.{few_is, few_of, reset_brings, start_brings, stop_brings, synced_at, synced_here, take_brings}
-use Rattle.node_laws.proofs.dues.Taken.{IsTookless, IsUnread, coming_tookless, frames_tookless, keeps_new, others_unread}
-use Rattle.node_laws.proofs.dues.Taken.{took_read, tookless_all, unread_flat, written}
-use Rattle.node_laws.proofs.dues.Until.{none_due}
-use Rattle.node_laws.proofs.reply_passes.Begins.{port_begins}
+use Rattle.node_laws.proofs.power.Steps.{AreOwn, part_own, steps_fine}
 use Rattle.node_laws.proofs.read_rooms.Beginning.{HasSite, site_for}
-use Rattle.node_laws.proofs.read_steps.Naming.{far_named}
-use Rattle.node_laws.proofs.read_steps.Starting.{IsBegun, comes_starts}
-use Rattle.node_laws.proofs.worlds.Downs.{any_append, any_none, arrival_downless, ends_by, flat_downless, frames_downless}
-use Rattle.node_laws.proofs.worlds.Hearing.{arrival_unanswered}
-use Rattle.node_laws.proofs.worlds.Lifting.{frames_quiet, no_answer}
-use Rattle.node_laws.proofs.worlds.Order.{others_answer}
-use Rattle.node_laws.proofs.worlds.Steps.{near_node}
-use Rattle.node_laws.proofs.worlds.Telling.{near_same, step_at}
+use Rattle.node_laws.proofs.read_steps.Reading.{IsBegun, comes_starts, far_named}
+use Rattle.node_laws.proofs.readings.Sites.{near_end_side}
+use Rattle.node_laws.proofs.reply_passes.Ordered.{port_begins}
+use Rattle.node_laws.proofs.steps.StepWalks.{at_port}
+use Rattle.node_laws.proofs.telling.Events.{Stands, hosts_same_of_nodes as hosts_same, link_is, stands}
+use Rattle.node_laws.proofs.telling.Shapes.{told_all}
+use Rattle.node_laws.proofs.worlds.Ticking.{any_append, any_none, arrival_downless, ends_by, flat_downless, frames_downless, near_node, near_same, step_at}
+use Rattle.node_laws.proofs.worlds.Late.{arrival_unanswered, others_answer}
+use Rattle.node_laws.proofs.worlds.Done.{frames_quiet, no_answer}
+use Rattle.gate_answers.specs.declared.response.Response.TheVariants as response
+use Rattle.swp_base.specs.declared.control_frames.Control.TheVariants as control
+use Rattle.trace_model.specs.declared.entry.Entry.TheVariants as entry
 
--- ## Where nothing is due
+-- ## What a controller takes as identifiers are those that are read off LPDUs, and nothing else in a step is read so
+
+-- ### LPDUs
+
+-- the identifier that a frame brings to a controller
+abbrev pub brought : Control → Option ℕ
+brought (control.Act (SyncId id) false) = Some id
+brought _ = None
+
+abbrev pub brought_by : Result Control LpduFault → Option ℕ
+brought_by (Ok c) = brought c
+brought_by (Err fault) = None
+
+-- no row of the table for bytes from 80 on brings one
+module _ (bytes : List ℕ) where
+  abbrev Brings : Option LpduRow → Type 0
+  Brings o = brought_by (read_by o bytes) ≡ None
+
+  by_row : (r : LpduRow) → brought (r.says bytes) ≡ None → Brings (Some r)
+  by_row r none = go (nat_lt (length bytes) r.need) (nat_lt r.most (length bytes)) where
+    go : (b c : Bool) → brought_by (cond b (Err (Rattle.swp_lpdu.specs.declared.LpduFault.TheVariants.Short r.need (length bytes)))
+        (cond c (Err (Rattle.swp_lpdu.specs.declared.LpduFault.TheVariants.TooLong (length bytes))) (Ok (r.says bytes)))) ≡ None
+    go true c = refl
+    go false true = refl
+    go false false = none
+
+  -- a row that is found brings none, where each does that may be found
+  rows_bring : (p : LpduRow → Bool) (rows : List LpduRow) → AllByRecursion (λ r. (brought (r.says bytes) ≡ None) ⊎ (p r ≡ false)) rows → Brings (find p rows)
+  rows_bring p [] a = refl
+  rows_bring p (r ∷ rows) a = by (p r) refl a.0 (rows_bring p rows a.1) where
+    by : (b : Bool) → p r ≡ b → (brought (r.says bytes) ≡ None) ⊎ (p r ≡ false) → Brings (find p rows) → Brings (cond (p r) (Some r) (find p rows))
+    by true q (inl none) later = subst (λ b. Brings (cond b (Some r) (find p rows))) (sym q) (by_row r none)
+    by true q (inr off) later = absurd (true≢false (sym q ∙ off))
+    by false q one later = subst (λ b. Brings (cond b (Some r) (find p rows))) (sym q) later
+
+  high_brings : (b : ℕ) → 0x80 ≤ b → Brings (lpdu_row_of b)
+  high_brings b high =
+      rows_bring (λ (r : LpduRow). is_within r.first r.last b) table (
+        inl refl,
+        (
+          inl refl,
+          (
+            inl refl,
+            (
+              inl refl,
+              (
+                inl refl,
+                (
+                  inl refl,
+                  (
+                    inl refl,
+                    (
+                      inl refl,
+                      (
+                        inl refl,
+                        (
+                          inr (and_right (nat_le 0x61 b) (nat_le b 0x61) (lt-leb b 0x61 (omega (arith, high)))),
+                          (inl refl, (inl refl, (inl refl, (inl refl, tt)))),
+                        ),
+                      ),
+                    ),
+                  ),
+                ),
+              ),
+            ),
+          ),
+        ),
+      )
+
+pub written : (c : Control) → brought_by (control_of (lpdu_of c)) ≡ brought c
+written (control.I ns nr info) = high_brings (lpdu_of (control.I ns nr info)) (0x80 + 8 * ns + nr) (omega arith)
+written (control.S kind nr) = high_brings (lpdu_of (control.S kind nr)) (0xC0 + 8 * kind_number kind + nr) (omega arith)
+written (control.Act Ready true) = refl
+written (control.Act Ready false) = refl
+written (control.Act (PowerMode power) true) = refl
+written (control.Act (PowerMode power) false) = refl
+written (control.Act (SyncId id) true) = refl
+written (control.Act (SyncId id) false) = let q : 256 * (id / 256) + id % 256 ≡ id = omega arith in rw q refl
+written _ = refl
+
+-- ### Entries
+
+-- an identifier is kept unless it is
+abbrev keeps_new : HciTables → ℕ → Option ℕ → List Deed
+keeps_new t h None = []
+keeps_new t h (Some id) = cond (is_kept_sync t.syncs h id) [] (Commits (Sync h id) ∷ [])
+
+took_read : (t : HciTables) (h : ℕ) (lpdu : List ℕ) → new_sync t (entry.Took (end_c h) lpdu) ≡ keeps_new t h (brought_by (control_of lpdu))
+took_read t h lpdu = go (control_of lpdu) refl where
+  go : (x : Result Control LpduFault) → control_of lpdu ≡ x → new_sync t (entry.Took (end_c h) lpdu) ≡ keeps_new t h (brought_by (control_of lpdu))
+  go (Err fault) q = rw q refl
+  go (Ok (control.Act (SyncId id) false)) q = rw q refl
+  go (Ok (control.Act (SyncId id) true)) q = rw q refl
+  go (Ok (control.Act Ready again)) q = rw q refl
+  go (Ok (control.Act (PowerMode code) again)) q = rw q refl
+  go (Ok _) q = rw q refl
+
+-- a frame is taken
+abbrev pub is_took : Entry → Bool
+is_took (entry.Took e lpdu) = true
+is_took _ = false
+
+abbrev pub IsTookless : Entry → Type 0
+IsTookless x = is_took x ≡ false
+
+abbrev pub AreTookless : List Entry → Type 0
+AreTookless es = AllByRecursion IsTookless es
+
+-- nothing is read so of an entry
+abbrev pub IsUnread : HciTables → Entry → Type 0
+IsUnread t x = new_sync t x ≡ []
+
+tookless_one : (t : HciTables) (x : Entry) → IsTookless x → IsUnread t x
+tookless_one t (entry.Took e lpdu) q = absurd (true≢false q)
+tookless_one t _ q = refl
+
+pub tookless_all : (t : HciTables) (es : List Entry) → AreTookless es → AllByRecursion (IsUnread t) es
+tookless_all t [] a = tt
+tookless_all t (x ∷ es) a = (tookless_one t x a.0, tookless_all t es a.1)
+
+far_unread : (t : HciTables) (e : End) (lpdu : List ℕ) → (node_of e == 0) ≡ false → IsUnread t (entry.Took e lpdu)
+far_unread t e lpdu off = by_test e.at_host
+    (λ q. rw q refl)
+    (λ q. let zero : node_of e ≡ 0 = rw q refl in
+    absurd (true≢false (sym (ap (λ n. n == 0) zero) ∙ off)))
+
+other_unread : (t : HciTables) (x : Entry) → is_of_node 0 x ≡ false → IsUnread t x
+other_unread t (entry.Took e lpdu) off = far_unread t e lpdu off
+other_unread t _ off = refl
+
+pub others_unread : (t : HciTables) (es : List Entry) → AreNotOf 0 es → AllByRecursion (IsUnread t) es
+others_unread t [] a = tt
+others_unread t (x ∷ es) a = (other_unread t x a.0, others_unread t es a.1)
+
+pub unread_flat : (t : HciTables) (es : List Entry) → AllByRecursion (IsUnread t) es → flat_map (new_sync t) es ≡ []
+unread_flat t [] a = refl
+unread_flat t (x ∷ es) a = ap (λ ds. ds ++ flat_map (new_sync t) es) a.0 ∙ unread_flat t es a.1
+
+-- ### What links note
+
+-- no frame that comes
+abbrev IsNoTake : Noted → Type 0
+IsNoTake (Took who frame) = ⊥
+IsNoTake _ = Unit {0}
+
+abbrev AreNoTakes : List Noted → Type 0
+AreNoTakes xs = AllByRecursion IsNoTake xs
+
+notes_tookless : (h : ℕ) (xs : List Noted) → AreNoTakes xs → AreTookless (entries_for h xs)
+notes_tookless h [] a = tt
+notes_tookless h (Took who frame ∷ xs) a = absurd a.0
+notes_tookless h (Ticked ∷ xs) a = notes_tookless h xs a.1
+notes_tookless h (Restarted who ∷ xs) a = notes_tookless h xs a.1
+notes_tookless h (Cut who ∷ xs) a = notes_tookless h xs a.1
+notes_tookless h (_ ∷ xs) a = (refl, notes_tookless h xs a.1)
+
+told_takes : (who : Side) (n : ℕ) (r : Report) (acked : ℕ) → AreNoTakes (told who n r acked)
+told_takes who n r acked = told_all IsNoTake who n acked tt tt (λ k. tt) tt (λ m. tt) (λ c. tt) r
+
+pub coming_tookless : (input : NodeInput) (w : Work) → AreTookless (told_of_coming input w)
+coming_tookless input w = coming_all IsTookless (λ h who n acked r. notes_tookless h (told who n r acked) (told_takes who n r acked)) input w
+
+-- frames that go out, or are lost
+lost_takes : (who : Side) (why : Loss) (xs : List OnWire) → AreNoTakes (first_lost who why xs)
+lost_takes who why [] = tt
+lost_takes who why (x ∷ xs) = (tt, tt)
+
+pushed_takes : (who : Side) (wire : List OnWire) → AreNoTakes (pushed_out who wire)
+pushed_takes who wire = by_test (nat_lt 64 (length wire)) (λ q. rw q (lost_takes who TooMany wire)) (λ q. rw q tt)
+
+puts_takes : (who : Side) (l : Link) (cs : List Control) → AreNoTakes (puts_entries who l cs)
+puts_takes who l [] = tt
+puts_takes who l (c ∷ cs) =
+    all_append IsNoTake (put_entries who l c) (puts_entries who (put l c) cs) (tt, pushed_takes (far who) (wire_with l c)) (puts_takes who (put l c) cs)
+
+ending_takes : (who : Side) (l : Link) (e : LinkEnd) (ending : Ending) → AreNoTakes (ending_entries who l e ending)
+ending_takes who l e GoesOut = puts_takes who l (frames_out e)
+ending_takes who l e CutOff = (tt, tt)
+
+pub frames_tookless : (who : Side) (h : ℕ) (l : Link) (k : Work) → AreTookless (frames_noted who h l k)
+frames_tookless who h l k = by_option (port_at k.ports h)
+    (λ q. rw q tt)
+    (λ p q. rw q (notes_tookless h (ending_entries who l p.side (ending_of k)) (ending_takes who l p.side (ending_of k))))
+
+pub first_tookless : (h : ℕ) (who : Side) (why : Loss) (xs : List OnWire) → AreTookless (entries_for h (first_lost who why xs))
+first_tookless h who why xs = notes_tookless h (first_lost who why xs) (lost_takes who why xs)
+
+aged_takes : (who : Side) (xs : List OnWire) → AreNoTakes (aged_entries who xs)
+aged_takes who [] = tt
+aged_takes who (x ∷ xs) = by_test (nat_lt x.age 4) (λ q. rw q (aged_takes who xs)) (λ q. rw q (tt, aged_takes who xs))
+
+pub aged_tookless : (sites : List Site)
+    → AreTookless (flat_map (λ (s : Site). entries_for s.host (aged_entries Controller s.link.to_controller ++ aged_entries Host s.link.to_host)) sites)
+aged_tookless [] = tt
+aged_tookless (s ∷ sites) =
+    all_append IsTookless (entries_for s.host (aged_entries Controller s.link.to_controller ++ aged_entries Host s.link.to_host)) _
+    (notes_tookless s.host (aged_entries Controller s.link.to_controller ++ aged_entries Host s.link.to_host)
+    (all_append IsNoTake (aged_entries Controller s.link.to_controller) (aged_entries Host s.link.to_host) (aged_takes Controller s.link.to_controller)
+    (aged_takes Host s.link.to_host)))
+    (aged_tookless sites)
+
+-- ## The identifier that a controller keeps in a step is the one that a frame brings, unless it is kept
+
+-- ### What an input brings
+
+clf_brings : (s : ClfAct) (act : Act) (again : Bool) → (clf_step s (ActTake act again)).1.sync ≡ brought (control.Act act again)
+clf_brings s (SyncId id) true = refl
+clf_brings s _ true = refl
+clf_brings s (SyncId id) false = go s.phase refl where
+  go : (p : Phase) → s.phase ≡ p → (clf_step s (ActTake (SyncId id) false)).1.sync ≡ Some id
+  go Inactive q = rw q refl
+  go _ q = rw q refl
+clf_brings s Ready false = go s.phase refl where
+  go : (p : Phase) → s.phase ≡ p → (clf_step s (ActTake Ready false)).1.sync ≡ None
+  go Inactive q = rw q refl
+  go _ q = rw q refl
+clf_brings s (PowerMode code) false = refl
+
+act_brings : (r : Role) (act : Act) (again : Bool) → IsClf r → (act_out r (Some (ActTake act again))).sync ≡ brought (control.Act act again)
+act_brings Bare act again a = absurd a
+act_brings (Uicc s) act again a = absurd a
+act_brings (Clf s) act again a = clf_brings s act again
+
+take_brings : (e : LinkEnd) (c : Control) → IsClf e.role → (report e (Take c)).sync ≡ brought c
+take_brings e (control.Act act again) a = act_brings e.role act again a
+take_brings e _ a = refl
+
+reset_brings : (e : LinkEnd) (window : Option ℕ) → (report e (Reset window)).sync ≡ None
+reset_brings e window = refl
+
+start_brings : (e : LinkEnd) (value : ℕ) → IsClf e.role → (report e (Start value)).sync ≡ None
+start_brings e value a = go e.role a where
+  go : (r : Role) → IsClf r → (act_out r (Some (ActStart value))).sync ≡ None
+  go Bare a = absurd a
+  go (Uicc s) a = absurd a
+  go (Clf s) a = refl
+
+stop_brings : (e : LinkEnd) → IsClf e.role → (report e Stop).sync ≡ None
+stop_brings e a = go e.role a where
+  go : (r : Role) → IsClf r → (act_out r (Some ActStop)).sync ≡ None
+  go Bare a = absurd a
+  go (Uicc s) a = absurd a
+  go (Clf s) a = refl
+
+tick_brings : (e : LinkEnd) → IsClf e.role → (report e Tick).sync ≡ None
+tick_brings e a =
+    cond_both (is_open e.role) None (Some ActTick) (λ o. (act_out e.role o).sync ≡ None) (λ _. refl) (λ _. go e.role a)
+  where
+    go : (r : Role) → IsClf r → (act_out r (Some ActTick)).sync ≡ None
+    go Bare a = absurd a
+    go (Uicc s) a = absurd a
+    go (Clf s) a = ticked_sync s.phase s.last
+
+-- ### The command that keeps it
+
+-- that it is kept, unless it is
+abbrev few_of : HciTables → ℕ → Option ℕ → Option Command
+few_of t h None = None
+few_of t h (Some id) = cond (is_kept_sync t.syncs h id) None (Some (Sync h id))
+
+few_is : (t : HciTables) (h : ℕ) (o : Option ℕ) → keeps_new t h o ≡ one_command (few_of t h o)
+few_is t h None = refl
+few_is t h (Some id) = by_test (is_kept_sync t.syncs h id) (λ q. rw q refl) (λ q. rw q refl)
+
+module _ (core : Core) (room : (c : Command) → finds_room core c ≡ true) where
+  synced_here : (h : ℕ) (i : LinkInput) (p : Port) (o : Option ℕ) → p.desk.host ≡ h → (report p.side i).sync ≡ o
+      → synced core (AtEnd h i) p ≡ keeps_new core.tables h o
+  synced_here h i p o host q = by o q where
+    there : input_at (AtEnd h i) p ≡ Some i
+    there = let here : eqb p.desk.host h ≡ true = eq-eqb p.desk.host h host in rw here refl
+
+    both : (b : Bool) (ds : List Deed) → cond (not b && true) ds [] ≡ cond b [] ds
+    both true ds = refl
+    both false ds = refl
+
+    by : (o : Option ℕ) → (report p.side i).sync ≡ o → synced core (AtEnd h i) p ≡ keeps_new core.tables h o
+    by None q = rw (there, q) refl
+    by (Some id) q =
+        (let is : synced core (AtEnd h i) p
+        ≡ cond (not (is_kept_sync core.tables.syncs p.desk.host id) && finds_room core (Sync p.desk.host id)) (Commits (Sync p.desk.host id) ∷ []) [] =
+        rw (there, q) refl in is)
+        ∙ (ap (λ b. cond (not (is_kept_sync core.tables.syncs p.desk.host id) && b) (Commits (Sync p.desk.host id) ∷ []) []) (room (Sync p.desk.host id))
+        ∙ (both (is_kept_sync core.tables.syncs p.desk.host id) (Commits (Sync p.desk.host id) ∷ [])
+        ∙ ap (λ k. cond (is_kept_sync core.tables.syncs k id) [] (Commits (Sync k id) ∷ [])) host))
+
+none_else : (core : Core) (h : ℕ) (i : LinkInput) (k : ℕ) (ports : List Port) → AllByRecursion (λ (j : ℕ). eqb j k ≡ false) (hosts_of_ends ports) → k ≡ h
+    → flat_map (synced core (AtEnd h i)) ports ≡ []
+none_else core h i k [] a same = refl
+none_else core h i k (p ∷ ports) a same =
+    ap (λ ds. ds ++ flat_map (synced core (AtEnd h i)) ports) (synced_other core h i p (subst (λ n. eqb p.desk.host n ≡ false) same a.0))
+    ∙ none_else core h i k ports a.1 same
+
+-- that of the end to which it comes
+synced_at : (core : Core) (h : ℕ) (i : LinkInput) (ports : List Port) → AreDifferent (hosts_of_ends ports)
+    → flat_map (synced core (AtEnd h i)) ports ≡ option_map_or (synced core (AtEnd h i)) (port_at ports h) []
+synced_at core h i [] d = refl
+synced_at core h i (p ∷ ports) d = by_test (eqb p.desk.host h)
+    (λ q. ap (λ ds. synced core (AtEnd h i) p ++ ds) (none_else core h i p.desk.host ports d.0 (eqb-true p.desk.host h q))
+    ∙ (append-nil (synced core (AtEnd h i) p)
+    ∙ sym (ap (λ b. option_map_or (synced core (AtEnd h i)) (cond b (Some p) (port_at ports h)) []) q)))
+    (λ q. ap (λ ds. ds ++ flat_map (synced core (AtEnd h i)) ports) (synced_other core h i p q)
+    ∙ (synced_at core h i ports d.1 ∙ sym (ap (λ b. option_map_or (synced core (AtEnd h i)) (cond b (Some p) (port_at ports h)) []) q)))
+
+-- a tick brings none
+pub ticks_none : (core : Core) (ports : List Port) → AllByRecursion (λ (p : Port). IsClf p.side.role) ports → flat_map (synced core TimePasses) ports ≡ []
+ticks_none core [] a = refl
+ticks_none core (p ∷ ports) a =
+    (let none : (report p.side Tick).sync ≡ None = tick_brings p.side a.0 in
+    let is : synced core TimePasses p ≡ [] = rw none refl in ap (λ ds. ds ++ flat_map (synced core TimePasses) ports) is)
+    ∙ ticks_none core ports a.1
+
+-- ## Something comes to an end of the controller: in this event it answers before its first turn exactly what is due
+
+-- ### Where nothing is due
 
 pub tookless_own : (x : Entry) → IsOfStep x → IsTookless x
 tookless_own (entry.Took e lpdu) a = absurd a
@@ -63,7 +376,7 @@ other_down : (k : ℕ) (x : Entry) → is_of_node 0 x ≡ false → ends_session
 other_down k (entry.Down f cause) off = far_down k f off
 other_down k _ off = refl
 
-pub others_down : (k : ℕ) (es : List Entry) → AreNotOf 0 es → ends_at k es ≡ false
+others_down : (k : ℕ) (es : List Entry) → AreNotOf 0 es → ends_at k es ≡ false
 others_down k [] a = refl
 others_down k (x ∷ es) a = ap (λ b. b || ends_at k es) (other_down k x a.0) ∙ others_down k es a.1
 
@@ -106,7 +419,7 @@ module _ (hosts : List ℕ) (past : List Occurrence) (o : Occurrence) where
       && not (list_any (ends_session (λ cause. not (is_own_reset cause))
       (end_c k)) o.entries)) still))
 
--- ## The session of an end
+-- ### The session of an end
 
 pub session_is : (e : NumberedEnd) (d : Desk) → session_in (Some (port_for e d)) ≡ number_now e
 session_is e d = go e.side.shdlc.phase refl where
@@ -114,7 +427,7 @@ session_is e d = go e.side.shdlc.phase refl where
   go IsUpNow q = rw q refl
   go _ q = rw q refl
 
--- ## What is taken
+-- ### What is taken
 
 -- a frame that comes to a CLF brings the identifier that is read off its LPDU
 arrival_read : (t : HciTables) (h : ℕ) (l : Link) (comes : Comes) (i : LinkInput) → input_of l comes ≡ Some i → (e : LinkEnd) → IsClf e.role
@@ -148,7 +461,7 @@ no_arrival : (h : ℕ) (comes : Comes) → entries_for h (arrival Controller (ne
 no_arrival h NextFrame = refl
 no_arrival h _ = refl
 
-pub front_flat : (t : HciTables) (xs ys : List Entry) → AllByRecursion (IsUnread t) ys → flat_map (new_sync t) (xs ++ ys) ≡ flat_map (new_sync t) xs
+front_flat : (t : HciTables) (xs ys : List Entry) → AllByRecursion (IsUnread t) ys → flat_map (new_sync t) (xs ++ ys) ≡ flat_map (new_sync t) xs
 front_flat t xs ys a =
     flat_map-append (new_sync t) xs ys ∙ (ap (λ ds. flat_map (new_sync t) xs ++ ds) (unread_flat t ys a) ∙ append-nil (flat_map (new_sync t) xs))
 
@@ -156,7 +469,7 @@ pub front_own : (xs ys : List Entry) → AreOwn 0 (xs ++ ys) → AreOwn 0 xs
 front_own [] ys a = tt
 front_own (x ∷ xs) ys a = (a.0, front_own xs ys a.1)
 
--- ## Something comes
+-- ### Something comes
 
 module _ (hosts : List ℕ) (are : AreHosts hosts) (past : List Occurrence) (w : NodeWorld) (orderly : IsOrderly w)
     (between : ReadsBetween hosts (entries_in past) w)
@@ -203,7 +516,7 @@ module _ (hosts : List ℕ) (are : AreHosts hosts) (past : List Occurrence) (w :
     quiet : AreFar begun.entries
     quiet = arrival_quiet Controller h l comes
 
-    -- ## Its identifiers
+    -- ### Its identifiers
 
     tables : begun.core.tables ≡ tables_in t 0
     tables =
@@ -265,7 +578,7 @@ module _ (hosts : List ℕ) (are : AreHosts hosts) (past : List Occurrence) (w :
         (tookless_all z (told_of_coming (AtEnd h i) begun) (coming_tookless (AtEnd h i) begun))
         ∙ (arrived_read (port_at begun.ports h) refl ∙ sym (synced_at begun.core h i begun.ports different)))))
 
-    -- ## Its sessions
+    -- ### Its sessions
 
     downs : (k : ℕ) → ends_at k (last.entries ++ tail)
         ≡ option_map_or (λ p. ends_by any_cause (end_c k) p (input_at (AtEnd h i) p)) (port_at begun.ports k) false

@@ -1,29 +1,321 @@
--- A step of a controller: as its pass begins each answer that it owes is taken, and goes out in the session that its asker had as the step began.
-use Rattle.node_laws.proofs.Words.{AllByRecursion, AreDifferent, AreHosts, AtEnd, Bool, Commits, Creation, Deed, Entry, IsFresh, IsOutside, LinkEnd, LinkInput}
-use Rattle.node_laws.proofs.Words.{LinkState, List, NodeInput, None, Option, Port, Release, Releases, Some, Tick, TimePasses, Up, Work, [], after_sessions}
-use Rattle.node_laws.proofs.Words.{all_done, all_synced_hold, ap, append-nil, asked_at, by_test, cond, done, eqb, eqb-true, false, filter, filter_map, flat_map}
-use Rattle.node_laws.proofs.Words.{forgets, forgotten, forgotten_hold, has_come, has_come_so, has_freed, has_synced, hosts_of_ends, inl, input_at, inr, is_over}
-use Rattle.node_laws.proofs.Words.{is_over_at, is_up, map, option_map_or, owed, owed_in_step, port_at, refl, reset_late, session_of_port, subst, sym, syncs_in}
-use Rattle.node_laws.proofs.Words.{true, true≢false, with_older, without_notice, ℕ, ◌++◌, ◌||◌, ◌∙◌, ◌∷◌, ◌≡◌, ◌⊎◌}
-use Rattle.gate_answers.specs.declared.response.Response.TheVariants as response
-use Rattle.node_laws.proofs.steps.Ports.{at_port, come_host, forgets_host, late_host, without_host}
-use Rattle.node_laws.proofs.telling.Away.{at_map, none_map}
-use Rattle.node_laws.proofs.telling.Steps.{come_session, forgets_same, without_same}
+-- What a controller owes to askers as sessions end: each answer is taken, and goes out in the session that its asker had.
+use Rattle.node_laws.proofs.Words.{AllByRecursion, AreDifferent, AreHosts, AreTaken, AtEnd, Bool, Commits, CountsCommands, Creation, Deed, End, EndedBy, Entry}
+use Rattle.node_laws.proofs.Words.{Give, HciTables, IsFresh, IsOutside, LinkEnd, LinkInput, LinkState, List, Message, NodeInput, None, Notice, Option, PipeRow}
+use Rattle.node_laws.proofs.Words.{Port, Release, Releases, Response, Sends, Some, State, TakesMessage, Tick, TimePasses, Up, Work, [], after_sessions}
+use Rattle.node_laws.proofs.Words.{after_turn, all_append, all_done, all_owed, all_synced_hold, answer_of, ap, append-nil, append_assoc, ap₂, arith, asked_at}
+use Rattle.node_laws.proofs.Words.{asking_in, body_in, by_option, by_test, cond, creation_in, creation_read, done, end_c, end_of_number, ends_session}
+use Rattle.node_laws.proofs.Words.{entries_of_reply, eq-eqb, eqb, eqb-true, false, filter, filter_map, flat_map, fold-append, forgets, forgotten}
+use Rattle.node_laws.proofs.Words.{forgotten_hold, has_come, has_come_so, has_freed, has_synced, hosts_of_ends, in_use, inl, input_at, inr, instruction_in}
+use Rattle.node_laws.proofs.Words.{is_down, is_forgotten, is_over, is_over_at, is_up, length, length-append, map, option_map_or, owed, owed_in_step}
+use Rattle.node_laws.proofs.Words.{pipe_named_in, port_at, refl, reset_late, same_bytes, same_end, session_now, session_of_port, subst, sym, syncs_in, true}
+use Rattle.node_laws.proofs.Words.{true≢false, turn_at, with_older, without_notice, ℕ, ◌&&◌, ◌++◌, ◌+◌, ◌||◌, ◌∙◌, ◌∷◌, ◌≡◌, ◌≤◌, ◌⊎◌}
+use Rattle.node_laws.proofs.creations.Outcomes.{Asked, asked_of, owes, waits}
+use Rattle.node_laws.proofs.creations.Coming.{ComeAt, HasCome, all_kept, answer_response, begins, came_near, came_tick, forgets_ended, frees, keeps_all}
+use Rattle.node_laws.proofs.creations.Coming.{over_at, shared}
+use Rattle.node_laws.proofs.creations.Doing.{EndAt, Good, IsOff, IsOn, at_here, many, on_is, pays, takes_short}
 use Rattle.node_laws.proofs.links.Noticing.{at_host}
-use Rattle.node_laws.proofs.passes.Replying.{session_in, session_map, turn_sessions, commit_sessions}
-use Rattle.node_laws.proofs.creations.Asks.{Asked, asked_of, waits}
-use Rattle.node_laws.proofs.creations.Coming.{ComeAt, HasCome, came_near, came_tick, over_at}
-use Rattle.node_laws.proofs.creations.Doing.{EndAt, Good, IsOn, IsOff, many}
-use Rattle.node_laws.proofs.creations.Steps.{all_kept, begins, frees, keeps_all, shared, forgets_ended}
-use Rattle.node_laws.proofs.dues.Ended.{kept_behind, unless_over}
-use Rattle.node_laws.proofs.dues.Owed.{AllGood, Goes, IfOwed, SentSo, owed_all, owed_taken}
-use Rattle.node_laws.proofs.replies.Creations.{IsIn, in_waits}
-use Rattle.node_laws.proofs.replies.Ends.{all_found}
-use Rattle.node_laws.proofs.read_steps.Parts.{to_creations, to_notices}
-use Rattle.node_laws.proofs.read_steps.Starting.{IsBegun}
+use Rattle.node_laws.proofs.passes.Replying.{commit_sessions, session_in, session_map, turn_sessions}
+use Rattle.node_laws.proofs.read_steps.Knowing.{to_creations, to_notices}
+use Rattle.node_laws.proofs.read_steps.Reading.{IsBegun}
+use Rattle.node_laws.proofs.replies.Passes.{AreReplyEntries, commands_told}
+use Rattle.node_laws.proofs.replies.Creations.{IsIn, all_found, in_waits}
+use Rattle.node_laws.proofs.steps.StepWalks.{at_port, come_host, forgets_host, late_host, without_host}
+use Rattle.node_laws.proofs.telling.Steps.{at_map, come_session, forgets_same, none_map, without_same}
 use Rattle.node_laws.proofs.telling.Ticks.{reset_session}
+use Rattle.node_laws.proofs.worlds.Ticking.{ends_in_list}
+use Rattle.gate_answers.specs.declared.response.Response.TheVariants as response
+use Rattle.trace_model.specs.declared.entry.Entry.TheVariants as entry
 
--- ## Sessions
+-- ## What is read behind the sessions that end in an event: sessions, and creations that wait
+
+-- ### Entries that tell of sessions that end
+
+abbrev pub any_cause : EndedBy → Bool
+any_cause cause = true
+
+-- the session of the controller's end on this link ends
+abbrev pub ends_at : ℕ → List Entry → Bool
+ends_at x es = ends_in_list any_cause (end_c x) es
+
+abbrev pub AreDowns : List Entry → Type 0
+AreDowns es = AllByRecursion (λ x. is_down x ≡ true) es
+
+pub downs_are : (es : List Entry) → AreDowns (filter is_down es)
+downs_are [] = tt
+downs_are (x ∷ es) = by_test (is_down x)
+    (λ q. subst (λ b. AreDowns (cond b (x ∷ filter is_down es) (filter is_down es))) (sym q) (q, downs_are es))
+    (λ q. subst (λ b. AreDowns (cond b (x ∷ filter is_down es) (filter is_down es))) (sym q) (downs_are es))
+
+module _ (test : EndedBy → Bool) (e : End) where
+  no_end : (x : Entry) → is_down x ≡ false → ends_session test e x ≡ false
+  no_end (entry.Down f cause) q = absurd (true≢false q)
+  no_end x q = refl
+
+  pub downs_end : (es : List Entry) → ends_in_list test e (filter is_down es) ≡ ends_in_list test e es
+  downs_end [] = refl
+  downs_end (x ∷ es) = by_test (is_down x)
+      (λ q. ap (λ b. ends_in_list test e (cond b (x ∷ filter is_down es) (filter is_down es))) q ∙ ap (λ b. ends_session test e x || b) (downs_end es))
+      (λ q. ap (λ b. ends_in_list test e (cond b (x ∷ filter is_down es) (filter is_down es))) q
+      ∙ (downs_end es ∙ ap (λ b. b || ends_in_list test e es) (sym (no_end x q))))
+
+-- two causes together
+pub either_ends : (one other : EndedBy → Bool) → ((cause : EndedBy) → (one cause || other cause) ≡ true) → (e : End) → (es : List Entry)
+    → ends_in_list any_cause e es ≡ (ends_in_list one e es || ends_in_list other e es)
+either_ends one other all e [] = refl
+either_ends one other all e (x ∷ es) =
+    ap (λ b. ends_session any_cause e x || b) (either_ends one other all e es)
+    ∙ (ap (λ b. b || (ends_in_list one e es || ends_in_list other e es)) (at x)
+    ∙ swap (ends_session one e x) (ends_session other e x) (ends_in_list one e es) (ends_in_list other e es))
+  where
+    spread : (a b c : Bool) → (b || c) ≡ true → (a && true) ≡ ((a && b) || (a && c))
+    spread true b c q = sym q
+    spread false b c q = refl
+
+    at : (x : Entry) → ends_session any_cause e x ≡ (ends_session one e x || ends_session other e x)
+    at (entry.Down f cause) = spread (same_end f e) (one cause) (other cause) (all cause)
+    at _ = refl
+
+    swap : (a b c d : Bool) → ((a || b) || (c || d)) ≡ ((a || c) || (b || d))
+    swap true b c d = refl
+    swap false true true d = refl
+    swap false true false d = refl
+    swap false false c d = refl
+
+-- ### What is read behind them
+
+both_none : {X : Type 0} (b : Bool) (o : Option X) → cond b o o ≡ o
+both_none true o = refl
+both_none false o = refl
+
+module _ (x : ℕ) where
+  down_session : (t : List Entry) (y : Entry) → is_down y ≡ true
+      → session_now (t ++ y ∷ []) (end_c x) 0 ≡ cond (ends_session any_cause (end_c x) y) None (session_now t (end_c x) 0)
+  down_session t (entry.Down f cause) q = fold-append _ None t (entry.Down f cause ∷ []) ∙ by_test (same_end f (end_c x)) (λ q. rw q refl) (λ q. rw q refl)
+  down_session t _ q = absurd (true≢false (sym q))
+
+  down_asking : (t : List Entry) (y : Entry) → is_down y ≡ true
+      → asking_in (t ++ y ∷ []) x ≡ cond (ends_session any_cause (end_c x) y) None (asking_in t x)
+  down_asking t (entry.Down f cause) q = fold-append _ None t (entry.Down f cause ∷ []) ∙ by_test (same_end f (end_c x)) (λ q. rw q refl) (λ q. rw q refl)
+  down_asking t _ q = absurd (true≢false (sym q))
+
+  module _ {X : Type 0} (read : List Entry → Option X)
+      (one : (t : List Entry) (y : Entry) → is_down y ≡ true → read (t ++ y ∷ []) ≡ cond (ends_session any_cause (end_c x) y) None (read t)) where
+    behind : (ds t : List Entry) → AreDowns ds → read (t ++ ds) ≡ cond (ends_at x ds) None (read t)
+    behind [] t a = ap read (append-nil t)
+    behind (y ∷ ds) t a =
+        ap read (sym (append_assoc t (y ∷ []) ds))
+        ∙ (behind ds (t ++ y ∷ []) a.1
+        ∙ (ap (cond (ends_at x ds) None) (one t y a.0) ∙ by (ends_session any_cause (end_c x) y) (ends_at x ds))) where
+          by : (b c : Bool) → cond c None (cond b None (read t)) ≡ cond (b || c) None (read t)
+          by true c = both_none c None
+          by false c = refl
+
+  pub session_behind : (t ds : List Entry) → AreDowns ds → session_now (t ++ ds) (end_c x) 0 ≡ cond (ends_at x ds) None (session_now t (end_c x) 0)
+  session_behind t ds a = behind (λ l. session_now l (end_c x) 0) down_session ds t a
+
+  pub asking_behind : (t ds : List Entry) → AreDowns ds → asking_in (t ++ ds) x ≡ cond (ends_at x ds) None (asking_in t x)
+  asking_behind t ds a = behind (λ l. asking_in l x) down_asking ds t a
+
+-- ### Creations that still wait
+
+-- none waits any more whose asker has lost its session
+abbrev pub unless_over : (ℕ → Bool) → Option Creation → Option Creation
+unless_over over None = None
+unless_over over (Some c) = cond (over c.asker) None (Some c)
+
+pub read_behind : (over : ℕ → Bool) (t u : List Entry) → ((k : ℕ) → asking_in u k ≡ cond (over k) None (asking_in t k)) → (r : Option (List ℕ))
+    → creation_read u r ≡ unless_over over (creation_read t r)
+read_behind over t u reads None = refl
+read_behind over t u reads (Some m) = go (eqb (instruction_in m) 18) refl where
+  Goal : Type 0
+  Goal = creation_read u (Some m) ≡ unless_over over (creation_read t (Some m))
+
+  go : (b : Bool) → eqb (instruction_in m) 18 ≡ b → Goal
+  go false i = rw i refl
+  go true i = by_row (pipe_named_in (body_in m)) refl where
+    by_row : (o : Option PipeRow) → pipe_named_in (body_in m) ≡ o → Goal
+    by_row None q = rw (i, q) refl
+    by_row (Some row) q = by_test (over row.creator)
+        (λ z. was (option_map_or (same_bytes m) (asking_in t row.creator) false) refl z
+        (ap (λ o. option_map_or (same_bytes m) o false) (reads row.creator ∙ ap (λ b. cond b None (asking_in t row.creator)) z)))
+        (λ z. still (option_map_or (same_bytes m) (asking_in t row.creator) false) refl z
+        (ap (λ o. option_map_or (same_bytes m) o false) (reads row.creator ∙ ap (λ b. cond b None (asking_in t row.creator)) z))) where
+          was : (b : Bool) → option_map_or (same_bytes m) (asking_in t row.creator) false ≡ b → over row.creator ≡ true
+              → option_map_or (same_bytes m) (asking_in u row.creator) false ≡ false → Goal
+          was true s z none = rw (i, q, none, s, z) refl
+          was false s z none = rw (i, q, none, s) refl
+
+          still : (b : Bool) → option_map_or (same_bytes m) (asking_in t row.creator) false ≡ b → over row.creator ≡ false
+              → option_map_or (same_bytes m) (asking_in u row.creator) false ≡ b → Goal
+          still true s z now = rw (i, q, now, s, z) refl
+          still false s z now = rw (i, q, now, s) refl
+
+-- so it is with what an end keeps
+pub kept_behind : (all : List Port) (p : Port) → asked_at (forgets all p) ≡ unless_over (is_over_at all) (asked_at p)
+kept_behind all p = by_option p.desk.notice (λ q. none_asked (ap creation_in q)) (λ n q. by n q (asked_at p) refl) where
+  Goal : Type 0
+  Goal = asked_at (forgets all p) ≡ unless_over (is_over_at all) (asked_at p)
+
+  by_over : (n : Notice) (c : Creation) → p.desk.notice ≡ Some n → asked_at p ≡ Some c → (b : Bool) → is_over_at all c.asker ≡ b → Goal
+  by_over n c q e true z =
+      let gone : is_forgotten all (asked_at p) ≡ true = rw (e, z) refl in
+      let none : asked_at (forgets all p) ≡ None = rw (gone, q) refl in
+      none ∙ sym (ap (unless_over (is_over_at all)) e ∙ ap (λ b. cond b None (Some c)) z)
+  by_over n c q e false z =
+      let stays : is_forgotten all (asked_at p) ≡ false = rw (e, z) refl in
+      let same : forgets all p ≡ p = rw stays refl in
+      ap asked_at same ∙ (e ∙ sym (ap (unless_over (is_over_at all)) e ∙ ap (λ b. cond b None (Some c)) z))
+
+  none_asked : asked_at p ≡ None → Goal
+  none_asked e =
+      let stays : is_forgotten all (asked_at p) ≡ false = rw e refl in
+      let same : forgets all p ≡ p = rw stays refl in
+      ap asked_at same ∙ (e ∙ sym (ap (unless_over (is_over_at all)) e))
+
+  by : (n : Notice) → p.desk.notice ≡ Some n → (o : Option Creation) → asked_at p ≡ o → Goal
+  by n q None e = none_asked e
+  by n q (Some c) e = by_over n c q e (is_over_at all c.asker) refl
+
+-- ## What a controller owes to askers is sent, since the blocks for it are free, and what is noted of that are these messages
+
+-- ### Room
+
+module _ (hosts : List ℕ) (t : List Entry) where
+  -- so it is with each asker
+  abbrev pub AllGood : Asked → List Creation → Work → Type 0
+  AllGood asked owing w = (x : ℕ) → Good x t hosts asked owing w
+
+  takes_owed : (asked : Asked) (owing : List Creation) (c : Creation) (answer : List ℕ) (w : Work) → length answer ≤ 32
+      → Good c.asker t hosts asked (c ∷ owing) w → TakesMessage (turn_at c.asker Release w).ports c.asker (1, answer)
+  takes_owed asked owing c answer w short a p here up = takes_short p.side answer up short (room (port_at w.ports c.asker) refl a.end) where
+    l : List Creation
+    l = waits c.asker asked ++ owes c.asker (c ∷ owing)
+
+    own : eqb c.asker c.asker ≡ true
+    own = eq-eqb c.asker c.asker refl
+
+    some : 1 ≤ length l
+    some =
+        let is : l ≡ waits c.asker asked ++ (c ∷ owes c.asker owing) = ap (λ b. waits c.asker asked ++ (cond b (c ∷ []) [] ++ owes c.asker owing)) own in
+        let long = ap length is in
+        omega (arith, long, length-append (waits c.asker asked) (c ∷ owes c.asker owing))
+
+    room : (o : Option Port) → port_at w.ports c.asker ≡ o → EndAt (length l) l o → in_use p.side + p.side.aside ≤ 127
+    room None e z = let none = z.0 in absurd (omega (arith, some, none))
+    room (Some q) e z =
+        let is : Some (after_turn Release q) ≡ Some p = sym (at_here c.asker c.asker (after_turn Release) w.ports q (λ j. refl) own e) ∙ here in
+        let one : after_turn Release q ≡ p = cc in
+        subst (λ (j : Port). in_use j.side + j.side.aside ≤ 127) one (omega (arith, z.within.room, z.aside, some))
+
+  -- the messages of these deeds are taken, and the power stays on
+  abbrev pub Goes : List Deed → Work → Type 0
+  Goes deeds w = AreTaken 0 deeds w × ((all_done 0 deeds w).cut ≡ false)
+
+  owed_taken : (asked : Asked) (r : Response) (ports : List Port) (owing : List Creation) (rest : List Deed) (w : Work)
+      → AllGood asked (filter_map asked_at ports ++ owing) w → ((v : Work) → AllGood asked owing v → Goes rest v)
+      → Goes (flat_map (λ p. owed r (asked_at p)) ports ++ rest) w
+  owed_taken asked r [] owing rest w a next = next w a
+  owed_taken asked r (p ∷ ports) owing rest w a next = by (asked_at p) refl (λ v b. owed_taken asked r ports owing rest v b next) where
+    later : List Deed
+    later = flat_map (λ p. owed r (asked_at p)) ports ++ rest
+
+    by : (o : Option Creation) → asked_at p ≡ o → ((v : Work) → AllGood asked (filter_map asked_at ports ++ owing) v → Goes later v)
+        → Goes (flat_map (λ p. owed r (asked_at p)) (p ∷ ports) ++ rest) w
+    by None q more =
+        let same : flat_map (λ p. owed r (asked_at p)) (p ∷ ports) ++ rest ≡ later = rw q refl in
+        let list : filter_map asked_at (p ∷ ports) ≡ filter_map asked_at ports = rw q refl in
+        subst (λ d. Goes d w) (sym same) (more w (subst (λ l. AllGood asked (l ++ owing) w) list a))
+    by (Some c) q more =
+        let answer : List ℕ = answer_of r [] in
+        let left : List Creation = filter_map asked_at ports ++ owing in
+        let same : flat_map (λ p. owed r (asked_at p)) (p ∷ ports) ++ rest ≡ Releases c.asker ∷ Sends c.asker (1, answer) ∷ later = rw q refl in
+        let list : filter_map asked_at (p ∷ ports) ≡ c ∷ filter_map asked_at ports = rw q refl in
+        let b : AllGood asked (c ∷ left) w = subst (λ l. AllGood asked (l ++ owing) w) list a in
+        let v : Work = turn_at c.asker Release w in
+        let u : Work = turn_at c.asker (Give (1, answer)) v in
+        let goes : Goes later u = more u (λ x. pays x t hosts asked left c answer w (answer_response r) (omega arith) (b x)) in
+        subst (λ d. Goes d w) (sym same) (
+          (tt, (takes_owed asked left c answer w (omega arith) (b c.asker), goes.0)),
+          ap (λ (z : Work). z.cut) (on_is 0 t hosts (all_done 0 (Sends c.asker (1, answer) ∷ later)) v (b 0).on ∙ on_is 0 t hosts (all_done 0 later) u (b 0).on)
+              ∙ goes.1,
+        )
+
+-- ### What is noted
+
+-- a message that is owed goes out, and its block is free before
+abbrev pub IsOwing : Deed → Type 0
+IsOwing (Releases asker) = Unit {0}
+IsOwing (Sends to m) = Unit {0}
+IsOwing _ = ⊥
+
+pub owed_counts : (s : State) (tables : HciTables) (deeds : List Deed) → AllByRecursion IsOwing deeds → CountsCommands s tables deeds
+owed_counts s tables [] a = tt
+owed_counts s tables (Releases asker ∷ deeds) a = owed_counts s tables deeds a.1
+owed_counts s tables (Sends to m ∷ deeds) a = owed_counts s tables deeds a.1
+owed_counts s tables (_ ∷ deeds) a = absurd a.0
+
+module _ (sessions : ℕ → Option ℕ) where
+  pub owed_entries : (count : ℕ) (deeds : List Deed) → AllByRecursion IsOwing deeds
+      → AreReplyEntries (entries_of_reply 0 sessions 0 count deeds) × (commands_told (entries_of_reply 0 sessions 0 count deeds) ≡ 0)
+  owed_entries count [] a = (tt, refl)
+  owed_entries count (Releases asker ∷ deeds) a = owed_entries count deeds a.1
+  owed_entries count (Sends to m ∷ deeds) a = go (sessions to) (owed_entries count deeds a.1) where
+    es : List Entry
+    es = entries_of_reply 0 sessions 0 count deeds
+
+    go : (o : Option ℕ) → AreReplyEntries es × (commands_told es ≡ 0)
+        → AreReplyEntries (option_map_or (λ n. entry.Sent (end_of_number 0 to) n m.0 m.1 ∷ []) o [] ++ es)
+        × (commands_told (option_map_or (λ n. entry.Sent (end_of_number 0 to) n m.0 m.1 ∷ []) o [] ++ es) ≡ 0)
+    go None later = later
+    go (Some n) later = ((refl, later.0), later.1)
+  owed_entries count (_ ∷ deeds) a = absurd a.0
+
+-- its message goes out in the session that is read
+abbrev pub SentSo : (ℕ → Option ℕ) → (ℕ → Option ℕ) → Deed → Type 0
+SentSo s t (Releases asker) = Unit {0}
+SentSo s t (Sends to m) = s to ≡ t to
+SentSo s t _ = ⊥
+
+pub owed_same : (s t : ℕ → Option ℕ) (j k : ℕ) (deeds : List Deed) → AllByRecursion (SentSo s t) deeds
+    → entries_of_reply 0 s 0 j deeds ≡ entries_of_reply 0 t 0 k deeds
+owed_same s t j k [] a = refl
+owed_same s t j k (Releases asker ∷ deeds) a = owed_same s t j k deeds a.1
+owed_same s t j k (Sends to m ∷ deeds) a =
+    ap₂ (λ o es. option_map_or (λ n. entry.Sent (end_of_number 0 to) n m.0 m.1 ∷ []) o [] ++ es) a.0
+    (owed_same s t j k deeds a.1)
+owed_same s t j k (_ ∷ deeds) a = absurd a.0
+
+-- what holds of the two deeds for each creation whose host has lost its session holds of all that is owed
+module _ (Q : Deed → Type 0) where
+  abbrev IfOwed : Port → Type 0
+  IfOwed p = (p.ended || p.late) ≡ true → (c : Creation) → asked_at p ≡ Some c → Q (Releases c.asker) × ((m : Message) → Q (Sends c.asker m))
+
+  some_owed : (r : Response) (test : Port → Bool) → ((p : Port) → test p ≡ true → (p.ended || p.late) ≡ true) → (ports : List Port)
+      → AllByRecursion IfOwed ports → AllByRecursion Q (flat_map (λ p. owed r (asked_at p)) (filter test ports))
+  some_owed r test over [] a = tt
+  some_owed r test over (p ∷ ports) a = by_test (test p)
+      (λ z. subst (λ b. AllByRecursion Q (flat_map (λ p. owed r (asked_at p)) (cond b (p ∷ filter test ports) (filter test ports)))) (sym z)
+      (all_append Q (owed r (asked_at p)) (flat_map (λ p. owed r (asked_at p)) (filter test ports)) (of (asked_at p) refl z) (some_owed r test over ports a.1)))
+      (λ z. subst (λ b. AllByRecursion Q (flat_map (λ p. owed r (asked_at p)) (cond b (p ∷ filter test ports) (filter test ports)))) (sym z)
+      (some_owed r test over ports a.1)) where
+        of : (o : Option Creation) → asked_at p ≡ o → test p ≡ true → AllByRecursion Q (owed r o)
+        of None q z = tt
+        of (Some c) q z = let both = a.0 (over p z) c q in (both.0, (both.1 (1, answer_of r []), tt))
+
+  owed_all : (ports : List Port) → AllByRecursion IfOwed ports → AllByRecursion Q (all_owed ports)
+  owed_all ports a =
+      all_append Q (flat_map (λ p. owed response.NotConnected (asked_at p)) (filter (λ p. p.ended) ports))
+      (flat_map (λ p. owed response.Timeout (asked_at p)) (filter (λ p. p.late) ports))
+      (some_owed response.NotConnected (λ p. p.ended) (λ p z. ap (λ b. b || p.late) z) ports a)
+      (some_owed response.Timeout (λ p. p.late) (λ p z. second p.ended p.late z) ports a)
+    where
+      second : (a b : Bool) → b ≡ true → (a || b) ≡ true
+      second true b z = refl
+      second false b z = z
+
+-- ## A step of a controller: as its pass begins each answer that it owes is taken, and goes out in the session that its asker had as the step began
+
+-- ### Sessions
 
 -- a deed that sends nothing
 abbrev SendsNothing : Deed → Type 0
@@ -43,7 +335,7 @@ deeds_session (d ∷ deeds) w k a = by_test v.cut (λ q. rw q (one_session d w k
   v : Work
   v = done 0 d w
 
--- ## Ends behind what came
+-- ### Ends behind what came
 
 -- an end behind what came
 abbrev pub come_so : NodeInput → Port → Port
@@ -89,7 +381,7 @@ else_goes h i p fresh over = by_test (eqb p.desk.host h)
     let off : is_over p ≡ false = rw (fresh.0, fresh.1) refl in
     absurd (true≢false (sym over ∙ (ap is_over same ∙ off))))
 
-pub forgets_over : (all : List Port) (p : Port) → is_over (forgets all p) ≡ is_over p
+forgets_over : (all : List Port) (p : Port) → is_over (forgets all p) ≡ is_over p
 forgets_over all p = ap (λ b. b || (forgets all p).late) (forgets_ended all p) ∙ ap (λ b. p.ended || b) (forgets_same all p).late
 
 -- a creation that waits still waited before, and its asker has its session
@@ -105,7 +397,7 @@ still_waits over (Some d) c is = by_test (over d.asker)
     let same : d ≡ c = cc in
     record { was = some; goes = subst (λ (x : Creation). over x.asker ≡ false) same q })
 
--- ## A step
+-- ### A step
 
 module _ (hosts : List ℕ) (are : AreHosts hosts) (t : List Entry) (input : NodeInput) (w : Work) (b : IsBegun hosts t input w) where
   abbrev pub asked : Asked
@@ -146,7 +438,7 @@ module _ (hosts : List ℕ) (are : AreHosts hosts) (t : List Entry) (input : Nod
       (subst (λ k. IsOn x t hosts now owing k begun) (shared x t hosts are.all are.different asked w (good x) b.fresh came (come x))
       (begins x t hosts are.all are.different asked w (good x) b.fresh came (come x)))
 
-  pub synced_good : (has_synced input w).cut ≡ false → AllGood hosts t now owing (has_synced input w)
+  synced_good : (has_synced input w).cut ≡ false → AllGood hosts t now owing (has_synced input w)
   synced_good on x =
       by (keeps_all x t hosts now owing (syncs_in input w) (has_freed input w) (all_kept x t hosts w.core input w.ports) (freed_good x))
     where
@@ -166,7 +458,7 @@ module _ (hosts : List ℕ) (are : AreHosts hosts) (t : List Entry) (input : Nod
       second : List Deed
       second = flat_map (λ p. owed response.Timeout (asked_at p)) lates
 
-  -- ## The sessions of askers
+  -- ### The sessions of askers
 
   synced_session : (k : ℕ) → session_of_port (has_synced input w).ports k ≡ session_of_port came.ports k
   synced_session k =

@@ -1,52 +1,181 @@
--- In each event a host makes a step, or nothing is noted of it: so each message that has its turn there, or is noted as held, is answered as is
--- read, and the first one that is left lacks room.
-use Rattle.node_laws.proofs.Words.{Activates, AllByRecursion, AreDifferent, AreNoTurns, AreNotOf, ArePortsRead, Arms, AsksReset, AtEnd, Bool, Boots, Comes}
-use Rattle.node_laws.proofs.Words.{Controller, End, Entry, Gives, GoesOut, Happening, HoldsInStep, Host, IfItRuns, Init, Inits, IsCut, IsHeldFor, IsHost}
-use Rattle.node_laws.proofs.Words.{IsOrderly, IsOutside, IsReplied, Link, LinkInput, List, Loses, Lost, NextFrame, NodeInput, NodeWorld, None, Noted}
-use Rattle.node_laws.proofs.Words.{NumberedEnd, Occurrence, OnWire, Option, Resets, Running, Site, Some, Start, Starts, Step, Take, Takes, Ticks, TimePasses}
-use Rattle.node_laws.proofs.Words.{Work, [], aged, aged_entries, all_aged, all_append, all_flat, ap, append-nil, append_assoc, ap₂, arrival, beginning, boots}
-use Rattle.node_laws.proofs.Words.{by_coming, by_controller, by_controller_tick, by_host_tick, by_option, by_test, comes_at, comes_to, comes_to_pass}
-use Rattle.node_laws.proofs.Words.{controller_ticks, controller_work, end_c, end_h, ending_of, entries_for, entries_in, eq-eqb, eqb, eqb-true, exchanged, false}
-use Rattle.node_laws.proofs.Words.{flat_map, frame_lost, frames_at, frames_noted, host_begins_step, host_tick, host_ticks, hosts_in, hosts_tick, init_begun}
-use Rattle.node_laws.proofs.Words.{init_in, inl, input_of, inr, is_left_short, link_after_controller, link_to, makes_step, map, ne_eqb, near_end_in, near_tick}
-use Rattle.node_laws.proofs.Words.{node_of, refl, sending, site_at, site_ticked, site_unticked, steps, subst, sym, ticks_host, true, true≢false, turn_link}
-use Rattle.node_laws.proofs.Words.{turns_at, wires_for, work_of, world_step, world_ticks, ℕ, ◌++◌, ◌==◌, ◌||◌, ◌∙◌, ◌∷◌, ◌≡◌, ◌≤◌, ◌⊎◌}
+-- In each event each message that has its turn at a host, or is noted as held there, is answered as is read.
+use Rattle.node_laws.proofs.Words.{Activates, AllByRecursion, AreDifferent, AreNoTurns, AreNotOf, ArePassed, ArePortsRead, Arms, AsksReset, AtEnd, Bool, Boots}
+use Rattle.node_laws.proofs.Words.{Comes, ComesTo, Controller, End, Entry, Gives, GoesOut, Happening, HoldsInStep, Host, IfItRuns, Init, Inits, IsCut}
+use Rattle.node_laws.proofs.Words.{IsHeldFor, IsHost, IsNoTurn, IsOrderly, IsOutside, IsReplied, Link, LinkInput, List, Loses, Lost, Moment, NextFrame}
+use Rattle.node_laws.proofs.Words.{NodeInput, NodeWorld, None, Noted, NumberedEnd, Occurrence, OnWire, Option, Resets, Running, Site, Some, Start, Starts, Step}
+use Rattle.node_laws.proofs.Words.{Take, Takes, Ticks, TimePasses, Work, [], aged, aged_entries, all_aged, all_append, all_flat, ap, append-nil, append_assoc}
+use Rattle.node_laws.proofs.Words.{ap₂, arith, arrival, beginning, boots, by_coming, by_controller, by_controller_tick, by_host_tick, by_option, by_test}
+use Rattle.node_laws.proofs.Words.{comes_at, comes_to, comes_to_pass, controller_ticks, controller_work, end_c, end_h, ending_of, entries_for, entries_in}
+use Rattle.node_laws.proofs.Words.{eq-eqb, eqb, eqb-true, exchanged, false, flat_map, frame_lost, frames_at, frames_noted, host_begins_step, host_tick}
+use Rattle.node_laws.proofs.Words.{host_ticks, hosts_in, hosts_of_ends, hosts_tick, init_begun, init_in, inl, input_of, inr, is_answer_of, is_cut_of}
+use Rattle.node_laws.proofs.Words.{is_left_short, is_of_node, link_after_controller, link_to, makes_step, map, ne_eqb, near_end_in, near_tick, node_of}
+use Rattle.node_laws.proofs.Words.{noted_before_pass, passes, refl, sending, site_at, site_ticked, site_unticked, steps, subst, sym, ticks_host, true}
+use Rattle.node_laws.proofs.Words.{true≢false, turn_link, turns_at, wires_for, work_of, world_step, world_ticks, ℕ, ◌++◌, ◌==◌, ◌||◌, ◌∙◌, ◌∷◌, ◌≡◌, ◌≤◌, ◌⊎◌}
 use Rattle.link_laws.specs.entries.Entries.{End as Side}
-use Rattle.node_laws.proofs.telling.Events.{comes_goes, site_map}
-use Rattle.node_laws.proofs.telling.Nodes.{link_is, site_host}
-use Rattle.node_laws.proofs.telling.Shapes.{frames_uncut}
-use Rattle.node_laws.proofs.telling.WorldTicks.{aged_orderly, ticked_orderly}
-use Rattle.node_laws.proofs.links.Ends.{here_host}
-use Rattle.node_laws.proofs.order.Knowing.{WasThere, was_there}
-use Rattle.node_laws.proofs.order.Lines.{IsSo}
-use Rattle.node_laws.proofs.power.Doing.{Runs as Power}
-use Rattle.node_laws.proofs.power.Events.{AreNodes, comes_part, near_ticks_part, others_tick, ticked_nodes}
-use Rattle.node_laws.proofs.power.Parts.{own_not, part_own}
-use Rattle.node_laws.proofs.readings.Sites.{comes_outside, near_end_side}
-use Rattle.node_laws.proofs.views.Events.{aged_entries_still, ticks_leave}
-use Rattle.node_laws.proofs.views.Leaving.{IsStill, Leaves, still_leaves}
-use Rattle.node_laws.proofs.views.Nodes.{arrival_still, frames_still, others_step}
-use Rattle.node_laws.proofs.views.Worlds.{AreFine, near_other, orderly_fine}
+use Rattle.node_laws.specs.passes.Passing.ComesTo.{Begins}
 use Rattle.node_laws.specs.reply_passes.Counts.{commands_noted as commits}
-use Rattle.node_laws.proofs.passes.Turnless.{beginning_turnless, sending_turnless}
-use Rattle.node_laws.proofs.read_rooms.HostLines.{activated_read, host_read, ticked_read}
-use Rattle.node_laws.proofs.reply_passes.Sides.{AreNoBoots}
-use Rattle.node_laws.proofs.worlds.Ascending.{frames_turnless}
-use Rattle.node_laws.proofs.worlds.Hearing.{out_unanswered}
-use Rattle.node_laws.proofs.worlds.Late.{ticked_host}
-use Rattle.node_laws.proofs.worlds.Order.{unanswered_all}
-use Rattle.node_laws.proofs.worlds.Steps.{near_node}
-use Rattle.node_laws.proofs.worlds.Turns.{begun_turnless, boots_turnless, lost_turnless, other_turns, turnless_there}
-use Rattle.node_laws.proofs.hosts.Answering.{AreUnanswered}
-use Rattle.node_laws.proofs.hosts.Beginning.{OpensQuietly, arrival_opens, begins_so, blank_opens, power, steps_boot}
-use Rattle.node_laws.proofs.hosts.Lifting.{NoneAt, is_none, others_quiet, quiet_if, step_so}
-use Rattle.node_laws.proofs.hosts.Passes.{BeginsSo}
-use Rattle.node_laws.proofs.hosts.Standing.{HostStands, init_stays, others_act}
-use Rattle.node_laws.proofs.shorts.Calm.{AreCalmAt, frames_calm, others_calm}
-use Rattle.node_laws.proofs.shorts.Left.{step_short}
-use Rattle.node_laws.proofs.kept.Sites.{none_found}
+use Rattle.node_laws.proofs.hosts.Passes.{AreUnanswered, BeginsSo, IsMomentOf, pass_replies}
+use Rattle.node_laws.proofs.hosts.Beginning.{HostStands, OpensQuietly, arrival_opens, begins_so, blank_opens, init_stays, others_act, power, steps_boot}
+use Rattle.node_laws.proofs.kept.Events.{none_found}
+use Rattle.node_laws.proofs.links.Sites.{here_host}
+use Rattle.node_laws.proofs.order.Events.{WasThere, was_there}
+use Rattle.node_laws.proofs.order.Lines.{IsSo}
+use Rattle.node_laws.proofs.passes.InSteps.{before_entries, before_none, beginning_turnless, sending_turnless, steps_are}
+use Rattle.node_laws.proofs.passes.Passing.{comes_lasts, through}
+use Rattle.node_laws.proofs.power.Steps.{Runs as Power, own_not, part_own}
+use Rattle.node_laws.proofs.power.Events.{AreNodes, comes_part, near_ticks_part, others_tick, ticked_nodes}
+use Rattle.node_laws.proofs.read_rooms.HostTicking.{activated_read, host_read, ticked_read}
+use Rattle.node_laws.proofs.readings.Sites.{comes_outside, near_end_side}
+use Rattle.node_laws.proofs.reply_passes.Roomy.{commits-append}
+use Rattle.node_laws.proofs.reply_passes.Held.{AreNoBoots}
+use Rattle.node_laws.proofs.shorts.Left.{AreCalmAt, frames_calm, others_calm, step_short}
+use Rattle.node_laws.proofs.telling.Events.{comes_goes, link_is, site_host, site_map}
+use Rattle.node_laws.proofs.telling.Shapes.{frames_uncut}
+use Rattle.node_laws.proofs.telling.Accounts.{AreUncut, IsUncut}
+use Rattle.node_laws.proofs.telling.WorldTicks.{aged_orderly, ticked_orderly}
+use Rattle.node_laws.proofs.views.Going.{init_append, reads_init}
+use Rattle.node_laws.proofs.views.Events.{AreFine, aged_entries_still, near_other, orderly_fine, ticks_leave}
+use Rattle.node_laws.proofs.views.Doing.{IsStill, Leaves, still_leaves}
+use Rattle.node_laws.proofs.views.Nodes.{arrival_still, frames_still, others_step}
+use Rattle.node_laws.proofs.worlds.FramesLast.{begun_turnless, boots_turnless, frames_turnless, lost_turnless, other_turns, turnless_there}
+use Rattle.node_laws.proofs.worlds.Late.{other_answers, out_unanswered, ticked_host, unanswered_all}
+use Rattle.node_laws.proofs.worlds.Ticking.{near_node}
+use Rattle.trace_model.specs.declared.entry.Entry.TheVariants as entry
 
--- ## Frames that grow too old are of no node
+-- ## What is replied in a pass of a host, among the entries of an event
+
+-- ### Where an entry stands
+
+module _ (n : ℕ) where
+  abbrev pub NoneAt : List Entry → Type 0
+  NoneAt es = AllByRecursion (λ x. turn_link n x ≡ None) es
+
+  -- an entry of these three lists that is in the second one
+  record StandsInOfLifting (a b c front : List Entry) (x : Entry) (behind : List Entry) : Type 0 where
+    later : List Entry
+    back : List Entry
+    before : front ≡ a ++ later
+    is : b ≡ later ++ (x ∷ back)
+    rest : behind ≡ back ++ c
+
+  is_none : (front : List Entry) (x : Entry) (behind : List Entry) → NoneAt (front ++ (x ∷ behind)) → turn_link n x ≡ None
+  is_none [] x behind none = none.0
+  is_none (y ∷ front) x behind none = is_none front x behind none.1
+
+  stands_in : (k : ℕ) (a b c front : List Entry) (x : Entry) (behind : List Entry) → NoneAt a → NoneAt c → turn_link n x ≡ Some k
+      → a ++ (b ++ c) ≡ front ++ (x ∷ behind) → StandsInOfLifting a b c front x behind
+  stands_in k [] [] c front x behind none after turn is =
+      let no : None ≡ Some k = sym (is_none front x behind (subst NoneAt is after)) ∙ turn in absurd (cc no)
+  stands_in k [] (y ∷ b) c [] x behind none after turn is =
+      let same : y ≡ x = cc in
+      let tail : b ++ c ≡ behind = cc in
+      record { later = []; back = b; before = refl; is = ap (λ z. z ∷ b) same; rest = sym tail }
+  stands_in k [] (y ∷ b) c (z ∷ front) x behind none after turn is =
+      let same : y ≡ z = cc in
+      let tail : b ++ c ≡ front ++ (x ∷ behind) = cc in
+      let s : StandsInOfLifting [] b c front x behind = stands_in k [] b c front x behind none after turn tail in
+      record { later = z ∷ s.later; back = s.back; before = ap (λ l. z ∷ l) s.before; is = ap (λ u. u ∷ b) same ∙ ap (λ l. z ∷ l) s.is; rest = s.rest }
+  stands_in k (y ∷ a) b c [] x behind none after turn is =
+      let same : y ≡ x = cc in
+      let no : None ≡ Some k = sym none.0 ∙ (ap (turn_link n) same ∙ turn) in absurd (cc no)
+  stands_in k (y ∷ a) b c (z ∷ front) x behind none after turn is =
+      let same : y ≡ z = cc in
+      let tail : a ++ (b ++ c) ≡ front ++ (x ∷ behind) = cc in
+      let s : StandsInOfLifting a b c front x behind = stands_in k a b c front x behind none.1 after turn tail in
+      record { later = s.later; back = s.back; before = ap (λ u. u ∷ front) (sym same) ∙ ap (λ l. y ∷ l) s.before; is = s.is; rest = s.rest }
+
+  -- ### Entries without answers
+
+  not_cut : (x : Entry) → is_of_node n x ≡ false → is_cut_of n x ≡ false
+  not_cut (entry.Cut m) off = off
+  not_cut x off = refl
+
+  others_quiet : (es : List Entry) → AreNotOf n es → AreUnanswered n es
+  others_quiet [] a = tt
+  others_quiet (x ∷ es) a = ((other_answers n x a.0, not_cut x a.0), others_quiet es a.1)
+
+  uncut_one : (x : Entry) → IsUncut x → is_cut_of n x ≡ false
+  uncut_one (entry.Cut m) u = absurd u
+  uncut_one x u = refl
+
+  quiet_if : (es : List Entry) → AllByRecursion (λ x. is_answer_of n x ≡ false) es → AreUncut es → AreUnanswered n es
+  quiet_if [] a u = tt
+  quiet_if (x ∷ es) a u = ((a.0, uncut_one x u.0), quiet_if es a.1 u.1)
+
+-- ### Events
+
+module _ (hosts : List ℕ) (n : ℕ) (host : IsHost n) (past : List Occurrence) (cause : Happening) (i : Option Init)
+    (begun : init_begun n (init_in past n) cause ≡ i) where
+  abbrev moment_at : List Entry → Moment
+  moment_at front = record { past = past; cause = cause; so_far = front }
+
+  -- each message that has its turn at the host among these entries of the event, or is noted as held there, is answered as is read
+  abbrev RepliesSo : List Entry → Type 0
+  RepliesSo es =
+      (front behind : List Entry) (x : Entry) (k : ℕ) → es ≡ front ++ (x ∷ behind) → turn_link n x ≡ Some k
+      → IsReplied hosts (moment_at front) x behind × IsHeldFor hosts (moment_at front) x behind
+
+  none_so : (es : List Entry) → NoneAt n es → RepliesSo es
+  none_so es none front behind x k is turn =
+      let no : None ≡ Some k = sym (is_none n front x behind (subst (NoneAt n) is none)) ∙ turn in absurd (cc no)
+
+  abbrev t_of_lifting : List Entry
+  t_of_lifting = entries_in past
+
+  -- a pass, behind these entries
+  pass_so : (lead rest : List Entry) (w : Work) (on : w.cut ≡ false) → NoneAt n lead → NoneAt n w.entries → NoneAt n rest → AreUnanswered n rest
+      → BeginsSo n host (t_of_lifting ++ lead) i w → AreNoBoots (passes w).entries
+      → commits (t_of_lifting ++ (lead ++ ((passes w).entries ++ rest))) ≤ 4000000000
+      → reads_init n lead i ≡ i → RepliesSo (lead ++ ((passes w).entries ++ rest))
+  pass_so lead rest w on none own after quiet begins boots few stays front behind x k is turn =
+      let p : ArePassed (ComesTo w) (hosts_of_ends w.ports) w (passes w) = through (ComesTo w) (comes_lasts w) (hosts_of_ends w.ports) w Begins on in
+      let shape : lead ++ ((passes w).entries ++ rest) ≡ (lead ++ w.entries) ++ (p.more ++ rest) =
+      ap (λ l. lead ++ (l ++ rest)) p.entries
+      ∙ (ap (λ l. lead ++ l) (append_assoc w.entries p.more rest) ∙ sym (append_assoc lead w.entries (p.more ++ rest))) in
+      let s : StandsInOfLifting n (lead ++ w.entries) p.more rest front x behind =
+      stands_in n k (lead ++ w.entries) p.more rest front x behind (all_append _ lead w.entries none own) after turn (sym shape ∙ is) in
+      let whole : (passes w).entries ≡ w.entries ++ (s.later ++ (x ∷ s.back)) = p.entries ∙ ap (λ l. w.entries ++ l) s.is in
+      let told : front ≡ lead ++ (w.entries ++ s.later) = s.before ∙ append_assoc lead w.entries s.later in
+      let at : IsMomentOf hosts n host (t_of_lifting ++ lead) i begins.memory begins.order_phase begins.init_phase (w.entries ++ s.later)
+      (moment_at front) = record {
+        at = ap (λ l. t_of_lifting ++ l) told ∙ sym (append_assoc t_of_lifting lead (w.entries ++ s.later));
+        init = ap (λ y. reads_init n front y) begun
+            ∙ (ap (λ l. reads_init n l i) told ∙ (init_append n lead (w.entries ++ s.later) i ∙ ap (λ y. reads_init n (w.entries ++ s.later) y) stays));
+      } in
+      let low : commits ((t_of_lifting ++ lead) ++ (passes w).entries) ≤ 4000000000 =
+      (let one = commits-append t_of_lifting (lead ++ ((passes w).entries ++ rest)) in let two = commits-append lead ((passes w).entries ++ rest) in
+      let three = commits-append (passes w).entries rest in let four = commits-append (t_of_lifting ++ lead) (passes w).entries in
+      let five = commits-append t_of_lifting lead in omega (arith, one, two, three, four, five, few)) in
+      subst (λ l. IsReplied hosts (moment_at front) x l × IsHeldFor hosts (moment_at front) x l) (sym s.rest)
+      (pass_replies hosts n host (t_of_lifting ++ lead) i w on begins boots low s.later s.back rest (moment_at front) at quiet x whole)
+
+  -- a step of the host, behind these entries, and before those
+  step_so : (lead rest : List Entry) (input : NodeInput) (start : Work) → NoneAt n lead → AreNoTurns start.entries → NoneAt n rest
+      → AreUnanswered n rest → ((comes_to_pass input start).cut ≡ false → BeginsSo n host (t_of_lifting ++ lead) i (comes_to_pass input start))
+      → AreNoBoots (steps input start).entries → commits (t_of_lifting ++ (lead ++ ((steps input start).entries ++ rest))) ≤ 4000000000
+      → reads_init n lead i ≡ i → RepliesSo (lead ++ ((steps input start).entries ++ rest))
+  step_so lead rest input start none own after quiet begins boots few stays = by_test v.cut
+      (λ q. let is : steps input start ≡ v = steps_are input start ∙ rw q refl in
+      subst Goal (sym is)
+      (λ _ _. none_so (lead ++ (v.entries ++ rest)) (all_append _ lead (v.entries ++ rest) none (all_append _ v.entries rest early after))) boots few)
+      (λ q. let is : steps input start ≡ passes v = steps_are input start ∙ rw q refl in
+      subst Goal (sym is) (λ unbooted low. pass_so lead rest v q none early after quiet (begins q) unbooted low stays) boots few) where
+        v : Work
+        v = comes_to_pass input start
+
+        early : NoneAt n v.entries
+        early =
+            turnless_there n v.entries
+            (subst AreNoTurns (sym (before_entries input start)) (all_append IsNoTurn start.entries (noted_before_pass input start) own
+            (before_none input start)))
+
+        Goal : Work → Type 0
+        Goal u = AreNoBoots u.entries → commits (t_of_lifting ++ (lead ++ (u.entries ++ rest))) ≤ 4000000000 → RepliesSo (lead ++ (u.entries ++ rest))
+
+-- ## In each event a host makes a step, or nothing is noted of it
+-- So each message that has its turn there, or is noted as held, is answered as is read, and the first one that is left lacks room.
+
+-- ### Frames that grow too old are of no node
 
 abbrev IsLoss : Noted → Type 0
 IsLoss (Lost who frame why) = Unit {0}
@@ -68,7 +197,7 @@ aged_of_none n w =
     (all_append IsLoss (aged_entries Controller s.link.to_controller) (aged_entries Host s.link.to_host) (lost_only Controller s.link.to_controller)
     (lost_only Host s.link.to_host))) w.sites
 
--- ## Sites
+-- ### Sites
 
 -- a site among others
 record SplitSites (sites : List Site) (n : ℕ) (x : Site) : Type 0 where
@@ -133,7 +262,7 @@ module _ (hosts : List ℕ) (past : List Occurrence) where
     pub leaves : AllByRecursion (Leaves (end_h n)) rest
 
   -- so each message that has its turn there is answered as is read
-  pub replied_so : (n : ℕ) (cause : Happening) (es : List Entry) → HasStep n cause es → EventSo n cause es
+  replied_so : (n : ℕ) (cause : Happening) (es : List Entry) → HasStep n cause es → EventSo n cause es
   replied_so n cause es a =
       subst (EventSo n cause) (sym a.is)
       (step_so hosts n a.host past cause a.init a.begun a.lead a.rest a.input a.start (other_turns n a.lead a.other) a.turns a.none a.quiet a.begins a.boots
@@ -181,7 +310,7 @@ module _ (hosts : List ℕ) (past : List Occurrence) where
         leaves = leaves_rest;
       }
 
--- ## Hosts in an event
+-- ### Hosts in an event
 
 front_hosts : (P : ℕ → Type 0) (before rest : List Site) → AllByRecursion P (hosts_in (before ++ rest)) → AllByRecursion P (hosts_in before)
 front_hosts P [] rest a = tt
@@ -264,7 +393,7 @@ module _ (hosts : List ℕ) (past : List Occurrence) (w : NodeWorld) (so : IsSo 
   own_at : (x : Site) → x.host ≡ n → OwnStep hosts past x n
   own_at x at = subst (OwnStep hosts past x) at (own_step hosts past x)
 
-  -- ## Something comes to its end
+  -- ### Something comes to its end
 
   far_so : (v : NodeWorld) → StandsIn v.sites → (IsOffIn v.sites → IsOffIn w.sites) → (cause : Happening) → IsPlainCause cause → (lead : List Entry)
       → AreNotOf n lead → AllByRecursion (Leaves (end_h n)) lead → (comes : Comes)
@@ -338,7 +467,7 @@ module _ (hosts : List ℕ) (past : List Occurrence) (w : NodeWorld) (so : IsSo 
           let two : end_h e.link ≡ e = ap (λ b. record { link = e.link; at_host = b }) (sym z) in
           subst (λ (f : End). IsFew (comes_at w f comes).1 → E cause (comes_at w f comes).1) (one ∙ two) (here (sym (one ∙ two))) few
 
-    -- ## Activation
+    -- ### Activation
 
     activates_so : (h sync power : ℕ) → IsFew (world_step w (Activates h sync power)).1 → E (Activates h sync power) (world_step w (Activates h sync power)).1
     activates_so h sync power few = go (eqb h n) refl where
@@ -415,7 +544,7 @@ module _ (hosts : List ℕ) (past : List Occurrence) (w : NodeWorld) (so : IsSo 
               let all : Read n = subst Read (sym own) (λ s found r runs. activated_read hosts past w so h power s found r runs sync) in
               subst (λ j. HoldsInStep (ArePortsRead Host (u ++ near.1)) (AtEnd n j) (host_begins_step s r (Starts sync))) is (all s found r runs)
 
-    -- ## A tick
+    -- ### A tick
 
     module _ where
       abbrev old : NodeWorld
@@ -561,7 +690,7 @@ module _ (hosts : List ℕ) (past : List Occurrence) (w : NodeWorld) (so : IsSo 
             ∙ sym (append_assoc aged_es (near.1 ++ (hosts_tick s.before).1) own))) in
             subst (E Ticks) (sym shape) (tick_of x q s.before s.behind s.is s.off (subst IsFew shape few))
 
-    -- ## Any event
+    -- ### Any event
 
     pub event_parted : (c : Happening) → IsFew (world_step w c).1 → E c (world_step w c).1
     event_parted (Boots k) few = turnless_so (Boots k) (boots w k).1 refl (boots_turnless w k)

@@ -3,33 +3,26 @@ use Rattle.node_laws.proofs.Words.{AllByRecursion, AreHosts, ArePlayable, AtEach
 use Rattle.node_laws.proofs.Words.{IsHeldFor, IsHost, IsInitOfHost, IsReplied, IsSentByHost, Line, List, NodeHistory, NodeWorld, None, Occurrence, Site}
 use Rattle.node_laws.proofs.Words.{SiteKeeps, SiteReads, Some, ap, arith, end_h, entries_in, flat_map-append, init_in, new_world, node_entries, occurrences_in}
 use Rattle.node_laws.proofs.Words.{refl, site_at, steps_from, subst, sym, world_behind, ℕ, ◌++◌, ◌∙◌, ◌∷◌, ◌≡◌, ◌≤◌}
-use Rattle.node_laws.proofs.telling.Lasting.{AreCaused, events_of_steps, lines_caused}
-use Rattle.node_laws.proofs.telling.Nodes.{site_host}
-use Rattle.node_laws.proofs.telling.Orderly.{new_orderly}
-use Rattle.node_laws.proofs.telling.Worlds.{site_is}
-use Rattle.node_laws.proofs.order.Asked.{AreDone, done_back, history_done}
+use Rattle.node_laws.proofs.telling.Lasting.{AreCaused, events_of_steps, lines_caused, new_orderly}
+use Rattle.node_laws.proofs.telling.Events.{site_host, site_is}
+use Rattle.node_laws.proofs.order.Upheld.{AreDone, done_back, history_done}
 use Rattle.node_laws.proofs.order.Lines.{IsSo, history_so}
 use Rattle.node_laws.proofs.readings.Lines.{events_read}
-use Rattle.node_laws.proofs.creations.Lines.{history_keeps}
-use Rattle.node_laws.proofs.views.InitEvents.{MayKeep}
-use Rattle.node_laws.proofs.views.InitLines.{front_keeps, line_may, new_keeps}
-use Rattle.node_laws.proofs.views.InitWorlds.{AtSite, Keeps}
-use Rattle.node_laws.proofs.views.Lines.{events_so, real_of}
-use Rattle.node_laws.proofs.views.Lines.{IsSo as AllSo}
+use Rattle.node_laws.proofs.creations.Events.{history_keeps}
+use Rattle.node_laws.proofs.views.InitWorlds.{AtSite, Keeps, MayKeep}
+use Rattle.node_laws.proofs.views.Lines.{IsSoOfLines as AllSo, events_so, front_keeps, line_may_of_init_lines as line_may, new_keeps, real_of}
 use Rattle.node_laws.proofs.views.Nodes.{IfKeeps}
-use Rattle.node_laws.proofs.views.Worlds.{far_node, host_node}
+use Rattle.node_laws.proofs.views.Events.{far_node, host_node}
 use Rattle.node_laws.specs.reply_passes.Counts.{commands_noted as commits}
-use Rattle.node_laws.proofs.reply_passes.Growing.{commits-append}
-use Rattle.node_laws.proofs.worlds.AtRest.{SiteWaits}
-use Rattle.node_laws.proofs.worlds.Done.{IsAtRest, history_rests}
+use Rattle.node_laws.proofs.reply_passes.Roomy.{commits-append}
+use Rattle.node_laws.proofs.worlds.Resting.{SiteWaits}
+use Rattle.node_laws.proofs.worlds.Done.{IsAnsweredFar, IsAtRest, history_rests}
 use Rattle.node_laws.proofs.worlds.Events.{waiting_from}
-use Rattle.node_laws.proofs.worlds.Everywhere.{IsAnsweredFar}
-use Rattle.node_laws.proofs.worlds.Histories.{of_hosts}
+use Rattle.node_laws.proofs.worlds.Due.{of_hosts}
 use Rattle.node_laws.proofs.hosts.Events.{event_so}
-use Rattle.node_laws.proofs.hosts.Grown.{IsGrownAt, history_sites}
-use Rattle.node_laws.proofs.hosts.Standing.{HostStands}
-use Rattle.node_laws.proofs.hosts.Turns.{errors_behind}
-use Rattle.node_laws.proofs.readings.NoticedWorlds.{numbers}
+use Rattle.node_laws.proofs.hosts.Beginning.{HostStands, IsGrownAt, history_sites}
+use Rattle.node_laws.proofs.hosts.Passes.{errors_behind}
+use Rattle.node_laws.proofs.readings.Noticed.{numbers}
 
 module _ (header : Header) (lines : List Line) (t : NodeHistory) (follows : FollowsNodes header lines t) (are : AreHosts header.hosts.items)
     (playable : ArePlayable lines) (sent : AllByRecursion IsSentByHost lines) (inits : AllByRecursion IsInitOfHost lines)

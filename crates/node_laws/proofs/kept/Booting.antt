@@ -18,9 +18,8 @@ use Rattle.hci_store.proofs.Recorded.{recordable-none, recordable-close, recorda
 use Rattle.hci_store.proofs.Closing.{close-close}
 use Rattle.hci_store.proofs.CutShort.{holds_still}
 use Rattle.hci_store.proofs.Starting.{counted}
-use Rattle.node_laws.proofs.kept.Planned.{planned_whole, planned_cut}
-use Rattle.node_laws.proofs.kept.Commits.{IsLeftBetween, finds_closed, left_finds, knows_from}
-use Rattle.node_laws.proofs.kept.Books.{book_more, closed_book, finds_all}
+use Rattle.node_laws.proofs.kept.Reckoned.{IsLeftBetween, finds_closed, knows_from, left_finds, planned_cut, planned_whole}
+use Rattle.node_laws.proofs.kept.Doing.{book_more, closed_book, finds_all}
 
 -- ## The tables of a memory
 

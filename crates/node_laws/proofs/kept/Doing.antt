@@ -1,24 +1,386 @@
--- What a node keeps while it does the deeds of a message.
-use Rattle.node_laws.proofs.Words.{AllByRecursion, AreTables-apply, Asks, Book, BootFinds, Command, Commits, Creation, CutBehindCommand, Deed, Drops, Ends}
-use Rattle.node_laws.proofs.Words.{Entry, FindsRoom, Give, GoesOn, HciTables, Hears, Init, IsAllowedBy, IsAllowedFor, IsAllowedStill, IsAnswered, IsCommand}
-use Rattle.node_laws.proofs.Words.{IsOf, IsOnOrder, List, MayBeDone, MayWait, Memory, None, Option, Orders, Port, Reckoning, Release, Releases, Removed, SaysOk}
-use Rattle.node_laws.proofs.Words.{Sends, SetAside, SetsErrors, Some, State, StillRuns, Tells, Waits, Work, WouldFind, Write, [], after_commands, after_planned}
-use Rattle.node_laws.proofs.Words.{all_append, all_done, ap, append_assoc, apply, arith, asked_at, body_of, book_in, by_test, cases_Bool, changed_if, close}
-use Rattle.node_laws.proofs.Words.{commands_in, commit, commit_writes, committed, count_of, done, end_of_node, eqb, eqb-true, fails_within, false, fold, inl}
-use Rattle.node_laws.proofs.Words.{inr, keeps, last_in, length, length-append, loses_power, min, no_tables, notified, noting, plan_behind, port_at, reckoned}
-use Rattle.node_laws.proofs.Words.{reckoning_of, refl, subst, sym, tables_in, true, turn_at, unless_cut, with_command, ℕ, ◌++◌, ◌+◌, ◌-◌, ◌^◌, ◌∙◌, ◌∷◌, ◌≡◌}
-use Rattle.node_laws.proofs.Words.{◌⊎◌}
-use Rattle.trace_model.specs.declared.entry.Entry.TheVariants as entry
+-- What a node keeps while it does the deeds of a message, as it is read after more entries.
+use Rattle.std.proofs.Math.Seq.{take-append_seam, take-length}
+use Rattle.node_laws.proofs.Words.{About, AllByRecursion, AreTables, AreTables-apply, AreToldBehind, Asks, Book, Bool, BootFinds, Command, CommandLast, Commits}
+use Rattle.node_laws.proofs.Words.{Core, Creation, Cut, CutBehindCommand, Deed, Desk, Drops, Ends, Entry, FetchMessage, FindsRoom, Give, GoesOn, HciTables}
+use Rattle.node_laws.proofs.Words.{Hears, Init, IsAllowedBy, IsAllowedFor, IsAllowedStill, IsAnswered, IsCommand, IsOf, IsOnOrder, IsPlain, IsRecordable}
+use Rattle.node_laws.proofs.Words.{IsSome, IsTold, Knows, Last, List, MakeOf, MayBeDone, MayWait, Memory, None, Noted, NothingYet, Option, Orders, Port}
+use Rattle.node_laws.proofs.Words.{Reckoning, Release, Releases, Removed, Restarted, SaysOk, Sends, SetAside, SetsErrors, Some, State, StillRuns, Tells, Turn}
+use Rattle.node_laws.proofs.Words.{Waits, WaitsAt, WaitsFor, Work, WouldFind, Write, [], after_commands, after_planned, after_turn, all_append, all_done}
+use Rattle.node_laws.proofs.Words.{all_so, ap, append-nil, append_assoc, apply, ap₂, arith, asked_at, body_of, book_after, book_in, by_test, cases_Bool}
+use Rattle.node_laws.proofs.Words.{changed_if, close, commands_in, commit, commit_writes, committed, cond, cond-false, cond-true, cond_both, count_of}
+use Rattle.node_laws.proofs.Words.{creation_in, current, done, end_of_node, entries_for, entry_of, eq-eqb, eqb, eqb-true, fails_within, false, flat_map, fold}
+use Rattle.node_laws.proofs.Words.{fold-append, hosts_of_ends, inl, inr, keeps, last_after, last_in, length, length-append, loses_power, map, min, new_book}
+use Rattle.node_laws.proofs.Words.{no_tables, noted_of, notified, noting, option_map_or, own_side, plan_behind, port_at, reckoned, reckoning_of, refl, subst}
+use Rattle.node_laws.proofs.Words.{sym, tables_in, take, true, turn_at, turn_entry, unless_cut, with_command, with_desk, with_found, ℕ, ◌++◌, ◌+◌, ◌-◌, ◌==◌}
+use Rattle.node_laws.proofs.Words.{◌^◌, ◌∙◌, ◌∷◌, ◌≡◌, ◌⊎◌}
+use Rattle.hci_store.proofs.Closing.{close-close, same_closed}
 use Rattle.hci_store.proofs.Recorded.{recordable-apply}
-use Rattle.node_laws.proofs.kept.Asking.{NoneNew, same_new, new_then, may_still, port_found}
-use Rattle.node_laws.proofs.kept.Reckoned.{fold_book, make_more, make_ok, command_makes}
-use Rattle.node_laws.specs.kept.Books.{HasLostPower}
-use Rattle.node_laws.proofs.kept.Planned.{planned_whole, after_planned-append}
-use Rattle.node_laws.proofs.kept.Commits.{planned_knows, planned_left, planned_used, commit_count}
-use Rattle.node_laws.proofs.kept.Books.{book_command, book_more, last_cut, closed_book, closed_command, finds_all, finds_less, would_at, told_append}
-use Rattle.node_laws.proofs.kept.Plainly.{hosts_map, waits_map, changed_host, changed_waits, runs_plainly, plainly_then, plainly_turn, plainly_desk}
-use Rattle.node_laws.proofs.kept.Plainly.{plainly_noting}
-use Rattle.node_laws.proofs.kept.Plainly.{plainly_core, plainly_notified, Plainly}
+use Rattle.link_laws.specs.entries.Entries.Entry.{Tick}
+use Rattle.node_laws.specs.kept.Books.{HasLostPower, WaitsAbout}
+use Rattle.node_laws.proofs.kept.Reckoned.{after_planned-append, command_makes, commit_count, finds_closed, fold_book, make_idle, make_more, make_ok}
+use Rattle.node_laws.proofs.kept.Reckoned.{plain_idles, planned_knows, planned_left, planned_used, planned_whole}
+use Rattle.trace_model.specs.declared.entry.Entry.TheVariants as entry
+
+-- ## What is read of a node after more entries
+
+pub book_more : (t es : List Entry) (n : ℕ) → book_in (t ++ es) n ≡ fold (book_after n) (book_in t n) es
+book_more t es n = fold-append (book_after n) new_book t es
+
+pub last_more : (t es : List Entry) (n : ℕ) → last_in (t ++ es) n ≡ fold (last_after n) (last_in t n) es
+last_more t es n = fold-append (last_after n) NothingYet t es
+
+-- ### Plain entries
+
+plain_one : (n : ℕ) (b : Book) (e : Entry) → IsPlain e → book_after n b e ≡ b
+plain_one n b (entry.Command m c) is = absurd is
+plain_one n b (entry.Booted m k) is = absurd is
+plain_one n b _ is = refl
+
+plain_last_one : (n : ℕ) (l : Last) (e : Entry) → IsPlain e → last_after n l e ≡ l
+plain_last_one n l (entry.Command m c) is = absurd is
+plain_last_one n l (entry.AnyOk m c) is = absurd is
+plain_last_one n l (entry.Booted m k) is = absurd is
+plain_last_one n l (entry.Cut m) is = absurd is
+plain_last_one n l _ is = refl
+
+plain_told_one : (t : List Entry) (e : Entry) → IsPlain e → IsTold t e
+plain_told_one t (entry.Command m c) is = absurd is
+plain_told_one t (entry.AnyOk m c) is = absurd is
+plain_told_one t (entry.Booted m k) is = absurd is
+plain_told_one t _ is = tt
+
+plain_own_one : (n : ℕ) (e : Entry) → IsPlain e → IsOf n e
+plain_own_one n (entry.Command m c) is = absurd is
+plain_own_one n (entry.AnyOk m c) is = absurd is
+plain_own_one n (entry.Booted m k) is = absurd is
+plain_own_one n (entry.Cut m) is = absurd is
+plain_own_one n _ is = tt
+
+pub plain_fold : (n : ℕ) (b : Book) (es : List Entry) → AllByRecursion IsPlain es → fold (book_after n) b es ≡ b
+plain_fold n b [] all = refl
+plain_fold n b (e ∷ es) all = ap (λ x. fold (book_after n) x es) (plain_one n b e all.0) ∙ plain_fold n b es all.1
+
+plain_last_fold : (n : ℕ) (l : Last) (es : List Entry) → AllByRecursion IsPlain es → fold (last_after n) l es ≡ l
+plain_last_fold n l [] all = refl
+plain_last_fold n l (e ∷ es) all = ap (λ x. fold (last_after n) x es) (plain_last_one n l e all.0) ∙ plain_last_fold n l es all.1
+
+pub plain_book : (t es : List Entry) (n : ℕ) → AllByRecursion IsPlain es → book_in (t ++ es) n ≡ book_in t n
+plain_book t es n all = book_more t es n ∙ plain_fold n (book_in t n) es all
+
+pub plain_last : (t es : List Entry) (n : ℕ) → AllByRecursion IsPlain es → last_in (t ++ es) n ≡ last_in t n
+plain_last t es n all = last_more t es n ∙ plain_last_fold n (last_in t n) es all
+
+pub plain_told : (t es : List Entry) → AllByRecursion IsPlain es → AreToldBehind t es
+plain_told t [] all = tt
+plain_told t (e ∷ es) all = (plain_told_one t e all.0, plain_told (t ++ e ∷ []) es all.1)
+
+pub plain_own : (n : ℕ) (es : List Entry) → AllByRecursion IsPlain es → AllByRecursion (IsOf n) es
+plain_own n es all = all_so IsPlain (IsOf n) (plain_own_one n) es all
+
+pub told_append : (t xs ys : List Entry) → AreToldBehind t xs → AreToldBehind (t ++ xs) ys → AreToldBehind t (xs ++ ys)
+told_append t [] ys a b = subst (λ x. AreToldBehind x ys) (append-nil t) b
+told_append t (x ∷ xs) ys a b = (a.0, told_append (t ++ x ∷ []) xs ys a.1 (subst (λ l. AreToldBehind l ys) (sym (append_assoc t (x ∷ []) xs)) b))
+
+-- ### Commands
+
+pub book_command : (t : List Entry) (m n : ℕ) (c : Command) → m ≡ n → book_in (t ++ entry.Command m c ∷ []) n ≡ with_command c (book_in t n)
+book_command t m n c same =
+    book_more t (entry.Command m c ∷ []) n ∙ ap (λ b. cond b (with_command c (book_in t n)) (book_in t n)) (eq-eqb m n same)
+
+last_cut : (t : List Entry) (m n : ℕ) (c : Command) → m ≡ n → last_in (t ++ entry.Command m c ∷ entry.Cut m ∷ []) n ≡ CutBehindCommand
+last_cut t m n c same =
+    last_more t (entry.Command m c ∷ entry.Cut m ∷ []) n
+    ∙ ap (λ b. last_after n (cond b CommandLast (last_in t n)) (entry.Cut m)) (eq-eqb m n same)
+    ∙ ap (λ b. cond b CutBehindCommand CommandLast) (eq-eqb m n same)
+
+-- the tables are those of the commands, but for open pipes
+abbrev pub IsClosedBook : Book → Type 0
+IsClosedBook b = close b.tables ≡ close (after_commands no_tables b.commands)
+
+pub closed_command : (b : Book) (c : Command) → IsClosedBook b → IsClosedBook (with_command c b)
+closed_command b c is = same_closed b.tables (after_commands no_tables b.commands) c is ∙ ap close (sym (fold-append apply no_tables b.commands (c ∷ [])))
+
+closed_one : (n : ℕ) (b : Book) (e : Entry) → IsClosedBook b → IsClosedBook (book_after n b e)
+closed_one n b (entry.Command m c) is = cond_both (eqb m n) (with_command c b) b IsClosedBook (λ _. closed_command b c is) (λ _. is)
+closed_one n b (entry.Booted m k) is =
+    cond_both (eqb m n) (with_found k b) b IsClosedBook (λ _. close-close (after_commands no_tables (take k b.commands))) (λ _. is)
+closed_one n b _ is = is
+
+closed_fold : (n : ℕ) (b : Book) (es : List Entry) → IsClosedBook b → IsClosedBook (fold (book_after n) b es)
+closed_fold n b [] is = is
+closed_fold n b (e ∷ es) is = closed_fold n (book_after n b e) es (closed_one n b e is)
+
+pub closed_book : (t : List Entry) (n : ℕ) → IsClosedBook (book_in t n)
+closed_book t n = closed_fold n new_book t refl
+
+-- ### Memories
+
+-- all commands are found
+pub finds_all : (content : List ℕ) (b : Book) (last : Last) (t : HciTables) (many : ℕ) → BootFinds content t many
+    → close t ≡ close (after_commands no_tables b.commands)
+    → many ≡ min (length b.commands) (2 ^ 32 - 1) → WouldFind content b last
+finds_all content b last t many finds same is = record {
+  many = length b.commands;
+  which = inl refl;
+  finds = subst (λ l. BootFinds content (after_commands no_tables l) (min (length b.commands) (2 ^ 32 - 1))) (sym (take-length b.commands))
+      (finds_closed content t (after_commands no_tables b.commands) (min (length b.commands) (2 ^ 32 - 1)) (subst (λ k. BootFinds content t k) is finds) same);
+}
+
+-- all but the last one
+finds_less : (content : List ℕ) (b : Book) (c : Command) (t : HciTables) (many : ℕ) → BootFinds content t many
+    → close t ≡ close (after_commands no_tables b.commands)
+    → many ≡ min (length b.commands) (2 ^ 32 - 1) → IsSome (current content) → WouldFind content (with_command c b) CutBehindCommand
+finds_less content b c t many finds same is used = record {
+  many = length b.commands;
+  which = inr (omega (arith, length-append b.commands (c ∷ [])), refl, used);
+  finds = subst (λ l. BootFinds content (after_commands no_tables l) (min (length b.commands) (2 ^ 32 - 1))) (sym (take-append_seam b.commands (c ∷ [])))
+      (finds_closed content t (after_commands no_tables b.commands) (min (length b.commands) (2 ^ 32 - 1)) (subst (λ k. BootFinds content t k) is finds) same);
+}
+
+-- of equal memories and books
+would_at : (m left : List ℕ) (b c : Book) (l k : Last) → m ≡ left → b ≡ c → l ≡ k → WouldFind left c k → WouldFind m b l
+would_at m left b c l k m_is b_is l_is would =
+    subst (λ x. WouldFind x b l) (sym m_is) (subst (λ x. WouldFind left x l) (sym b_is) (subst (λ x. WouldFind left c x) (sym l_is) would))
+
+-- ## Ends where no creation waits that didn't wait before
+
+-- each creation that waits at an end waited there before
+abbrev pub NoneNew : List Port → List Port → Type 0
+NoneNew a b = (x : ℕ) (q : Port) (c : Creation) → port_at b x ≡ Some q → asked_at q ≡ Some c → (p : Port) × (port_at a x ≡ Some p) × (asked_at p ≡ Some c)
+
+pub same_new : (a : List Port) → NoneNew a a
+same_new a x q c here asked = (q, here, asked)
+
+new_then : (a b c : List Port) → NoneNew a b → NoneNew b c → NoneNew a c
+new_then a b c f g x q made here asked = let p = g x q made here asked in f x p.0 made p.1 p.2
+
+pub may_still : (t : HciTables) (a b : List Port) → NoneNew a b → MayWait t a → MayWait t b
+may_still t a b new may x q c here asked = let p = new x q c here asked in may x p.0 c p.1 p.2
+
+-- an end that is found was found before
+pub map_found : {X : Type 0} (key : X → ℕ) (f : X → Port) → ((p : X) → (f p).desk.host ≡ key p) → (g : X → Port) → ((p : X) → (g p).desk.host ≡ key p)
+    → (xs : List X) (x : ℕ) (q : Port) → port_at (map f xs) x ≡ Some q → (p : X) × (port_at (map g xs) x ≡ Some (g p)) × (q ≡ f p) × (key p ≡ x)
+map_found key f same g also [] x q here = absurd (cc here)
+map_found {X} key f same g also (p ∷ xs) x q here = by_host (cases_Bool (eqb (key p) x)) (map_found key f same g also xs x q) where
+  by_host : (eqb (key p) x ≡ true) ⊎ (eqb (key p) x ≡ false)
+      → (port_at (map f xs) x ≡ Some q → (r : X) × (port_at (map g xs) x ≡ Some (g r)) × (q ≡ f r) × (key r ≡ x))
+      → (r : X) × (port_at (map g (p ∷ xs)) x ≡ Some (g r)) × (q ≡ f r) × (key r ≡ x)
+  by_host (inl is) later =
+      let found : Some (f p) ≡ Some q = sym (cond-true (eqb (f p).desk.host x) (Some (f p)) (port_at (map f xs) x) (ap (λ k. eqb k x) (same p) ∙ is)) ∙ here in
+      let q_is : q ≡ f p = cc in
+      (p, cond-true (eqb (g p).desk.host x) (Some (g p)) (port_at (map g xs) x) (ap (λ k. eqb k x) (also p) ∙ is), q_is, eqb-true (key p) x is)
+  by_host (inr off) later =
+      let r = later (sym (cond-false (eqb (f p).desk.host x) (Some (f p)) (port_at (map f xs) x) (ap (λ k. eqb k x) (same p) ∙ off)) ∙ here) in
+      (r.0, cond-false (eqb (g p).desk.host x) (Some (g p)) (port_at (map g xs) x) (ap (λ k. eqb k x) (also p) ∙ off) ∙ r.1, r.2, r.3)
+
+map_id : (ports : List Port) → map (λ (p : Port). p) ports ≡ ports
+map_id [] = refl
+map_id (p ∷ ports) = ap (λ l. p ∷ l) (map_id ports)
+
+port_found : (f : Port → Port) → ((p : Port) → (f p).desk.host ≡ p.desk.host) → (ports : List Port) (x : ℕ) (q : Port) → port_at (map f ports) x ≡ Some q
+    → (p : Port) × (port_at ports x ≡ Some p) × (q ≡ f p) × (p.desk.host ≡ x)
+port_found f same ports x q here =
+    let r = map_found (λ (p : Port). p.desk.host) f same (λ p. p) (λ p. refl) ports x q here in
+    (r.0, sym (ap (λ l. port_at l x) (map_id ports)) ∙ r.1, r.2, r.3)
+
+pub map_new : (f : Port → Port) → ((p : Port) → (f p).desk.host ≡ p.desk.host) → ((p : Port) (c : Creation) → asked_at (f p) ≡ Some c → asked_at p ≡ Some c)
+    → (ports : List Port) → NoneNew ports (map f ports)
+map_new f same none ports x q c here asked =
+    let r = port_found f same ports x q here in
+    (r.0, r.1, none r.0 c (sym (ap asked_at r.2) ∙ asked))
+
+changed_new : (b : Bool) (f : Port → Port) (p : Port) (c : Creation) → ((c : Creation) → asked_at (f p) ≡ Some c → asked_at p ≡ Some c)
+    → asked_at (changed_if b f p) ≡ Some c → asked_at p ≡ Some c
+changed_new true f p c none asked = none c asked
+changed_new false f p c none asked = asked
+
+pub map_two : {X Y Z : Type 0} (f : Y → Z) (g : X → Y) (xs : List X) → map f (map g xs) ≡ map (λ x. f (g x)) xs
+map_two f g [] = refl
+map_two f g (x ∷ xs) = ap (λ l. f (g x) ∷ l) (map_two f g xs)
+
+-- ## What changes nothing of what a node keeps
+
+-- nothing is written and committed, and what is noted is plain
+pub record Plainly (w v : Work) : Type 0 where
+  pub more : List Entry
+  pub plain : AllByRecursion IsPlain more
+  pub entries : v.entries ≡ w.entries ++ more
+  pub writes : v.writes ≡ w.writes
+  pub plan : v.plan ≡ w.plan
+  pub cut : v.cut ≡ w.cut
+  pub node : v.core.node ≡ w.core.node
+  pub journal : v.core.journal ≡ w.core.journal
+  pub tables : v.core.tables ≡ w.core.tables
+  pub hosts : hosts_of_ends v.ports ≡ hosts_of_ends w.ports
+  pub waits : AllByRecursion WaitsAt w.ports → AllByRecursion WaitsAt v.ports
+  pub none_new : NoneNew w.ports v.ports
+
+pub plainly_then : (a b c : Work) → Plainly a b → Plainly b c → Plainly a c
+plainly_then a b c p q = record {
+  more = p.more ++ q.more;
+  plain = all_append IsPlain p.more q.more p.plain q.plain;
+  entries = q.entries ∙ ap (λ l. l ++ q.more) p.entries ∙ append_assoc a.entries p.more q.more;
+  writes = q.writes ∙ p.writes;
+  plan = q.plan ∙ p.plan;
+  cut = q.cut ∙ p.cut;
+  node = q.node ∙ p.node;
+  journal = q.journal ∙ p.journal;
+  tables = q.tables ∙ p.tables;
+  hosts = q.hosts ∙ p.hosts;
+  waits = λ h. q.waits (p.waits h);
+  none_new = new_then a.ports b.ports c.ports p.none_new q.none_new;
+}
+
+-- the node runs on so
+pub runs_plainly : (n : ℕ) (hosts : List ℕ) (old : Memory) (before : List Entry) (w v : Work) → StillRuns n hosts old before w → Plainly w v
+    → StillRuns n hosts old before v
+runs_plainly n hosts old before w v r p = record {
+  on = p.cut ∙ r.on;
+  memory = r.memory;
+  written = λ more. ap (λ ws. after_planned (ws ++ more) old) p.writes ∙ r.written more;
+  plan_is = p.plan ∙ r.plan_is;
+  made = subst (λ l. MakeOf n (reckoning_of true (book_in before n) old) l r.memory) (sym p.entries)
+      (make_idle n (reckoning_of true (book_in before n) old) w.entries p.more r.memory r.made (plain_idles n p.more p.plain));
+  number = p.node ∙ r.number;
+  hosts_are = p.hosts ∙ r.hosts_are;
+  knows = subst (λ s. Knows r.memory.content s v.core.tables) (sym p.journal) (subst (λ t. Knows r.memory.content w.core.journal t) (sym p.tables) r.knows);
+  sorted = subst AreTables (sym p.tables) r.sorted;
+  recordable = subst IsRecordable (sym p.tables) r.recordable;
+  tables_are = p.tables ∙ r.tables_are ∙ ap (λ (b : Book). b.tables) (sym same);
+  count_is = ap count_of p.journal ∙ r.count_is ∙ ap (λ (b : Book). min (length b.commands) (2 ^ 32 - 1)) (sym same);
+  told = subst (λ l. AreToldBehind before l) (sym p.entries) (told_append before w.entries p.more r.told (plain_told (before ++ w.entries) p.more p.plain));
+  own = subst (λ l. AllByRecursion (IsOf n) l) (sym p.entries) (all_append (IsOf n) w.entries p.more r.own (plain_own n p.more p.plain));
+  waits = p.waits r.waits;
+  allowed = λ z. may_still v.core.tables w.ports v.ports p.none_new (subst (λ t. MayWait t w.ports) (sym p.tables) (r.allowed z));
+} where
+  same : book_in (before ++ v.entries) n ≡ book_in (before ++ w.entries) n
+  same = ap (λ l. book_in (before ++ l) n) p.entries ∙ ap (λ l. book_in l n) (sym (append_assoc before w.entries p.more)) ∙ plain_book
+      (before ++ w.entries) p.more n p.plain
+
+-- ### Entries of links
+
+plain_entry : (h : ℕ) (x : Noted) → AllByRecursion IsPlain (entry_of h x)
+plain_entry h Tick = tt
+plain_entry h (Restarted who) = tt
+plain_entry h (Cut who) = tt
+plain_entry h _ = (tt, tt)
+
+pub plain_flat : {X : Type 0} (f : X → List Entry) → ((x : X) → AllByRecursion IsPlain (f x)) → (xs : List X) → AllByRecursion IsPlain (flat_map f xs)
+plain_flat f one [] = tt
+plain_flat f one (x ∷ xs) = all_append IsPlain (f x) (flat_map f xs) (one x) (plain_flat f one xs)
+
+pub plain_entries : (h : ℕ) (xs : List Noted) → AllByRecursion IsPlain (entries_for h xs)
+plain_entries h xs = plain_flat (entry_of h) (plain_entry h) xs
+
+-- ### Ends
+
+changed_host : (b : Bool) (f : Port → Port) (p : Port) → (f p).desk.host ≡ p.desk.host → (changed_if b f p).desk.host ≡ p.desk.host
+changed_host true f p is = is
+changed_host false f p is = refl
+
+changed_waits : (b : Bool) (f : Port → Port) (p : Port) → (WaitsAt p → WaitsAt (f p)) → WaitsAt p → WaitsAt (changed_if b f p)
+changed_waits true f p is w = is w
+changed_waits false f p is w = w
+
+pub hosts_map : (f : Port → Port) → ((p : Port) → (f p).desk.host ≡ p.desk.host) → (ports : List Port) → hosts_of_ends (map f ports) ≡ hosts_of_ends ports
+hosts_map f same [] = refl
+hosts_map f same (p ∷ ports) = ap₂ (λ x l. x ∷ l) (same p) (hosts_map f same ports)
+
+waits_map : (f : Port → Port) → ((p : Port) → WaitsAt p → WaitsAt (f p)) → (ports : List Port) → AllByRecursion WaitsAt ports
+    → AllByRecursion WaitsAt (map f ports)
+waits_map f keeps [] all = tt
+waits_map f keeps (p ∷ ports) all = (keeps p all.0, waits_map f keeps ports all.1)
+
+-- the ends are others, and the core but for its number, its journal and its tables
+plainly_changed : (w : Work) (core : Core) (ports : List Port) → core.node ≡ w.core.node → core.journal ≡ w.core.journal → core.tables ≡ w.core.tables
+    → hosts_of_ends ports ≡ hosts_of_ends w.ports → (AllByRecursion WaitsAt w.ports → AllByRecursion WaitsAt ports) → NoneNew w.ports ports
+    → Plainly w (record w { core = core; ports = ports })
+plainly_changed w core ports node journal tables hosts waits none_new = record {
+  more = [];
+  plain = tt;
+  entries = sym (append-nil w.entries);
+  writes = refl;
+  plan = refl;
+  cut = refl;
+  node = node;
+  journal = journal;
+  tables = tables;
+  hosts = hosts;
+  waits = waits;
+  none_new = none_new;
+}
+
+-- nothing changes
+pub plainly_same : (w : Work) → Plainly w w
+plainly_same w = plainly_changed w w.core w.ports refl refl refl refl (λ h. h) (same_new w.ports)
+
+-- its last command and its init are others
+pub plainly_core : (w : Work) (command : Option (List ℕ)) (init : Option Init)
+    → Plainly w (record w { core = record w.core { command = command; init = init } })
+plainly_core w command init =
+    plainly_changed w (record w.core { command = command; init = init }) w.ports refl refl refl refl (λ h. h) (same_new w.ports)
+
+-- all ends are changed
+pub plainly_ports : (w : Work) (f : Port → Port) → ((p : Port) → (f p).desk.host ≡ p.desk.host) → ((p : Port) → WaitsAt p → WaitsAt (f p))
+    → ((p : Port) (c : Creation) → asked_at (f p) ≡ Some c → asked_at p ≡ Some c) → Plainly w (record w { ports = map f w.ports })
+plainly_ports w f host waits none =
+    plainly_changed w w.core (map f w.ports) refl refl refl (hosts_map f host w.ports) (waits_map f waits w.ports) (map_new f host none w.ports)
+
+pub plainly_noting : (w : Work) (es : List Entry) → AllByRecursion IsPlain es → Plainly w (noting es w)
+plainly_noting w es plain = record {
+  more = es;
+  plain = plain;
+  entries = refl;
+  writes = refl;
+  plan = refl;
+  cut = refl;
+  node = refl;
+  journal = refl;
+  tables = refl;
+  hosts = refl;
+  waits = λ h. h;
+  none_new = same_new w.ports;
+}
+
+-- all ends are changed, and this is noted
+pub plainly_map : (w : Work) (f : Port → Port) (es : List Entry) → AllByRecursion IsPlain es → ((p : Port) → (f p).desk.host ≡ p.desk.host)
+    → ((p : Port) → WaitsAt p → WaitsAt (f p)) → ((p : Port) (c : Creation) → asked_at (f p) ≡ Some c → asked_at p ≡ Some c)
+    → Plainly w (noting es (record w { ports = map f w.ports }))
+plainly_map w f es plain host waits none =
+    let v : Work = record w { ports = map f w.ports } in
+    plainly_then w v (noting es v) (plainly_ports w f host waits none) (plainly_noting v es plain)
+
+plain_option : (core : Core) (t : Turn) (o : Option Port) → AllByRecursion IsPlain (option_map_or (noted_of core t) o [])
+plain_option core t None = tt
+plain_option core t (Some p) = plain_entries p.desk.host (turn_entry (own_side core) p.session p.side t)
+
+-- of a message that is fetched nothing is noted
+pub fetch_none : (core : Core) (o : Option Port) → option_map_or (noted_of core FetchMessage) o [] ≡ []
+fetch_none core None = refl
+fetch_none core (Some p) = refl
+
+pub plainly_turn : (h : ℕ) (t : Turn) (w : Work) → Plainly w (turn_at h t w)
+plainly_turn h t w =
+    plainly_map w (λ (p : Port). changed_if (p.desk.host == h) (after_turn t) p) (option_map_or (noted_of w.core t) (port_at w.ports h) [])
+    (plain_option w.core t (port_at w.ports h))
+    (λ p. changed_host (p.desk.host == h) (after_turn t) p refl) (λ p. changed_waits (p.desk.host == h) (after_turn t) p (λ x. x))
+    (λ p c e. changed_new (p.desk.host == h) (after_turn t) p c (λ c e. e) e)
+
+pub plainly_desk : (h : ℕ) (f : Desk → Desk) (w : Work) → ((d : Desk) → (f d).host ≡ d.host) → ((d : Desk) → WaitsFor d.notice → WaitsFor (f d).notice)
+    → ((d : Desk) (c : Creation) → creation_in (f d).notice ≡ Some c → creation_in d.notice ≡ Some c) → Plainly w (with_desk h f w)
+plainly_desk h f w host waits none =
+    let change : Port → Port = λ p. record p { desk = f p.desk } in
+    plainly_ports w (λ (p : Port). changed_if (p.desk.host == h) change p) (λ p. changed_host (p.desk.host == h) change p (host p.desk))
+    (λ p. changed_waits (p.desk.host == h) change p (waits p.desk)) (λ p c e. changed_new (p.desk.host == h) change p c (none p.desk) e)
+
+plainly_notified : (h : ℕ) (about : About) (message : List ℕ) (w : Work) → WaitsAbout about → creation_in (Some (record { about = about; age = 0 })) ≡ None
+    → Plainly w (notified h about message w)
+plainly_notified h about message w waits none =
+    plainly_then w (turn_at h (Give (1, message)) w) (notified h about message w) (plainly_turn h (Give (1, message)) w)
+    (plainly_desk h (λ d. record d { notice = Some (record { about = about; age = 0 }) }) (turn_at h (Give (1, message)) w) (λ d. refl) (λ d old. waits)
+    (λ d c e. let gone : None ≡ Some c = sym none ∙ e in absurd (cc gone)))
+
+-- ## What a node keeps while it does the deeds of a message
 
 pub uncut : (f : Work → Work) (w : Work) → w.cut ≡ false → unless_cut f w ≡ f w
 uncut f w on = rw on refl
@@ -27,7 +389,7 @@ pub stays_cut : (f : Work → Work) (w : Work) → w.cut ≡ true → unless_cut
 stays_cut f w off = rw off refl
 
 module _ (n : ℕ) (hosts : List ℕ) (old : Memory) (before : List Entry) where
-  -- ## A commit
+  -- ### A commit
 
   module _ (c : Command) (w : Work) (r : StillRuns n hosts old before w) (may : IsCommand c) (room : FindsRoom w.core.journal c)
       (fit : n ≡ 0 → IsAllowedBy w.core.tables c × MayWait (apply w.core.tables c) w.ports) where
@@ -144,7 +506,7 @@ module _ (n : ℕ) (hosts : List ℕ) (old : Memory) (before : List Entry) where
             (body_of c))) behind_it
             (ap (λ t. close (apply t c)) r.tables_are ∙ closed_command (book_in seen n) c (closed_book seen n)) count_then
 
-    pub commit_cases : ((commit c w ≡ keeps c writes begun) × StillRuns n hosts old before (keeps c writes begun)) ⊎
+    commit_cases : ((commit c w ≡ keeps c writes begun) × StillRuns n hosts old before (keeps c writes begun)) ⊎
         ((commit c w ≡ loses_power writes begun) × HasLostPower n old before (loses_power writes begun))
     commit_cases = by_test (fails_within (length writes) w.plan)
         (λ fails. inr (rw fails refl, lost_then fails))
@@ -179,7 +541,7 @@ module _ (n : ℕ) (hosts : List ℕ) (old : Memory) (before : List Entry) where
     counted : count_of w.core.journal ≡ min (length (commands_in (before ++ w.entries) w.core.node)) (2 ^ 32 - 1)
     counted = r.count_is ∙ ap (λ k. min (length (commands_in (before ++ w.entries) k)) (2 ^ 32 - 1)) (sym r.number)
 
-  -- ## Deeds
+  -- ### Deeds
 
   -- it runs on, and an init stays with its command; or it has lost its power
   abbrev pub GoesOn_or_lost : Work → Type 0

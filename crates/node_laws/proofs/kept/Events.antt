@@ -1,26 +1,382 @@
--- What all nodes keep over what happens to the world.
-use Rattle.node_laws.proofs.Words.{AllByRecursion, AllKeep, AreHosts, AreToldBehind, AtController, AtEnd, Book, Bool, Broken, Comes, Controller, Core, CutOff}
-use Rattle.node_laws.proofs.Words.{Desk, End, Entry, Host, IfRuns, Init, IsAllowedStill, IsHost, IsOf, IsOnOrder, IsPlain, Link, LinkEvent, List, Loss}
-use Rattle.node_laws.proofs.Words.{MayBeDone, Memory, Message, NoInput, NodeKeeps, NodeWorld, None, NumberedEnd, Option, Orders, Plan, Running, Sends, Site}
-use Rattle.node_laws.proofs.Words.{SiteKeeps, Some, Starts, Step, WaitsFor, [], activates, after_planned, ap, append-nil, ap₂, asked_at, beginning, begins_with}
-use Rattle.node_laws.proofs.Words.{book_in, boot_writes, boots, by_coming, by_loss, by_test, cases_Bool, changed_if, comes_at, commands_in, cond, cond_both}
-use Rattle.node_laws.proofs.Words.{controller_cut, count_of, counts, creation_in, end_c, end_h, entries_for, eqb, eqb-false, eqb-true, errors_all, fails_within}
-use Rattle.node_laws.proofs.Words.{false, first_lost, found, frame_lost, happens, host_cut, host_does, inl, inr, is_command_message, is_some, length, link_to}
-use Rattle.node_laws.proofs.Words.{loses_power_at, map, memory_at, min, new_book, new_memory, node_at, option_map_or, port_at, port_for, refl, sending, site_at}
-use Rattle.node_laws.proofs.Words.{site_lost, steps, subst, sym, true, true≢false, with_error, with_found, with_memory, with_site, ℕ, ◌&&◌, ◌++◌, ◌+◌, ◌-◌, ◌^◌}
+-- What a node keeps between its steps and over a boot, and all nodes over whatever happens to the world.
+use Rattle.std.proofs.lemmas.Bool.{eqb-false}
+use Rattle.node_laws.proofs.Words.{AllByRecursion, AllKeep, AreDifferent, AreHosts, AreToldBehind, AtController, AtEnd, Book, Bool, Broken, Comes, Controller}
+use Rattle.node_laws.proofs.Words.{Core, CutOff, Desk, End, Entry, Host, IfRuns, Init, IsAllowedStill, IsHost, IsOf, IsOnOrder, IsPlain, Knows, Last, Link}
+use Rattle.node_laws.proofs.Words.{LinkEvent, List, Loss, MayBeDone, Memory, Message, NoInput, NodeKeeps, NodeWorld, None, NumberedEnd, Option, Orders, Plan}
+use Rattle.node_laws.proofs.Words.{Port, Running, RunsSo, Sends, Site, SiteKeeps, Some, Starts, Step, StillRuns, WaitsAt, WaitsFor, Work, WouldFind, []}
+use Rattle.node_laws.proofs.Words.{activates, after_host, after_planned, all_append, ap, append-nil, append_assoc, ap₂, arith, arrival, asked_at, beginning}
+use Rattle.node_laws.proofs.Words.{begins_with, book_after, book_in, boot_writes, boots, by_coming, by_controller, by_host, by_loss, by_test, cases_Bool}
+use Rattle.node_laws.proofs.Words.{changed_if, close, comes_at, comes_to, commands_in, cond, cond-false, cond-true, cond_both, controller_cut, controller_does}
+use Rattle.node_laws.proofs.Words.{controller_work, count_of, counts, creation_in, end_c, end_h, ending_entries, ending_of, entries_for, eqb, eqb-true}
+use Rattle.node_laws.proofs.Words.{errors_all, exchanged, fails_within, false, first_lost, flat_map, fold, found, frame_lost, frames_noted, happens, host_cut}
+use Rattle.node_laws.proofs.Words.{host_does, host_work, hosts_of_ends, inl, inr, is_command_message, is_some, last_after, last_in, length}
+use Rattle.node_laws.proofs.Words.{link_after_controller, link_to, loses_power_at, map, memory_at, min, near_end_in, new_book, new_memory, node_at}
+use Rattle.node_laws.proofs.Words.{option_map_or, port_at, port_for, reckoning_of, refl, runs_on, sending, site_at, site_lost, steps, subst, sym, true}
+use Rattle.node_laws.proofs.Words.{true≢false, wires_for, with_command, with_error, with_found, with_memory, with_site, work_of, ℕ, ◌&&◌, ◌++◌, ◌+◌, ◌-◌, ◌^◌}
 use Rattle.node_laws.proofs.Words.{◌∙◌, ◌∷◌, ◌≡◌, ◌≤◌, ◌⊎◌}
-use Rattle.trace_model.specs.declared.entry.Entry.TheVariants as entry
-use Rattle.node_laws.proofs.kept.Asking.{NoneNew, map_found, map_two, may_still, same_new}
+use Rattle.link_laws.specs.entries.Entries.{End as LinkSide}
 use Rattle.node_laws.specs.kept.Worlds.{IsStranger}
-use Rattle.node_laws.proofs.kept.Books.{book_more, plain_told}
-use Rattle.node_laws.proofs.kept.Plainly.{plain_entries}
-use Rattle.node_laws.proofs.kept.Doing.{all_fine}
-use Rattle.node_laws.proofs.kept.Stepping.{steps_fine}
-use Rattle.node_laws.proofs.kept.Standing.{IsSame, keeps_same, other_same, plain_same}
+use Rattle.node_laws.proofs.kept.Doing.{GoesOn_or_lost, NoneNew, all_fine, book_more, closed_book, finds_all, last_more, map_found, map_new, map_two, may_still}
+use Rattle.node_laws.proofs.kept.Doing.{plain_book, plain_entries, plain_flat, plain_last, plain_own, plain_told, same_new, told_append}
 use Rattle.node_laws.proofs.kept.Booting.{boot_lost, boot_runs, boot_told, cut_keeps}
-use Rattle.node_laws.proofs.kept.Sites.{hosts_in, hosts_same, map_sites, site_found, with_site_twice}
-use Rattle.node_laws.proofs.kept.Sites.{none_found}
-use Rattle.node_laws.proofs.kept.Worlds.{Goes, controller_goes, controller_steps, goes_not, goes_then, host_goes, host_steps}
+use Rattle.node_laws.proofs.kept.Reckoned.{idle_make, other_test, plain_idles}
+use Rattle.node_laws.proofs.kept.Stepping.{steps_fine}
+use Rattle.trace_model.specs.declared.entry.Entry.TheVariants as entry
+
+-- ## What hosts keep while one of them changes
+
+-- the hosts
+abbrev pub hosts_in : List Site → List ℕ
+hosts_in sites = map (λ (s : Site). s.host) sites
+
+-- a host that is found is one of them
+pub site_found : (P : Site → Type 0) (Q : ℕ → Type 0) (sites : List Site) (h : ℕ) (s : Site) → AllByRecursion P sites → AllByRecursion Q (hosts_in sites)
+    → site_at sites h ≡ Some s
+    → P s × Q s.host × (s.host ≡ h)
+site_found P Q [] h s all hosts e = absurd (cc e)
+site_found P Q (x ∷ sites) h s all hosts e =
+    cond_both (eqb x.host h) (Some x) (site_at sites h) (λ o. o ≡ Some s → P s × Q s.host × (s.host ≡ h))
+    (λ is f. let same : x ≡ s = cc in subst (λ y. P y × Q y.host × (y.host ≡ h)) same (all.0, hosts.0, eqb-true x.host h is))
+    (λ _ f. site_found P Q sites h s all.1 hosts.1 f) e
+
+-- no host has this number
+pub none_found : (sites : List Site) (n : ℕ) → site_at sites n ≡ None → AllByRecursion (λ k. eqb k n ≡ false) (hosts_in sites)
+none_found [] n e = tt
+none_found (s ∷ sites) n e = by_test (eqb s.host n) (λ is. absurd (cc (rw is at e))) (λ off. (off, none_found sites n (rw off at e)))
+
+pub hosts_same : (g : Site → Site) → ((s : Site) → (g s).host ≡ s.host) → (sites : List Site) → hosts_in (map g sites) ≡ hosts_in sites
+hosts_same g same [] = refl
+hosts_same g same (s ∷ sites) = ap₂ (λ x l. x ∷ l) (same s) (hosts_same g same sites)
+
+pub changed_host : (b : Bool) (f : Site → Site) (s : Site) → (f s).host ≡ s.host → (changed_if b f s).host ≡ s.host
+changed_host true f s same = same
+changed_host false f s same = refl
+
+pub hosts_with : (h : ℕ) (f : Site → Site) → ((s : Site) → (f s).host ≡ s.host) → (sites : List Site) → hosts_in (with_site h f sites) ≡ hosts_in sites
+hosts_with h f same sites = hosts_same (λ (s : Site). changed_if (eqb s.host h) f s) (λ s. changed_host (eqb s.host h) f s (same s)) sites
+
+-- all of them keep what they keep
+map_sites : (t u : List Entry) (Q : ℕ → Type 0) (g : Site → Site) → ((s : Site) → Q s.host → SiteKeeps t s → SiteKeeps u (g s))
+    → (sites : List Site) → AllByRecursion Q (hosts_in sites) → AllByRecursion (SiteKeeps t) sites → AllByRecursion (SiteKeeps u) (map g sites)
+map_sites t u Q g keeps [] hosts all = tt
+map_sites t u Q g keeps (s ∷ sites) hosts all = (keeps s hosts.0 all.0, map_sites t u Q g keeps sites hosts.1 all.1)
+
+module _ (t u : List Entry) (h : ℕ) (f : Site → Site) (other : (s : Site) → eqb s.host h ≡ false → SiteKeeps t s → SiteKeeps u s) where
+  others_keep : (sites : List Site) → AllByRecursion (λ k. eqb k h ≡ false) (hosts_in sites) → AllByRecursion (SiteKeeps t) sites
+      → AllByRecursion (SiteKeeps u) (with_site h f sites)
+  others_keep [] hosts all = tt
+  others_keep (s ∷ sites) hosts all =
+      (subst (λ b. SiteKeeps u (changed_if b f s)) (sym hosts.0) (other s hosts.0 all.0), others_keep sites hosts.1 all.1)
+
+  -- all but one keep what they keep, and that one keeps it as it is changed
+  with_site_keeps : (sites : List Site) (x : Site) → AreDifferent (hosts_in sites) → site_at sites h ≡ Some x → SiteKeeps u (f x)
+      → AllByRecursion (SiteKeeps t) sites → AllByRecursion (SiteKeeps u) (with_site h f sites)
+  with_site_keeps [] x different e changed all = absurd (cc e)
+  with_site_keeps (s ∷ sites) x different e changed all = by_host (cases_Bool (eqb s.host h))
+      (λ found. with_site_keeps sites x different.1 found changed all.1) where
+        by_host : (eqb s.host h ≡ true) ⊎ (eqb s.host h ≡ false) → (site_at sites h ≡ Some x → AllByRecursion (SiteKeeps u) (with_site h f sites))
+            → AllByRecursion (SiteKeeps u) (with_site h f (s ∷ sites))
+        by_host (inl is) later =
+            let here : Some s ≡ Some x = sym (cond-true (eqb s.host h) (Some s) (site_at sites h) is) ∙ e in
+            let same : s ≡ x = cc in (
+              subst (λ b. SiteKeeps u (changed_if b f s)) (sym is) (subst (λ y. SiteKeeps u (f y)) (sym same) changed),
+              others_keep sites (subst (λ k. AllByRecursion (λ j. eqb j k ≡ false) (hosts_in sites)) (eqb-true s.host h is) different.0) all.1,
+            )
+        by_host (inr off) later =
+            let there : site_at sites h ≡ Some x = sym (cond-false (eqb s.host h) (Some s) (site_at sites h) off) ∙ e in
+            (subst (λ b. SiteKeeps u (changed_if b f s)) (sym off) (other s off all.0), later there)
+
+-- a host is changed twice
+pub with_site_twice : (h : ℕ) (f g : Site → Site) → ((s : Site) → (f s).host ≡ s.host) → (sites : List Site)
+    → with_site h g (with_site h f sites) ≡ with_site h (λ s. g (f s)) sites
+with_site_twice h f g same [] = refl
+with_site_twice h f g same (s ∷ sites) = ap₂ (λ x l. x ∷ l) (by_host (eqb s.host h) refl) (with_site_twice h f g same sites) where
+  by_host : (b : Bool) → eqb s.host h ≡ b → changed_if (eqb (changed_if b f s).host h) g (changed_if b f s) ≡ changed_if b (λ s. g (f s)) s
+  by_host true is = ap (λ k. changed_if (eqb k h) g (f s)) (same s) ∙ ap (λ b. changed_if b g (f s)) is
+  by_host false is = ap (λ b. changed_if b g s) is
+
+-- ## What a node keeps between its steps
+
+-- ### Entries of another node
+
+-- the same is read of a node
+pub record IsSame (n : ℕ) (t u : List Entry) : Type 0 where
+  pub book : book_in u n ≡ book_in t n
+  pub last : last_in u n ≡ last_in t n
+
+pub same_then : (n : ℕ) (t u v : List Entry) → IsSame n t u → IsSame n u v → IsSame n t v
+same_then n t u v a b = record { book = b.book ∙ a.book; last = b.last ∙ a.last }
+
+pub plain_same : (n : ℕ) (t es : List Entry) → AllByRecursion IsPlain es → IsSame n t (t ++ es)
+plain_same n t es plain = record { book = plain_book t es n plain; last = plain_last t es n plain }
+
+other_book : (m n : ℕ) (b : Book) (e : Entry) → (m ≡ n → ⊥) → IsOf m e → book_after n b e ≡ b
+other_book m n b (entry.Command k c) other is = ap (λ x. cond x (with_command c b) b) (other_test m n k is other)
+other_book m n b (entry.Booted k c) other is = ap (λ x. cond x (with_found c b) b) (other_test m n k is other)
+other_book m n b _ other is = refl
+
+other_last : (m n : ℕ) (l : Last) (e : Entry) → (m ≡ n → ⊥) → IsOf m e → last_after n l e ≡ l
+other_last m n l (entry.Command k c) other is = rw (other_test m n k is other) refl
+other_last m n l (entry.AnyOk k c) other is = rw (other_test m n k is other) refl
+other_last m n l (entry.Booted k c) other is = rw (other_test m n k is other) refl
+other_last m n l (entry.Cut k) other is = rw (other_test m n k is other) refl
+other_last m n l _ other is = refl
+
+other_book_fold : (m n : ℕ) (b : Book) (es : List Entry) → (m ≡ n → ⊥) → AllByRecursion (IsOf m) es → fold (book_after n) b es ≡ b
+other_book_fold m n b [] other all = refl
+other_book_fold m n b (e ∷ es) other all = ap (λ x. fold (book_after n) x es) (other_book m n b e other all.0) ∙ other_book_fold m n b es other all.1
+
+other_last_fold : (m n : ℕ) (l : Last) (es : List Entry) → (m ≡ n → ⊥) → AllByRecursion (IsOf m) es → fold (last_after n) l es ≡ l
+other_last_fold m n l [] other all = refl
+other_last_fold m n l (e ∷ es) other all = ap (λ x. fold (last_after n) x es) (other_last m n l e other all.0) ∙ other_last_fold m n l es other all.1
+
+pub other_same : (m n : ℕ) (t es : List Entry) → (m ≡ n → ⊥) → AllByRecursion (IsOf m) es → IsSame n t (t ++ es)
+other_same m n t es other all = record {
+  book = book_more t es n ∙ other_book_fold m n (book_in t n) es other all;
+  last = last_more t es n ∙ other_last_fold m n (last_in t n) es other all;
+}
+
+-- a node of which the same is read keeps the same
+pub keeps_same : (n : ℕ) (hosts : List ℕ) (t u : List Entry) (m : Memory) (node : Option Running) → IsSame n t u → NodeKeeps n hosts t m node
+    → NodeKeeps n hosts u m node
+keeps_same n hosts t u m node same k = record {
+  would = subst (λ b. WouldFind m.content b (last_in u n)) (sym same.book) (subst (λ l. WouldFind m.content (book_in t n) l) (sym same.last) k.would);
+  runs = if_runs node k.runs;
+} where
+  if_runs : (o : Option Running) → IfRuns n hosts m.content t o → IfRuns n hosts m.content u o
+  if_runs None r = tt
+  if_runs (Some x) r = record {
+    number = r.number;
+    hosts_are = r.hosts_are;
+    knows = r.knows;
+    sorted = r.sorted;
+    recordable = r.recordable;
+    tables_are = r.tables_are ∙ ap (λ (b : Book). b.tables) (sym same.book);
+    count_is = r.count_is ∙ ap (λ (b : Book). min (length b.commands) (2 ^ 32 - 1)) (sym same.book);
+    on = r.on;
+    allowed = r.allowed;
+    waits = r.waits;
+  }
+
+-- ### Before and after a step
+
+port_hosts : (near_ends : ℕ → NumberedEnd) (desks : List Desk)
+    → hosts_of_ends (map (λ (d : Desk). port_for (near_ends d.host) d) desks) ≡ map (λ (d : Desk). d.host) desks
+port_hosts near_ends [] = refl
+port_hosts near_ends (d ∷ desks) = ap (λ l. d.host ∷ l) (port_hosts near_ends desks)
+
+port_waits : (near_ends : ℕ → NumberedEnd) (desks : List Desk) → AllByRecursion (λ (d : Desk). WaitsFor d.notice) desks
+    → AllByRecursion WaitsAt (map (λ (d : Desk). port_for (near_ends d.host) d) desks)
+port_waits near_ends [] all = tt
+port_waits near_ends (d ∷ desks) all = (all.0, port_waits near_ends desks all.1)
+
+desk_hosts : (ports : List Port) → map (λ (d : Desk). d.host) (map (λ (p : Port). p.desk) ports) ≡ hosts_of_ends ports
+desk_hosts [] = refl
+desk_hosts (p ∷ ports) = ap (λ l. p.desk.host ∷ l) (desk_hosts ports)
+
+desk_waits : (ports : List Port) → AllByRecursion WaitsAt ports → AllByRecursion (λ (d : Desk). WaitsFor d.notice) (map (λ (p : Port). p.desk) ports)
+desk_waits [] all = tt
+desk_waits (p ∷ ports) all = (all.0, desk_waits ports all.1)
+
+desk_new : (near_ends : ℕ → NumberedEnd) (ports : List Port)
+    → NoneNew ports (map (λ (d : Desk). port_for (near_ends d.host) d) (map (λ (p : Port). p.desk) ports))
+desk_new near_ends ports =
+    subst (NoneNew ports) (sym (map_two (λ (d : Desk). port_for (near_ends d.host) d) (λ (p : Port). p.desk) ports))
+    (map_new (λ (p : Port). port_for (near_ends p.desk.host) p.desk) (λ p. refl) (λ p c e. e) ports)
+
+-- a step begins
+pub runs_begun : (n : ℕ) (hosts : List ℕ) (t : List Entry) (m : Memory) (r : Running) (near_ends : ℕ → NumberedEnd) (es : List Entry)
+    → AllByRecursion IsPlain es
+    → RunsSo n hosts m.content t r → StillRuns n hosts m t (work_of r m.plan near_ends es)
+runs_begun n hosts t m r near_ends es plain k = record {
+  on = refl;
+  memory = m;
+  written = λ more. refl;
+  plan_is = refl;
+  made = idle_make n (reckoning_of true (book_in t n) m) m es refl refl refl refl (plain_idles n es plain);
+  number = k.number;
+  hosts_are = port_hosts near_ends r.desks ∙ k.hosts_are;
+  knows = k.knows;
+  sorted = k.sorted;
+  recordable = k.recordable;
+  tables_are = k.tables_are ∙ ap (λ (b : Book). b.tables) (sym (plain_book t es n plain));
+  count_is = k.count_is ∙ ap (λ (b : Book). min (length b.commands) (2 ^ 32 - 1)) (sym (plain_book t es n plain));
+  told = plain_told t es plain;
+  own = plain_own n es plain;
+  waits = port_waits near_ends r.desks k.waits;
+  allowed = λ z. k.allowed z near_ends;
+}
+
+-- a step has ended
+keeps_ended : (n : ℕ) (hosts : List ℕ) (t : List Entry) (m : Memory) (k : Work) → GoesOn_or_lost n hosts m t k
+    → NodeKeeps n hosts (t ++ k.entries) (after_planned k.writes m) (runs_on k)
+keeps_ended n hosts t m k (inl (r, on)) = record {
+  would = finds_all _ (book_in (t ++ k.entries) n) (last_in (t ++ k.entries) n) k.core.tables (count_of k.core.journal) knows.finds
+      (ap close r.tables_are ∙ closed_book (t ++ k.entries) n) r.count_is;
+  runs = rw r.on (record {
+    number = r.number;
+    hosts_are = desk_hosts k.ports ∙ r.hosts_are;
+    knows = knows;
+    sorted = r.sorted;
+    recordable = r.recordable;
+    tables_are = r.tables_are;
+    count_is = r.count_is;
+    on = on;
+    waits = desk_waits k.ports r.waits;
+    allowed = λ z near_ends. may_still k.core.tables k.ports (map (λ (d : Desk). port_for (near_ends d.host) d) (map (λ (p : Port). p.desk) k.ports))
+        (desk_new near_ends k.ports) (r.allowed z);
+  });
+} where
+  memory_is : after_planned k.writes m ≡ r.memory
+  memory_is = ap (λ l. after_planned l m) (sym (append-nil k.writes)) ∙ r.written []
+
+  knows : Knows (after_planned k.writes m).content k.core.journal k.core.tables
+  knows = subst (λ (x : Memory). Knows x.content k.core.journal k.core.tables) (sym memory_is) r.knows
+keeps_ended n hosts t m k (inr lost) = record { would = lost.would; runs = rw lost.off tt }
+
+pub told_ended : (n : ℕ) (hosts : List ℕ) (t : List Entry) (m : Memory) (k : Work) → GoesOn_or_lost n hosts m t k
+    → AreToldBehind t k.entries × AllByRecursion (IsOf n) k.entries
+told_ended n hosts t m k (inl (r, on)) = (r.told, r.own)
+told_ended n hosts t m k (inr lost) = (lost.told, lost.own)
+
+-- ## What all nodes keep over an event
+
+-- ### Plain entries
+
+plain_option : {X : Type 0} (f : X → List Entry) (o : Option X) → ((x : X) → AllByRecursion IsPlain (f x)) → AllByRecursion IsPlain (option_map_or f o [])
+plain_option f None one = tt
+plain_option f (Some x) one = one x
+
+pub plain_frames : (who : LinkSide) (h : ℕ) (l : Link) (w : Work) → AllByRecursion IsPlain (frames_noted who h l w)
+plain_frames who h l w =
+    plain_option (λ (p : Port). entries_for h (ending_entries who l p.side (ending_of w))) (port_at w.ports h) (λ p. plain_entries h
+    (ending_entries who l p.side (ending_of w)))
+
+-- ### An event of one node
+
+-- a step of a node, and the frames that go out after it
+pub step_keeps : (n : ℕ) (hosts : List ℕ) (t : List Entry) (m : Memory) (k : Work) (more : List Entry) → GoesOn_or_lost n hosts m t k
+    → AllByRecursion IsPlain more
+    → NodeKeeps n hosts (t ++ (k.entries ++ more)) (after_planned k.writes m) (runs_on k) × AreToldBehind t (k.entries ++ more) × AllByRecursion (IsOf n)
+    (k.entries ++ more)
+step_keeps n hosts t m k more fine plain =
+    let told = told_ended n hosts t m k fine in (
+      subst (λ l. NodeKeeps n hosts l (after_planned k.writes m) (runs_on k)) (append_assoc t k.entries more)
+          (keeps_same n hosts (t ++ k.entries) ((t ++ k.entries) ++ more) (after_planned k.writes m) (runs_on k) (plain_same n
+          (t ++ k.entries) more plain) (keeps_ended n hosts t m k fine)),
+      told_append t k.entries more told.0 (plain_told (t ++ k.entries) more plain),
+      all_append (IsOf n) k.entries more told.1 (plain_own n more plain),
+    )
+
+module _ (hosts : List ℕ) (are : AreHosts hosts) where
+  -- what all keep after an event, and what is told of it
+  pub record Goes (t : List Entry) (w : NodeWorld) (es : List Entry) : Type 0 where
+    pub keep : AllKeep hosts (t ++ es) w
+    pub told : AreToldBehind t es
+
+  pub goes_not : (t : List Entry) (w : NodeWorld) → AllKeep hosts t w → Goes t w []
+  goes_not t w all = record { keep = subst (λ l. AllKeep hosts l w) (sym (append-nil t)) all; told = tt }
+
+  pub goes_then : (t : List Entry) (w : NodeWorld) (xs ys : List Entry) → AreToldBehind t xs → Goes (t ++ xs) w ys → Goes t w (xs ++ ys)
+  goes_then t w xs ys told g = record { keep = subst (λ l. AllKeep hosts l w) (append_assoc t xs ys) g.keep; told = told_append t xs ys told g.told }
+
+  zero_host : (h : ℕ) → IsHost h → h ≡ 0 → ⊥
+  zero_host h host is = omega (arith, host.0)
+
+  hosts_of_sites : (t : List Entry) (w : NodeWorld) → AllKeep hosts t w → AllByRecursion IsHost (hosts_in w.sites)
+  hosts_of_sites t w all = subst (AllByRecursion IsHost) (sym all.hosts_are) are.all
+
+  -- the controller changes, and the links
+  pub controller_goes : (t : List Entry) (w : NodeWorld) (es : List Entry) (m : Memory) (node : Option Running) (g : Site → Site) → AllKeep hosts t w
+      → NodeKeeps 0 hosts (t ++ es) m node → AreToldBehind t es → AllByRecursion (IsOf 0) es
+      → ((s : Site) → (g s).host ≡ s.host) → ((s : Site) → SiteKeeps (t ++ es) s → SiteKeeps (t ++ es) (g s))
+      → Goes t (record { memory = m; controller = node; sites = map g w.sites }) es
+  controller_goes t w es m node g all keeps told own host site = record {
+    keep = record {
+      controller = keeps;
+      hosts_are = hosts_same g host w.sites ∙ all.hosts_are;
+      sites = map_sites t (t ++ es) IsHost g
+          (λ s is k. site s (keeps_same s.host (s.host ∷ []) t (t ++ es) s.memory s.node (other_same 0 s.host t es (λ e. zero_host s.host is (sym e)) own) k))
+          w.sites (hosts_of_sites t w all) all.sites;
+      strangers = λ n strange. (other_same 0 n t es (λ e. true≢false (sym (ap (λ k. eqb k 0) (sym e)) ∙ strange.0)) own).book ∙ all.strangers n strange;
+    };
+    told = told;
+  }
+
+  -- a host changes
+  pub host_goes : (t : List Entry) (w : NodeWorld) (es : List Entry) (h : ℕ) (x : Site) (f : Site → Site) → AllKeep hosts t w → site_at w.sites h ≡ Some x
+      → SiteKeeps (t ++ es) (f x) → AreToldBehind t es → AllByRecursion (IsOf h) es → ((s : Site) → (f s).host ≡ s.host)
+      → Goes t (record w { sites = with_site h f w.sites }) es
+  host_goes t w es h x f all here keeps told own host =
+      let known = site_found (SiteKeeps t) IsHost w.sites h x all.sites (hosts_of_sites t w all) here in
+      let is_host : IsHost h = subst IsHost known.2 known.1 in
+      record {
+        keep = record {
+          controller = keeps_same 0 hosts t (t ++ es) w.memory w.controller (other_same h 0 t es (zero_host h is_host) own) all.controller;
+          hosts_are = hosts_with h f host w.sites ∙ all.hosts_are;
+          sites = with_site_keeps t (t ++ es) h f
+              (λ s off k. keeps_same s.host (s.host ∷ []) t (t ++ es) s.memory s.node (other_same h s.host t es (λ e. eqb-false s.host h off (sym e)) own) k)
+              w.sites x (subst AreDifferent (sym all.hosts_are) are.different) here keeps all.sites;
+          strangers = λ n strange.
+              let off = site_found (SiteKeeps t) (λ k. eqb k n ≡ false) w.sites h x all.sites (subst (AllByRecursion (λ k. eqb k n ≡ false))
+              (sym all.hosts_are) strange.1) here in
+              (other_same h n t es (λ e. eqb-false x.host n off.1 (known.2 ∙ e)) own).book ∙ all.strangers n strange;
+        };
+        told = told;
+      }
+
+  -- ### Steps
+
+  plain_arrival : (who : LinkSide) (h : ℕ) (l : Link) (comes : Comes) → AllByRecursion IsPlain (entries_for h (arrival who l comes))
+  plain_arrival who h l comes = plain_entries h (arrival who l comes)
+
+  -- what a step does with a node that runs
+  abbrev pub IsStep : ℕ → List ℕ → (Work → Work) → Type 0
+  IsStep n links f = (old : Memory) (before : List Entry) (w : Work) → Rattle.node_laws.specs.kept.Books.StillRuns n links old before w → IsOnOrder
+      w.core.command w.core.init
+      → GoesOn_or_lost n links old before (f w)
+
+  controller_steps : (t : List Entry) (w : NodeWorld) (h : ℕ) (comes : Comes) (f : Work → Work) → AllKeep hosts t w → IsStep 0 hosts f
+      → Goes t (controller_does w h comes f).0 (controller_does w h comes f).1
+  controller_steps t w h comes f all step =
+      by_controller (λ p. Goes t p.0 p.1) w h comes f (goes_not t w all)
+      (λ r e.
+      let runs = (subst (NodeKeeps 0 hosts t w.memory) e all.controller).runs in
+      let work : Work = controller_work w r h comes f in
+      let frames : List Entry = flat_map (λ (s : Site). frames_noted Controller s.host (wires_for s.link (comes_to h comes s.host)) work) w.sites in
+      let begun : List Entry = entries_for h (arrival Controller (link_to w.sites h) comes) in
+      let fine : GoesOn_or_lost 0 hosts w.memory t work =
+      step w.memory t (work_of r w.memory.plan (λ k. near_end_in (link_to w.sites k) (comes_to h comes k)) begun)
+      (runs_begun 0 hosts t w.memory r (λ k. near_end_in (link_to w.sites k) (comes_to h comes k)) begun
+      (plain_arrival Controller h (link_to w.sites h) comes) runs) runs.on in
+      let done = step_keeps 0 hosts t w.memory work frames fine
+      (plain_flat (λ (s : Site). frames_noted Controller s.host (wires_for s.link (comes_to h comes s.host)) work)
+      (λ s. plain_frames Controller s.host (wires_for s.link (comes_to h comes s.host)) work) w.sites) in
+      controller_goes t w (work.entries ++ frames) (after_planned work.writes w.memory) (runs_on work) (link_after_controller h comes work) all
+      done.0 done.1 done.2 (λ s. refl) (λ s keeps. keeps))
+
+  host_steps : (t : List Entry) (w : NodeWorld) (h : ℕ) (comes : Comes) (f : Work → Work) → AllKeep hosts t w
+      → ((x : Site) (r : Running) → site_at w.sites h ≡ Some x → x.node ≡ Some r → IsHost x.host → IsOnOrder r.core.command r.core.init
+      → (before : List Entry) (work : Work) → work.core ≡ r.core → Rattle.node_laws.specs.kept.Books.StillRuns x.host (x.host ∷ []) x.memory before work
+      → GoesOn_or_lost x.host (x.host ∷ []) x.memory before (f work))
+      → Goes t (host_does w h comes f).0 (host_does w h comes f).1
+  host_steps t w h comes f all step =
+      by_host (λ p. Goes t p.0 p.1) w h comes f (goes_not t w all)
+      (λ x r here e.
+      let known = site_found (SiteKeeps t) IsHost w.sites h x all.sites (hosts_of_sites t w all) here in
+      let runs = (subst (NodeKeeps x.host (x.host ∷ []) t x.memory) e known.0).runs in
+      let work : Work = host_work x r comes f in
+      let frames : List Entry = frames_noted Host h (wires_for (exchanged x.link) comes) work in
+      let begun : List Entry = entries_for x.host (arrival Host (exchanged x.link) comes) in
+      let fine : GoesOn_or_lost x.host (x.host ∷ []) x.memory t work =
+      step x r here e known.1 runs.on t (work_of r x.memory.plan (λ k. near_end_in (exchanged x.link) comes) begun) refl
+      (runs_begun x.host (x.host ∷ []) t x.memory r (λ k. near_end_in (exchanged x.link) comes) begun
+      (plain_arrival Host x.host (exchanged x.link) comes) runs) in
+      let done = step_keeps x.host (x.host ∷ []) t x.memory work frames fine (plain_frames Host h (wires_for (exchanged x.link) comes) work) in
+      host_goes t w (work.entries ++ frames) h x (after_host comes work) all here done.0 done.1
+      (subst (λ n. AllByRecursion (IsOf n) (work.entries ++ frames)) known.2 done.2) (λ s. refl))
+
+-- ## What all nodes keep over what happens to the world
 
 pub no_order : (command order : Option (List ℕ)) (init : Option Init) → is_some command ≡ false → IsOnOrder command init → IsOnOrder order init
 no_order None None None off on = tt
@@ -109,7 +465,7 @@ module _ (hosts : List ℕ) (are : AreHosts hosts) where
     told = plain_told t es plain;
   }
 
-  -- ## Steps
+  -- ### Steps
 
   pub comes_goes : (t : List Entry) (w : NodeWorld) (e : End) (comes : Comes) → AllKeep hosts t w → GoesBy t (comes_at w e comes)
   comes_goes t w e comes all =
@@ -154,7 +510,7 @@ module _ (hosts : List ℕ) (are : AreHosts hosts) where
       all_fine x.host (x.host ∷ []) x.memory before h (beginning identity pipes) work (Some work.core.journal) k refl refl work.ports
       (same_new work.ports) (λ z. (tt, (tt, tt))))
 
-  -- ## Losses
+  -- ### Losses
 
   pub lost_goes : (t : List Entry) (w : NodeWorld) (e : End) (why : Loss) → AllKeep hosts t w → GoesBy t (frame_lost w e why)
   lost_goes t w e why all =
@@ -181,7 +537,7 @@ module _ (hosts : List ℕ) (are : AreHosts hosts) where
         stays f keeps true s k = keeps s k
         stays f keeps false s k = k
 
-  -- ## Power
+  -- ### Power
 
   -- the power of a node that runs is cut
   near_cut : (t : List Entry) (w : NodeWorld) (r : Running) → AllKeep hosts t w → w.controller ≡ Some r → Goes hosts are t (controller_cut w) (entry.Cut 0 ∷ [])
@@ -220,7 +576,7 @@ module _ (hosts : List ℕ) (are : AreHosts hosts) where
       nobody : eqb n 0 ≡ false → site_at w.sites n ≡ None → node_at w n ≡ Some r → ⊥
       nobody off here is = let gone : None ≡ Some r = rw here at (rw off at is) in cc gone
 
-  -- ## Memories and boots
+  -- ### Memories and boots
 
   with_none : (n : ℕ) (f : Site → Site) (sites : List Site) → AllByRecursion (λ k. eqb k n ≡ false) (hosts_in sites) → with_site n f sites ≡ sites
   with_none n f [] all = refl

@@ -1,27 +1,374 @@
--- What a node keeps in a step.
-use Rattle.node_laws.proofs.Words.{ActOut, ActTick, AllByRecursion, AreDifferent, AreHosts, AreTables, AtEnd, Awaiting, Bare, Clf, Commits, Core, Creation}
-use Rattle.node_laws.proofs.Words.{Deed, Entry, Give, HciTables, Inactive, Init, IsAllowedStill, IsCommand, IsHost, IsNodeNumber, IsOnOrder, IsPlain, LinkInput}
-use Rattle.node_laws.proofs.Words.{List, MayBeDone, MayWait, Memory, NodeInput, None, Notice, Option, Phase, Port, Release, Releases, Reset, Role, Sends, Some}
-use Rattle.node_laws.proofs.Words.{State, StillRuns, Sync, TimePasses, Uicc, WaitsAt, WaitsFor, Work, [], act_answer, act_out, after_input, after_sessions}
-use Rattle.node_laws.proofs.Words.{all_append, all_come, all_done, all_owed, all_owed_hold, and_from, and_parts, ap, append-nil, apply, asked_at, by_option}
-use Rattle.node_laws.proofs.Words.{cases_Bool, cond, cond_both, creation_in, eqb, eqb-true, false, finds_room, flat_map, forgets, forgotten, forgotten_hold}
-use Rattle.node_laws.proofs.Words.{has_come, hosts_of_ends, inl, input_at, inr, is_forgotten, is_kept_sync, is_late, is_open, is_over, le-leb, leb, list_any}
-use Rattle.node_laws.proofs.Words.{map, not, out_ticked, own_side, passes, refl, report, reset_late, steps, subst, sym, synced, times_out, told, told_at}
-use Rattle.node_laws.proofs.Words.{told_late, true, true≢false, turn_at, unless_cut, whole_acked, with_older, without_notice, ℕ, ◌&&◌, ◌++◌, ◌+◌, ◌∙◌, ◌∷◌, ◌≡◌}
-use Rattle.node_laws.proofs.Words.{◌⊎◌}
-use Rattle.swp_base.specs.declared.control_frames.Act.{Act}
+-- What a node does with a message may be done, and what it keeps in its turns and in a step.
+use Rattle.std.proofs.Common.{add-one}
+use Rattle.node_laws.proofs.Words.{About, ActOut, ActTick, AllByRecursion, Answer, AreDifferent, AreHosts, AreTables, Ask, AtEnd, Awaiting, Bare, Bool, Clear}
+use Rattle.node_laws.proofs.Words.{Clf, Command, Commit, Commits, Core, Create, Creation, Decision, Deed, Delete, Ends, Entry, FetchMessage, Forgotten, Give}
+use Rattle.node_laws.proofs.Words.{HciTables, Hold, Inactive, Init, InitSame, IsAllowedStill, IsCommand, IsHost, IsNodeNumber, IsOnOrder, IsPlain}
+use Rattle.node_laws.proofs.Words.{IsRecordableDecision, IsSome, IsTrue, LinkInput, LinkView, List, MayBeDone, MayWait, Memory, Message, NodeInput, None}
+use Rattle.node_laws.proofs.Words.{Notice, Option, Phase, PipeRow, Port, Release, Releases, Removed, Reset, Role, Sends, Set, SetOpened, Some, State, StillRuns}
+use Rattle.node_laws.proofs.Words.{Sync, Tells, TimePasses, Uicc, Waits, WaitsAt, WaitsFor, Work, [], accepts, act_answer, act_out, after_input, after_sessions}
+use Rattle.node_laws.proofs.Words.{agreed, all_append, all_come, all_done, all_false, all_owed, all_owed_hold, and_from, and_parts, answer_of, ap, append-nil}
+use Rattle.node_laws.proofs.Words.{apply, arith, asked_at, body_in, by_option, by_test, cases_Bool, cases_eq, commit_deeds, cond, cond_both, controller_deeds}
+use Rattle.node_laws.proofs.Words.{controller_holds, creation_in, decided, decided_holds, decision_deeds, deeds_of, end_of_node, end_view, eq-eqb, eqb}
+use Rattle.node_laws.proofs.Words.{eqb-true, false, far_end, far_end_of, finds_room, flat_map, forgets, forgotten, forgotten_hold, goes_through_ends, handles}
+use Rattle.node_laws.proofs.Words.{has, has_come, have_turns, holds_back, host_deeds, host_holds, hosts_of_ends, hosts_where, init_agreed, init_deeds, inl}
+use Rattle.node_laws.proofs.Words.{input_at, inr, is_allowed, is_command, is_dynamic, is_forgotten, is_held, is_host, is_kept, is_kept_sync, is_late, is_none}
+use Rattle.node_laws.proofs.Words.{is_open, is_over, is_same, is_some, is_welcome, lack, le-leb, learned, learned_holds, learns, learns_holds, leb, lets_go}
+use Rattle.node_laws.proofs.Words.{link_deeds, link_served, list_any, lt-ltb, ltb, map, ne_eqb, needs, not, not-false, noting, option_and_then, option_map_or}
+use Rattle.node_laws.proofs.Words.{ordered_deeds, ordered_holds, orders_of, out_ticked, own_side, own_view, param_in, passes, pid_of, pipe_at, pipe_named_in}
+use Rattle.node_laws.proofs.Words.{port_at, refl, report, reset_late, slice_get, steps, subst, suc, sym, synced, tests_of_pipe, tests_to_delete}
+use Rattle.node_laws.proofs.Words.{tests_to_set_it, times_out, told, told_at, told_late, true, true≢false, turn_at, unless_cut, value_in, view_for, view_of}
+use Rattle.node_laws.proofs.Words.{whole_acked, with_desk, with_older, without_notice, zero, ℕ, ◌&&◌, ◌++◌, ◌+◌, ◌<◌, ◌||◌, ◌∙◌, ◌∷◌, ◌≡◌, ◌≤◌, ◌⊎◌}
+use Rattle.gate_admin.proofs.CreationLemmas.{AllFalse, creation-recordable}
+use Rattle.gate_answers.specs.Answers.{is_read_only, is_unknown_access}
+use Rattle.node_machine.specs.HostReplies.{is_open_gate}
+use Rattle.registry.specs.Access.{access_of}
+use Rattle.sorted_rows.proofs.RowLemmas.{row_of-within}
 use Rattle.swp_act.specs.declared.Phase.TheVariants.{Active}
-use Rattle.node_laws.proofs.steps.Values.{whitelist_left}
-use Rattle.node_laws.proofs.steps.Waits.{within, same_list}
-use Rattle.node_laws.proofs.kept.Asking.{same_new}
-use Rattle.node_laws.proofs.kept.Plainly.{Plainly, runs_plainly, plainly_same, plainly_core, plainly_ports, plainly_then, plainly_map, plain_flat}
-use Rattle.node_laws.proofs.kept.Plainly.{plain_entries}
-use Rattle.node_laws.proofs.kept.Doing.{uncut, GoesOn_or_lost, all_fine}
-use Rattle.node_laws.proofs.kept.HostsReply.{OneOrNone, behind_one}
-use Rattle.node_laws.proofs.kept.Turning.{then_all, passes_fine}
-use Rattle.node_laws.proofs.steps.Ports.{come_host, forgets_host, late_host, without_host}
+use Rattle.swp_base.specs.declared.control_frames.Act.{Act}
+use Rattle.node_laws.proofs.kept.Doing.{GoesOn_or_lost, Plainly, all_fine, plain_entries, plain_flat, plainly_core, plainly_desk, plainly_map, plainly_noting}
+use Rattle.node_laws.proofs.kept.Doing.{plainly_ports, plainly_same, plainly_then, plainly_turn, runs_plainly, same_new, stays_cut, uncut}
+use Rattle.node_laws.proofs.steps.StepWalks.{at_port, come_host, forgets_host, late_host, message_allowed, same_list, whitelist_left, within, without_host}
+use Rattle.gate_answers.specs.declared.response.Response.TheVariants as response
+use Rattle.trace_model.specs.declared.entry.Entry.TheVariants as entry
 
--- ## What comes
+-- ## What a controller decides may be recorded
+
+row_dynamic : (t : HciTables) (h pipe : ℕ) → AreTables t → is_none (option_and_then (far_end_of h) (pipe_at t.rows pipe)) ≡ false → (2 ≤ pipe) × (pipe < 112)
+row_dynamic t h pipe are some = by_row (pipe_at t.rows pipe) refl some where
+  by_row : (o : Option PipeRow) → pipe_at t.rows pipe ≡ o → is_none (option_and_then (far_end_of h) o) ≡ false → (2 ≤ pipe) × (pipe < 112)
+  by_row None is some = absurd (true≢false some)
+  by_row (Some row) is some = row_of-within pid_of 2 112 pipe t.rows are.rows (subst IsSome (sym is) refl)
+
+pipe_known : (t : HciTables) (h pipe : ℕ) → AreTables t → is_none (far_end t h pipe) ≡ false → pipe < 112
+pipe_known t h pipe are some =
+    cond_both (eqb pipe 0) (Some (0, 6)) (cond (eqb pipe 1) (Some (0, 0)) (option_and_then (far_end_of h) (pipe_at t.rows pipe)))
+    (λ o. is_none o ≡ false → pipe < 112)
+    (λ zero_is x. omega (arith, eqb-true pipe 0 zero_is))
+    (λ other. cond_both (eqb pipe 1) (Some (0, 0)) (option_and_then (far_end_of h) (pipe_at t.rows pipe)) (λ o. is_none o ≡ false → pipe < 112)
+    (λ one_is x. omega (arith, eqb-true pipe 1 one_is))
+    (λ dynamic x. (row_dynamic t h pipe are x).1)) some
+
+host_is : (h : ℕ) → h ≤ 7 → is_host h ≡ true
+host_is h most = le-leb h 7 most
+
+may_open : (h pipe : ℕ) (opened : Bool) → h ≤ 7 → pipe < 112 → IsCommand (SetOpened h pipe opened)
+may_open h pipe opened most small = and_from (is_host h) (ltb pipe 112) (host_is h most) (lt-ltb pipe 112 small)
+
+kept_param : (h p : ℕ) → 1 ≤ h → h ≤ 7 → is_unknown_access (access_of 0 p) ≡ false → is_read_only (access_of 0 p) ≡ false → IsTrue (is_kept h 0 p)
+kept_param h p some most known writable = elim (cases_eq p 1) [
+  | inl is ↦ kept_as 1 is refl
+  | inr a ↦ elim (cases_eq p 3) [ inl is ↦ kept_as 3 is refl | inr b ↦ absurd (neither a b) ]
+] where
+  front : (leb 1 h && leb h 7 && true) ≡ true
+  front = and_from (leb 1 h && leb h 7) true (and_from (leb 1 h) (leb h 7) (le-leb 1 h some) (le-leb h 7 most)) refl
+
+  kept_as : (k : ℕ) → p ≡ k → (eqb k 1 || eqb k 3) ≡ true → IsTrue (is_kept h 0 p)
+  kept_as k is good = and_from (leb 1 h && leb h 7 && true) (eqb p 1 || eqb p 3) front (ap (λ n. eqb n 1 || eqb n 3) is ∙ good)
+
+  -- a parameter that can be written isn't 2 or 4
+  never : (k : ℕ) → is_read_only (access_of 0 k) ≡ true → p ≡ k → ⊥
+  never k only is = true≢false (sym (ap (λ n. is_read_only (access_of 0 n)) is ∙ only) ∙ writable)
+
+  neither : (p ≡ 1 → ⊥) → (p ≡ 3 → ⊥) → ⊥
+  neither a b =
+      let e1 = ne_eqb 1 p (λ s. a (sym s)) in
+      let e2 = ne_eqb 2 p (λ s. never 2 refl (sym s)) in
+      let e3 = ne_eqb 3 p (λ s. b (sym s)) in
+      let e4 = ne_eqb 4 p (λ s. never 4 refl (sym s)) in
+      let unknown : is_unknown_access (access_of 0 p) ≡ true = rw (e1, e2, e3, e4) refl in
+      true≢false (sym unknown ∙ known)
+
+pub decided_recordable : (t : HciTables) (v : LinkView) (h pipe instruction : ℕ) (body : List ℕ) → AreTables t → 1 ≤ h → h ≤ 7
+    → IsRecordableDecision (decided t v h pipe instruction body)
+unfolding AllFalse
+decided_recordable t v h pipe instruction body are some most =
+    decided_holds IsRecordableDecision t v h pipe body instruction (λ r value. refl) (λ tested.
+    let small : pipe < 112 = pipe_known t h pipe are (all_false (tests_of_pipe t h pipe instruction) tested).0 in
+    record {
+      opens = may_open h pipe true most small;
+      closes = may_open h pipe false most small;
+      sets = λ passed.
+          let none = all_false (tests_to_set_it v h body) passed in
+          and_from (is_kept h 0 (param_in body)) (is_allowed h (param_in body) (value_in body))
+          (kept_param h (param_in body) some most none.1.0 none.1.1.0)
+          (not-false (is_allowed h (param_in body) (value_in body)) none.1.1.1.0);
+      makes = λ passed controller. creation-recordable t v h body most passed;
+      asks = λ passed other. creation-recordable t v h body most passed;
+      deletes = λ passed.
+          let within = row_dynamic t h (param_in body) are (all_false (tests_to_delete t v h body) passed).1.0 in
+          and_from (leb 2 (param_in body)) (ltb (param_in body) 112) (le-leb 2 (param_in body) within.0) (lt-ltb (param_in body) 112 within.1);
+      clears = λ _. host_is h most;
+    })
+
+-- ## A controller may do what it does with a message
+
+waiting : (n : Option Notice) (c : Creation) → WaitsFor n → creation_in n ≡ Some c → IsCommand c.command
+waiting None c w e = absurd (cc e)
+waiting (Some n) c w e = by_about n.about w e where
+  by_about : (a : About) → WaitsFor (Some (record { about = a; age = n.age })) → creation_in (Some
+      (record { about = a; age = n.age })) ≡ Some c → IsCommand c.command
+  by_about (Waits d) w e = let same : d ≡ c = cc in subst (λ (x : Creation). IsCommand x.command) same w
+  by_about Forgotten w e = absurd (cc e)
+  by_about Removed w e = absurd (cc e)
+
+module _ (core : Core) (on : IsOnOrder core.command core.init) where
+  abbrev Fine : List Deed → Type 0
+  Fine deeds = MayBeDone (Some core.journal) core.command core.init deeds
+
+  told_of_replies : (s : Option State) (message : List ℕ) (hosts : List ℕ) → MayBeDone s core.command core.init (map (λ x. Tells x message) hosts)
+  told_of_replies s message [] = on
+  told_of_replies s message (x ∷ hosts) = told_of_replies s message hosts
+
+  commit_may : (c : Command) (room : Bool) → finds_room core c ≡ room → (h pipe : ℕ) (answer : List ℕ) (behind : List Deed) → IsCommand c
+      → MayBeDone None core.command core.init behind → Fine (commit_deeds room h pipe c answer behind)
+  commit_may c true e h pipe answer behind may fine = ((may, e), fine)
+  commit_may c false e h pipe answer behind may fine = on
+
+  agreed_may : (c : Creation) (flag : Bool) → (flag ≡ true → finds_room core c.command ≡ true) → IsCommand c.command → Fine (agreed flag c)
+  agreed_may c true e may = ((may, e refl), on)
+  agreed_may c false e may = on
+
+  link_may : (h pipe : ℕ) (answer : List ℕ × Option ℕ) → Fine (link_deeds h pipe answer)
+  link_may h pipe answer = by_value answer.0 answer.1 where
+    by_value : (message : List ℕ) (value : Option ℕ) → Fine (link_deeds h pipe (message, value))
+    by_value message None = on
+    by_value message (Some errors) = on
+
+  decision_may : (h pipe : ℕ) (d : Decision) → IsRecordableDecision d → Fine (decision_deeds (own_view core) h pipe d)
+  decision_may h pipe (Answer answer) may = on
+  decision_may h pipe (Commit c answer tell notice) may =
+      commit_may c (finds_room core c) refl h pipe answer.items _ may (told_of_replies None notice.items (hosts_where (has tell)))
+  decision_may h pipe (Ask asked notice c answer) may = (may, on)
+
+  module _ (sorted : AreTables core.tables) (ports : List Port) (all : AllByRecursion WaitsAt ports) (h : ℕ) (some : 1 ≤ h) (most : h ≤ 7) where
+    pub controller_may : (m : Message) → Fine (controller_deeds (view_of core ports) h m)
+    controller_may m =
+        let v : LinkView = view_for core.tables ports h in
+        controller_holds Fine core ports h m (record {
+          drops = λ pid none. on;
+          goes_on = λ to off. on;
+          goes_back = λ n event. on;
+          refuses = λ r off free. on;
+          names = λ n served gate. on;
+          counts = λ errors n served gate. link_may h m.0 (link_served errors n (body_in m.1));
+          decides =
+              λ n served gate. decision_may h m.0 (decided core.tables v h m.0 n (body_in m.1))
+              (decided_recordable core.tables v h m.0 n (body_in m.1) sorted some most);
+          hears = λ p reply here asked. on;
+          agrees = λ flag p c reply here asked room. agreed_may c flag room (waiting p.desk.notice c (at_port WaitsAt ports h p all here) asked);
+        })
+
+-- ## A host may do what it does with a message
+
+-- a pipe that a message names is closed
+named_closed : (body : List ℕ) (row : PipeRow) → pipe_named_in body ≡ Some row → row.opened ≡ false
+named_closed (a ∷ b ∷ c ∷ d ∷ e ∷ []) row is = let P : Option PipeRow → Bool = λ o. option_map_or (λ (r : PipeRow). r.opened) o false in sym (ap P is)
+named_closed _ row is = absurd (cc is)
+
+welcome_may : (own : ℕ) (row : PipeRow) → own ≤ 7 → is_welcome own row ≡ true → row.opened ≡ false → IsCommand (Create row)
+welcome_may own row most is closed =
+    let a = and_parts (is_host row.creator && not (eqb row.creator own) && eqb row.dest own && is_open_gate row.dest_gate) (is_dynamic row.pid) is in
+    let b = and_parts (is_host row.creator && not (eqb row.creator own) && eqb row.dest own) (is_open_gate row.dest_gate) a.0 in
+    let c = and_parts (is_host row.creator && not (eqb row.creator own)) (eqb row.dest own) b.0 in
+    let d = and_parts (is_host row.creator) (not (eqb row.creator own)) c.0 in
+    let same : row.dest ≡ own = eqb-true row.dest own c.1 in
+    let four = is_dynamic row.pid && is_host row.creator && is_host row.dest && not (eqb row.creator row.dest) in
+    and_from four (not row.opened)
+    (and_from (is_dynamic row.pid && is_host row.creator && is_host row.dest) (not (eqb row.creator row.dest))
+    (and_from (is_dynamic row.pid && is_host row.creator) (is_host row.dest) (and_from (is_dynamic row.pid) (is_host row.creator) a.1 d.0)
+    (ap is_host same ∙ le-leb own 7 most))
+    (ap (λ x. not (eqb row.creator x)) same ∙ d.1))
+    (ap not closed)
+
+delete_may : (t : HciTables) (pid : ℕ) → AreTables t → is_some (pipe_at t.rows pid) ≡ true → IsCommand (Delete pid)
+delete_may t pid are some =
+    let within = row_of-within pid_of 2 112 pid t.rows are.rows some in
+    and_from (leb 2 pid) _ (le-leb 2 pid within.0) (lt-ltb pid 112 within.1)
+
+-- ### Orders
+
+-- behind the last one there is none
+last_one : (front : List (List ℕ)) (l o : List ℕ) (k : ℕ) → slice_get (front ++ l ∷ []) k ≡ Some o → slice_get (front ++ l ∷ []) (suc k) ≡ None → o ≡ l
+last_one [] l o zero is none = cc
+last_one [] l o (suc k) is none = absurd (cc is)
+last_one (x ∷ front) l o zero is none = absurd (more front none) where
+  more : (front : List (List ℕ)) → slice_get (front ++ l ∷ []) zero ≡ None → ⊥
+  more [] e = absurd (cc e)
+  more (y ∷ front) e = absurd (cc e)
+last_one (x ∷ front) l o (suc k) is none = last_one front l o k is none
+
+-- nothing, or one command that may be committed
+abbrev pub OneOrNone : Core → List Deed → Type 0
+OneOrNone core deeds = (deeds ≡ []) ⊎ ((c : Command) × (deeds ≡ Commits c ∷ []) × IsCommand c × (finds_room core c ≡ true))
+
+one : (core : Core) (c : Command) → is_command c ≡ true → finds_room core c ≡ true → OneOrNone core (Commits c ∷ [])
+one core c may room = inr (c, refl, may, room)
+
+learned_one : (core : Core) (order value : List ℕ) → OneOrNone core (learned (own_view core) order value)
+learned_one core order value = learned_holds (OneOrNone core) core (inl refl) (one core) order value
+
+-- what may be done behind nothing or one command
+behind_one : (core : Core) (first behind : List Deed) (command : Option (List ℕ)) (init : Option Init) → OneOrNone core first
+    → MayBeDone None command init behind → MayBeDone (Some core.journal) command init behind → MayBeDone (Some core.journal) command init (first ++ behind)
+behind_one core first behind command init (inl is) none some = subst (λ l. MayBeDone (Some core.journal) command init (l ++ behind)) (sym is) some
+behind_one core first behind command init (inr one) none some = subst (λ l. MayBeDone (Some core.journal) command init (l ++ behind)) (sym one.1)
+    ((one.2, one.3), none)
+
+-- an init that goes on
+agreed_on : (core : Core) (i : Init) (s : Option State) (value order : List ℕ) → slice_get (orders_of i) (i.answered + 1) ≡ Some order
+    → MayBeDone s None (Some i) (init_agreed (own_view core) i value)
+agreed_on core i s value order next =
+    cond_both (is_same (own_view core) i value) (Ends (InitSame (end_of_node core core.node)) ∷ []) _ (MayBeDone s None (Some i)) (λ _. (tt, tt))
+    (λ _. rw next next)
+
+-- one that ends
+agreed_last : (core : Core) (i : Init) (value : List ℕ) → slice_get (orders_of i) (i.answered + 1) ≡ None
+    → MayBeDone (Some core.journal) None (Some i) (init_agreed (own_view core) i value)
+agreed_last core i value none =
+    cond_both (is_same (own_view core) i value) (Ends (InitSame (end_of_node core core.node)) ∷ []) _ (MayBeDone (Some core.journal) None (Some i))
+    (λ _. (tt, tt))
+    (λ _. rw none (behind_one core (learns (own_view core) (Set core.node 0 1 (record { items = i.identity }))) _ None (Some i)
+    (learns_holds (OneOrNone core) core (inl refl) (one core) (Set core.node 0 1 (record { items = i.identity }))) (tt, tt) (tt, tt)))
+
+-- behind the last command of an init nothing else is learned
+last_learned : (core : Core) (i : Init) (order value : List ℕ) → slice_get (orders_of i) i.answered ≡ Some order
+    → slice_get (orders_of i) (i.answered + 1) ≡ None
+    → learned (own_view core) order value ≡ []
+last_learned core i order value is none =
+    ap (λ o. learned (own_view core) o value)
+    (last_one ((3 ∷ []) ∷ (2 ∷ 1 ∷ []) ∷ (20 ∷ []) ∷ (3 ∷ []) ∷ map (λ pipe. 16 ∷ pipe) i.pipes) (1 ∷ 1 ∷ i.identity) order i.answered is
+    (ap (slice_get (orders_of i)) (sym (add-one i.answered)) ∙ none))
+
+answered_may : (core : Core) (code : ℕ) (value order : List ℕ) (o : Option Init) → IsOnOrder (Some order) o
+    → MayBeDone (Some core.journal) None o (cond (eqb code 0) (learned (own_view core) order value) [] ++ init_deeds (own_view core) code value o)
+answered_may core code value order None on =
+    behind_one core (cond (eqb code 0) (learned (own_view core) order value) []) [] None None
+    (cond_both (eqb code 0) (learned (own_view core) order value) [] (OneOrNone core) (λ _. learned_one core order value) (λ _. inl refl)) tt tt
+answered_may core code value order (Some i) on = by_test (eqb code 0)
+    (λ e. rw e (by_next (slice_get (orders_of i) (i.answered + 1)) refl))
+    (λ e. rw e (tt, tt)) where
+      by_next : (next : Option (List ℕ)) → slice_get (orders_of i) (i.answered + 1) ≡ next
+          → MayBeDone (Some core.journal) None (Some i) (learned (own_view core) order value ++ init_agreed (own_view core) i value)
+      by_next (Some next) is =
+          behind_one core (learned (own_view core) order value) (init_agreed (own_view core) i value) None (Some i) (learned_one core order value)
+          (agreed_on core i None value next is) (agreed_on core i (Some core.journal) value next is)
+      by_next None is =
+          subst (λ l. MayBeDone (Some core.journal) None (Some i) (l ++ init_agreed (own_view core) i value)) (sym (last_learned core i order value on is))
+          (agreed_last core i value is)
+
+module _ (core : Core) (on : IsOnOrder core.command core.init) (sorted : AreTables core.tables) (most : core.node ≤ 7) where
+  abbrev FineOfHostsReply : List Deed → Type 0
+  FineOfHostsReply deeds = MayBeDone (Some core.journal) core.command core.init deeds
+
+  accepts_may : (c : Command) → IsCommand c → FineOfHostsReply (accepts (own_view core) c)
+  accepts_may c may = commit_may core on c (finds_room core c) refl core.node 1 (answer_of response.Ok []) [] may on
+
+  ordered_may : (errors pipe n : ℕ) (body : List ℕ) → FineOfHostsReply (ordered_deeds (own_view core) errors pipe n body)
+  ordered_may errors pipe n body = ordered_holds FineOfHostsReply core errors pipe n body (record {
+    none = on;
+    refuses = λ r. on;
+    creates = λ row named welcome. accepts_may (Create row) (welcome_may core.node row most welcome (named_closed body row named));
+    deletes = λ pid kept. accepts_may (Delete pid) (delete_may core.tables pid sorted kept);
+    clears = λ x host. accepts_may (Clear x) host;
+    counts = λ zero. link_may core on core.node 0 (link_served errors n body);
+    names = λ off. on;
+  })
+
+  pub host_may : (p : Port) (m : Message) → FineOfHostsReply (host_deeds (own_view core) (end_view p) m)
+  host_may p m = host_holds FineOfHostsReply core p m (record {
+    none = on;
+    drops = on;
+    goes = on;
+    ordered = λ n is. ordered_may p.desk.errors m.0 n (body_in m.1);
+    heard = λ code order is. answered_may core code (body_in m.1) order core.init (subst (λ o. IsOnOrder o core.init) is on);
+  })
+
+-- ## What a node keeps in its turns
+
+seven : (n : ℕ) → IsNodeNumber n → n ≤ 7
+seven n (inl is) = omega (arith, is)
+seven n (inr host) = host.1
+
+module _ (n : ℕ) (hosts : List ℕ) (old : Memory) (before : List Entry) where
+  abbrev Runs : Work → Type 0
+  Runs w = StillRuns n hosts old before w
+
+  abbrev FineOfTurning : Work → Type 0
+  FineOfTurning w = GoesOn_or_lost n hosts old before w
+
+  -- one thing, and then another unless the power is lost
+  then_all : (f : Work → Work) (w : Work) → FineOfTurning w → ((x : Work) → Runs x → IsOnOrder x.core.command x.core.init → FineOfTurning (f x))
+      → FineOfTurning (unless_cut f w)
+  then_all f w (inl on) later = subst FineOfTurning (sym (uncut f w on.0.on)) (later w on.0 on.1)
+  then_all f w (inr lost) later = subst FineOfTurning (sym (stays_cut f w lost.off)) (inr lost)
+
+  module _ (node : IsNodeNumber n) where
+    pub deeds_may : (w : Work) (h : ℕ) (m : Message) → Runs w → IsOnOrder w.core.command w.core.init → IsHost h
+        → MayBeDone (Some w.core.journal) w.core.command w.core.init (deeds_of w.core w.ports h m)
+    deeds_may w h m r on host = by_test (eqb w.core.node 0)
+        (λ e. rw e (controller_may w.core on r.sorted w.ports r.waits h host.0 host.1 m))
+        (λ e. rw e (by_option (port_at w.ports h) (λ q. rw q on) (λ p q. rw q (host_may w.core on r.sorted small p m)))) where
+          small : w.core.node ≤ 7
+          small = omega (arith, r.number, seven n node)
+
+    pub deeds_fit : (w : Work) (h : ℕ) (m : Message) → Runs w → n ≡ 0 → AllByRecursion (IsAllowedStill w.core.tables w.ports) (deeds_of w.core w.ports h m)
+    deeds_fit w h m r z =
+        let zero_is : eqb w.core.node 0 ≡ true = eq-eqb w.core.node 0 (r.number ∙ z) in
+        rw zero_is (message_allowed w.core w.ports h r.sorted (r.allowed z) m)
+
+    pub handles_fine : (w : Work) (h : ℕ) (m : Message) (deeds : List Deed) → Runs w → MayBeDone (Some w.core.journal) w.core.command w.core.init deeds
+        → (n ≡ 0 → AllByRecursion (IsAllowedStill w.core.tables w.ports) deeds) → FineOfTurning (handles h m deeds w)
+    handles_fine w h m deeds r may fit =
+        let a : Work = noting (entry.Turn (end_of_node w.core h) m.0 m.1 ∷ []) w in
+        let b : Work = turn_at h FetchMessage a in
+        let v : Work = with_desk h (λ d. record d { holds = false }) b in
+        let p : Plainly w v = plainly_then w a v (plainly_noting w (entry.Turn (end_of_node w.core h) m.0 m.1 ∷ []) (tt, tt))
+        (plainly_then a b v (plainly_turn h FetchMessage a)
+        (plainly_desk h (λ d. record d { holds = false }) b (λ d. refl) (λ d x. x) (λ d c e. e))) in
+        let q = runs_plainly n hosts old before w v r p in
+        all_fine n hosts old before h deeds v (Some v.core.journal) q refl may w.ports p.none_new fit
+
+    pub holds_fine : (w : Work) (h : ℕ) (short : ℕ × ℕ) → Runs w → IsOnOrder w.core.command w.core.init → FineOfTurning (holds_back h short w)
+    holds_fine w h short r on = by_test (option_map_or (λ (p : Port). p.desk.holds) (port_at w.ports h) false)
+        (λ e. rw e (inl (runs_plainly n hosts old before w (turn_at h (Hold true) w) r (plainly_turn h (Hold true) w), on)))
+        (λ e. let a : Work = noting (entry.Held (end_of_node w.core h) short.0 short.1 ∷ []) w in
+        let b : Work = with_desk h (λ d. record d { holds = true }) a in
+        let v : Work = turn_at h (Hold true) b in
+        let q : Runs v = runs_plainly n hosts old before w v r
+        (plainly_then w a v (plainly_noting w (entry.Held (end_of_node w.core h) short.0 short.1 ∷ []) (tt, tt))
+        (plainly_then a b v (plainly_desk h (λ d. record d { holds = true }) a (λ d. refl) (λ d x. x) (λ d c e. e)) (plainly_turn h (Hold true) b))) in
+        rw e (inl (q, on)))
+
+    pub lets_fine : (w : Work) (h : ℕ) → Runs w → IsOnOrder w.core.command w.core.init → FineOfTurning (lets_go h w)
+    lets_fine w h r on = by_test (option_map_or (λ (p : Port). is_held p.side) (port_at w.ports h) false)
+        (λ e. rw e (inl (runs_plainly n hosts old before w (turn_at h (Hold false) w) r (plainly_turn h (Hold false) w), on)))
+        (λ e. rw e (inl (r, on)))
+
+    turns_fine : (h : ℕ) (messages : List Message) → IsHost h → (w : Work) → Runs w → IsOnOrder w.core.command w.core.init
+        → FineOfTurning (have_turns h messages w)
+    turns_fine h [] host w r on = lets_fine w h r on
+    turns_fine h (m ∷ messages) host w r on = by_room (λ x q o. turns_fine h messages host x q o) (lack w.ports (needs h deeds)) refl where
+      deeds : List Deed
+      deeds = deeds_of w.core w.ports h m
+
+      by_room : ((x : Work) → Runs x → IsOnOrder x.core.command x.core.init → FineOfTurning (have_turns h messages x))
+          → (short : Option (ℕ × ℕ)) → lack w.ports (needs h deeds) ≡ short → FineOfTurning (have_turns h (m ∷ messages) w)
+      by_room later None e = rw e (then_all (have_turns h messages) (handles h m deeds w) (handles_fine w h m deeds r (deeds_may w h m r on host)
+          (deeds_fit w h m r)) later)
+      by_room later (Some short) e = rw e (holds_fine w h short r on)
+
+    ends_fine : (hs : List ℕ) → AllByRecursion IsHost hs → (w : Work) → Runs w → IsOnOrder w.core.command w.core.init → FineOfTurning (goes_through_ends hs w)
+    ends_fine [] all w r on = inl (r, on)
+    ends_fine (h ∷ hs) all w r on =
+        then_all (goes_through_ends hs) (have_turns h (option_map_or (λ (p : Port). p.side.got) (port_at w.ports h) []) w)
+        (turns_fine h (option_map_or (λ (p : Port). p.side.got) (port_at w.ports h) []) all.0 w r on) (λ x q o. ends_fine hs all.1 x q o)
+
+    passes_fine : AllByRecursion IsHost hosts → (w : Work) → Runs w → IsOnOrder w.core.command w.core.init → FineOfTurning (passes w)
+    passes_fine all w r on = ends_fine (hosts_of_ends w.ports) (subst (AllByRecursion IsHost) (sym r.hosts_are) all) w r on
+
+-- ## What a node keeps in a step
+
+-- ### What comes
 
 come_waits : (p : Port) (o : Option LinkInput) → WaitsAt p → WaitsAt (has_come p o)
 come_waits p None w = w
@@ -41,7 +388,7 @@ plainly_come input w =
     (plain_flat (λ p. told_at w.core p (input_at input p)) (λ p. told_plain w.core p (input_at input p)) w.ports)
     (λ p. come_host p (input_at input p)) (λ p. come_waits p (input_at input p)) (λ p c e. come_new p (input_at input p) c e)
 
--- ## Timeouts
+-- ### Timeouts
 
 older_waits : (p : Port) → WaitsAt p → WaitsAt (with_older p)
 older_waits p w = by_notice p.desk.notice refl w where
@@ -66,7 +413,7 @@ late_plain core p =
 late_waits : (p : Port) → WaitsAt p → WaitsAt (reset_late p)
 late_waits p w = cond_both (is_late p) (record p { side = after_input p.side (Reset None); late = true }) p WaitsAt (λ _. w) (λ _. w)
 
-pub plainly_late : (input : NodeInput) (w : Work) → Plainly w (times_out input w)
+plainly_late : (input : NodeInput) (w : Work) → Plainly w (times_out input w)
 plainly_late (AtEnd h i) w = plainly_same w
 plainly_late TimePasses w =
     let a : Work = record w { ports = map with_older w.ports } in
@@ -74,11 +421,11 @@ plainly_late TimePasses w =
     (plainly_map a reset_late (flat_map (told_late w.core) a.ports) (plain_flat (told_late w.core) (late_plain w.core) a.ports) late_host late_waits late_new)
 
 -- what came changes no core
-pub core_late : (input : NodeInput) (w : Work) → (times_out input w).core ≡ w.core
+core_late : (input : NodeInput) (w : Work) → (times_out input w).core ≡ w.core
 core_late (AtEnd h i) w = refl
 core_late TimePasses w = refl
 
--- ## Sessions that ended
+-- ### Sessions that ended
 
 forgets_waits : (ports : List Port) (p : Port) → WaitsAt p → WaitsAt (forgets ports p)
 forgets_waits ports p w = cond_both (is_forgotten ports (asked_at p)) _ p WaitsAt (λ _. by_option p.desk.notice (λ q. rw q tt) (λ n q. rw q tt)) (λ _. w)
@@ -96,7 +443,7 @@ without_new p c asked =
     cond_both (is_over p) (record p { desk = record p.desk { notice = None } }) p (λ q. asked_at q ≡ Some c → asked_at p ≡ Some c) (λ _ e. absurd (cc e))
     (λ _ e. e) asked
 
-pub plainly_sessions : (w : Work) → Plainly w (record w { core = after_sessions w.core w.ports; ports = map without_notice (map (forgets w.ports) w.ports) })
+plainly_sessions : (w : Work) → Plainly w (record w { core = after_sessions w.core w.ports; ports = map without_notice (map (forgets w.ports) w.ports) })
 plainly_sessions w =
     let a : Work = record w { ports = map (forgets w.ports) w.ports } in
     let b : Work = record a { ports = map without_notice a.ports } in
@@ -106,12 +453,12 @@ plainly_sessions w =
     (cond_both (list_any is_over w.ports) (record w.core { command = None; init = None }) w.core (λ (c : Core). Plainly b (record b { core = c }))
     (λ _. plainly_core b None None) (λ _. plainly_same b))
 
-pub sessions_order : (core : Core) (ports : List Port) → IsOnOrder core.command core.init
+sessions_order : (core : Core) (ports : List Port) → IsOnOrder core.command core.init
     → IsOnOrder (after_sessions core ports).command (after_sessions core ports).init
 sessions_order core ports on =
     cond_both (list_any is_over ports) (record core { command = None; init = None }) core (λ (c : Core). IsOnOrder c.command c.init) (λ _. tt) (λ _. on)
 
--- ## Blocks that are freed, and answers that are owed
+-- ### Blocks that are freed, and answers that are owed
 
 -- blocks are freed and messages sent
 abbrev IsFree : Deed → Type 0
@@ -119,7 +466,7 @@ IsFree (Releases asker) = Unit {0}
 IsFree (Sends to m) = Unit {0}
 IsFree _ = ⊥
 
-pub free_may : (s : Option State) (command : Option (List ℕ)) (init : Option Init) (deeds : List Deed) → AllByRecursion IsFree deeds → IsOnOrder command init
+free_may : (s : Option State) (command : Option (List ℕ)) (init : Option Init) (deeds : List Deed) → AllByRecursion IsFree deeds → IsOnOrder command init
     → MayBeDone s command init deeds
 free_may s command init [] all on = on
 free_may s command init (Releases asker ∷ deeds) all on = free_may s command init deeds all.1 on
@@ -127,7 +474,7 @@ free_may s command init (Sends to m ∷ deeds) all on = free_may s command init 
 free_may s command init (_ ∷ deeds) all on = absurd all.0
 
 -- they leave the core
-pub freed_core : (deeds : List Deed) → AllByRecursion IsFree deeds → (w : Work) → w.cut ≡ false → (all_done 0 deeds w).core ≡ w.core
+freed_core : (deeds : List Deed) → AllByRecursion IsFree deeds → (w : Work) → w.cut ≡ false → (all_done 0 deeds w).core ≡ w.core
 freed_core [] all w on = refl
 freed_core (Releases asker ∷ deeds) all w on =
     ap (λ (x : Work). x.core) (uncut (all_done 0 deeds) (turn_at asker Release w) on) ∙ freed_core deeds all.1 (turn_at asker Release w) on
@@ -136,7 +483,7 @@ freed_core (Sends to m ∷ deeds) all w on =
     ∙ freed_core deeds all.1 (turn_at to (Give m) w) on
 freed_core (_ ∷ deeds) all w on = absurd all.0
 
-pub freed_cut : (deeds : List Deed) → AllByRecursion IsFree deeds → (w : Work) → w.cut ≡ false → (all_done 0 deeds w).cut ≡ false
+freed_cut : (deeds : List Deed) → AllByRecursion IsFree deeds → (w : Work) → w.cut ≡ false → (all_done 0 deeds w).cut ≡ false
 freed_cut [] all w on = on
 freed_cut (Releases asker ∷ deeds) all w on =
     ap (λ (x : Work). x.cut) (uncut (all_done 0 deeds) (turn_at asker Release w) on) ∙ freed_cut deeds all.1 (turn_at asker Release w) on
@@ -144,7 +491,7 @@ freed_cut (Sends to m ∷ deeds) all w on =
     ap (λ (x : Work). x.cut) (uncut (all_done 0 deeds) (turn_at to (Give m) w) on) ∙ freed_cut deeds all.1 (turn_at to (Give m) w) on
 freed_cut (_ ∷ deeds) all w on = absurd all.0
 
--- ## Sync
+-- ### Sync
 
 pub ticked_sync : (phase : Phase) (last : Option Act) → (out_ticked phase last).sync ≡ None
 ticked_sync Inactive last = refl
@@ -213,7 +560,7 @@ pub one_may : (core : Core) (deeds : List Deed) (command : Option (List ℕ)) (i
     → MayBeDone (Some core.journal) command init deeds
 one_may core deeds command init one on = subst (MayBeDone (Some core.journal) command init) (append-nil deeds) (behind_one core deeds [] command init one on on)
 
-pub free_fit : (t : HciTables) (ports : List Port) (deeds : List Deed) → AllByRecursion IsFree deeds → AllByRecursion (IsAllowedStill t ports) deeds
+free_fit : (t : HciTables) (ports : List Port) (deeds : List Deed) → AllByRecursion IsFree deeds → AllByRecursion (IsAllowedStill t ports) deeds
 free_fit t ports [] all = tt
 free_fit t ports (Releases asker ∷ deeds) all = (tt, free_fit t ports deeds all.1)
 free_fit t ports (Sends to m ∷ deeds) all = (tt, free_fit t ports deeds all.1)
@@ -236,12 +583,12 @@ module _ (t : HciTables) (ports : List Port) (sorted : AreTables t) (may : MayWa
         (Sync p.desk.host id) ∷ []) []
         (AllByRecursion (IsAllowedStill t ports)) (λ _. ((tt, sync_kept p.desk.host id), tt)) (λ _. tt)))
 
-  pub syncs_fit : (core : Core) (input : NodeInput) (ends : List Port) → AllByRecursion (IsAllowedStill t ports) (flat_map (synced core input) ends)
+  syncs_fit : (core : Core) (input : NodeInput) (ends : List Port) → AllByRecursion (IsAllowedStill t ports) (flat_map (synced core input) ends)
   syncs_fit core input [] = tt
   syncs_fit core input (p ∷ ends) = all_append (IsAllowedStill t ports) (synced core input p) (flat_map (synced core input) ends) (sync_fit core input p)
       (syncs_fit core input ends)
 
--- ## Steps
+-- ### Steps
 
 -- what a step does before the node passes its ends
 abbrev pub ready : NodeInput → Work → Work

@@ -1,21 +1,38 @@
--- What all nodes keep over a tick.
-use Rattle.node_laws.proofs.Words.{AllByRecursion, AllKeep, AreDifferent, AreHosts, AreToldBehind, Controller, Entry, Host, IsHost, IsOf, List, NodeKeeps}
-use Rattle.node_laws.proofs.Words.{NodeWorld, Site, SiteKeeps, TimePasses, Work, [], after_planned, aged, aged_entries, all_aged, ap, append-nil, append_assoc}
-use Rattle.node_laws.proofs.Words.{ap₂, book_in, by_controller_tick, by_host_tick, controller_ticks, entries_for, eqb, exchanged, false, flat_map}
-use Rattle.node_laws.proofs.Words.{frames_noted, host_tick, host_ticks, hosts_tick, inl, inr, last_in, link_to, map, near_tick, refl, runs_on, site_ticked}
-use Rattle.node_laws.proofs.Words.{site_unticked, subst, sym, work_of, world_ticks, ℕ, ◌++◌, ◌∙◌, ◌∷◌, ◌≡◌}
+-- What all nodes keep over a tick and over the lines of a schedule; commands are kept over power cuts.
 use Rattle.std.proofs.lemmas.Bool.{eqb-false}
-use Rattle.node_laws.proofs.kept.Books.{told_append}
-use Rattle.node_laws.proofs.kept.Plainly.{plain_entries, plain_flat}
-use Rattle.node_laws.proofs.kept.Doing.{GoesOn_or_lost}
+use Rattle.std.proofs.lemmas.Grind.{flat_map-append}
+use Rattle.node_laws.proofs.Words.{Activates, AllByRecursion, AllKeep, AreDifferent, AreHosts, AreToldBehind, Arms, AsksReset, Book, Bool, BootFinds, Boots}
+use Rattle.node_laws.proofs.Words.{CommandLast, Controller, CutBehindCommand, End, Entry, FindsCommands, FollowsNodes, Gives, Happening, HciTables, Header}
+use Rattle.node_laws.proofs.Words.{Host, IfRuns, Inits, IsCut, IsFew, IsHost, IsOf, IsSentByHost, IsSound, IsTold, IsTrue, IsUnformatted, Journal, Last, Line}
+use Rattle.node_laws.proofs.Words.{LineOutcome, LineStep, List, Loses, LostFor, MayHappen, NextFrame, NoCause, NodeHistory, NodeKeeps, NodeWorld, None, NotUp}
+use Rattle.node_laws.proofs.Words.{NothingYet, Occurrence, Option, Refused, Resets, Running, Same, Site, SiteKeeps, Some, Takes, Ticks, TimePasses, ToldTables}
+use Rattle.node_laws.proofs.Words.{Undetected, Verdict, Work, [], after_planned, aged, aged_entries, all_aged, all_happen, ap, append-nil, append_assoc}
+use Rattle.node_laws.proofs.Words.{applied, ap₂, arith, book_after, book_in, by_controller_tick, by_host_tick, by_option, by_test, can_happen, cases_Bool}
+use Rattle.node_laws.proofs.Words.{close, commands_in, cond, controller_ticks, entries_for, entries_in, eq-eqb, eqb, eqb-true, exchanged, false, first_cause}
+use Rattle.node_laws.proofs.Words.{first_verdict, flat_map, fold, frames_at, frames_noted, fresh, give_refusal, goes_on, happenings, happens_by, has_order}
+use Rattle.node_laws.proofs.Words.{host_tick, host_ticks, hosts_tick, if_not_sent, if_off, if_waiting, inl, inr, is_command_message, is_some, journal}
+use Rattle.node_laws.proofs.Words.{last_after, last_in, length, length-append, length-take, line_step, link_to, machine_in, map, min, ne_eqb, near_tick}
+use Rattle.node_laws.proofs.Words.{new_memory, new_site, new_world, no_journal, no_tables, node_at, node_entries, node_of, occurrences_of, refl, refusal_in}
+use Rattle.node_laws.proofs.Words.{replicate, runs_on, site_at, site_ticked, site_unticked, steps_from, subst, suc, sym, tables_in, tables_told, taken_of, true}
+use Rattle.node_laws.proofs.Words.{true≢false, work_of, world_after, world_step, world_ticks, zero, ℕ, ◌&&◌, ◌++◌, ◌+◌, ◌-◌, ◌^◌, ◌∙◌, ◌∷◌, ◌≡◌, ◌≤◌, ◌⊎◌}
+use Rattle.hci_store.specs.Image.{are_commands}
+use Rattle.journal_laws.specs.Journal.{unformatted}
+use Rattle.node_machine.specs.world.NodeLegal.{Allowed, AreAllAnswered, AreAnswered, AreFound, Kept}
+use Rattle.node_machine.specs.world.NodeLegal.Last.{OtherLast}
+use Rattle.node_laws.proofs.kept.Doing.{GoesOn_or_lost, book_more, last_more, plain_entries, plain_flat, told_append}
+use Rattle.node_laws.proofs.kept.Events.{Goes, GoesBy, IsSame, activates_goes, arms_goes, boots_goes, comes_goes, controller_goes, cut_goes, gives_goes}
+use Rattle.node_laws.proofs.kept.Events.{goes_not, goes_then, hosts_in, inits_goes, keeps_same, lost_goes, other_same, plain_frames, plain_goes, runs_begun}
+use Rattle.node_laws.proofs.kept.Events.{same_then, site_found, step_keeps}
 use Rattle.node_laws.proofs.kept.Stepping.{steps_fine}
-use Rattle.node_laws.proofs.kept.Standing.{IsSame, same_then, other_same, keeps_same, runs_begun}
-use Rattle.node_laws.proofs.kept.Sites.{hosts_in}
-use Rattle.node_laws.proofs.kept.Worlds.{Goes, goes_then, step_keeps, controller_goes, plain_frames}
-use Rattle.node_laws.proofs.kept.Events.{GoesBy, plain_goes}
-use Rattle.node_laws.proofs.readings.NoticedWorlds.{numbers}
+use Rattle.node_laws.proofs.readings.Noticed.{numbers}
+use Rattle.node_laws.proofs.telling.Lasting.{told_nothing}
+use Rattle.trace_model.specs.declared.entry.Entry.TheVariants as entry
+use Rattle.trace_model.specs.declared.entry.NoCause.TheVariants as cause
+use Rattle.trace_model.specs.declared.line.Line.TheVariants as line
 
--- ## Hosts
+-- ## What all nodes keep over a tick
+
+-- ### Hosts
 
 -- the tick of a host
 record SiteTicks (t : List Entry) (s : Site) (p : Site × List Entry) : Type 0 where
@@ -139,3 +156,405 @@ module _ (hosts : List ℕ) (are : AreHosts hosts) where
       let c = far_ticks ((t ++ old.1) ++ near.1) near.0 b.keep in
       goes_then hosts are t (record near.0 { sites = far.0 }) old.1 (near.1 ++ far.1) a.told
       (goes_then hosts are (t ++ old.1) (record near.0 { sites = far.0 }) near.1 far.1 b.told c)
+
+-- ## What all nodes keep over the lines of a schedule
+
+-- ### What may happen
+
+abbrev pub MayAllHappen : NodeWorld → List Happening → Type 0
+MayAllHappen w [] = Unit {0}
+MayAllHappen w (c ∷ causes) = MayHappen w c × MayAllHappen (world_step w c).0 causes
+
+pub few_front : (xs ys : List Entry) → IsFew (xs ++ ys) → IsFew xs
+few_front xs ys few front back n is = few front (back ++ ys) n (ap (λ l. l ++ ys) is ∙ append_assoc front back ys)
+
+-- ### Messages that may be sent
+
+pub first_none : (a b : Option NoCause) → first_cause a b ≡ None → (a ≡ None) × (b ≡ None)
+first_none None b e = (refl, e)
+first_none (Some c) b e = absurd (cc e)
+
+not_waiting : (waits : Bool) (why : Option Refused) → if_waiting waits why ≡ None → waits ≡ false
+not_waiting false why e = refl
+not_waiting true (Some NotUp) e = absurd (cc e)
+not_waiting true _ e = absurd (cc e)
+
+pub off_none : (o : Option Running) → (cond (is_some o) None (Some cause.Off)) ≡ None → (r : Running) × (o ≡ Some r)
+off_none None e = absurd (cc e)
+off_none (Some r) e = (r, refl)
+
+both_false : (a b : Bool) → (a && b) ≡ false → a ≡ true → b ≡ false
+both_false true b e is = e
+both_false false b e is = absurd (true≢false (sym is))
+
+none_of : (o : Option (List ℕ)) → is_some o ≡ false → o ≡ None
+none_of None e = refl
+none_of (Some x) e = absurd (true≢false e)
+
+pub send_may : (w : NodeWorld) (e : End) (pid : ℕ) (message : List ℕ) → IsTrue e.at_host → if_not_sent w e (pid, message) ≡ None
+    → MayHappen w (Gives e (pid, message))
+send_may w e pid message side sent r running is =
+    let waits =
+    not_waiting (eqb pid 1 && is_command_message message && has_order (node_at w (node_of e))) (give_refusal (machine_in w e) (pid, message)) sent in
+    let none : has_order (node_at w (node_of e)) ≡ false =
+    both_false (eqb pid 1 && is_command_message message) (has_order (node_at w (node_of e))) waits is in
+    none_of r.core.command (sym (ap has_order node_is) ∙ none)
+  where
+    link_is : node_of e ≡ e.link
+    link_is = ap (λ b. cond b e.link 0) side
+
+    node_is : node_at w (node_of e) ≡ Some r
+    node_is = ap (node_at w) link_is ∙ running
+
+module _ (hosts : List ℕ) (are : AreHosts hosts) where
+  known : (t : List Entry) (w : NodeWorld) (h : ℕ) (x : Site) → AllKeep hosts t w → site_at w.sites h ≡ Some x → SiteKeeps t x × IsHost x.host × (x.host ≡ h)
+  known t w h x all here = site_found (SiteKeeps t) IsHost w.sites h x all.sites (subst (AllByRecursion IsHost) (sym all.hosts_are) are.all) here
+
+  node_there : (w : NodeWorld) (h : ℕ) (x : Site) (r : Running) → IsHost h → site_at w.sites h ≡ Some x → x.node ≡ Some r → node_at w h ≡ Some r
+  node_there w h x r host here running = let off : eqb h 0 ≡ false = ne_eqb h 0 (λ z. omega (arith, z, host.0)) in rw off (rw here running)
+
+  pub world_goes : (t : List Entry) (w : NodeWorld) (c : Happening) → AllKeep hosts t w → MayHappen w c → ((n : ℕ) → length (commands_in t n) ≤ 2 ^ 32 - 1)
+      → GoesBy hosts are t (world_step w c)
+  world_goes t w (Boots n) all may few = boots_goes hosts are t w all n (few n)
+  world_goes t w (IsCut n) all may few = cut_goes hosts are t w n may.0 all may.1
+  world_goes t w (Gives e m) all may few =
+      gives_goes hosts are t w e.link m all
+      (λ x r here running is.
+      let k = known t w e.link x all here in
+      ap is_some (may r (node_there w e.link x r (subst IsHost k.2 k.1) here running) is))
+  world_goes t w (Inits e identity pipes) all may few = inits_goes hosts are t w e.link identity pipes all
+  world_goes t w (Takes e) all may few = comes_goes hosts are t w e NextFrame all
+  world_goes t w (Loses e why) all may few = lost_goes hosts are t w e why all
+  world_goes t w Ticks all may few = ticks_goes hosts are t w all
+  world_goes t w (Resets e window) all may few = comes_goes hosts are t w e (AsksReset window) all
+  world_goes t w (Activates h sync power) all may few = activates_goes hosts are t w h sync power all
+  world_goes t w (Arms n plan) all may few = arms_goes hosts are t w n plan all
+
+  -- what happens, one after another
+  happen_goes : (causes : List Happening) (t : List Entry) (w : NodeWorld) → AllKeep hosts t w → MayAllHappen w causes
+      → IsFew (t ++ entries_in (all_happen w causes).1)
+      → Goes hosts are t (all_happen w causes).0 (entries_in (all_happen w causes).1)
+  happen_goes [] t w all may few = goes_not hosts are t w all
+  happen_goes (c ∷ causes) t w all may few = by_can (λ u g m f. happen_goes causes u g m f) (cases_Bool (can_happen w c)) where
+    next : NodeWorld × List Entry
+    next = world_step w c
+
+    later : NodeWorld × List Occurrence
+    later = all_happen next.0 causes
+
+    on_is : can_happen w c ≡ true → all_happen w (c ∷ causes) ≡ (later.0, record { cause = c; entries = next.1 } ∷ later.1)
+    on_is e = rw e refl
+
+    Fine : NodeWorld × List Occurrence → Type 0
+    Fine p = Goes hosts are t p.0 (entries_in p.1)
+
+    by_can : ((u : List Entry) (v : NodeWorld) → AllKeep hosts u v → MayAllHappen v causes → IsFew (u ++ entries_in (all_happen v causes).1)
+        → Goes hosts are u (all_happen v causes).0 (entries_in (all_happen v causes).1))
+        → (can_happen w c ≡ true) ⊎ (can_happen w c ≡ false) → Fine (all_happen w (c ∷ causes))
+    by_can rest (inl e) =
+        let all_few : IsFew (t ++ (next.1 ++ entries_in later.1)) = subst (λ (p : NodeWorld × List Occurrence). IsFew (t ++ entries_in p.1)) (on_is e) few in
+        let first = world_goes t w c all may.0 (λ n. all_few t (next.1 ++ entries_in later.1) n refl) in
+        rw e (goes_then hosts are t later.0 next.1 (entries_in later.1) first.told
+        (rest (t ++ next.1) next.0 first.keep may.1 (subst IsFew (sym (append_assoc t next.1 (entries_in later.1))) all_few)))
+    by_can rest (inr e) = rw e (goes_not hosts are t w all)
+
+  -- ### Lines
+
+  takes_may : (e : End) (n : ℕ) (w : NodeWorld) → MayAllHappen w (replicate n (Takes e))
+  takes_may e zero w = tt
+  takes_may e (suc n) w = (tt, takes_may e n (world_step w (Takes e)).0)
+
+  ticks_may : (n : ℕ) (w : NodeWorld) → MayAllHappen w (replicate n Ticks)
+  ticks_may zero w = tt
+  ticks_may (suc n) w = (tt, ticks_may n (world_step w Ticks).0)
+
+  damage_may : (w : NodeWorld) (e : End) (o : Option Verdict) → MayAllHappen w (happens_by e o)
+  damage_may w e None = tt
+  damage_may w e (Some Same) = (tt, tt)
+  damage_may w e (Some (LostFor why)) = (tt, tt)
+  damage_may w e (Some (Undetected read)) = tt
+
+  pub line_may : (w : NodeWorld) (l : Line) → IsSentByHost l → refusal_in w l ≡ None → MayAllHappen w (happenings w l)
+  line_may w (line.Send e pid message) side e2 =
+      (send_may w e pid message side (first_none (if_off w (node_of e)) (if_not_sent w e (pid, message)) e2).1, tt)
+  line_may w (line.Deliver e count) side none = takes_may e (taken_of count (frames_at w e)) w
+  line_may w (line.Damage e places) side none = damage_may w e (first_verdict (frames_at w e) places.items)
+  line_may w (line.Tick times) side none = ticks_may _ w
+  line_may w (line.Busy e) side none = tt
+  line_may w (line.Ready e) side none = tt
+  line_may w (line.Cut n) side none = (off_none (node_at w n) none, tt)
+  line_may w (line.Tables n) side none = tt
+  line_may w (line.Settle n) side none = tt
+  line_may w _ side none = (tt, tt)
+
+  -- a line goes on, but for one that tells tables
+  abbrev LineFine : List Entry → NodeWorld × LineOutcome → Type 0
+  LineFine t p = Goes hosts are t p.0 (entries_in (occurrences_of p.1))
+
+  on_goes : (t : List Entry) (w : NodeWorld) (l : Line) → AllKeep hosts t w → MayAllHappen w (happenings w l)
+      → IsFew (t ++ entries_in (occurrences_of (goes_on w l).1)) → LineFine t (goes_on w l)
+  on_goes t w (line.Tables n) all may few =
+      subst (λ (os : List Occurrence). Goes hosts are t w (entries_in os)) (sym (told_nothing n (node_at w n))) (goes_not hosts are t w all)
+  on_goes t w (line.Send e pid message) all may few = happen_goes (happenings w (line.Send e pid message)) t w all may few
+  on_goes t w (line.Deliver e count) all may few = happen_goes (happenings w (line.Deliver e count)) t w all may few
+  on_goes t w (line.Lose e) all may few = happen_goes (happenings w (line.Lose e)) t w all may few
+  on_goes t w (line.Damage e places) all may few = happen_goes (happenings w (line.Damage e places)) t w all may few
+  on_goes t w (line.Tick times) all may few = happen_goes (happenings w (line.Tick times)) t w all may few
+  on_goes t w (line.Reset e window) all may few = happen_goes (happenings w (line.Reset e window)) t w all may few
+  on_goes t w (line.Busy e) all may few = happen_goes (happenings w (line.Busy e)) t w all may few
+  on_goes t w (line.Settle n) all may few = happen_goes (happenings w (line.Settle n)) t w all may few
+  on_goes t w (line.Ready e) all may few = happen_goes (happenings w (line.Ready e)) t w all may few
+  on_goes t w (line.Boot n) all may few = happen_goes (happenings w (line.Boot n)) t w all may few
+  on_goes t w (line.Cut n) all may few = happen_goes (happenings w (line.Cut n)) t w all may few
+  on_goes t w (line.Activate host sync power) all may few = happen_goes (happenings w (line.Activate host sync power)) t w all may few
+  on_goes t w (line.Arm n nth fill) all may few = happen_goes (happenings w (line.Arm n nth fill)) t w all may few
+  on_goes t w (line.Init e identity pipes) all may few = happen_goes (happenings w (line.Init e identity pipes)) t w all may few
+
+  goes_is : (w : NodeWorld) (l : Line) → refusal_in w l ≡ None → line_step w l ≡ goes_on w l
+  goes_is w l e = rw e refl
+
+  line_goes : (t : List Entry) (w : NodeWorld) (l : Line) → AllKeep hosts t w → IsSentByHost l
+      → IsFew (t ++ entries_in (occurrences_of (line_step w l).1)) → LineFine t (line_step w l)
+  line_goes t w l all side few = by_option (refusal_in w l)
+      (λ e. rw e (on_goes t w l all (line_may w l side e)
+      (subst (λ (p : NodeWorld × LineOutcome). IsFew (t ++ entries_in (occurrences_of p.1))) (goes_is w l e) few)))
+      (λ cause e. rw e (goes_not hosts are t w all))
+
+  -- ### Tables that are told
+
+  abbrev TellsRight : List Entry → LineOutcome → Type 0
+  TellsRight t (ToldTables n tables) = tables ≡ tables_in t n
+  TellsRight t _ = Unit {0}
+
+  node_tables : (t : List Entry) (w : NodeWorld) (n : ℕ) (r : Running) → AllKeep hosts t w → node_at w n ≡ Some r → r.core.tables ≡ tables_in t n
+  node_tables t w n r all is = by_test (eqb n 0)
+      (λ zero_is. let running : w.controller ≡ Some r = rw zero_is at is in
+      let runs : IfRuns 0 hosts w.memory.content t (Some r) = subst (IfRuns 0 hosts w.memory.content t) running all.controller.runs in
+      runs.tables_are ∙ ap (tables_in t) (sym (eqb-true n 0 zero_is)))
+      (λ off. by_site off (site_at w.sites n) refl) where
+        by_site : eqb n 0 ≡ false → (o : Option Site) → site_at w.sites n ≡ o → r.core.tables ≡ tables_in t n
+        by_site off None here = let gone : None ≡ Some r = rw here at (rw off at is) in absurd (cc gone)
+        by_site off (Some x) here =
+            let running : x.node ≡ Some r = rw here at (rw off at is) in
+            let k = known t w n x all here in
+            let runs : IfRuns x.host (x.host ∷ []) x.memory.content t (Some r) = subst (IfRuns x.host (x.host ∷ []) x.memory.content t) running k.0.runs in
+            runs.tables_are ∙ ap (tables_in t) k.2
+
+  told_right : (t : List Entry) (w : NodeWorld) (n : ℕ) → AllKeep hosts t w → (o : Option Running) → node_at w n ≡ o → TellsRight t (tables_told n o)
+  told_right t w n all None e = tt
+  told_right t w n all (Some r) e = node_tables t w n r all e
+
+  on_right : (t : List Entry) (w : NodeWorld) (l : Line) → AllKeep hosts t w → TellsRight t (goes_on w l).1
+  on_right t w (line.Tables n) all = told_right t w n all (node_at w n) refl
+  on_right t w _ all = tt
+
+  line_right : (t : List Entry) (w : NodeWorld) (l : Line) → AllKeep hosts t w → TellsRight t (line_step w l).1
+  line_right t w l all = by_option (refusal_in w l)
+      (λ e. rw e (on_right t w l all))
+      (λ cause e. rw e tt)
+
+  -- ### Schedules
+
+  -- the entries of steps
+  abbrev entries_of : List LineStep → List Entry
+  entries_of steps = entries_in (flat_map (λ (s : LineStep). occurrences_of s.outcome) steps)
+
+  entries_append : (xs ys : List Occurrence) → entries_in (xs ++ ys) ≡ entries_in xs ++ entries_in ys
+  entries_append xs ys = flat_map-append (λ (o : Occurrence). o.entries) xs ys
+
+  abbrev TellRight : List Entry → List LineStep → Type 0
+  TellRight t [] = Unit {0}
+  TellRight t (s ∷ steps) = TellsRight t s.outcome × TellRight (t ++ entries_in (occurrences_of s.outcome)) steps
+
+  record Schedule (t : List Entry) (w : NodeWorld) (lines : List Line) : Type 0 where
+    pub goes : Goes hosts are t (world_after w lines) (entries_of (steps_from w lines))
+    pub right : TellRight t (steps_from w lines)
+
+  schedule_goes : (lines : List Line) (t : List Entry) (w : NodeWorld) → AllKeep hosts t w → AllByRecursion IsSentByHost lines
+      → IsFew (t ++ entries_of (steps_from w lines))
+      → Schedule t w lines
+  schedule_goes [] t w all sides few = record { goes = goes_not hosts are t w all; right = tt }
+  schedule_goes (l ∷ lines) t w all sides few =
+      let o = line_step w l in
+      let es = entries_in (occurrences_of o.1) in
+      let parts : entries_of (steps_from w (l ∷ lines)) ≡ es ++ entries_of (steps_from o.0 lines) =
+      entries_append (occurrences_of o.1) (flat_map (λ (s : LineStep). occurrences_of s.outcome) (steps_from o.0 lines)) in
+      let all_few : IsFew ((t ++ es) ++ entries_of (steps_from o.0 lines)) =
+      subst IsFew (ap (λ x. t ++ x) parts ∙ sym (append_assoc t es (entries_of (steps_from o.0 lines)))) few in
+      let first = line_goes t w l all sides.0 (few_front (t ++ es) (entries_of (steps_from o.0 lines)) all_few) in
+      let rest = schedule_goes lines (t ++ es) o.0 first.keep sides.1 all_few in
+      record {
+        goes = subst (Goes hosts are t (world_after o.0 lines)) (sym parts) (goes_then hosts are t (world_after o.0 lines) es (entries_of
+            (steps_from o.0 lines)) first.told rest.goes);
+        right = (line_right t w l all, rest.right);
+      }
+
+-- ## Commands are kept over power cuts
+
+-- ### The beginning
+
+pub blank_finds : (content : List ℕ) → IsUnformatted content → BootFinds content no_tables 0
+blank_finds content blank =
+    let is : journal content ≡ unformatted = no_journal content blank.closed in
+    record {
+      size = blank.size;
+      version = ap (λ (j : Journal). j.head.version) is;
+      enough = subst (λ (j : Journal). j.head.snapshot ≤ j.head.base + length j.found.bodies) (sym is) (omega arith);
+      keeps = record {
+        sound = subst IsSound (sym is) (record { known = refl; good = refl });
+        holds = record {
+          commands = ap (λ (j : Journal). are_commands j.found.bodies) is;
+          tables_are = ap (λ (j : Journal). close (fold applied no_tables j.found.bodies)) is;
+        };
+        count_is = ap (λ (j : Journal). min (j.head.base + length j.found.bodies - j.head.snapshot) (2 ^ 32 - 1)) is;
+      };
+    }
+
+begins : (n : ℕ) (hosts : List ℕ) → NodeKeeps n hosts [] (new_memory (replicate 65536 255)) None
+begins n hosts = record {
+  would = record { many = 0; which = inl refl; finds = blank_finds (replicate 65536 255) (fresh 65536 (omega arith)) };
+  runs = tt;
+}
+
+begin_hosts : (content : List ℕ) (hosts : List ℕ) → map (λ (s : Site). s.host) (map (new_site content) hosts) ≡ hosts
+begin_hosts content [] = refl
+begin_hosts content (h ∷ hosts) = ap (λ l. h ∷ l) (begin_hosts content hosts)
+
+begin_sites : (hosts : List ℕ) → AllByRecursion (SiteKeeps []) (map (new_site (replicate 65536 255)) hosts)
+begin_sites [] = tt
+begin_sites (h ∷ hosts) = (begins h (h ∷ []), begin_sites hosts)
+
+pub all_begin : (hosts : List ℕ) → AllKeep hosts [] (new_world hosts)
+all_begin hosts = record {
+  controller = begins 0 hosts;
+  hosts_are = begin_hosts (replicate 65536 255) hosts;
+  sites = begin_sites hosts;
+  strangers = λ n strange. refl;
+}
+
+-- ### What is told of entries
+
+told_at : (front back : List Entry) (x : Entry) (t : List Entry) → AreToldBehind t (front ++ x ∷ back)
+    → IsTold (t ++ front) x × AreToldBehind (t ++ (front ++ x ∷ [])) back
+told_at [] back x t told = (subst (λ l. IsTold l x) (sym (append-nil t)) told.0, told.1)
+told_at (y ∷ front) back x t told =
+    let later = told_at front back x (t ++ y ∷ []) told.1 in
+    (subst (λ l. IsTold l x) (append_assoc t (y ∷ []) front) later.0, subst (λ l. AreToldBehind l back) (append_assoc t (y ∷ []) (front ++ x ∷ [])) later.1)
+
+-- a command came last, or a cut behind it
+abbrev IsOpen : Last → Type 0
+IsOpen NothingYet = ⊥
+IsOpen CommandLast = Unit {0}
+IsOpen CutBehindCommand = Unit {0}
+IsOpen OtherLast = ⊥
+
+-- so many commands are safe
+record AreSafe (k : ℕ) (b : Book) (l : Last) : Type 0 where
+  all : k ≤ length b.commands
+  more : IsOpen l → suc k ≤ length b.commands
+
+opened_cut : (l : Last) → IsOpen (last_after 0 l (entry.Cut 0)) → IsOpen l
+opened_cut NothingYet o = o
+opened_cut CommandLast o = tt
+opened_cut CutBehindCommand o = tt
+opened_cut OtherLast o = o
+
+found_most : (k j n : ℕ) (t : List Entry) → AreSafe k (book_in t n) (last_in t n) → FindsCommands t n j → k ≤ j
+found_most k j n t safe (inl all) = omega (arith, all, safe.all)
+found_most k j n t safe (inr less) = omega (arith, less.0, safe.more (subst IsOpen (sym less.1) tt))
+
+found_least : (j n : ℕ) (t : List Entry) → FindsCommands t n j → j ≤ length (commands_in t n)
+found_least j n t (inl all) = omega (arith, all)
+found_least j n t (inr less) = omega (arith, less.0)
+
+safe_one : (k n : ℕ) (t : List Entry) (e : Entry) → AreSafe k (book_in t n) (last_in t n) → IsTold t e
+    → AreSafe k (book_after n (book_in t n) e) (last_after n (last_in t n) e)
+safe_one k n t (entry.Command m c) safe told = by_test (eqb m n)
+    (λ is. let longer = length-append (commands_in t n) (c ∷ []) in
+    rw is (record { all = omega (arith, longer, safe.all); more = λ o. omega (arith, longer, safe.all) }))
+    (λ other. rw other safe)
+safe_one k n t (entry.AnyOk m j) safe told = by_test (eqb m n)
+    (λ is. rw is (record { all = safe.all; more = λ o. absurd o }))
+    (λ other. rw other safe)
+safe_one k n t (entry.Booted m j) safe told = by_test (eqb m n)
+    (λ is. let here : FindsCommands t n j = subst (λ x. FindsCommands t x j) (eqb-true m n is) told in
+    let most = found_most k j n t safe here in
+    let least = found_least j n t here in
+    rw is (record { all = omega (arith, length-take j (commands_in t n), most, least); more = λ o. absurd o }))
+    (λ other. rw other safe)
+safe_one k n t (entry.Cut m) safe told = by_test (eqb m n)
+    (λ is. rw is (record { all = safe.all; more = λ o. safe.more (opened_cut (last_in t n) o) }))
+    (λ other. rw other safe)
+safe_one k n t _ safe told = safe
+
+safe_then : (k n : ℕ) (t : List Entry) (e : Entry) → AreSafe k (book_in t n) (last_in t n) → IsTold t e
+    → AreSafe k (book_in (t ++ e ∷ []) n) (last_in (t ++ e ∷ []) n)
+safe_then k n t e safe told =
+    subst (λ b. AreSafe k b (last_in (t ++ e ∷ []) n)) (sym (book_more t (e ∷ []) n))
+    (subst (λ l. AreSafe k (book_after n (book_in t n) e) l) (sym (last_more t (e ∷ []) n)) (safe_one k n t e safe told))
+
+safe_until : (k n j : ℕ) (between back t : List Entry) → AreSafe k (book_in t n) (last_in t n) → AreToldBehind t (between ++ entry.Booted n j ∷ back) → k ≤ j
+safe_until k n j [] back t safe told = found_most k j n t safe told.0
+safe_until k n j (e ∷ between) back t safe told = safe_until k n j between back (t ++ e ∷ []) (safe_then k n t e safe told.0) told.1
+
+module _ (t : List Entry) (told : AreToldBehind [] t) (few : IsFew t) where
+  at_front : (front back : List Entry) (x : Entry) → t ≡ front ++ (x ∷ back) → IsTold front x × AreToldBehind (front ++ x ∷ []) back
+  at_front front back x is = told_at front back x [] (subst (AreToldBehind []) is told)
+
+  are_found : AreFound t
+  are_found front back n k is = (at_front front back (entry.Booted n k) is).0
+
+  are_counted : AreAllAnswered t
+  are_counted front back n k is = small k (length (commands_in front n)) (at_front front back (entry.AnyOk n k) is).0 (few front
+      (entry.AnyOk n k ∷ back) n is) where
+        small : (k l : ℕ) → k ≡ min l (2 ^ 32 - 1) → l ≤ 2 ^ 32 - 1 → k ≡ l
+        small k l a b = omega arith
+
+  are_answered : AreAnswered t
+  are_answered front between back n k found is =
+      let rest = between ++ (entry.Booted n found ∷ back) in
+      let counted : k ≡ length (commands_in front n) = are_counted front rest n k is in
+      let book_is : book_in (front ++ entry.AnyOk n k ∷ []) n ≡ book_in front n = book_more front (entry.AnyOk n k ∷ []) n in
+      let last_is : last_in (front ++ entry.AnyOk n k ∷ []) n ≡ OtherLast =
+      last_more front (entry.AnyOk n k ∷ []) n ∙ ap (λ b. cond b OtherLast (last_in front n)) (eq-eqb n n refl) in
+      safe_until k n found between back (front ++ entry.AnyOk n k ∷ [])
+      (record { all = omega (arith, counted, ap (λ (b : Book). length b.commands) book_is); more = λ o. absurd (subst IsOpen last_is o) })
+      (at_front front rest (entry.AnyOk n k) is).1
+
+right_at : (hosts : List ℕ) (are : AreHosts hosts) (before behind : List LineStep) (step : LineStep) (n : ℕ) (tables : HciTables) (t : List Entry)
+    → TellRight hosts are t (before ++ step ∷ behind) → step.outcome ≡ ToldTables n tables → tables ≡ tables_in (t ++ entries_of hosts are before) n
+right_at hosts are [] behind step n tables t right is =
+    let here : TellsRight hosts are t (ToldTables n tables) = subst (TellsRight hosts are t) is right.0 in
+    here ∙ ap (λ l. tables_in l n) (sym (append-nil t))
+right_at hosts are (s ∷ before) behind step n tables t right is =
+    right_at hosts are before behind step n tables (t ++ entries_in (occurrences_of s.outcome)) right.1 is
+    ∙ ap (λ l. tables_in l n) (append_assoc t (entries_in (occurrences_of s.outcome)) (entries_of hosts are before)
+    ∙ ap (λ l. t ++ l) (sym (flat_map-append (λ o. o.entries) (occurrences_of s.outcome) (flat_map (λ (x : LineStep). occurrences_of x.outcome) before))))
+
+module _ (header : Header) (lines : List Line) (t : NodeHistory) (follows : FollowsNodes header lines t) (are : AreHosts header.hosts.items)
+    (sides : AllByRecursion IsSentByHost lines) (few : IsFew (node_entries t)) where
+  entries_are : node_entries t ≡ entries_of header.hosts.items are (steps_from (new_world header.hosts.items) lines)
+  entries_are = ap (λ steps. entries_of header.hosts.items are steps) follows.steps_are
+
+  schedule : Schedule header.hosts.items are [] (new_world header.hosts.items) lines
+  schedule = schedule_goes header.hosts.items are lines [] (new_world header.hosts.items) (all_begin header.hosts.items) sides (subst IsFew entries_are few)
+
+  pub all_keep : AllKeep header.hosts.items (node_entries t) (world_after (new_world header.hosts.items) lines)
+  all_keep = subst (λ l. AllKeep header.hosts.items l (world_after (new_world header.hosts.items) lines)) (sym entries_are) schedule.goes.keep
+
+  pub are_kept : Kept t
+  are_kept =
+      let told : AreToldBehind [] (node_entries t) = subst (AreToldBehind []) (sym entries_are) schedule.goes.told in
+      record {
+        found = are_found (node_entries t) told few;
+        counted = are_counted (node_entries t) told few;
+        answered = are_answered (node_entries t) told few;
+        told = λ before behind step n tables is outcome.
+            right_at header.hosts.items are before behind step n tables [] (subst (TellRight header.hosts.items are [])
+            (sym follows.steps_are ∙ is) schedule.right) outcome;
+      }
+
+  pub are_allowed : Allowed (node_entries t)
+  are_allowed front back c is =
+      let told : AreToldBehind [] (node_entries t) = subst (AreToldBehind []) (sym entries_are) schedule.goes.told in
+      (at_front (node_entries t) told few front back (entry.Command 0 c) is).0 refl

@@ -1,30 +1,127 @@
--- The blocks in use at each end of a link, those set aside and those that are spare are 128.
-use Rattle.node_laws.proofs.Words.{ActEvent, ActFrame, ActStart, ActStop, ActTake, ActTick, Activate, AllByRecursion, ArePlayable, Asked, AtController, AtHost}
-use Rattle.node_laws.proofs.Words.{Bare, Bool, Clt, Control, EndEvent, EndState, Fetch, FetchMessage, FromNode, Give, Hold, I, Line, Link, LinkEnd, LinkEvent}
-use Rattle.node_laws.proofs.Words.{LinkInput, LinkState, List, Message, None, Option, Release, Reset, Role, Rset, S, SetAside, Site, Some, Start, Starts, Step}
-use Rattle.node_laws.proofs.Words.{Stop, Take, TakeBroken, TakeUnknown, Tick, TicksWithout, Turn, Ua, Up, Waiting, [], act_answer, activated, after_input}
-use Rattle.node_laws.proofs.Words.{after_link_events, aged, all_at_controller, ap, arith, by_list, by_option, by_test, cond, drop, exchanged, false}
-use Rattle.node_laws.proofs.Words.{frame_fetched, give_refusal, given, had_tick, happens, happens_at_controller, heard, if_up, in_use, is_faulty, is_open}
-use Rattle.node_laws.proofs.Words.{is_some, length, ltb-false, ltb-true, most_frames, moved, nat_le, nat_lt, need, need_of_all, new_line, new_link_end}
-use Rattle.node_laws.proofs.Words.{new_world, not, packet_count, put_down, refl, renewed, reset_by, reset_refusal, reset_with, role_after, sent_all, spare}
-use Rattle.node_laws.proofs.Words.{steps_at_controller, stopped, subst, sym, take_answer, taken, tick_answer, tick_host, ticked, ticks_at_controller, took}
-use Rattle.node_laws.proofs.Words.{true, true≢false, turn, turned, whole_among, window_of, with_act, with_ready, world_after, ℕ, ◌++◌, ◌+◌, ◌-◌, ◌==◌, ◌∙◌, ◌∷◌}
-use Rattle.node_laws.proofs.Words.{◌≡◌, ◌≤◌}
-use Rattle.swp_base.specs.declared.control_frames.Act.{Act}
-use Rattle.shdlc_core.specs.declared.answers.LinkState.TheVariants.{Down}
-use Rattle.shdlc_core.specs.Machine.{fetched}
-use Rattle.link_laws.proofs.sessions.Ties.{fetched-phase, after_frames-phase}
+-- What holds of runs of the law of one link holds of each link of a world: its blocks are shared out.
+use Rattle.node_laws.proofs.Words.{ActEvent, ActFrame, ActStart, ActStop, ActTake, ActTick, Activate, AllByRecursion, ArePlayable, AreUpTogether, Asked}
+use Rattle.node_laws.proofs.Words.{AtController, AtHost, Bare, Bool, Chain, Clt, Control, EndEvent, EndState, Fetch, FetchMessage, FromNode, Give, Hold, I}
+use Rattle.node_laws.proofs.Words.{IsLine, IsRun, IsRunOf, IsSettled, Line, Link, LinkEnd, LinkEvent, LinkInput, LinkState, List, Message, None, OnWire, Option}
+use Rattle.node_laws.proofs.Words.{Release, Reset, Role, Rset, S, SetAside, Site, Some, Start, Starts, Step, Stop, Take, TakeBroken, TakeUnknown, Tick}
+use Rattle.node_laws.proofs.Words.{TicksWithout, Turn, Ua, Up, Waiting, [], act_answer, activated, after_input, after_link_events, aged, all_at_controller}
+use Rattle.node_laws.proofs.Words.{all_so, ap, arith, by_list, by_option, by_test, cond, drop, ended_by, exchanged, false, frame_fetched, give_refusal, given}
+use Rattle.node_laws.proofs.Words.{had_tick, happens, happens_at_controller, heard, if_up, in_use, is_faulty, is_open, is_some, length, ltb-false, ltb-true}
+use Rattle.node_laws.proofs.Words.{most_frames, moved, nat_le, nat_lt, need, need_of_all, new_line, new_link_end, new_world, not, number_of, one_number}
+use Rattle.node_laws.proofs.Words.{packet_count, put_down, refl, renewed, reset_by, reset_refusal, reset_with, role_after, sent_all, spare, steps_at_controller}
+use Rattle.node_laws.proofs.Words.{stopped, subst, sure_of, sym, take_answer, taken, talk_now, talk_of, tick_answer, tick_host, ticked, ticks_at_controller}
+use Rattle.node_laws.proofs.Words.{took, true, true≢false, turn, turned, whole_among, window_of, with_act, with_ready, world_after, ℕ, ◌++◌, ◌+◌, ◌-◌, ◌==◌}
+use Rattle.node_laws.proofs.Words.{◌∙◌, ◌∷◌, ◌≡◌, ◌≤◌}
+use Rattle.link_laws.proofs.entries.Stepping.{fetched_acked as frames_acked, one_fetched_acked}
+use Rattle.link_laws.proofs.machine.Reports.{moved_sent as sent_moved, shdlc_is as moved_shdlc}
 use Rattle.link_laws.proofs.machine.Sound.{IsNotUp, SentAfter, Shift, need_less, need_more, reset_shift, taken_shift, ticked_shift, whole_few, whole_more}
 use Rattle.link_laws.proofs.machine.Sound.Shift.{Begins, Ends, Renews, Rests, Stays}
-use Rattle.link_laws.specs.messages.Links.LinkEvent.{Ticks}
 use Rattle.link_laws.proofs.messages.Finishing.{reset_tells}
+use Rattle.link_laws.proofs.messages.Runs.{all_here, all_there, in_order_here_of_whole as in_order_here, in_order_there_of_whole as in_order_there}
+use Rattle.link_laws.proofs.messages.Runs.{no_chain_here, no_chain_there, up_together}
+use Rattle.link_laws.proofs.sessions.Ties.{after_frames-phase, fetched-phase}
+use Rattle.link_laws.specs.messages.Links.LinkEvent.{Ticks}
+use Rattle.link_laws.specs.messages.Order.{InOrder}
+use Rattle.link_laws.specs.messages.Quiet.{AllDelivered, IsQuiet, losses_of}
+use Rattle.shdlc_core.specs.Machine.{fetched}
+use Rattle.shdlc_core.specs.declared.answers.LinkState.TheVariants.{Down}
+use Rattle.swp_base.specs.declared.control_frames.Act.{Act}
 use Rattle.node_laws.specs.links.Runs.{SharesOut}
-use Rattle.node_laws.proofs.links.Ends.{here_is, tick_is, here_host}
-use Rattle.node_laws.proofs.links.Obeying.{obey}
-use Rattle.link_laws.proofs.machine.Reports.{shdlc_is as moved_shdlc, moved_sent as sent_moved}
-use Rattle.link_laws.proofs.entries.Stepping.{fetched_acked as frames_acked, one_fetched_acked}
+use Rattle.node_laws.proofs.links.Sites.{here_host, here_is, tick_is}
+use Rattle.node_laws.proofs.links.Worlds.{links_run}
 
--- ## Messages
+-- ## What holds of runs of the law of one link holds of each link of a world of nodes
+
+-- what holds of each run holds of each link
+all_obey : (P : Link → Type 0) → ((l : Link) → IsRun l → P l) → (sites : List Site) → AllByRecursion (λ (s : Site). IsRun s.link) sites
+    → AllByRecursion (λ (s : Site). P s.link) sites
+all_obey P one sites a = all_so (λ (s : Site). IsRun s.link) (λ (s : Site). P s.link) (λ s b. one s.link b) sites a
+
+obey : (P : Link → Type 0) → ((l : Link) → IsRun l → P l) → (hosts : List ℕ) (lines : List Line) → ArePlayable lines
+    → AllByRecursion (λ (s : Site). P s.link) (world_after (new_world hosts) lines).sites
+obey P one hosts lines p = all_obey P one (world_after (new_world hosts) lines).sites (links_run hosts lines p)
+
+-- ### In order
+
+abbrev ToHost : Link → Type 0
+ToHost l = (n : ℕ) → InOrder (talk_of l.controller n) (talk_of l.host n)
+
+abbrev ToController : Link → Type 0
+ToController l = (n : ℕ) → InOrder (talk_of l.host n) (talk_of l.controller n)
+
+pub to_host : (hosts : List ℕ) (lines : List Line) → ArePlayable lines
+    → AllByRecursion (λ (s : Site). ToHost s.link) (world_after (new_world hosts) lines).sites
+to_host = obey ToHost (λ l r. subst ToHost r.run.is (λ n. in_order_here new_line IsLine r.events r.run.allowed n))
+
+pub to_controller : (hosts : List ℕ) (lines : List Line) → ArePlayable lines
+    → AllByRecursion (λ (s : Site). ToController s.link) (world_after (new_world hosts) lines).sites
+to_controller = obey ToController (λ l r. subst ToController r.run.is (λ n. in_order_there new_line IsLine r.events r.run.allowed n))
+
+-- ### Chain faults
+
+abbrev NoneAtController : Link → Type 0
+NoneAtController l = (x : OnWire) (xs : List OnWire) → l.to_controller ≡ x ∷ xs → ended_by l.controller.side (Take x.frame) ≡ Some Chain → ⊥
+
+abbrev NoneAtHost : Link → Type 0
+NoneAtHost l = (x : OnWire) (xs : List OnWire) → l.to_host ≡ x ∷ xs → ended_by l.host.side (Take x.frame) ≡ Some Chain → ⊥
+
+pub none_at_controller : (hosts : List ℕ) (lines : List Line) → ArePlayable lines
+    → AllByRecursion (λ (s : Site). NoneAtController s.link) (world_after (new_world hosts) lines).sites
+none_at_controller = obey NoneAtController (λ l r. subst NoneAtController r.run.is (λ x xs q. no_chain_here new_line IsLine r.events r.run.allowed x xs q))
+
+pub none_at_host : (hosts : List ℕ) (lines : List Line) → ArePlayable lines
+    → AllByRecursion (λ (s : Site). NoneAtHost s.link) (world_after (new_world hosts) lines).sites
+none_at_host = obey NoneAtHost (λ l r. subst NoneAtHost r.run.is (λ x xs q. no_chain_there new_line IsLine r.events r.run.allowed x xs q))
+
+-- ### One number
+
+abbrev Agree : Link → Type 0
+Agree l = l.controller.side.shdlc.phase ≡ Up → l.host.side.shdlc.phase ≡ Up → number_of l.controller ≡ number_of l.host
+
+pub agree : (hosts : List ℕ) (lines : List Line) → ArePlayable lines → AllByRecursion (λ (s : Site). Agree s.link) (world_after (new_world hosts) lines).sites
+agree = obey Agree (λ l r. subst Agree r.run.is (one_number new_line IsLine r.events r.run.allowed))
+
+-- ### All delivered, and both up
+
+abbrev pub DeliversToHost : Link → Type 0
+DeliversToHost l =
+    (events : List LinkEvent) → IsRunOf events l → IsQuiet l (losses_of new_line events) → AllDelivered (talk_now l.controller.side) (talk_now l.host.side)
+
+abbrev pub DeliversToController : Link → Type 0
+DeliversToController l =
+    (events : List LinkEvent) → IsRunOf events l → IsQuiet l (losses_of new_line events) → AllDelivered (talk_now l.host.side) (talk_now l.controller.side)
+
+abbrev pub Settles : Link → Type 0
+Settles l = (events : List LinkEvent) → IsRunOf events l → IsSettled l (sure_of new_line events) → AreUpTogether l
+
+pub delivers_to_host : (l : Link) → DeliversToHost l
+delivers_to_host l events r =
+    let P : Link → Type 0 = λ k. IsQuiet k (losses_of new_line events) → AllDelivered (talk_now k.controller.side) (talk_now k.host.side) in
+    subst P r.is (all_here new_line IsLine events r.allowed)
+
+pub delivers_to_controller : (l : Link) → DeliversToController l
+delivers_to_controller l events r =
+    let P : Link → Type 0 = λ k. IsQuiet k (losses_of new_line events) → AllDelivered (talk_now k.host.side) (talk_now k.controller.side) in
+    subst P r.is (all_there new_line IsLine events r.allowed)
+
+pub settles : (l : Link) → Settles l
+settles l events r =
+    subst (λ (k : Link). IsSettled k (sure_of new_line events) → AreUpTogether k) r.is (up_together new_line IsLine events r.allowed)
+
+pub delivered_to_host : (hosts : List ℕ) (lines : List Line) → ArePlayable lines
+    → AllByRecursion (λ (s : Site). DeliversToHost s.link) (world_after (new_world hosts) lines).sites
+delivered_to_host = obey DeliversToHost (λ l r. delivers_to_host l)
+
+pub delivered_to_controller : (hosts : List ℕ) (lines : List Line) → ArePlayable lines
+    → AllByRecursion (λ (s : Site). DeliversToController s.link) (world_after (new_world hosts) lines).sites
+delivered_to_controller = obey DeliversToController (λ l r. delivers_to_controller l)
+
+pub settled : (hosts : List ℕ) (lines : List Line) → ArePlayable lines
+    → AllByRecursion (λ (s : Site). Settles s.link) (world_after (new_world hosts) lines).sites
+settled = obey Settles (λ l r. settles l)
+
+-- ## The blocks in use at each end of a link, those set aside and those that are spare are 128
+
+-- ### Messages
 
 -- a message more leaves those before it whole
 whole_front : (ms : List Message) (m : Message) (a : ℕ) → whole_among ms a ≤ whole_among (ms ++ m ∷ []) a
@@ -33,7 +130,7 @@ whole_front (x ∷ ms) m a = by_test (nat_le n a) (λ q. rw q (omega (arith, who
   n : ℕ
   n = packet_count (length x.1)
 
--- ## One end
+-- ### One end
 
 -- no more blocks are in use and set aside than there are, and nothing is sent in no session
 pub record IsWithin (e : LinkEnd) : Type 0 where
@@ -90,7 +187,7 @@ shifted_within e f ended began (Rests p q down still s) sent aside a = empty_wit
     by false z s = s ∙ a.forgot down
     by true z s = absurd (true≢false z)
 
--- ## Turns
+-- ### Turns
 
 give_taken : (e : LinkEnd) (m : Message) → give_refusal e m ≡ None → (e.shdlc.phase ≡ Up) × (need m.1 ≤ spare e)
 give_taken e m q = go e.shdlc.phase refl (nat_lt 4096 (length m.1)) refl (nat_lt (spare e) (need m.1)) refl where
@@ -133,11 +230,11 @@ turn_within e SetAside a = by_test (nat_lt 0 (spare e))
     (λ q. let is : turn e SetAside ≡ e = rw q refl in subst IsWithin (sym is) a)
 turn_within e Release a = record { room = omega (arith, a.room); forgot = a.forgot }
 
-pub turns_within : (e : LinkEnd) (ts : List Turn) → IsWithin e → IsWithin (turned e ts)
+turns_within : (e : LinkEnd) (ts : List Turn) → IsWithin e → IsWithin (turned e ts)
 turns_within e [] a = a
 turns_within e (t ∷ ts) a = turns_within (turn e t) ts (turn_within e t a)
 
--- ## Frames that go out
+-- ### Frames that go out
 
 pub sent_within : (e : LinkEnd) → IsWithin e → IsWithin (sent_all e)
 sent_within e a = same_within e (sent_all e) refl (frames_acked most_frames e.shdlc) (after_frames-phase most_frames e.shdlc) refl a
@@ -154,7 +251,7 @@ fetch_within e a = by_list e.acts
           (ap (λ (s : EndState). s.phase) shdlc ∙ fetched-phase e.shdlc)
           aside a
 
--- ## Inputs
+-- ### Inputs
 
 pub moved_aside : (e : LinkEnd) (b : Bool) (s : EndState) → (moved e b s).aside ≡ e.aside
 moved_aside e true s = refl
@@ -229,13 +326,13 @@ input_within e Stop a = activated_within (moved e true (stopped e.shdlc)) ActSto
 input_within e (FromNode t) a = turn_within e t a
 input_within e Fetch a = fetch_within e a
 
-pub new_within : (e : LinkEnd) → IsWithin e → IsWithin (new_link_end (renewed e.role))
+new_within : (e : LinkEnd) → IsWithin e → IsWithin (new_link_end (renewed e.role))
 new_within e a = go e.role where
   go : (r : Role) → IsWithin (new_link_end (renewed r))
   go Bare = record { room = omega arith; forgot = λ no. refl }
   go _ = record { room = omega arith; forgot = λ no. refl }
 
--- ## Links
+-- ### Links
 
 -- both ends are so
 record AreWithin (l : Link) : Type 0 where
@@ -287,7 +384,7 @@ after_within l (e ∷ events) a = after_within (happens l e) events (event_withi
 new_line_within : AreWithin new_line
 new_line_within = record { near = record { room = omega arith; forgot = λ no. refl }; far = record { room = omega arith; forgot = λ no. refl } }
 
--- ## Worlds
+-- ### Worlds
 
 shares : (e : LinkEnd) → IsWithin e → SharesOut e
 shares e a = omega (arith, a.room)

@@ -1,23 +1,242 @@
--- A notice that isn't answered stands only at an end that is up.
-use Rattle.node_laws.proofs.Words.{About, AllByRecursion, AllReach, Asks, AtEnd, Bool, Command, Commits, Core, Deed, Desk, Drops, Ends, FetchMessage, Give}
-use Rattle.node_laws.proofs.Words.{GoesOn, Hears, Hold, IsAnswered, IsBegun, IsComing, IsNoticedUp, IsOutside, LinkEnd, LinkInput, LinkState, List, Message}
-use Rattle.node_laws.proofs.Words.{NodeInput, None, Notice, OnFirst, Option, Orders, Port, Reaches, Release, Releases, Removed, SaysOk, Sends, SetAside}
-use Rattle.node_laws.proofs.Words.{SetsErrors, Some, Tells, Tick, TimePasses, Turn, Up, Waiting, Waits, Work, [], after_sessions, after_turn, all_come}
-use Rattle.node_laws.proofs.Words.{all_owed, all_owed_hold, all_synced_hold, anyone, ap, aside_refusal, asked_at, body_of, by_option, by_test, changed_if}
-use Rattle.node_laws.proofs.Words.{commit, commit_writes, controller_deeds, deeds_of, done, end_of_node, ended_by, eqb-true, fails_within, false, flat_map}
-use Rattle.node_laws.proofs.Words.{forgets, forgotten, forgotten_hold, give_refusal, has_come, has_link, input_at, is_forgotten, is_late, is_over, is_some}
-use Rattle.node_laws.proofs.Words.{is_up, length, map, notified, noting, option_map, option_map_or, port_at, refl, reset_late, steps, subst, sym, synced}
-use Rattle.node_laws.proofs.Words.{times_out, true, true≢false, turn, turn_at, view_of, with_desk, with_older, with_port, without_notice, ℕ, ◌==◌, ◌||◌, ◌∙◌}
-use Rattle.node_laws.proofs.Words.{◌∷◌, ◌≡◌}
-use Rattle.trace_model.specs.declared.entry.Entry.TheVariants as entry
-use Rattle.shdlc_core.specs.declared.answers.LinkState.TheVariants.{Down}
+-- A controller tells and asks only hosts whose links are up, so a notice that isn't answered stands only at an end that is up.
+use Rattle.node_laws.proofs.Words.{About, ActEvent, ActFrame, ActTake, ActTick, AllByRecursion, AllReach, Answer, Ask, Asked, Asks, AsksAsAllowed, AtEnd, Bool}
+use Rattle.node_laws.proofs.Words.{ByAct, Cause, Chain, Clt, Command, Commit, Commits, Control, Core, Create, Decision, Deed, Desk, Drops, EndState, Ends}
+use Rattle.node_laws.proofs.Words.{FetchMessage, Give, GoesOn, HciTables, Hears, Hold, I, IsAnswered, IsAskedFor, IsBegun, IsComing, IsNoticedUp, IsOutside}
+use Rattle.node_laws.proofs.Words.{LinkEnd, LinkInput, LinkState, LinkView, List, Message, NodeInput, None, Notice, OfDecision, OnFirst, Option, Orders, Plain}
+use Rattle.node_laws.proofs.Words.{Port, Reaches, Release, Releases, Removed, Reset, Rset, S, SaysOk, Sends, SetAside, SetsErrors, Some, Start, Stop, Take}
+use Rattle.node_laws.proofs.Words.{Tells, Tick, TimePasses, Turn, Ua, Up, Waiting, Waits, Work, [], act_answer, activated, after_input, after_sessions}
+use Rattle.node_laws.proofs.Words.{after_turn, all_come, all_of_controller, all_owed, all_owed_hold, all_synced_hold, and_parts, anyone, ap, arith}
+use Rattle.node_laws.proofs.Words.{aside_refusal, asked_at, body_in, body_of, by_option, by_test, changed_if, commit, commit_writes, cond, controller_deeds}
+use Rattle.node_laws.proofs.Words.{decided, decided_as_allowed, decided_holds, deeds_of, done, end_of_node, ended_by, ended_by_act, eqb, eqb-true, fails_within}
+use Rattle.node_laws.proofs.Words.{false, far_end_of, filter, flat_map, forgets, forgotten, forgotten_hold, give_refusal, had_tick, has, has_come, has_link}
+use Rattle.node_laws.proofs.Words.{heard, if_up, input_at, is_connected, is_connected_at, is_faulty, is_forgotten, is_late, is_open, is_opened, is_over}
+use Rattle.node_laws.proofs.Words.{is_some, is_up, leb-true, length, map, mask_of, moved, nat_le, notified, noting, option_and_then, option_map, option_map_or}
+use Rattle.node_laws.proofs.Words.{param_in, pipe_at, port_at, put_down, refl, reset_late, reset_refusal, role_after, shares, steps, subst, suc, sym, synced}
+use Rattle.node_laws.proofs.Words.{take_answer, taken, tick_answer, ticked, times_out, told_of_clearing, true, true≢false, turn, turn_at, view_for, view_of}
+use Rattle.node_laws.proofs.Words.{with_act, with_desk, with_older, with_port, without_notice, zero, ℕ, ◌%◌, ◌/◌, ◌==◌, ◌||◌, ◌∙◌, ◌∷◌, ◌≡◌, ◌≤◌}
+use Rattle.gate_admin.specs.View.{hosts_where}
+use Rattle.link_laws.proofs.machine.Reports.{shdlc_is as shdlc_moved}
+use Rattle.link_laws.proofs.machine.Sound.{Shift, taken_shift, ticked_shift}
+use Rattle.link_laws.proofs.machine.Sound.Shift.{Begins, Ends as ShiftEnds, Renews, Rests, Stays}
 use Rattle.link_laws.proofs.sessions.Ties.{ready-phase as ready_phase}
-use Rattle.node_laws.proofs.links.Staying.{stays_up}
-use Rattle.node_laws.proofs.links.Reaching.{controller_reach}
-use Rattle.node_laws.proofs.steps.StepWalks.{Lasts, rest_lasts}
-use Rattle.node_laws.proofs.steps.Ports.{come_host, forgets_host, late_host, without_host, changed_host, sessions_node}
+use Rattle.shdlc_core.specs.declared.answers.LinkState.TheVariants.{Down}
+use Rattle.swp_base.specs.declared.control_frames.Act.{Act}
+use Rattle.node_laws.proofs.steps.StepWalks.{Lasts, bit_most, bit_none, changed_host, come_host, digits, forgets_host, late_host, rest_lasts, sessions_node}
+use Rattle.node_laws.proofs.steps.StepWalks.{without_host}
+use Rattle.trace_model.specs.declared.entry.Entry.TheVariants as entry
 
--- ## Ends
+-- ## A host that is in the mask of the hosts that pass a test passes it
+
+zero_one : (n : ℕ) → n ≡ 0 → eqb n 1 ≡ true → ⊥
+zero_one n z q = absurd (true≢false (sym q ∙ ap (λ k. eqb k 1) z))
+
+-- hosts in a mask are 07 at most
+pub has_small : (m x : ℕ) → has m x ≡ true → x ≤ 7
+has_small m x q = by_test (nat_le 1 x)
+    (λ p. by_test (nat_le x 7) (λ r. leb-true x 7 r) (λ r. absurd (true≢false (sym (rw (p, r) at q)))))
+    (λ p. absurd (true≢false (sym (rw p at q))))
+
+-- nobody is in an empty mask
+pub nobody : hosts_where (has 0) ≡ []
+unfolding hosts_where
+nobody = refl
+
+-- a host from 01 to 07 is alone in its mask
+pub alone : (P : ℕ → Type 0) (m y : ℕ) → has m y ≡ true → P y → AllByRecursion P (hosts_where (has (mask_of (y ∷ []))))
+unfolding hosts_where
+alone P m zero q e = absurd (true≢false (sym q))
+alone P m (suc zero) q e = (e, tt)
+alone P m (suc (suc zero)) q e = (e, tt)
+alone P m (suc (suc (suc zero))) q e = (e, tt)
+alone P m (suc (suc (suc (suc zero)))) q e = (e, tt)
+alone P m (suc (suc (suc (suc (suc zero))))) q e = (e, tt)
+alone P m (suc (suc (suc (suc (suc (suc zero)))))) q e = (e, tt)
+alone P m (suc (suc (suc (suc (suc (suc (suc zero))))))) q e = (e, tt)
+alone P m (suc (suc (suc (suc (suc (suc (suc (suc n)))))))) q e = absurd (omega (arith, has_small m (suc (suc (suc (suc (suc (suc (suc (suc n)))))))) q))
+
+-- one that is in their mask passes
+pub from_mask : (test : ℕ → Bool) (x : ℕ) → has (mask_of (hosts_where test)) x ≡ true → test x ≡ true
+from_mask test x q = by_host x q where
+  m : ℕ
+  m = mask_of (hosts_where test)
+
+  by_host : (x : ℕ) → has m x ≡ true → test x ≡ true
+  by_host zero q = absurd (true≢false (sym q))
+  by_host (suc zero) q = by_test (test 1) (λ e. e) (λ e. absurd (zero_one (m / 2 % 2) (omega (arith, digits test, bit_none (test 1) e, bit_most)) q))
+  by_host (suc (suc zero)) q = by_test (test 2) (λ e. e) (λ e. absurd (zero_one (m / 4 % 2) (omega (arith, digits test, bit_none (test 2) e, bit_most)) q))
+  by_host (suc (suc (suc zero))) q = by_test (test 3)
+      (λ e. e)
+      (λ e. absurd (zero_one (m / 8 % 2) (omega (arith, digits test, bit_none (test 3) e, bit_most)) q))
+  by_host (suc (suc (suc (suc zero)))) q = by_test (test 4)
+      (λ e. e)
+      (λ e. absurd (zero_one (m / 16 % 2) (omega (arith, digits test, bit_none (test 4) e, bit_most)) q))
+  by_host (suc (suc (suc (suc (suc zero))))) q = by_test (test 5)
+      (λ e. e)
+      (λ e. absurd (zero_one (m / 32 % 2) (omega (arith, digits test, bit_none (test 5) e, bit_most)) q))
+  by_host (suc (suc (suc (suc (suc (suc zero)))))) q = by_test (test 6)
+      (λ e. e)
+      (λ e. absurd (zero_one (m / 64 % 2) (omega (arith, digits test, bit_none (test 6) e, bit_most)) q))
+  by_host (suc (suc (suc (suc (suc (suc (suc zero))))))) q = by_test (test 7)
+      (λ e. e)
+      (λ e. absurd (zero_one (m / 128 % 2) (omega (arith, digits test, bit_none (test 7) e, bit_most)) q))
+  by_host (suc (suc (suc (suc (suc (suc (suc (suc n)))))))) q = absurd (omega (arith, has_small m (suc (suc (suc (suc (suc (suc (suc (suc n)))))))) q))
+
+-- each of the hosts that pass a test passes it
+all_pass : (test : ℕ → Bool) (hosts : List ℕ) → AllByRecursion (λ x. test x ≡ true) (filter test hosts)
+all_pass test [] = tt
+all_pass test (x ∷ hosts) = by_test (test x) (λ q. rw q (q, all_pass test hosts)) (λ q. rw q (all_pass test hosts))
+
+pub all_in : (test : ℕ → Bool) → AllByRecursion (λ x. test x ≡ true) (hosts_where test)
+unfolding hosts_where
+all_in test = all_pass test (1 ∷ 2 ∷ 3 ∷ 4 ∷ 5 ∷ 6 ∷ 7 ∷ [])
+
+-- ## A host that gets a notice is connected
+
+-- they are connected
+abbrev AreConnected : LinkView → List ℕ → Type 0
+AreConnected v hosts = AllByRecursion (λ (x : ℕ). is_connected v x ≡ true) hosts
+
+-- those that are told of a change are connected
+abbrev TellsConnected : LinkView → Decision → Type 0
+TellsConnected v (Answer answer) = Unit {0}
+TellsConnected v (Commit c answer tell notice) = AreConnected v (hosts_where (has tell))
+TellsConnected v (Ask dest notice c answer) = Unit {0}
+
+module _ (v : LinkView) where
+  none_told : AreConnected v (hosts_where (has 0))
+  none_told = rw nobody tt
+
+  deletion : (o : Option (ℕ × ℕ))
+      → AreConnected v (hosts_where (has (mask_of (option_map_or (λ (end : ℕ × ℕ). cond (is_connected v end.0) (end.0 ∷ []) []) o []))))
+  deletion None = none_told
+  deletion (Some end) = by_test (is_connected v end.0) (λ q. rw q (alone (λ x. is_connected v x ≡ true) v.connected end.0 q q)) (λ q. rw q none_told)
+
+  -- each that is in the mask of the hosts that share a pipe is connected
+  sharing : (t : HciTables) (host : ℕ) (hosts : List ℕ) → AllByRecursion (λ x. has (mask_of (told_of_clearing t v host)) x ≡ true) hosts → AreConnected v hosts
+  sharing t host [] a = tt
+  sharing t host (x ∷ hosts) a = (first (is_connected v x) refl (from_mask (shares t v host) x a.0), sharing t host hosts a.1)
+    where
+      first : (b : Bool) → is_connected v x ≡ b → shares t v host x ≡ true → is_connected v x ≡ true
+      first true q s = q
+      first false q s = absurd (true≢false (sym (rw q at s)))
+
+  decided_tells : (t : HciTables) (host pipe instruction : ℕ) (body : List ℕ) → TellsConnected v (decided t v host pipe instruction body)
+  decided_tells t host pipe n body =
+      decided_holds (TellsConnected v) t v host pipe body n (λ r value. tt) (λ _. record {
+        opens = none_told;
+        closes = none_told;
+        sets = λ _. none_told;
+        makes = λ _ controller. none_told;
+        asks = λ _ other. tt;
+        deletes = λ _. deletion (option_and_then (far_end_of host) (pipe_at t.rows (param_in body)));
+        clears = λ _. sharing t host (hosts_where (has (mask_of (told_of_clearing t v host)))) (all_in (has (mask_of (told_of_clearing t v host))));
+      })
+
+-- ## A controller tells and asks only hosts whose links are up
+
+-- the link with this host is up
+abbrev IsLinked : List Port → ℕ → Type 0
+IsLinked ports x = has_link ports x ≡ true
+
+linked_of : (t : HciTables) (ports : List Port) (h x : ℕ) → is_connected (view_for t ports h) x ≡ true → IsLinked ports x
+linked_of t ports h x q = go (port_at ports x) (from_mask (λ k. option_map_or (is_connected_at t) (port_at ports k) false) x q)
+  where
+    go : (o : Option Port) → option_map_or (is_connected_at t) o false ≡ true → option_map_or (λ (p : Port). is_up p.side.shdlc.phase) o false ≡ true
+    go None z = z
+    go (Some p) z = (and_parts (is_up p.side.shdlc.phase) (is_opened t p.desk.host 1) z).0
+
+asked_reach : (t : HciTables) (ports : List Port) (h dest : ℕ) (c : Command) → IsAskedFor t (view_for t ports h) h dest c → IsLinked ports dest
+asked_reach t ports h dest (Create row) a = linked_of t ports h dest a.connected
+asked_reach t ports h dest _ a = absurd a
+
+plain : (ports : List Port) → Plain (Reaches ports)
+plain ports = record { sends = λ to x. tt; says_ok = tt; releases = λ asker. tt; is_answered = tt; drops = λ pid. tt }
+
+decision_reach : (t : HciTables) (ports : List Port) (h : ℕ) (d : Decision) → AsksAsAllowed t (view_for t ports h) h d → TellsConnected (view_for t ports h) d
+    → OfDecision (Reaches ports) h d
+decision_reach t ports h (Answer answer) a b = tt
+decision_reach t ports h (Commit c answer tell notice) a b = (tt, each (hosts_where (has tell)) b) where
+  each : (hosts : List ℕ) → AreConnected (view_for t ports h) hosts → AllByRecursion (IsLinked ports) hosts
+  each [] b = tt
+  each (x ∷ hosts) b = (linked_of t ports h x b.0, each hosts b.1)
+decision_reach t ports h (Ask asked notice c answer) a b = asked_reach t ports h asked c a
+
+pub controller_reach : (core : Core) (ports : List Port) (h : ℕ) (m : Message) → AllReach ports (controller_deeds (view_of core ports) h m)
+controller_reach core ports h m =
+    let v : LinkView = view_for core.tables ports h in
+    all_of_controller (Reaches ports) (plain ports) core ports h m
+    (λ n. decision_reach core.tables ports h (decided core.tables v h m.0 n (body_in m.1)) (decided_as_allowed core.tables v h m.0 n (body_in m.1))
+    (decided_tells v core.tables h m.0 n (body_in m.1)))
+    (λ p c here asked. tt) (λ errors n value command gate is. tt)
+
+-- ## An end that is up stays so unless its session ends
+
+abbrev pub IsUpEnd : LinkEnd → Type 0
+IsUpEnd e = e.shdlc.phase ≡ Up
+
+goes_on : (e f : EndState) (b began : Bool) → e.phase ≡ Up → b ≡ false → Shift e f b began → f.phase ≡ Up
+goes_on e f b began up q (Stays p r g) = g.is
+goes_on e f b began up q (ShiftEnds p r u n s) = absurd (true≢false (sym p ∙ q))
+goes_on e f b began up q (Renews p r u n) = absurd (true≢false (sym p ∙ q))
+goes_on e f b began up q (Begins p r n w) = absurd (n up)
+goes_on e f b began up q (Rests p r n m s) = absurd (n up)
+
+up_ends : (e : EndState) (cause : Cause) → e.phase ≡ Up → is_some (if_up e cause) ≡ false → ⊥
+up_ends e cause up q = let z : true ≡ false = rw up at q in true≢false z
+
+act_stays : (o : Option Act) (e : LinkEnd) → (with_act o e).shdlc ≡ e.shdlc
+act_stays None e = refl
+act_stays (Some act) e = refl
+
+activated_up : (e : LinkEnd) (event : ActEvent) → IsUpEnd e → is_some (ended_by_act e event) ≡ false → IsUpEnd (activated e event)
+activated_up e event up q = by_test (act_answer e.role event).ended_link
+    (λ z. absurd (up_ends e.shdlc ByAct up (rw z at q)))
+    (λ z. let down : (put_down (act_answer e.role event).ended_link e).shdlc ≡ e.shdlc = ap (λ b. (put_down b e).shdlc) z in
+    subst (λ (s : EndState). s.phase ≡ Up) (sym (act_stays (act_answer e.role event).send (f (act_answer e.role event).ended_link) ∙ down)) up)
+  where
+    f : Bool → LinkEnd
+    f b = record (put_down b e) { role = role_after e.role event }
+
+moved_up : (e : LinkEnd) (b : Bool) (s : EndState) → s.phase ≡ Up → IsUpEnd (moved e b s)
+moved_up e b s up = let P : EndState → Type 0 = λ z. z.phase ≡ Up in subst P (sym (shdlc_moved e b s)) up
+
+heard_up : (e : LinkEnd) (c : Control) → IsUpEnd e
+    → is_some (cond (is_faulty (taken e.shdlc c).session) (Some Chain) (take_answer e.shdlc c).ended) ≡ false → IsUpEnd (heard e c)
+heard_up e c up q = by_test (is_faulty (taken e.shdlc c).session)
+    (λ z. absurd (true≢false (rw z at q)))
+    (λ z. let same : is_some (take_answer e.shdlc c).ended ≡ false = rw z at q in
+    let s : EndState = taken e.shdlc c in
+    let b : Bool = is_some (take_answer e.shdlc c).ended in
+    rw z (moved_up e b s (goes_on e.shdlc s b (take_answer e.shdlc c).began up same (taken_shift e.shdlc c))))
+
+open_up : (e : LinkEnd) (c : Control) (b : Bool) → IsUpEnd e
+    → is_some (cond b (cond (is_faulty (taken e.shdlc c).session) (Some Chain) (take_answer e.shdlc c).ended) None) ≡ false → IsUpEnd (cond b (heard e c) e)
+open_up e c true up q = heard_up e c up q
+open_up e c false up q = up
+
+pub stays_up : (e : LinkEnd) (i : LinkInput) → IsComing i → IsUpEnd e → is_some (ended_by e i) ≡ false → IsUpEnd (after_input e i)
+stays_up e (Take (ActFrame act again)) k up q = activated_up e (ActTake act again) up q
+stays_up e (Take Clt) k up q = up
+stays_up e (Take (I ns nr info)) k up q = open_up e (I ns nr info) (is_open e.role) up q
+stays_up e (Take (S kind nr)) k up q = open_up e (S kind nr) (is_open e.role) up q
+stays_up e (Take (Rset w caps)) k up q = open_up e (Rset w caps) (is_open e.role) up q
+stays_up e (Take Ua) k up q = open_up e Ua (is_open e.role) up q
+stays_up e Tick k up q = by_test (is_open e.role)
+    (λ z. let b : Bool = is_some (tick_answer e.shdlc).ended in
+    let same : b ≡ false = rw z at q in
+    let is : had_tick e ≡ moved e b (ticked e.shdlc) = rw z refl in
+    subst IsUpEnd (sym is) (moved_up e b (ticked e.shdlc) (goes_on e.shdlc (ticked e.shdlc) b false up same (ticked_shift e.shdlc))))
+    (λ z. let same : is_some (ended_by_act e ActTick) ≡ false = rw z at q in
+    let is : had_tick e ≡ activated e ActTick = rw z refl in
+    subst IsUpEnd (sym is) (activated_up e ActTick up same))
+stays_up e (Reset window) k up q = by_option (reset_refusal e) (λ z. absurd (up_ends e.shdlc Asked up (rw z at q))) (λ why z. rw z up)
+stays_up e (Start value) k up q = absurd (up_ends e.shdlc ByAct up q)
+stays_up e Stop k up q = absurd (up_ends e.shdlc ByAct up q)
+stays_up e _ k up q = absurd k
+
+-- ## A notice that isn't answered stands only at an end that is up
+
+-- ### Ends
 
 -- a turn leaves the phase of an end
 pub turn-phase : (e : LinkEnd) (t : Turn) → (turn e t).shdlc.phase ≡ e.shdlc.phase
@@ -52,7 +271,7 @@ at_host (x ∷ ports) h p q = by_test (x.desk.host == h)
     ap (λ (z : Port). z.desk.host) (sym one) ∙ eqb-true x.desk.host h e)
     (λ e. at_host ports h p (rw e at q))
 
--- ## Works
+-- ### Works
 
 module _ (U : ℕ → Bool) where
   -- the links of a controller are up so, and none has a notice but where it is
@@ -172,7 +391,7 @@ module _ (U : ℕ → Bool) where
     causes = λ k m w comes a. deeds_go k m w a;
   }
 
--- ## What comes
+-- ### What comes
 
 -- where an end has a notice that isn't answered and its session hasn't ended in this step, it is up
 abbrev IsOk : Port → Type 0
@@ -215,7 +434,7 @@ forgets_ok ports p b = go (is_forgotten ports (asked_at p)) refl p.desk.notice r
 without_up : (p : Port) → IsOk p → UpAt (Some (without_notice p))
 without_up p b = by_test (is_over p) (λ q. rw q (λ n. absurd (true≢false (sym n)))) (λ q. rw q (λ n. ap is_up (b n q)))
 
--- ## Steps
+-- ### Steps
 
 -- what comes in a step comes from outside
 pub outside : (input : NodeInput) → IsOutside input → (p : Port) (i : LinkInput) → input_at input p ≡ Some i → IsComing i

@@ -1,15 +1,315 @@
--- The link of each host is a run of the law of one link, over all that happens to it.
-use Rattle.node_laws.proofs.Words.{AllAllowed, AreSendableTurns, AsksReset, AtController, AtHost, Bare, Bool, CanCome, CanEnd, Clf, Comes, CutOff, EndEvent}
-use Rattle.node_laws.proofs.Words.{Ending, GoesOut, IsClf, IsEvent, IsRun, IsRunOf, IsUicc, IsWindow, Link, LinkEvent, List, Lose, Loss, NextFrame, NoInput}
-use Rattle.node_laws.proofs.Words.{Node, None, NumberedEnd, Reset, Role, Starts, Step, Stops, TicksWithout, Turn, Uicc, [], after_link_events, aged, ap}
-use Rattle.node_laws.proofs.Words.{clf_starts, cond, exchanged, false, happens, happens_at_controller, has_input, is_waiting, new_line, not, refl, subst, sym}
-use Rattle.node_laws.proofs.Words.{tick_host, ticked_so, ticks_at_controller, true, ◌&&◌, ◌++◌, ◌∙◌, ◌∷◌, ◌≡◌}
+-- What came at an end may be sent on, and the link of each host is a run of the law of one link over all that happens to it.
+use Rattle.node_laws.proofs.Words.{ActDue, ActEvent, ActFrame, ActStart, ActStop, ActTake, ActTick, AllAllowed, AllByRecursion, AreSendable, AreSendableTurns}
+use Rattle.node_laws.proofs.Words.{Asked, AsksReset, AtController, AtHost, Bare, Bool, CanCome, CanEnd, Clf, Clt, Comes, Control, CutOff, EndEvent, Ending}
+use Rattle.node_laws.proofs.Words.{Fetch, FetchMessage, FromNode, Give, GoesOut, Hold, I, IsClf, IsEvent, IsRun, IsRunOf, IsUicc, IsWindow, Link, LinkEnd}
+use Rattle.node_laws.proofs.Words.{LinkEvent, LinkInput, List, Lose, Loss, Message, NextFrame, NoInput, Node, None, NumberedEnd, Option, Release, Reset, Role}
+use Rattle.node_laws.proofs.Words.{Rset, S, Session, SetAside, Start, Starts, Step, Stop, Stops, Take, TakeBroken, TakeUnknown, Tick, TicksWithout, Turn, Ua}
+use Rattle.node_laws.proofs.Words.{Uicc, [], activated, activated_got, activated_role, after_input, after_link_events, aged, all_append, ap, arith}
+use Rattle.node_laws.proofs.Words.{aside_refusal, by_list, by_option, by_test, clf_starts, cond, deactivated, drop, ended_by, exchanged, false, finished}
+use Rattle.node_laws.proofs.Words.{frame_fetched, give_refusal, good_of, had_tick, happens, happens_at_controller, has_input, has_taken, heard, host_ended}
+use Rattle.node_laws.proofs.Words.{host_finished, if_up, is_faulty, is_good, is_open, is_some, is_up, is_waiting, length, ltb-true, moved, moved_got}
+use Rattle.node_laws.proofs.Words.{moved_role, nat_lt, new_line, new_link_end, not, put_down, refl, renewed, reset_by, reset_refusal, reset_role, reset_with}
+use Rattle.node_laws.proofs.Words.{role_after, sent_all, silent, started, steps_at_controller, stopped, subst, suc, sym, take_answer, taken, tick_answer}
+use Rattle.node_laws.proofs.Words.{tick_host, ticked, ticked_so, ticks_at_controller, took, true, true≢false, turn, turned, turned_role, window_of, with_ended}
+use Rattle.node_laws.proofs.Words.{zero, ℕ, ◌%◌, ◌&&◌, ◌++◌, ◌<◌, ◌==◌, ◌∙◌, ◌∷◌, ◌≡◌}
+use Rattle.hcp_chain.specs.Joining.{given_by, grown, is_fifth, join_step, message_in}
+use Rattle.hcp_packet.specs.Packets.{packets_in}
+use Rattle.hcp_packet.specs.declared.Packet.{Packet}
+use Rattle.link_laws.proofs.entries.Settling.{down_role}
+use Rattle.link_laws.proofs.machine.Reports.{down_got}
+use Rattle.link_laws.specs.machine.Machine.{messages_got, news}
 use Rattle.link_laws.specs.messages.Links.{IfLine}
 use Rattle.link_laws.specs.messages.Links.LinkEvent.{Ticks}
-use Rattle.node_laws.proofs.links.Got.{Clean}
-use Rattle.node_laws.proofs.links.Ends.{here_host, here_clf, here_uicc, here_clean, tick_clf, tick_uicc, tick_clean}
 
--- ## Runs
+-- ## What came at an end may be sent on: its messages aren't empty, and their pipes aren't reserved
+
+-- ### Lists
+
+sendable-append : (ms ns : List Message) → AreSendable ms → AreSendable ns → AreSendable (ms ++ ns)
+sendable-append [] ns a b = b
+sendable-append (m ∷ ms) ns a b = (a.0, sendable-append ms ns a.1 b)
+
+sendable-drop : (n : ℕ) (ms : List Message) → AreSendable ms → AreSendable (drop n ms)
+sendable-drop zero ms a = a
+sendable-drop (suc n) [] a = tt
+sendable-drop (suc n) (m ∷ ms) a = sendable-drop n ms a.1
+
+-- ### Messages of fragments
+
+abbrev HavePipes : List Packet → Type 0
+HavePipes ps = AllByRecursion (λ (p : Packet). p.pipe < 112) ps
+
+abbrev OnPipes : List Message → Type 0
+OnPipes ms = AllByRecursion (λ (m : Message). m.0 < 112) ms
+
+have_pipes : (fs : List (List ℕ)) → HavePipes (packets_in fs)
+have_pipes [] = tt
+have_pipes ([] ∷ fs) = have_pipes fs
+have_pipes ((first ∷ rest) ∷ fs) = by_test (nat_lt (first % 128) 112) (λ q. rw q (ltb-true (first % 128) 112 q, have_pipes fs)) (λ q. rw q (have_pipes fs))
+
+joined_pipe : (begun : List Message) (p : Packet) → p.pipe < 112 → OnPipes (message_in (join_step begun p).0)
+joined_pipe begun p fits = by_test (is_fifth begun p.pipe) (λ x. rw x tt)
+    (λ x. by_test (nat_lt 4096 (length (grown begun p))) (λ y. rw (x, y) tt)
+    (λ y. by_test p.last (λ z. rw (x, y, z) (fits, tt)) (λ z. rw (x, y, z) tt)))
+
+on_pipes : (begun : List Message) (ps : List Packet) → HavePipes ps → OnPipes (given_by begun ps)
+on_pipes begun [] a = tt
+on_pipes begun (p ∷ ps) a =
+    all_append (λ (m : Message). m.0 < 112) (message_in (join_step begun p).0) (given_by (join_step begun p).1 ps) (joined_pipe begun p a.0)
+    (on_pipes (join_step begun p).1 ps a.1)
+
+good_sendable : (ms : List Message) → OnPipes ms → AreSendable (good_of ms)
+good_sendable [] a = tt
+good_sendable (m ∷ ms) a = by_test (is_good m.1) (λ q. rw q ((a.0, long m.1 q), good_sendable ms a.1)) (λ q. rw q (good_sendable ms a.1))
+  where
+    long : (bytes : List ℕ) → is_good bytes ≡ true → 0 < length bytes
+    long [] z = absurd (true≢false (sym z))
+    long (first ∷ rest) z = omega arith
+
+got_sendable : (s : Session) → AreSendable (messages_got s)
+got_sendable s = good_sendable (given_by [] (packets_in s.acc)) (on_pipes [] (packets_in s.acc) (have_pipes s.acc))
+
+-- ### What came at an end
+
+abbrev pub Clean : LinkEnd → Type 0
+Clean e = AreSendable e.got
+
+got_same : (e f : LinkEnd) → f.got ≡ e.got → Clean e → Clean f
+got_same e f q c = let P : List Message → Type 0 = λ ms. AreSendable ms in subst P (sym q) c
+
+heard_clean : (e : LinkEnd) (c : Control) → Clean e → Clean (heard e c)
+heard_clean e c a = by_test (is_faulty (taken e.shdlc c).session)
+    (λ q. rw q (got_same e (put_down true e) (down_got e true) a))
+    (λ q. rw q (sendable-append e.got (news e.shdlc.session (taken e.shdlc c)) a
+    (sendable-drop (length (messages_got e.shdlc.session)) (messages_got (taken e.shdlc c).session) (got_sendable (taken e.shdlc c).session))))
+
+open_clean : (e : LinkEnd) (c : Control) (b : Bool) → Clean e → Clean (cond b (heard e c) e)
+open_clean e c true a = heard_clean e c a
+open_clean e c false a = a
+
+took_clean : (e : LinkEnd) (c : Control) → Clean e → Clean (took e c)
+took_clean e (ActFrame act again) a = got_same e (activated e (ActTake act again)) (activated_got e (ActTake act again)) a
+took_clean e Clt a = a
+took_clean e (I ns nr info) a = open_clean e (I ns nr info) (is_open e.role) a
+took_clean e (S kind nr) a = open_clean e (S kind nr) (is_open e.role) a
+took_clean e (Rset w caps) a = open_clean e (Rset w caps) (is_open e.role) a
+took_clean e Ua a = open_clean e Ua (is_open e.role) a
+
+tick_clean : (e : LinkEnd) → Clean e → Clean (had_tick e)
+tick_clean e a = by_test (is_open e.role)
+    (λ q. let b : Bool = is_some (tick_answer e.shdlc).ended in
+    rw q (got_same e (moved e b (ticked e.shdlc)) (moved_got e b (ticked e.shdlc)) a))
+    (λ q. rw q (got_same e (activated e ActTick) (activated_got e ActTick) a))
+
+reset_clean : (e : LinkEnd) (window : Option ℕ) → Clean e → Clean (after_input e (Reset window))
+reset_clean e window a = by_option (reset_refusal e)
+    (λ q. let w : ℕ = window_of e window in
+    rw q (got_same e (reset_by e w) (moved_got e (is_some (if_up e.shdlc Asked)) (reset_with e.shdlc w)) a))
+    (λ why q. rw q a)
+
+turn_clean : (e : LinkEnd) (t : Turn) → Clean e → Clean (turn e t)
+turn_clean e (Give m) a = by_option (give_refusal e m) (λ q. rw q a) (λ why q. rw q a)
+turn_clean e (Hold held) a = a
+turn_clean e FetchMessage a = sendable-drop 1 e.got a
+turn_clean e SetAside a = by_option (aside_refusal e) (λ q. rw q a) (λ why q. rw q a)
+turn_clean e Release a = a
+
+turned_clean : (e : LinkEnd) (ts : List Turn) → Clean e → Clean (turned e ts)
+turned_clean e [] a = a
+turned_clean e (t ∷ ts) a = turned_clean (turn e t) ts (turn_clean e t a)
+
+pub one_clean : (e : LinkEnd) (t : Turn) → Clean e → Clean (turn e t)
+one_clean = turn_clean
+
+pub input_clean : (e : LinkEnd) (i : LinkInput) → Clean e → Clean (after_input e i)
+input_clean e (Take c) a = took_clean e c a
+input_clean e TakeUnknown a = a
+input_clean e (TakeBroken fault) a = a
+input_clean e Tick a = tick_clean e a
+input_clean e (Reset window) a = reset_clean e window a
+input_clean e (Start value) a =
+    got_same e (started e value) (activated_got (moved e true (stopped e.shdlc)) (ActStart value) ∙ moved_got e true (stopped e.shdlc)) a
+input_clean e Stop a = got_same e (deactivated e) (activated_got (moved e true (stopped e.shdlc)) ActStop ∙ moved_got e true (stopped e.shdlc)) a
+input_clean e (FromNode t) a = turn_clean e t a
+input_clean e Fetch a = got_same e (frame_fetched e) (fetched_got e.acts refl) a
+  where
+    fetched_got : (acts : List ActDue) → e.acts ≡ acts → (frame_fetched e).got ≡ e.got
+    fetched_got [] q = rw q refl
+    fetched_got (x ∷ acts) q = by_test (x.behind == 0) (λ z. rw (q, z) refl) (λ z. rw (q, z) refl)
+
+-- ## What holds of the end of a link over all that may happen to it
+
+-- ### One end
+
+module _ (P : LinkEnd → Type 0)
+    (has : (e : LinkEnd) (i : LinkInput) → P e → P (after_input e i))
+    (turns : (e : LinkEnd) (ts : List Turn) → P e → P (turned e ts))
+    (sends : (e : LinkEnd) → P e → P (sent_all e))
+    (renews : (e : LinkEnd) → P e → P (new_link_end (renewed e.role))) where
+  finished_is : (l : Link) (e : LinkEnd) (ending : Ending) → P e → P (finished l e ending).controller.side
+  finished_is l e GoesOut a = sends e a
+  finished_is l e CutOff a = renews (sent_all e) (sends e a)
+
+  input_is : (l : Link) (i : LinkInput) (ts : List Turn) (ending : Ending) → P l.controller.side
+      → (m : Link) → P (finished m (turned (after_input l.controller.side i) ts) ending).controller.side
+  input_is l i ts ending a m =
+      finished_is m (turned (after_input l.controller.side i) ts) ending (turns (after_input l.controller.side i) ts (has l.controller.side i a))
+
+  step_is : (l : Link) (comes : Comes) (ts : List Turn) (ending : Ending) → P l.controller.side → P (steps_at_controller l comes ts ending).controller.side
+  step_is l NextFrame ts ending a = by_list l.to_controller
+      (λ q. let is : steps_at_controller l NextFrame ts ending ≡ l = rw q refl in
+      let Q : Link → Type 0 = λ k. P k.controller.side in subst Q (sym is) a)
+      (λ x xs q. let is : steps_at_controller l NextFrame ts ending ≡ has_taken l x xs ts ending = rw q refl in
+      subst (λ (k : Link). P k.controller.side) (sym is) (input_is l (Take x.frame) ts ending a _))
+  step_is l (AsksReset window) ts ending a = input_is l (Reset window) ts ending a (with_ended l (is_some (ended_by l.controller.side (Reset window))))
+  step_is l (Starts value) ts ending a = input_is l (Start value) ts ending a (silent l (after_input l.controller.side (Start value)))
+  step_is l Stops ts ending a = input_is l Stop ts ending a (silent l (after_input l.controller.side Stop))
+  step_is l NoInput ts ending a = finished_is l (turned l.controller.side ts) ending (turns l.controller.side ts a)
+
+  pub here_is : (l : Link) (x : EndEvent) → P l.controller.side → P (happens_at_controller l x).controller.side
+  here_is l (Step comes ts ending) a = step_is l comes ts ending a
+  here_is l (Lose why) a = a
+
+  pub tick_is : (l : Link) (ts : List Turn) (ending : Ending) → P l.controller.side → P (ticks_at_controller l ts ending).controller.side
+  tick_is l ts ending a = input_is l Tick ts ending a (with_ended l (is_some (ended_by l.controller.side Tick)))
+
+-- ### The other end stays
+
+silent_host : (l : Link) (e : LinkEnd) → (silent l e).host ≡ l.host
+silent_host l e = host_ended l (is_up l.controller.side.shdlc.phase)
+
+step_host : (l : Link) (comes : Comes) (ts : List Turn) (ending : Ending) → (steps_at_controller l comes ts ending).host ≡ l.host
+step_host l NextFrame ts ending = by_list l.to_controller
+    (λ q. let is : steps_at_controller l NextFrame ts ending ≡ l = rw q refl in ap (λ (k : Link). k.host) is)
+    (λ x xs q. let is : steps_at_controller l NextFrame ts ending ≡ has_taken l x xs ts ending = rw q refl in
+    let b : Bool = is_some (ended_by l.controller.side (Take x.frame)) in
+    ap (λ (k : Link). k.host) is
+    ∙ (host_finished _ (turned (after_input l.controller.side (Take x.frame)) ts) ending ∙ host_ended (record l { to_controller = xs }) b))
+step_host l (AsksReset window) ts ending =
+    let b : Bool = is_some (ended_by l.controller.side (Reset window)) in
+    host_finished (with_ended l b) (turned (after_input l.controller.side (Reset window)) ts) ending ∙ host_ended l b
+step_host l (Starts value) ts ending =
+    host_finished (silent l (after_input l.controller.side (Start value))) (turned (after_input l.controller.side (Start value)) ts) ending
+    ∙ silent_host l (after_input l.controller.side (Start value))
+step_host l Stops ts ending =
+    host_finished (silent l (after_input l.controller.side Stop)) (turned (after_input l.controller.side Stop) ts) ending
+    ∙ silent_host l (after_input l.controller.side Stop)
+step_host l NoInput ts ending = host_finished l (turned l.controller.side ts) ending
+
+pub here_host : (l : Link) (x : EndEvent) → (happens_at_controller l x).host ≡ l.host
+here_host l (Step comes ts ending) = step_host l comes ts ending
+here_host l (Lose why) = refl
+
+-- ### Roles
+
+module _ (Q : Role → Type 0) (acts : (r : Role) (event : ActEvent) → Q r → Q (role_after r event)) where
+  same : (e f : LinkEnd) → f.role ≡ e.role → Q e.role → Q f.role
+  same e f q a = subst Q (sym q) a
+
+  activated_is : (e : LinkEnd) (event : ActEvent) → Q e.role → Q (activated e event).role
+  activated_is e event a = subst Q (sym (activated_role e event)) (acts e.role event a)
+
+  heard_is : (e : LinkEnd) (c : Control) (b : Bool) → Q e.role → Q (cond b (heard e c) e).role
+  heard_is e c false a = a
+  heard_is e c true a = by_test (is_faulty (taken e.shdlc c).session)
+      (λ q. rw q (same e (put_down true e) (down_role e) a))
+      (λ q. let b : Bool = is_some (take_answer e.shdlc c).ended in
+      rw q (same e (moved e b (taken e.shdlc c)) (moved_role e b (taken e.shdlc c)) a))
+
+  took_is : (e : LinkEnd) (c : Control) → Q e.role → Q (took e c).role
+  took_is e (ActFrame act again) a = activated_is e (ActTake act again) a
+  took_is e Clt a = a
+  took_is e (I ns nr info) a = heard_is e (I ns nr info) (is_open e.role) a
+  took_is e (S kind nr) a = heard_is e (S kind nr) (is_open e.role) a
+  took_is e (Rset w caps) a = heard_is e (Rset w caps) (is_open e.role) a
+  took_is e Ua a = heard_is e Ua (is_open e.role) a
+
+  ticked_is : (e : LinkEnd) → Q e.role → Q (had_tick e).role
+  ticked_is e a = by_test (is_open e.role)
+      (λ q. let b : Bool = is_some (tick_answer e.shdlc).ended in
+      let f : LinkEnd = moved e b (ticked e.shdlc) in
+      let is : had_tick e ≡ f = rw q refl in
+      subst (λ (g : LinkEnd). Q g.role) (sym is) (same e f (moved_role e b (ticked e.shdlc)) a))
+      (λ q. let is : had_tick e ≡ activated e ActTick = rw q refl in
+      subst (λ (g : LinkEnd). Q g.role) (sym is) (activated_is e ActTick a))
+
+  fetch_is : (e : LinkEnd) → Q e.role → Q (frame_fetched e).role
+  fetch_is e a = by_list e.acts
+      (λ q. same e (frame_fetched e) (rw q refl) a)
+      (λ x acts q. by_test (x.behind == 0) (λ z. same e (frame_fetched e) (rw (q, z) refl) a) (λ z. same e (frame_fetched e) (rw (q, z) refl) a))
+
+  pub role_input : (e : LinkEnd) (i : LinkInput) → Q e.role → Q (after_input e i).role
+  role_input e (Take c) a = took_is e c a
+  role_input e TakeUnknown a = a
+  role_input e (TakeBroken fault) a = a
+  role_input e Tick a = ticked_is e a
+  role_input e (Reset window) a = same e (after_input e (Reset window)) (reset_role e window) a
+  role_input e (Start value) a = activated_is (moved e true (stopped e.shdlc)) (ActStart value) a
+  role_input e Stop a = activated_is (moved e true (stopped e.shdlc)) ActStop a
+  role_input e (FromNode t) a = same e (turned e (t ∷ [])) (turned_role e (t ∷ [])) a
+  role_input e Fetch a = fetch_is e a
+
+clf_acts : (r : Role) (event : ActEvent) → IsClf r → IsClf (role_after r event)
+clf_acts (Clf s) event a = tt
+clf_acts (Uicc s) event a = absurd a
+clf_acts Bare event a = absurd a
+
+uicc_acts : (r : Role) (event : ActEvent) → IsUicc r → IsUicc (role_after r event)
+uicc_acts (Uicc s) event a = tt
+uicc_acts (Clf s) event a = absurd a
+uicc_acts Bare event a = absurd a
+
+-- ### What is kept
+
+abbrev HasClf : LinkEnd → Type 0
+HasClf e = IsClf e.role
+
+abbrev HasUicc : LinkEnd → Type 0
+HasUicc e = IsUicc e.role
+
+clf_turns : (e : LinkEnd) (ts : List Turn) → HasClf e → HasClf (turned e ts)
+clf_turns e ts a = subst IsClf (sym (turned_role e ts)) a
+
+clf_renews : (e : LinkEnd) → HasClf e → HasClf (new_link_end (renewed e.role))
+clf_renews e a = go e.role a
+  where
+    go : (r : Role) → IsClf r → IsClf (renewed r)
+    go (Clf s) a = tt
+    go (Uicc s) a = absurd a
+    go Bare a = absurd a
+
+uicc_turns : (e : LinkEnd) (ts : List Turn) → HasUicc e → HasUicc (turned e ts)
+uicc_turns e ts a = subst IsUicc (sym (turned_role e ts)) a
+
+uicc_renews : (e : LinkEnd) → HasUicc e → HasUicc (new_link_end (renewed e.role))
+uicc_renews e a = go e.role a
+  where
+    go : (r : Role) → IsUicc r → IsUicc (renewed r)
+    go (Uicc s) a = tt
+    go (Clf s) a = absurd a
+    go Bare a = absurd a
+
+pub here_clf : (l : Link) (x : EndEvent) → IsClf l.controller.side.role → IsClf (happens_at_controller l x).controller.side.role
+here_clf l x a = here_is HasClf (role_input IsClf clf_acts) clf_turns (λ e b. b) clf_renews l x a
+
+pub here_uicc : (l : Link) (x : EndEvent) → IsUicc l.controller.side.role → IsUicc (happens_at_controller l x).controller.side.role
+here_uicc l x a = here_is HasUicc (role_input IsUicc uicc_acts) uicc_turns (λ e b. b) uicc_renews l x a
+
+here_clean : (l : Link) (x : EndEvent) → Clean l.controller.side → Clean (happens_at_controller l x).controller.side
+here_clean l x a = here_is Clean input_clean turned_clean (λ e b. b) (λ e b. tt) l x a
+
+pub tick_clf : (l : Link) (ts : List Turn) (ending : Ending) → IsClf l.controller.side.role → IsClf (ticks_at_controller l ts ending).controller.side.role
+tick_clf l ts ending a = tick_is HasClf (role_input IsClf clf_acts) clf_turns (λ e b. b) clf_renews l ts ending a
+
+pub tick_uicc : (l : Link) (ts : List Turn) (ending : Ending) → IsUicc l.controller.side.role → IsUicc (ticks_at_controller l ts ending).controller.side.role
+tick_uicc l ts ending a = tick_is HasUicc (role_input IsUicc uicc_acts) uicc_turns (λ e b. b) uicc_renews l ts ending a
+
+tick_clean_of_ends : (l : Link) (ts : List Turn) (ending : Ending) → Clean l.controller.side → Clean (ticks_at_controller l ts ending).controller.side
+tick_clean_of_ends l ts ending a = tick_is Clean input_clean turned_clean (λ e b. b) (λ e b. tt) l ts ending a
+
+-- ## The link of each host is a run of the law of one link, over all that happens to it
+
+-- ### Runs
 
 after_push : (es : List LinkEvent) (l : Link) (e : LinkEvent) → after_link_events l (es ++ e ∷ []) ≡ happens (after_link_events l es) e
 after_push [] l e = refl
@@ -30,7 +330,7 @@ run_of_more events l e can run =
 run_more : (l : Link) (e : LinkEvent) → IsEvent l e → IsRun l → IsRun (happens l e)
 run_more l e can r = record { events = r.events ++ e ∷ []; run = run_of_more r.events l e can r.run }
 
--- ## A link of a world
+-- ### A link of a world
 
 -- the link of a CLF and a UICC, and what came at its ends may be sent on
 pub record IsLine (l : Link) : Type 0 where
@@ -82,7 +382,7 @@ line_there l x a =
       far = here_clean k x a.far;
     }
 
--- ## Steps of one end
+-- ### Steps of one end
 
 -- what may come to a controller
 abbrev pub MayCome : Comes → Type 0
@@ -119,11 +419,11 @@ controller_loses l why a = record { run = run_more l (AtController (Lose why)) t
 pub host_loses : (l : Link) (why : Loss) → IsFineLink l → IsFineLink (happens l (AtHost (Lose why)))
 host_loses l why a = record { run = run_more l (AtHost (Lose why)) tt a.run; line = line_there l (Lose why) a.line }
 
--- ## Ticks
+-- ### Ticks
 
 -- what comes of a link whose controller's end has had its tick, or was reset in place of it, and then the host's
-abbrev pub ticked : Link → Bool → Node → Node → Link
-ticked l late c h = exchanged (ticks_at_controller (exchanged (ticked_so (aged l) late c.turns c.ending)) h.turns h.ending)
+abbrev pub ticked_of_sites : Link → Bool → Node → Node → Link
+ticked_of_sites l late c h = exchanged (ticks_at_controller (exchanged (ticked_so (aged l) late c.turns c.ending)) h.turns h.ending)
 
 line_ticked : (m : Link) (h : Node) → IsLine m → IsLine (exchanged (ticks_at_controller (exchanged m) h.turns h.ending))
 line_ticked m h a =
@@ -132,7 +432,7 @@ line_ticked m h a =
       clf = subst (λ (z : NumberedEnd). IsClf z.side.role) (sym (tick_host k h.turns h.ending)) a.clf;
       uicc = tick_uicc k h.turns h.ending a.uicc;
       near = subst (λ (z : NumberedEnd). Clean z.side) (sym (tick_host k h.turns h.ending)) a.near;
-      far = tick_clean k h.turns h.ending a.far;
+      far = tick_clean_of_ends k h.turns h.ending a.far;
     }
 
 line_tick : (l : Link) (ts : List Turn) (ending : Ending) → IsLine l → IsLine (ticks_at_controller l ts ending)
@@ -140,7 +440,7 @@ line_tick l ts ending a =
     record {
       clf = tick_clf l ts ending a.clf;
       uicc = subst (λ (h : NumberedEnd). IsUicc h.side.role) (sym (tick_host l ts ending)) a.uicc;
-      near = tick_clean l ts ending a.near;
+      near = tick_clean_of_ends l ts ending a.near;
       far = subst (λ (h : NumberedEnd). Clean h.side) (sym (tick_host l ts ending)) a.far;
     }
 
@@ -173,7 +473,7 @@ reset_allowed l c h send a q =
       (send.host, can_end m.host.side.role h.ending (uicc_line m.host.side.role b.uicc)),
     )
 
-pub ticks_fine : (l : Link) (late : Bool) (c h : Node) → AreNodes c h → IsFineLink l → IsFineLink (ticked l late c h)
+pub ticks_fine : (l : Link) (late : Bool) (c h : Node) → AreNodes c h → IsFineLink l → IsFineLink (ticked_of_sites l late c h)
 ticks_fine l late c h send a = go late (is_waiting l.controller.side.shdlc) refl
   where
     reset : EndEvent

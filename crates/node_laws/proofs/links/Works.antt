@@ -1,20 +1,215 @@
--- What a node does in a step is what it may do to its ends.
-use Rattle.node_laws.proofs.Words.{About, AllByRecursion, AreSendable, AreSendableTurns, Asks, AtEnd, Bool, Command, Commits, Core, Deed, Desk, FetchMessage}
-use Rattle.node_laws.proofs.Words.{Forgotten, Give, Hold, IsAnswered, IsSendable, LinkInput, List, Message, NodeInput, None, Notice, Option, Orders, Port}
-use Rattle.node_laws.proofs.Words.{Release, Releases, Removed, Reset, Sends, SetAside, SetsErrors, Some, Tells, TimePasses, Turn, Waits, Work, []}
-use Rattle.node_laws.proofs.Words.{after_sessions, after_turn, all_changed, all_come, all_done, all_map, all_owed, all_owed_hold, all_synced_hold, arith}
-use Rattle.node_laws.proofs.Words.{asked_at, body_of, by_option, by_test, commit, commit_writes, creation_in, deeds_of, done, fails_within, false, flat_map}
-use Rattle.node_laws.proofs.Words.{forgets, forgotten, forgotten_hold, handles, has_come, holds_back, input_at, is_forgotten, is_late, is_over, length, lets_go}
-use Rattle.node_laws.proofs.Words.{map, notified, noting, older_notice, option_map_or, port_at, refl, reset_late, steps, subst, synced, times_out, true}
-use Rattle.node_laws.proofs.Words.{turn_at, with_desk, with_older, with_port, without_notice, ℕ, ◌++◌, ◌==◌, ◌∷◌, ◌≡◌}
+-- What nodes decide on and send may be sent, so what a node does in a step is what it may do to its ends.
+use Rattle.node_laws.proofs.Words.{About, AllByRecursion, AllByRecursion-get, Answer, AreSendable, AreSendableTurns, Ask, Asks, AtEnd, Bool, Clear, Command}
+use Rattle.node_laws.proofs.Words.{Commit, Commits, Core, Create, Creation, Decision, Deed, Delete, Desk, FetchMessage, Forgotten, Give, HciTables, Hold, Init}
+use Rattle.node_laws.proofs.Words.{IsAnswered, IsSendable, LinkInput, LinkView, List, Message, NodeInput, None, Notice, OfHost, Option, Orders, Port, Release}
+use Rattle.node_laws.proofs.Words.{Releases, Removed, Reset, Response, Sends, SetAside, SetsErrors, Some, Tells, TimePasses, Turn, Waits, Work, [], accepts}
+use Rattle.node_laws.proofs.Words.{after_sessions, after_turn, agreed, all_changed, all_come, all_done, all_map, all_owed, all_owed_hold, all_synced_hold}
+use Rattle.node_laws.proofs.Words.{answer_of, answers_on, arith, asked_at, body_in, body_of, by_option, by_test, commit, commit_deeds, commit_writes}
+use Rattle.node_laws.proofs.Words.{commits_and_tells, controller_deeds, controller_holds, count_bytes, count_in, creation_in, decided, decided_holds}
+use Rattle.node_laws.proofs.Words.{decision_deeds, deeds_of, done, end_view, ends_of, eqb, fails_within, false, finds_room, first_of, flat_map, forgets}
+use Rattle.node_laws.proofs.Words.{forgotten, forgotten_hold, gates, handles, has, has_come, holds_back, host_deeds, host_holds, hosts_where, identity_served}
+use Rattle.node_laws.proofs.Words.{identity_value, input_at, is_forgotten, is_late, is_over, length, lets_go, link_deeds, link_served, map, mask_of, new_row}
+use Rattle.node_laws.proofs.Words.{notified, noting, older_notice, option_map_or, ordered_deeds, ordered_holds, orders_hold, orders_of, others_opened, own_view}
+use Rattle.node_laws.proofs.Words.{param_in, port_at, refl, reset_late, steps, subst, synced, tests_to_get, tests_to_set, tests_to_set_errors, times_out}
+use Rattle.node_laws.proofs.Words.{told_of_clearing, told_of_deletion, true, turn_at, value_in, view_for, view_of, with_desk, with_older, with_port}
+use Rattle.node_laws.proofs.Words.{without_notice, ℕ, ◌++◌, ◌<◌, ◌==◌, ◌∷◌, ◌≡◌}
+use Rattle.gate_identity.specs.Identity.{identity_unless_refused as identity_unless}
+use Rattle.gate_link.specs.Link.{link_unless_refused as link_unless}
+use Rattle.node_machine.proofs.Walks.{all_heard, told_hold}
+use Rattle.node_laws.proofs.links.Sites.{Clean, input_clean, one_clean}
+use Rattle.node_laws.proofs.links.Noticing.{nobody}
+use Rattle.node_laws.proofs.steps.StepWalks.{Lasts, all_do, at_port, handled, holds_of_step_walks as holds, lets, rest_lasts}
+use Rattle.gate_answers.specs.declared.response.Response.TheVariants as response
 use Rattle.trace_model.specs.declared.entry.Entry.TheVariants as entry
-use Rattle.node_laws.proofs.links.Got.{Clean, one_clean, input_clean}
-use Rattle.node_laws.proofs.links.Decisions.{IsSpoken}
-use Rattle.node_laws.proofs.links.Deeds.{HasAnswer, IsTrueDesk, IsFine, AreFine, AreTrue, low, controller_fine}
-use Rattle.node_laws.proofs.links.HostDeeds.{host_fine}
-use Rattle.node_laws.proofs.steps.StepWalks.{Lasts, all_do, lets, holds, handled, rest_lasts}
 
--- ## Ends
+-- ## Each answer and each notice that a gate decides on has a byte
+
+-- it has a byte
+abbrev pub IsSpoken : List ℕ → Type 0
+IsSpoken message = 0 < length message
+
+answer_spoken : (r : Response) (value : List ℕ) → IsSpoken (answer_of r value)
+answer_spoken r value = omega arith
+
+-- ### The administration gate
+
+-- so it is with a decision: a notice has a byte where a host is told
+abbrev Speaks : Decision → Type 0
+Speaks (Answer answer) = IsSpoken answer.items
+Speaks (Commit c answer tell notice) = IsSpoken answer.items × AllByRecursion (λ (x : ℕ). IsSpoken notice.items) (hosts_where (has tell))
+Speaks (Ask dest notice c answer) = IsSpoken notice.items × IsSpoken answer.items
+
+all_spoken : (message : List ℕ) → IsSpoken message → (hosts : List ℕ) → AllByRecursion (λ (x : ℕ). IsSpoken message) hosts
+all_spoken message a [] = tt
+all_spoken message a (x ∷ hosts) = (a, all_spoken message a hosts)
+
+none_told : (message : List ℕ) → AllByRecursion (λ (x : ℕ). IsSpoken message) (hosts_where (has 0))
+none_told message = rw nobody tt
+
+tells_speaks : (c : Command) (told notice : List ℕ) → IsSpoken notice → Speaks (commits_and_tells c told notice)
+tells_speaks c [] notice a = (answer_spoken response.Ok [], none_told [])
+tells_speaks c (x ∷ told) notice a = (answer_spoken response.Ok [], all_spoken notice a (hosts_where (has (mask_of (x ∷ told)))))
+
+decided_speaks : (t : HciTables) (v : LinkView) (host pipe instruction : ℕ) (body : List ℕ) → Speaks (decided t v host pipe instruction body)
+decided_speaks t v host pipe n body =
+    decided_holds Speaks t v host pipe body n answer_spoken (λ _. record {
+      opens = (answer_spoken response.Ok (others_opened t host pipe ∷ []), none_told []);
+      closes = (answer_spoken response.Ok [], none_told []);
+      sets = λ _. (answer_spoken response.Ok [], none_told []);
+      makes = λ _ controller. (answer_spoken response.Ok (ends_of (new_row t v host body)), none_told []);
+      asks = λ _ other. (omega arith, omega arith);
+      deletes = λ _. tells_speaks (Delete (param_in body)) (told_of_deletion t v host (param_in body)) (19 ∷ param_in body ∷ []) (omega arith);
+      clears = λ _. tells_speaks (Clear host) (told_of_clearing t v host) (21 ∷ host ∷ []) (omega arith);
+    })
+
+-- ### Other gates
+
+link_one : (o : Option Response) (otherwise : List ℕ × Option ℕ) → IsSpoken otherwise.0 → IsSpoken (link_unless o otherwise).0
+link_one (Some r) otherwise a = answer_spoken r []
+link_one None otherwise a = a
+
+link_spoken : (errors instruction : ℕ) (body : List ℕ) → IsSpoken (link_served errors instruction body).0
+link_spoken errors instruction body = by_test (eqb instruction 1)
+    (λ p. rw p (link_one (first_of (tests_to_set_errors body)) (answer_of response.Ok [], Some (count_in (value_in body))) (omega arith)))
+    (λ p. by_test (eqb instruction 2)
+    (λ q. rw (p, q) (link_one (first_of (tests_to_get 6 body)) (answer_of response.Ok (count_bytes errors), None) (omega arith)))
+    (λ q. rw (p, q) (omega arith)))
+
+identity_one : (o : Option Response) (otherwise : List ℕ) → IsSpoken otherwise → IsSpoken (identity_unless o otherwise)
+identity_one (Some r) otherwise a = answer_spoken r []
+identity_one None otherwise a = a
+
+identity_spoken : (gates : List ℕ) (instruction : ℕ) (body : List ℕ) → IsSpoken (identity_served gates instruction body)
+identity_spoken gates instruction body = by_test (eqb instruction 1)
+    (λ p. rw p (identity_one (first_of (tests_to_set 5 body)) (answer_of response.RegistryAccessDenied []) (omega arith)))
+    (λ p. by_test (eqb instruction 2)
+    (λ q. rw (p, q) (identity_one (first_of (tests_to_get 5 body)) (answer_of response.Ok (identity_value gates (param_in body))) (omega arith)))
+    (λ q. rw (p, q) (omega arith)))
+
+-- ## What nodes send may be sent: it is on pipes that aren't reserved, and not empty
+
+-- ### Notices
+
+-- the answer that the asker of a creation gets has a byte
+abbrev pub HasAnswer : Option Creation → Type 0
+HasAnswer None = Unit {0}
+HasAnswer (Some c) = IsSpoken c.answer
+
+abbrev pub IsTrueDesk : Desk → Type 0
+IsTrueDesk d = HasAnswer (creation_in d.notice)
+
+-- ### Deeds
+
+-- what a deed sends may be sent
+abbrev pub IsFine : Deed → Type 0
+IsFine (Sends to m) = IsSendable m
+IsFine (Asks to message c) = IsSpoken message × IsSpoken c.answer
+IsFine (Tells to message) = IsSpoken message
+IsFine (Orders message) = IsSpoken message
+IsFine _ = Unit {0}
+
+abbrev pub AreFine : List Deed → Type 0
+AreFine deeds = AllByRecursion IsFine deeds
+
+abbrev OnPipe : ℕ → Type 0
+OnPipe pipe = pipe < 112
+
+pub low : 1 < 112
+low = omega arith
+
+answers_fine : (h pipe : ℕ) (answer : List ℕ) → OnPipe pipe → IsSpoken answer → AreFine (answers_on h pipe answer)
+answers_fine h pipe answer p a = ((p, a), tt)
+
+-- ### Of a controller
+
+commit_fine_of_deeds : (room : Bool) (h pipe : ℕ) (c : Command) (answer : List ℕ) (behind : List Deed) → OnPipe pipe → IsSpoken answer → AreFine behind
+    → AreFine (commit_deeds room h pipe c answer behind)
+commit_fine_of_deeds true h pipe c answer behind p a fine = (tt, ((p, a), (tt, fine)))
+commit_fine_of_deeds false h pipe c answer behind p a fine = ((p, omega arith), tt)
+
+agreed_fine : (flag : Bool) (c : Creation) → IsSpoken c.answer → AreFine (agreed flag c)
+agreed_fine true c a = (tt, (tt, (tt, ((low, a), (tt, tt)))))
+agreed_fine false c a = (tt, (tt, ((low, omega arith), tt)))
+
+-- the desk of each of these ends is true
+abbrev AreTrue : List Port → Type 0
+AreTrue ports = AllByRecursion (λ (p : Port). IsTrueDesk p.desk) ports
+
+link_fine : (h pipe : ℕ) (answer : List ℕ × Option ℕ) → OnPipe pipe → IsSpoken answer.0 → AreFine (link_deeds h pipe answer)
+link_fine h pipe answer p a = by_value answer.0 answer.1 a where
+  by_value : (message : List ℕ) (value : Option ℕ) → IsSpoken message → AreFine (link_deeds h pipe (message, value))
+  by_value message None a = ((p, a), tt)
+  by_value message (Some errors) a = (tt, ((p, a), tt))
+
+decision_fine : (core : Core) (h pipe : ℕ) (d : Decision) → OnPipe pipe → Speaks d → AreFine (decision_deeds (own_view core) h pipe d)
+decision_fine core h pipe (Answer answer) p a = answers_fine h pipe answer.items p a
+decision_fine core h pipe (Commit c answer tell notice) p a =
+    commit_fine_of_deeds (finds_room core c) h pipe c answer.items _ p a.0 (told_hold IsFine notice.items (hosts_where (has tell)) a.1)
+decision_fine core h pipe (Ask asked notice c answer) p a = (a, tt)
+
+controller_fine : (core : Core) (ports : List Port) (h : ℕ) (m : Message) → AreTrue ports → IsSendable m
+    → AreFine (controller_deeds (view_of core ports) h m)
+controller_fine core ports h m a s =
+    let v : LinkView = view_for core.tables ports h in
+    controller_holds AreFine core ports h m (record {
+      drops = λ pid none. (tt, tt);
+      goes_on = λ to off. (s, tt);
+      goes_back = λ n event. (s, tt);
+      refuses = λ r off free. answers_fine h m.0 (answer_of r []) s.0 (omega arith);
+      names = λ n served gate. answers_fine h m.0 (identity_served gates n (body_in m.1)) s.0 (identity_spoken gates n (body_in m.1));
+      counts = λ errors n served gate. link_fine h m.0 (link_served errors n (body_in m.1)) s.0 (link_spoken errors n (body_in m.1));
+      decides =
+          λ n served gate. decision_fine core h m.0 (decided core.tables v h m.0 n (body_in m.1)) s.0 (decided_speaks core.tables v h m.0 n (body_in m.1));
+      hears = λ p reply here asked. (tt, tt);
+      agrees = λ flag p c reply here asked room. agreed_fine flag c (subst HasAnswer asked (at_port (λ (p : Port). IsTrueDesk p.desk) ports h p a here));
+    })
+
+-- ## What hosts send may be sent
+
+accepts_fine : (core : Core) (c : Command) → AreFine (accepts (own_view core) c)
+accepts_fine core c = commit_fine_of_deeds (finds_room core c) core.node 1 c (answer_of response.Ok []) [] low (omega arith) tt
+
+-- ### Init
+
+orders_spoken : (i : Init) → AllByRecursion IsSpoken (orders_of i)
+orders_spoken i = orders_hold IsSpoken i (omega arith) (omega arith) (omega arith) (λ pipe. omega arith) (omega arith)
+
+own : (core : Core) → OfHost IsFine core
+own core = record {
+  commits = λ c. tt;
+  hears = tt;
+  goes_on = λ i. tt;
+  orders = λ i k order is. AllByRecursion-get IsSpoken (orders_of i) k order (orders_spoken i) is;
+  same = tt;
+  made = λ count. tt;
+  failed = λ code. tt;
+}
+
+-- ### Messages
+
+ordered_fine : (core : Core) (errors pipe n : ℕ) (body : List ℕ) → pipe < 112 → AreFine (ordered_deeds (own_view core) errors pipe n body)
+ordered_fine core errors pipe n body p = ordered_holds AreFine core errors pipe n body (record {
+  none = tt;
+  refuses = λ r. answers_fine core.node 1 (answer_of r []) low (omega arith);
+  creates = λ row named welcome. accepts_fine core (Create row);
+  deletes = λ pid kept. accepts_fine core (Delete pid);
+  clears = λ x host. accepts_fine core (Clear x);
+  counts = λ zero. link_fine core.node 0 (link_served errors n body) (omega arith) (link_spoken errors n body);
+  names = λ off. answers_fine core.node pipe (identity_served gates n body) p (identity_spoken gates n body);
+})
+
+host_fine : (core : Core) (p : Port) (m : Message) → IsSendable m → AreFine (host_deeds (own_view core) (end_view p) m)
+host_fine core p m s = host_holds AreFine core p m (record {
+  none = tt;
+  drops = (tt, tt);
+  goes = (s, tt);
+  ordered = λ n is. ordered_fine core p.desk.errors m.0 n (body_in m.1) s.0;
+  heard = λ code order is. all_heard IsFine core (own core) code order (body_in m.1);
+})
+
+-- ## What a node does in a step is what it may do to its ends
+
+-- ### Ends
 
 -- what was done to an end may be done, and what came there may be sent on
 pub record IsFinePort (p : Port) : Type 0 where
@@ -48,7 +243,7 @@ are_true : (ports : List Port) → AreFinePorts ports → AreTrue ports
 are_true [] a = tt
 are_true (p ∷ ports) a = (a.0.desk, are_true ports a.1)
 
--- ## Turns
+-- ### Turns
 
 -- one turn more
 turns_push : (ts : List Turn) (t : Turn) → AreSendableTurns ts → AreSendableTurns (t ∷ []) → AreSendableTurns (ts ++ t ∷ [])
@@ -72,7 +267,7 @@ notified_fine h about message w spoken answer a =
     desk_fine h (λ d. record d { notice = Some (record { about = about; age = 0 }) }) (turn_at h (Give (1, message)) w) (λ d fine. answer)
     (turn_fine h (Give (1, message)) w ((low, spoken), tt) a)
 
--- ## Deeds
+-- ### Deeds
 
 commit_fine : (c : Command) (w : Work) → IsFineWork w → IsFineWork (commit c w)
 commit_fine c w a = by_test (fails_within (length (commit_writes w.core.journal w.core.tables (body_of c))) w.plan) (λ q. rw q a) (λ q. rw q a)
@@ -97,12 +292,12 @@ deeds_fine core ports h m a s = by_test (core.node == 0)
     (λ q. rw q (controller_fine core ports h m (are_true ports a) s))
     (λ q. by_option (port_at ports h) (λ r. rw (q, r) tt) (λ p r. rw (q, r) (host_fine core p m s)))
 
--- ## The pass over its ends
+-- ### The pass over its ends
 
-pub got_fine : (ports : List Port) (h : ℕ) → AreFinePorts ports → AreSendable (option_map_or (λ (p : Port). p.side.got) (port_at ports h) [])
+got_fine : (ports : List Port) (h : ℕ) → AreFinePorts ports → AreSendable (option_map_or (λ (p : Port). p.side.got) (port_at ports h) [])
 got_fine ports h a = by_option (port_at ports h) (λ q. rw q tt) (λ p q. rw q (fine_at ports h p a q).clean)
 
-abbrev pub MaySend : ℕ → Message → Type 0
+abbrev MaySend : ℕ → Message → Type 0
 MaySend h m = IsSendable m
 
 fine_lasts : Lasts IsFineWork IsFine MaySend
@@ -126,7 +321,7 @@ holds_fine h short w a = holds IsFineWork fine_lasts.held fine_lasts.marked fine
 pub lets_fine : (h : ℕ) (w : Work) → IsFineWork w → IsFineWork (lets_go h w)
 lets_fine h w a = lets IsFineWork fine_lasts.held h w a
 
--- ## Steps
+-- ### Steps
 
 come_fine : (p : Port) (o : Option LinkInput) → IsFinePort p → IsFinePort (has_come p o)
 come_fine p None a = a

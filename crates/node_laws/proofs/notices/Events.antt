@@ -1,29 +1,30 @@
--- What is read of the controller's notices over whatever happens.
+-- What is read of the controller's notices over whatever happens, and over the lines of a schedule.
 use Rattle.node_laws.proofs.Words.{Activates, AllByRecursion, AreHosts, AreTables, AreTables-apply, AreTables-close, AreTables-none, Arms, AsksReset}
-use Rattle.node_laws.proofs.Words.{AtController, AtHost, Boots, Broken, Command, Controller, ControllerReads, CutOff, Desk, End, Entry, Gives, Happening}
-use Rattle.node_laws.proofs.Words.{HciTables, Host, IfHostNode, IfReads, Inits, IsCommand, IsCut, IsHost, IsKeptNotice, IsRightNotice, JoinTwo, KeepsNotices}
-use Rattle.node_laws.proofs.Words.{Link, List, Lose, Loses, Loss, MayBoot, Memory, NextFrame, NoInput, NodeWorld, None, OnWire, Option, Resets, Running, Site}
-use Rattle.node_laws.proofs.Words.{Some, Step, Takes, Ticks, [], after_planned, append-nil, applied, apply, beginning, boot_found, boot_writes, boot_written}
-use Rattle.node_laws.proofs.Words.{boots, by_boot, by_counts, by_memory, by_power, by_running, by_test, close, command_of, controller_cut, count_of, counts}
-use Rattle.node_laws.proofs.Words.{entries_for, eqb, eqb-true, errors_all, false, first_lost, fold, found, frame_lost, happens, host_cut, link_to, links_of}
-use Rattle.node_laws.proofs.Words.{loses_power_at, map, memory_at, new_desk, new_site, new_world, no_tables, node_at, notice_at, notice_in, option_map_or}
-use Rattle.node_laws.proofs.Words.{records, refl, replicate, sending, spelled_by, subst, sym, tables_of, true, with_error, with_memory, with_node, with_site}
-use Rattle.node_laws.proofs.Words.{world_step, written_off, ℕ, ◌++◌, ◌∷◌, ◌≡◌}
-use Rattle.trace_model.specs.declared.entry.Entry.TheVariants as entry
-use Rattle.tables_laws.proofs.tables.TwoHosts.{JoinTwo-after, JoinTwo-closed}
-use Rattle.node_laws.proofs.telling.Orderly.{new_orderly, step_orderly}
-use Rattle.node_laws.proofs.readings.NoticedWorlds.{event_up, numbers}
-use Rattle.node_laws.proofs.readings.Sites.{lost_quiet}
-use Rattle.node_laws.proofs.notices.Reading.{notice_more}
-use Rattle.node_laws.proofs.notices.Shut.{here_shut}
-use Rattle.node_laws.proofs.notices.Far.{asking_more, quiet_far}
-use Rattle.node_laws.proofs.notices.Sites.{AreGood, AreHushed, Reads, begins_reads, far_hushed, far_shut, good_map, good_with, sending_own, still_reads}
-use Rattle.node_laws.proofs.notices.Sites.{beginning_own}
-use Rattle.node_laws.proofs.notices.Near.{activates_reads, comes_reads, ticks_reads}
-use Rattle.node_laws.proofs.kept.Booting.{command_read}
+use Rattle.node_laws.proofs.Words.{AtController, AtHost, Boots, Broken, Command, Controller, ControllerReads, CutOff, Desk, End, Entry, FollowsNodes, Gives}
+use Rattle.node_laws.proofs.Words.{Happening, HciTables, Header, Host, IfHostNode, IfReads, Inits, IsCommand, IsCut, IsHost, IsKeptNotice, IsRightNotice}
+use Rattle.node_laws.proofs.Words.{JoinTwo, KeepsNotices, Line, LineStep, Link, List, Lose, Loses, Loss, MayBoot, Memory, NextFrame, NoInput, NodeHistory}
+use Rattle.node_laws.proofs.Words.{NodeWorld, None, NoticesAreRead, OnWire, Option, Resets, Running, Site, Some, Step, Takes, Ticks, [], after_planned, ap}
+use Rattle.node_laws.proofs.Words.{append-nil, applied, apply, asking_in, beginning, boot_found, boot_writes, boot_written, boots, by_boot, by_counts}
+use Rattle.node_laws.proofs.Words.{by_memory, by_power, by_running, by_test, close, command_of, controller_cut, count_of, counts, entries_for, entries_in, eqb}
+use Rattle.node_laws.proofs.Words.{eqb-true, errors_all, false, first_lost, flat_map, fold, found, frame_lost, happens, host_cut, link_to, links_of}
+use Rattle.node_laws.proofs.Words.{loses_power_at, map, memory_at, new_desk, new_site, new_world, no_tables, node_at, node_entries, notice_at, notice_in}
+use Rattle.node_laws.proofs.Words.{notice_of_running, occurrences_of, option_map_or, records, refl, replicate, sending, spelled_by, subst, sym, tables_of, true}
+use Rattle.node_laws.proofs.Words.{with_error, with_memory, with_node, with_site, world_after, world_step, written_off, ℕ, ◌++◌, ◌∷◌, ◌≡◌}
 use Rattle.link_laws.specs.entries.Entries.{End as Side}
+use Rattle.tables_laws.proofs.tables.TwoHosts.{JoinTwo-after, JoinTwo-closed}
+use Rattle.node_laws.proofs.kept.Booting.{command_read}
+use Rattle.node_laws.proofs.notices.Near.{AreGood, AreHushed, Reads, activates_reads, asking_more, beginning_own, begins_reads, comes_reads, far_hushed}
+use Rattle.node_laws.proofs.notices.Near.{far_shut, good_map, good_with, quiet_far, sending_own, still_reads, ticks_reads}
+use Rattle.node_laws.proofs.notices.Turning.{notice_more}
+use Rattle.node_laws.proofs.notices.Steps.{here_shut}
+use Rattle.node_laws.proofs.readings.Noticed.{event_up, numbers}
+use Rattle.node_laws.proofs.readings.Sites.{lost_quiet}
+use Rattle.node_laws.proofs.telling.Lasting.{AnyLine, all_lines, boots_may, lines_last, new_orderly, step_orderly}
+use Rattle.trace_model.specs.declared.entry.Entry.TheVariants as entry
 
--- ## The tables of a memory
+-- ## What is read of the controller's notices over whatever happens
+
+-- ### The tables of a memory
 
 -- tables are sorted, and each pipe joins two hosts
 abbrev AreFine : HciTables → Type 0
@@ -61,7 +62,7 @@ found_reads t hosts content none = record {
 }
 
 module _ (t : List Entry) (w : NodeWorld) (a : Reads t w) where
-  -- ## Memories
+  -- ### Memories
 
   memory_reads : (n : ℕ) (m : Memory) → Reads t (with_memory n m w)
   memory_reads n m =
@@ -71,7 +72,7 @@ module _ (t : List Entry) (w : NodeWorld) (a : Reads t w) where
         reads_so = a.reads_so;
       })
 
-  -- ## Power
+  -- ### Power
 
   near_cut : Reads (t ++ entry.Cut 0 ∷ []) (controller_cut w)
   near_cut = record {
@@ -89,7 +90,7 @@ module _ (t : List Entry) (w : NodeWorld) (a : Reads t w) where
     reads_so = still_reads t (entry.Cut n ∷ []) w.controller (cut_hushed n e) a.reads_so;
   }
 
-  pub cut_reads : (n : ℕ) → Reads (t ++ entry.Cut n ∷ []) (loses_power_at n w)
+  cut_reads : (n : ℕ) → Reads (t ++ entry.Cut n ∷ []) (loses_power_at n w)
   cut_reads n =
       by_power (Reads (t ++ entry.Cut n ∷ [])) n w
       (λ e. subst (λ m. Reads (t ++ entry.Cut m ∷ []) (controller_cut w)) (sym (eqb-true n 0 e)) near_cut) (λ e. far_cut n e)
@@ -122,7 +123,7 @@ boots_reads t w n a stands =
     still : Reads t (boot_written w n)
     still = memory_reads t w a n (after_planned (boot_writes (memory_at w n).content) (memory_at w n))
 
--- ## Losses
+-- ### Losses
 
 -- frames that are counted leave the notices
 pub noticed_counted : (h : ℕ) (desks : List Desk) (x : ℕ) → notice_at (with_error h desks) x ≡ notice_at desks x
@@ -167,7 +168,7 @@ lost_reads t w e why a = by_test e.at_host
     hushed : (who : Side) (wire : List OnWire) → AreHushed (lost who wire)
     hushed who wire = far_hushed (lost who wire) (quiet_far e.link (first_lost who why wire) (lost_quiet who why wire))
 
--- ## Events
+-- ### Events
 
 so_far : (t : List Entry) (w : NodeWorld) → KeepsNotices t w → Reads t w
 so_far t w a = record { sites = a.sites; reads_so = a.controller }
@@ -190,7 +191,7 @@ event_read t w c a may =
     let so : Reads (t ++ (world_step w c).1) (world_step w c).0 = event_so t w c a may in
     record { orderly = step_orderly w c a.orderly; up = event_up w c a.orderly a.up; sites = so.sites; controller = so.reads_so }
 
--- ## The beginning
+-- ### The beginning
 
 new_good : (content : List ℕ) (hosts : List ℕ) → AllByRecursion IsHost hosts → AreGood (map (new_site content) hosts)
 new_good content [] a = tt
@@ -203,3 +204,36 @@ begins_read hosts are = record {
   sites = new_good (replicate 65536 255) hosts are.all;
   controller = λ x. (refl, refl);
 }
+
+-- ## What is read of the controller's notices over the lines of a schedule
+
+-- ### Schedules
+
+-- the notices of a controller are those that are read
+pub notices_of : (t : List Entry) (w : NodeWorld) → KeepsNotices t w → NoticesAreRead t w
+notices_of t w a = go w.controller a.controller where
+  go : (o : Option Running) → IfReads t o → (h : ℕ) → IsKeptNotice (notice_in t h) (notice_of_running o h)
+  go None none h = subst (λ m. IsKeptNotice m None) (sym (none h).0) tt
+  go (Some r) some h = some.kept h
+
+schedule_is : (header : Header) (lines : List Line) (t : NodeHistory) → FollowsNodes header lines t → AreHosts header.hosts.items
+    → KeepsNotices (node_entries t) (world_after (new_world header.hosts.items) lines)
+schedule_is header lines t follows are =
+    subst (λ l. KeepsNotices l (world_after (new_world header.hosts.items) lines))
+    (ap (λ (steps : List LineStep). entries_in (flat_map (λ (s : LineStep). occurrences_of s.outcome) steps)) (sym follows.steps_are))
+    (lines_last KeepsNotices MayBoot AnyLine event_read boots_may lines [] (new_world header.hosts.items) (begins_read header.hosts.items are)
+    (all_lines lines))
+
+pub schedule_read : (header : Header) (lines : List Line) (t : NodeHistory) → FollowsNodes header lines t → AreHosts header.hosts.items
+    → NoticesAreRead (node_entries t) (world_after (new_world header.hosts.items) lines)
+schedule_read header lines t follows are =
+    notices_of (node_entries t) (world_after (new_world header.hosts.items) lines) (schedule_is header lines t follows are)
+
+-- no creation is read to wait while the controller doesn't run
+pub none_waits : (t : List Entry) (w : NodeWorld) → KeepsNotices t w → w.controller ≡ None → (h : ℕ) → asking_in t h ≡ None
+none_waits t w a off h = let none : IfReads t None = subst (IfReads t) off a.controller in (none h).1
+
+pub schedule_waits : (header : Header) (lines : List Line) (t : NodeHistory) → FollowsNodes header lines t → AreHosts header.hosts.items
+    → (world_after (new_world header.hosts.items) lines).controller ≡ None → (h : ℕ) → asking_in (node_entries t) h ≡ None
+schedule_waits header lines t follows are =
+    none_waits (node_entries t) (world_after (new_world header.hosts.items) lines) (schedule_is header lines t follows are)

@@ -1,32 +1,422 @@
--- What is read of the controller's notices as the controller has a step.
-use Rattle.node_laws.proofs.Words.{AllByRecursion, AreDifferent, AsksReset, AtEnd, Bool, Comes, Controller, ControllerReads, Desk, End, Ending, Entry, GoesOut}
-use Rattle.node_laws.proofs.Words.{HasEnds, Host, IfItRuns, IfNoticedUp, IfReads, IsFresh, IsHost, IsKeptNotice, IsNoticedUp, IsOrderly, IsOutside}
-use Rattle.node_laws.proofs.Words.{IsRightNotice, IsShut, Link, LinkEnd, LinkInput, List, NodeInput, NodeWorld, None, NoticesAreUp, NumberedEnd, OnFirst}
-use Rattle.node_laws.proofs.Words.{Option, Plan, Port, Reset, Running, Site, Some, Starts, Step, TimePasses, Turn, Work, [], activates, aged, aged_entries}
-use Rattle.node_laws.proofs.Words.{all_aged, ap, append_assoc, arrival, asking_in, by_coming, by_controller, by_controller_tick, by_test, comes_at, comes_to}
-use Rattle.node_laws.proofs.Words.{cond_both, controller_does, controller_ticks, controller_work, end_c, end_h, ending_of, entries_for, eqb, false, flat_map}
-use Rattle.node_laws.proofs.Words.{frames_noted, has_input, hosts_in, hosts_tick, inl, input_of, inr, is_late_at, is_up, is_waiting, link_after_controller}
-use Rattle.node_laws.proofs.Words.{link_to, map, near_end_in, near_tick, not, notice_at, notice_in, port_at, port_for, refl, runs_left, runs_none, runs_on}
-use Rattle.node_laws.proofs.Words.{site_ticked, site_unticked, steps, subst, sym, ticked_so, ticks_at_controller, true, true≢false, turns_at, wires_for}
-use Rattle.node_laws.proofs.Words.{work_of, world_ticks, ℕ, ◌&&◌, ◌++◌, ◌∙◌, ◌∷◌, ◌≡◌}
-use Rattle.trace_model.specs.declared.entry.Entry.TheVariants as entry
+-- What a host does tells nothing of the controller's notices, and what is read of them as either has a step.
+use Rattle.node_laws.proofs.Words.{About, AllByRecursion, AreDifferent, Asks, AsksReset, AtEnd, AtHost, Bool, Comes, Command, Commits, Controller}
+use Rattle.node_laws.proofs.Words.{ControllerReads, Core, Cut, Deed, Desk, Down, Drops, End, EndEvent, Ending, Ends, Entry, FetchMessage, Give, GoesOn, GoesOut}
+use Rattle.node_laws.proofs.Words.{HasEnds, Hears, Hold, Host, IfHostNode, IfItRuns, IfNoticedUp, IfReads, IsAnswered, IsFresh, IsGoodSite, IsHost}
+use Rattle.node_laws.proofs.Words.{IsKeptNotice, IsNoticedUp, IsOrderly, IsOutside, IsRightNotice, IsShut, Link, LinkEnd, LinkInput, List, Message, NextFrame}
+use Rattle.node_laws.proofs.Words.{NoInput, NodeInput, NodeWorld, None, Noted, NoticesAreUp, NumberedEnd, OfHost, OnFirst, Option, Orders, Plain, Plan, Port}
+use Rattle.node_laws.proofs.Words.{Refused, Release, Releases, Removed, Report, Reset, Restarted, Running, SaysOk, Sends, Sent, SetsErrors, Site, Some, Starts}
+use Rattle.node_laws.proofs.Words.{Step, Tells, TimePasses, Turn, Work, [], activates, after_host, after_input, after_sessions, aged, aged_entries, all_aged}
+use Rattle.node_laws.proofs.Words.{all_changed, all_come, all_done, all_map, all_of_host, all_owed, all_owed_hold, all_synced_hold, and-false, anyone, ap}
+use Rattle.node_laws.proofs.Words.{append-nil, append_assoc, arrival, asking_after, asking_in, beginning, begins_with, body_of, by_coming, by_controller}
+use Rattle.node_laws.proofs.Words.{by_controller_tick, by_host, by_host_tick, by_list, by_option, by_test, comes_at, comes_to, commit, commit_writes, cond}
+use Rattle.node_laws.proofs.Words.{cond_both, controller_does, controller_ticks, controller_work, deeds_of, done, end_c, end_h, end_of, end_of_node, end_view}
+use Rattle.node_laws.proofs.Words.{ending_entries, ending_of, entries_for, eqb, exchanged, fails_within, false, flat_map, fold, fold-append, forgets, forgotten}
+use Rattle.node_laws.proofs.Words.{forgotten_hold, frames_noted, give_refusal, happens, has_input, host_deeds, host_does, host_tick, host_ticks, host_work}
+use Rattle.node_laws.proofs.Words.{hosts_in, hosts_tick, inl, input_at, input_of, inr, is_command_message, is_late, is_late_at, is_notice, is_response, is_up}
+use Rattle.node_laws.proofs.Words.{is_waiting, length, link_after_controller, link_to, map, near_end_in, near_tick, not, noted_of, notice_at, notice_in}
+use Rattle.node_laws.proofs.Words.{notified, noting, option_map_or, own_side, own_view, port_at, port_for, refl, report, runs_left, runs_none, runs_on}
+use Rattle.node_laws.proofs.Words.{same_end, same_side, sending, sent_unless, site_at, site_ticked, site_unticked, steps, subst, sym, synced, tick_host}
+use Rattle.node_laws.proofs.Words.{ticked_so, ticks_at_controller, times_out, told, told_at, told_late, true, true≢false, turn_at, turns_at, whole_acked}
+use Rattle.node_laws.proofs.Words.{wires_for, with_desk, with_older, with_site, work_of, world_ticks, ℕ, ◌&&◌, ◌++◌, ◌∙◌, ◌∷◌, ◌≡◌}
+use Rattle.link_laws.specs.entries.Entries.{End as Side}
+use Rattle.link_laws.specs.entries.Entries.Entry.{Tick}
+use Rattle.node_laws.proofs.links.Sites.{here_host}
 use Rattle.node_laws.proofs.links.Noticing.{UpAt}
-use Rattle.node_laws.proofs.telling.Frames.{wires_all}
-use Rattle.node_laws.proofs.readings.Silent.{IsQuiet}
-use Rattle.node_laws.proofs.readings.Sites.{comes_outside, near_end_side}
-use Rattle.node_laws.proofs.notices.Reading.{notice_more}
+use Rattle.node_laws.proofs.notices.Turning.{AreHostEnds, IsOn, Stands, notice_more, reads}
+use Rattle.node_laws.proofs.notices.Steps.{here_shut, steps_stand, ticks_shut}
 use Rattle.node_laws.proofs.notices.Telling.{AreRight, noticed}
-use Rattle.node_laws.proofs.notices.Doing.{AreHostEnds, IsOn, Stands}
-use Rattle.node_laws.proofs.notices.Shut.{here_shut, ticks_shut}
-use Rattle.node_laws.proofs.notices.Steps.{steps_stand}
-use Rattle.node_laws.proofs.notices.Far.{AreFar, asking_more, far-append, far_asks, far_flat, far_reads, quiet_far}
-use Rattle.node_laws.proofs.notices.Far.{steps_far}
-use Rattle.node_laws.proofs.notices.Sites.{AreGood, Reads, arrival_quiet, far_hushed, frames_quiet, good_map, host_reads, link_shut, nothing, still_reads}
-use Rattle.node_laws.proofs.notices.Sites.{far_reads_so}
-use Rattle.node_laws.proofs.notices.Sites.{all_tick}
-use Rattle.node_laws.proofs.telling.Nodes.{hosts_same, ports_for}
+use Rattle.node_laws.proofs.readings.Turning.{IsQuiet, rest_quiet, told_rest}
+use Rattle.node_laws.proofs.readings.Sites.{comes_outside, ending_quiet, near_end_side}
+use Rattle.node_laws.proofs.steps.StepWalks.{Lasts, all_do as all_far, got_at, rest_lasts, sessions_node}
+use Rattle.node_laws.proofs.telling.Ticks.{wires_all}
+use Rattle.node_laws.proofs.telling.Events.{hosts_same_of_nodes as hosts_same, ports_for}
+use Rattle.trace_model.specs.declared.entry.Entry.TheVariants as entry
 
--- ## Ends as a step begins
+-- ## What a host does: it neither asks nor tells anybody by a notice, and what it notes is of its own end
+
+-- a host may note it: it tells of no end of a controller, of no creation that is asked for, and neither of the power nor of the
+-- commands of a controller
+abbrev pub IsFar : Entry → Type 0
+IsFar (entry.Sent e n pid message) = e.at_host ≡ true
+IsFar (entry.Turn e pid message) = e.at_host ≡ true
+IsFar (entry.Down e cause) = e.at_host ≡ true
+IsFar (entry.Ask h message) = ⊥
+IsFar (entry.Cut n) = eqb n 0 ≡ false
+IsFar (entry.Command n c) = eqb n 0 ≡ false
+IsFar (entry.Booted n k) = eqb n 0 ≡ false
+IsFar _ = Unit {0}
+
+-- a host may do it
+abbrev pub IsOwn : Deed → Type 0
+IsOwn (Ends x) = IsFar x
+IsOwn (Asks to message c) = ⊥
+IsOwn _ = Unit {0}
+
+abbrev pub AreOwn : List Deed → Type 0
+AreOwn deeds = AllByRecursion IsOwn deeds
+
+plain : Plain IsOwn
+plain = record { sends = λ to x. tt; says_ok = tt; releases = λ asker. tt; is_answered = tt; drops = λ pid. tt }
+
+own : (core : Core) → OfHost IsOwn core
+own core = record { commits = λ c. tt; hears = tt; goes_on = λ i. tt; orders = λ i k order is. tt; same = tt; made = λ count. tt; failed = λ code. tt }
+
+-- ### All that is done in a step
+
+host_own : (core : Core) (p : Port) (m : Message) → AreOwn (host_deeds (own_view core) (end_view p) m)
+host_own core p m = all_of_host IsOwn core plain (own core) p m (λ n value command zero sets. tt)
+
+pub deeds_own : (core : Core) (ports : List Port) (h : ℕ) (m : Message) → eqb core.node 0 ≡ false → AreOwn (deeds_of core ports h m)
+deeds_own core ports h m off = by_option (port_at ports h) (λ here. rw (off, here) tt) (λ p here. rw (off, here) (host_own core p m))
+
+pub forgotten_own : (ports : List Port) → AreOwn (forgotten ports)
+forgotten_own ports = forgotten_hold IsOwn (λ asker. tt) ports
+
+pub all_owed_own : (ports : List Port) → AreOwn (all_owed ports)
+all_owed_own ports = all_owed_hold IsOwn (λ asker. tt) (λ to r. tt) ports
+
+pub all_synced_own : (core : Core) (input : NodeInput) (ports : List Port) → AreOwn (flat_map (synced core input) ports)
+all_synced_own core input ports = all_synced_hold IsOwn (λ host id. tt) core input ports
+
+-- ## What a host notes tells nothing of the notices of a controller
+
+abbrev pub AreFar : List Entry → Type 0
+AreFar es = AllByRecursion IsFar es
+
+pub far-append : (xs ys : List Entry) → AreFar xs → AreFar ys → AreFar (xs ++ ys)
+far-append [] ys a b = b
+far-append (x ∷ xs) ys a b = (a.0, far-append xs ys a.1 b)
+
+pub far_flat : {X : Type 0} (f : X → List Entry) → ((x : X) → AreFar (f x)) → (xs : List X) → AreFar (flat_map f xs)
+far_flat f one [] = tt
+far_flat f one (x ∷ xs) = far-append (f x) (flat_map f xs) (one x) (far_flat f one xs)
+
+-- ### What is read of them
+
+-- an end of a host is no end of the controller
+pub not_near : (e : End) (x : ℕ) → e.at_host ≡ true → same_end e (end_c x) ≡ false
+not_near e x far = ap (λ b. eqb e.link x && same_side b false) far ∙ and-false (eqb e.link x)
+
+module _ (x : ℕ) where
+  off_one : (b : Bool) (y z : Option (List ℕ)) → b ≡ false → cond b y z ≡ z
+  off_one b y z e = rw e refl
+
+  off_all : (a b c : Bool) (y z : Option (List ℕ)) → a ≡ false → cond (a && b && c) y z ≡ z
+  off_all a b c y z e = rw e refl
+
+  one_far : (e : Entry) → IsFar e → (r : Option (List ℕ)) → reads x (e ∷ []) r ≡ r
+  one_far (entry.Down e cause) a r = off_one (same_end e (end_c x)) None r (not_near e x a)
+  one_far (entry.Sent e n pid message) a r = off_all (same_end e (end_c x)) (eqb pid 1) (is_notice message) (Some message) r (not_near e x a)
+  one_far (entry.Turn e pid message) a r = off_all (same_end e (end_c x)) (eqb pid 1) (is_response message) None r (not_near e x a)
+  one_far (entry.Ask h message) a r = absurd a
+  one_far (entry.Cut n) a r = off_one (eqb n 0) None r a
+  one_far _ a r = refl
+
+  pub far_reads : (es : List Entry) → AreFar es → (r : Option (List ℕ)) → reads x es r ≡ r
+  far_reads [] a r = refl
+  far_reads (e ∷ es) a r = ap (reads x es) (one_far e a.0 r) ∙ far_reads es a.1 r
+
+  -- ### Creations
+
+  abbrev pub asks : List Entry → Option (List ℕ) → Option (List ℕ)
+  asks es r = fold (asking_after x) r es
+
+  pub asking_more : (t es : List Entry) → asking_in (t ++ es) x ≡ asks es (asking_in t x)
+  asking_more t es = fold-append (asking_after x) None t es
+
+  one_asks : (e : Entry) → IsFar e → (r : Option (List ℕ)) → asks (e ∷ []) r ≡ r
+  one_asks (entry.Down e cause) a r = off_one (same_end e (end_c x)) None r (not_near e x a)
+  one_asks (entry.Sent e n pid message) a r = off_all (same_end e (end_c x)) (eqb pid 1) (is_response message) None r (not_near e x a)
+  one_asks (entry.Ask h message) a r = absurd a
+  one_asks (entry.Cut n) a r = off_one (eqb n 0) None r a
+  one_asks _ a r = refl
+
+  pub far_asks : (es : List Entry) → AreFar es → (r : Option (List ℕ)) → asks es r ≡ r
+  far_asks [] a r = refl
+  far_asks (e ∷ es) a r = ap (asks es) (one_asks e a.0 r) ∙ far_asks es a.1 r
+
+-- ### Notes
+
+pub quiet_far : (h : ℕ) (notes : List Noted) → AllByRecursion IsQuiet notes → AreFar (entries_for h notes)
+quiet_far h [] all = tt
+quiet_far h (Down who cause ∷ notes) all = absurd all.0
+quiet_far h (Sent who n m ∷ notes) all = absurd all.0
+quiet_far h (Tick ∷ notes) all = quiet_far h notes all.1
+quiet_far h (Restarted who ∷ notes) all = quiet_far h notes all.1
+quiet_far h (Cut who ∷ notes) all = quiet_far h notes all.1
+quiet_far h (_ ∷ notes) all = (tt, quiet_far h notes all.1)
+
+told_far : (h n acked : ℕ) (r : Report) → AreFar (entries_for h (told Host n r acked))
+told_far h n acked r = by_option r.ended (λ q. rw q (quiet_far h rest quiet)) (λ cause q. rw q (refl, quiet_far h rest quiet)) where
+  rest : List Noted
+  rest = told_rest Host n acked r
+
+  quiet : AllByRecursion IsQuiet rest
+  quiet = rest_quiet Host n acked r
+
+come_far : (core : Core) (p : Port) (o : Option LinkInput) → own_side core ≡ Host → AreFar (told_at core p o)
+come_far core p None side = tt
+come_far core p (Some i) side =
+    subst (λ s. AreFar (entries_for p.desk.host (told s p.session (report p.side i) (whole_acked (after_input p.side i))))) (sym side)
+    (told_far p.desk.host p.session (whole_acked (after_input p.side i)) (report p.side i))
+
+sent_far : (h n : ℕ) (m : Message) (o : Option Refused) → AreFar (entries_for h (sent_unless o Host n m))
+sent_far h n m (Some why) = tt
+sent_far h n m None = (refl, tt)
+
+turn_far : (core : Core) (t : Turn) (p : Port) → own_side core ≡ Host → AreFar (noted_of core t p)
+turn_far core (Give m) p side =
+    subst (λ s. AreFar (entries_for p.desk.host (sent_unless (give_refusal p.side m) s p.session m))) (sym side)
+    (sent_far p.desk.host p.session m (give_refusal p.side m))
+turn_far core _ p side = tt
+
+-- ### Works
+
+-- a node that isn't the controller, and what it noted
+pub record IsFarWork (w : Work) : Type 0 where
+  pub number : eqb w.core.node 0 ≡ false
+  pub far : AreFar w.entries
+
+host_side : (w : Work) → IsFarWork w → own_side w.core ≡ Host
+host_side w a = let e : eqb w.core.node 0 ≡ false = a.number in rw e refl
+
+notes : (es : List Entry) (w : Work) → AreFar es → IsFarWork w → IsFarWork (noting es w)
+notes es w more a = record { number = a.number; far = far-append w.entries es a.far more }
+
+with_core : (w : Work) (c : Core) → c.node ≡ w.core.node → IsFarWork w → IsFarWork (record w { core = c })
+with_core w c same a = record { number = ap (λ n. eqb n 0) same ∙ a.number; far = a.far }
+
+turns : (h : ℕ) (t : Turn) (w : Work) → IsFarWork w → IsFarWork (turn_at h t w)
+turns h t w a = record { number = a.number; far = far-append w.entries _ a.far (go (port_at w.ports h)) } where
+  go : (o : Option Port) → AreFar (option_map_or (noted_of w.core t) o [])
+  go None = tt
+  go (Some p) = turn_far w.core t p (host_side w a)
+
+desks : (h : ℕ) (f : Desk → Desk) (w : Work) → IsFarWork w → IsFarWork (with_desk h f w)
+desks h f w a = record { number = a.number; far = a.far }
+
+tells : (h : ℕ) (about : About) (message : List ℕ) (w : Work) → IsFarWork w → IsFarWork (notified h about message w)
+tells h about message w a =
+    desks h (λ d. record d { notice = Some (record { about = about; age = 0 }) }) (turn_at h (Give (1, message)) w) (turns h (Give (1, message)) w a)
+
+commits : (c : Command) (w : Work) → IsFarWork w → IsFarWork (commit c w)
+commits c w a = by_test (fails_within (length (commit_writes w.core.journal w.core.tables (body_of c))) w.plan)
+    (λ q. rw q (record {
+      number = a.number;
+      far = far-append (w.entries ++ entry.Command w.core.node c ∷ []) (entry.Cut w.core.node ∷ []) noted (a.number, tt);
+    }))
+    (λ q. rw q (record { number = a.number; far = noted })) where
+      noted : AreFar (w.entries ++ entry.Command w.core.node c ∷ [])
+      noted = far-append w.entries (entry.Command w.core.node c ∷ []) a.far (a.number, tt)
+
+does : (h : ℕ) (d : Deed) (w : Work) → IsOwn d → IsFarWork w → IsFarWork (done h d w)
+does h (Commits c) w q a = commits c w a
+does h (Sends to m) w q a = turns to (Give m) w a
+does h SaysOk w q a = notes _ w (tt, tt) a
+does h (Asks to message c) w q a = absurd q
+does h (Releases asker) w q a = turns asker Release w a
+does h (Tells to message) w q a = tells to Removed message w a
+does h IsAnswered w q a = desks h (λ d. record d { notice = None }) w a
+does h (Drops pid) w q a = notes _ w (tt, tt) a
+does h (SetsErrors errors) w q a = desks h (λ d. record d { errors = errors }) w a
+does h (Orders message) w q a =
+    turns h (Give (1, message)) (record w { core = record w.core { command = Some message } })
+    (with_core w (record w.core { command = Some message }) refl a)
+does h Hears w q a = with_core w (record w.core { command = None }) refl a
+does h (GoesOn i) w q a = with_core w (record w.core { init = Some i }) refl a
+does h (Ends e) w q a = notes (e ∷ []) (record w { core = record w.core { init = None } }) (q, tt) (with_core w (record w.core { init = None }) refl a)
+
+pub all_do : (h : ℕ) (deeds : List Deed) (w : Work) → AreOwn deeds → IsFarWork w → IsFarWork (all_done h deeds w)
+all_do h deeds w q a = all_far IsFarWork IsOwn does h deeds w q a
+
+-- ### Turns
+
+end_far : (core : Core) (h : ℕ) → own_side core ≡ Host → (end_of_node core h).at_host ≡ true
+end_far core h side = ap (λ s. (end_of h s).at_host) side
+
+abbrev Any : ℕ → Message → Type 0
+Any h m = Unit {0}
+
+far_lasts : Lasts IsFarWork IsOwn Any
+far_lasts = record {
+  does = does;
+  turn_told = λ h m w any a. notes (entry.Turn (end_of_node w.core h) m.0 m.1 ∷ []) w (end_far w.core h (host_side w a), tt) a;
+  held_told = λ h need spare w a. notes (entry.Held (end_of_node w.core h) need spare ∷ []) w (tt, tt) a;
+  fetched = λ h w a. turns h FetchMessage w a;
+  held = λ h flag w a. turns h (Hold flag) w a;
+  marked = λ h flag w a. desks h (λ d. record d { holds = flag }) w a;
+  come = λ h w a. anyone (Any h) (λ m. tt) (got_at h w);
+  causes = λ h m w any a. deeds_own w.core w.ports h m a.number;
+}
+
+-- ### Steps
+
+late_far : (core : Core) (p : Port) → own_side core ≡ Host → AreFar (told_late core p)
+late_far core p side = by_test (is_late p) (λ q. rw q (come_far core p (Some (Reset None)) side)) (λ q. rw q tt)
+
+came_far : (input : NodeInput) (w : Work) → IsFarWork w → IsFarWork (all_come input w)
+came_far input w a = record {
+  number = a.number;
+  far = far-append w.entries _ a.far (far_flat (λ p. told_at w.core p (input_at input p)) (λ p. come_far w.core p (input_at input p) (host_side w a)) w.ports);
+}
+
+times_far : (input : NodeInput) (w : Work) → IsFarWork w → IsFarWork (times_out input w)
+times_far (AtEnd h i) w a = a
+times_far TimePasses w a = record {
+  number = a.number;
+  far = far-append w.entries _ a.far (far_flat (told_late w.core) (λ p. late_far w.core p (host_side w a)) (map with_older w.ports));
+}
+
+pub steps_far : (input : NodeInput) (w : Work) → IsFarWork w → IsFarWork (steps input w)
+steps_far input w a =
+    let came : Work = times_out input (all_come input w) in
+    let b : IsFarWork came = times_far input (all_come input w) (came_far input w a) in
+    let left : List Port = map (forgets came.ports) came.ports in
+    let begun : Work = record came {
+      core = after_sessions came.core came.ports;
+      ports = map Rattle.node_machine.specs.Node.without_notice left;
+    } in
+    let first : IsFarWork begun = record { number = ap (λ n. eqb n 0) (sessions_node came.core came.ports) ∙ b.number; far = b.far } in
+    rest_lasts IsFarWork IsOwn Any far_lasts (forgotten came.ports) (flat_map (synced w.core input) w.ports) (all_owed left) begun
+    (forgotten_own came.ports) (all_synced_own w.core input w.ports) (all_owed_own left) first
+
+-- ## What stays of the hosts of a world and of the links to them, and what is read of the controller's notices as a host acts
+
+abbrev pub AreGood : List Site → Type 0
+AreGood sites = AllByRecursion IsGoodSite sites
+
+pub record Reads (t : List Entry) (w : NodeWorld) : Type 0 where
+  pub sites : AreGood w.sites
+  pub reads_so : IfReads t w.controller
+
+-- entries tell nothing of any notice, nor of any creation
+abbrev pub AreHushed : List Entry → Type 0
+AreHushed es = (x : ℕ) (r : Option (List ℕ)) → (reads x es r ≡ r) × (asks x es r ≡ r)
+
+same_in : (t es : List Entry) (x : ℕ) → AreHushed es → notice_in (t ++ es) x ≡ notice_in t x
+same_in t es x hushed = notice_more x t es ∙ (hushed x (notice_in t x)).0
+
+same_asking : (t es : List Entry) (x : ℕ) → AreHushed es → asking_in (t ++ es) x ≡ asking_in t x
+same_asking t es x hushed = asking_more x t es ∙ (hushed x (asking_in t x)).1
+
+pub still_reads : (t es : List Entry) (o : Option Running) → AreHushed es → IfReads t o → IfReads (t ++ es) o
+still_reads t es None hushed a = λ x. (same_in t es x hushed ∙ (a x).0, same_asking t es x hushed ∙ (a x).1)
+still_reads t es (Some r) hushed a = record {
+  sorted = a.sorted;
+  two = a.two;
+  right = a.right;
+  kept = λ x. subst (λ m. IsKeptNotice m (notice_at r.desks x)) (sym (same_in t es x hushed)) (a.kept x);
+}
+
+pub far_hushed : (es : List Entry) → AreFar es → AreHushed es
+far_hushed es far x r = (far_reads x es far r, far_asks x es far r)
+
+-- ### Sites
+
+pub good_map : (f : Site → Site) → ((s : Site) → IsGoodSite s → IsGoodSite (f s)) → (sites : List Site) → AreGood sites → AreGood (map f sites)
+good_map f one sites a = all_map IsGoodSite IsGoodSite f one sites a
+
+pub good_with : (h : ℕ) (f : Site → Site) → ((s : Site) → IsGoodSite s → IsGoodSite (f s)) → (sites : List Site) → AreGood sites → AreGood (with_site h f sites)
+good_with h f one sites a = all_changed IsGoodSite (λ s. eqb s.host h) f one sites a
+
+pub good_at : (sites : List Site) (h : ℕ) (s : Site) → AreGood sites → site_at sites h ≡ Some s → IsGoodSite s
+good_at [] h s a e = absurd (cc e)
+good_at (z ∷ sites) h s a e =
+    cond_both (eqb z.host h) (Some z) (site_at sites h) (λ o. o ≡ Some s → IsGoodSite s)
+    (λ is f. let same : z ≡ s = cc in subst IsGoodSite same a.0) (λ off f. good_at sites h s a.1 f) e
+
+pub link_shut : (sites : List Site) (n : ℕ) → AreGood sites → IsShut (link_to sites n).controller.side
+link_shut sites n a = by_option (site_at sites n) (λ e. rw e (λ q. absurd (true≢false q))) (λ s e. rw e (good_at sites n s a e).shut)
+
+-- what happens at the host's end leaves the controller's
+pub far_shut : (l : Link) (x : EndEvent) → IsShut l.controller.side → IsShut (happens l (AtHost x)).controller.side
+far_shut l x a = subst (λ (h : NumberedEnd). IsShut h.side) (sym (here_host (exchanged l) x)) a
+
+far_tick_shut : (l : Link) (ts : List Rattle.link_laws.specs.machine.Machine.Turn) (ending : Ending) → IsShut l.controller.side
+    → IsShut (exchanged (ticks_at_controller (exchanged l) ts ending)).controller.side
+far_tick_shut l ts ending a = subst (λ (h : NumberedEnd). IsShut h.side) (sym (tick_host (exchanged l) ts ending)) a
+
+-- ### Notes
+
+pub frames_quiet : (who : Side) (h : ℕ) (l : Link) (k : Work) → AreFar (frames_noted who h l k)
+frames_quiet who h l k = by_option (port_at k.ports h)
+    (λ q. rw q tt)
+    (λ p q. rw q (quiet_far h (ending_entries who l p.side (ending_of k)) (ending_quiet who l p.side (ending_of k))))
+
+pub arrival_quiet : (who : Side) (h : ℕ) (l : Link) (comes : Comes) → AreFar (entries_for h (arrival who l comes))
+arrival_quiet who h l NextFrame = by_list l.to_controller (λ q. rw q tt) (λ x xs q. rw q (tt, tt))
+arrival_quiet who h l _ = tt
+
+-- ### A host acts
+
+runs_far : (k : Work) → IsFarWork k → IfHostNode (runs_on k)
+runs_far k a = by_test k.cut (λ e. rw e tt) (λ e. rw e a.number)
+
+module _ (t : List Entry) (w : NodeWorld) (a : Reads t w) where
+  nothing : Reads (t ++ []) w
+  nothing = subst (λ l. Reads l w) (sym (append-nil t)) a
+
+  host_reads : (h : ℕ) (comes : Comes) (f : Work → Work) → ((k : Work) → IsFarWork k → IsFarWork (f k))
+      → Reads (t ++ (host_does w h comes f).1) (host_does w h comes f).0
+  host_reads h comes f keeps =
+      by_host (λ p. Reads (t ++ p.1) p.0) w h comes f nothing
+      (λ s r here e.
+      let good : IsGoodSite s = good_at w.sites h s a.sites here in
+      let k : Work = host_work s r comes f in
+      let frames : List Entry = frames_noted Host h (wires_for (exchanged s.link) comes) k in
+      let far : IsFarWork k =
+      keeps (work_of r s.memory.plan (λ n. near_end_in (exchanged s.link) comes) (entries_for s.host (arrival Host (exchanged s.link) comes)))
+      (record { number = subst IfHostNode e good.node; far = arrival_quiet Host s.host (exchanged s.link) comes }) in
+      record {
+        sites = good_with h (after_host comes k)
+            (λ z b. record { host = b.host; node = runs_far k far; shut = far_shut z.link (Step comes (turns_at k z.host) (ending_of k)) b.shut })
+            w.sites a.sites;
+        reads_so = still_reads t (k.entries ++ frames) w.controller
+            (far_hushed (k.entries ++ frames) (far-append k.entries frames far.far (frames_quiet Host h (wires_for (exchanged s.link) comes) k))) a.reads_so;
+      })
+
+  -- something comes to the end of a host
+  far_reads_so : (e : End) (comes : Comes) → e.at_host ≡ true → Reads (t ++ (comes_at w e comes).1) (comes_at w e comes).0
+  far_reads_so e comes far =
+      by_coming (λ p. Reads (t ++ p.1) p.0) w e comes nothing
+      (λ i at q. host_reads e.link comes (steps (AtEnd e.link i)) (λ k b. steps_far (AtEnd e.link i) k b))
+      (λ i at q. absurd (true≢false (sym far ∙ at)))
+
+  -- a host begins by deeds of its own
+  pub begins_reads : (h : ℕ) (deeds : List Deed) → AreOwn deeds
+      → Reads (t ++ (host_does w h NoInput (begins_with h deeds)).1) (host_does w h NoInput (begins_with h deeds)).0
+  begins_reads h deeds own = host_reads h NoInput (begins_with h deeds) (λ k b. all_do h deeds k own b)
+
+pub sending_own : (h : ℕ) (m : Message) → AreOwn (sending h m)
+sending_own h m = cond_both (eqb m.0 1 && is_command_message m.1) (Orders m.1 ∷ []) (Sends h m ∷ []) AreOwn (λ _. (tt, tt)) (λ _. (tt, tt))
+
+pub beginning_own : (identity : List ℕ) (pipes : List (List ℕ)) → AreOwn (beginning identity pipes)
+beginning_own identity pipes = (tt, (tt, tt))
+
+-- ### Hosts have their ticks
+
+one_tick : (s : Site) → IsGoodSite s → IsGoodSite (host_ticks s).0 × AreFar (host_ticks s).1
+one_tick s good =
+    by_host_tick (λ p. IsGoodSite p.0 × AreFar p.1) s
+    (λ e. (record { host = good.host; node = good.node; shut = far_tick_shut s.link [] GoesOut good.shut }, tt))
+    (λ r e.
+    let k : Work = host_tick s r in
+    let far : IsFarWork k = steps_far TimePasses (work_of r s.memory.plan (λ h. s.link.host) [])
+    (record { number = subst IfHostNode e good.node; far = tt }) in (
+      record { host = good.host; node = runs_far k far; shut = far_tick_shut s.link (turns_at k s.host) (ending_of k) good.shut },
+      far-append k.entries (frames_noted Host s.host (exchanged s.link) k) far.far (frames_quiet Host s.host (exchanged s.link) k),
+    ))
+
+pub all_tick : (sites : List Site) → AreGood sites → AreGood (hosts_tick sites).0 × AreFar (hosts_tick sites).1
+all_tick [] a = (tt, tt)
+all_tick (s ∷ sites) a =
+    let first = one_tick s a.0 in
+    let later = all_tick sites a.1 in
+    ((first.0, later.0), far-append (host_ticks s).1 (hosts_tick sites).1 first.1 later.1)
+
+-- ## What is read of the controller's notices as the controller has a step
+
+-- ### Ends as a step begins
 
 pub all_ports : (P : Port → Type 0) (near_ends : ℕ → NumberedEnd) → ((d : Desk) → P (port_for (near_ends d.host) d)) → (desks : List Desk)
     → AllByRecursion P (ports_for near_ends desks)
@@ -70,7 +460,7 @@ right_desks : (ports : List Port) → AreRight ports → AllByRecursion (λ (d :
 right_desks [] a = tt
 right_desks (p ∷ ports) a = (a.0, right_desks ports a.1)
 
--- ## A step
+-- ### A step
 
 module _ (t : List Entry) (w : NodeWorld) (r : Running) (has : HasEnds 0 (hosts_in w.sites) r) (different : AreDifferent (hosts_in w.sites))
     (ups : IfNoticedUp w.sites (Some r)) (sites : AreGood w.sites) (old : ControllerReads t r) (plan : Option Plan) (near_ends : ℕ → NumberedEnd)
@@ -103,7 +493,7 @@ module _ (t : List Entry) (w : NodeWorld) (r : Running) (has : HasEnds 0 (hosts_
       (all_ports (λ (p : Port). IsShut p.side) near_ends (λ d. subst IsShut (sym (same d.host)) (link_shut w.sites d.host sites)) r.desks)
 
   -- and frames go out
-  pub step_reads : (frames : List Entry) → AreFar frames → IfReads (t ++ (after_it.entries ++ frames)) (runs_on after_it)
+  step_reads : (frames : List Entry) → AreFar frames → IfReads (t ++ (after_it.entries ++ frames)) (runs_on after_it)
   step_reads frames far = by_test after_it.cut
       (λ e. subst (IfReads (t ++ (after_it.entries ++ frames))) (sym (runs_none after_it e))
       (λ x. let gone = none e x (stands x) in (parts x ∙ gone.0, parts_asking x ∙ gone.1)))
@@ -136,7 +526,7 @@ module _ (t : List Entry) (w : NodeWorld) (r : Running) (has : HasEnds 0 (hosts_
         on e x (inl a) = a
         on e x (inr a) = absurd (true≢false (sym a.off ∙ e))
 
--- ## What comes
+-- ### What comes
 
 module _ (t : List Entry) (w : NodeWorld) (orderly : IsOrderly w) (ups : NoticesAreUp w) (a : Reads t w) where
   near_reads : (h : ℕ) (comes : Comes) (i : LinkInput) → input_of (link_to w.sites h) comes ≡ Some i
@@ -166,7 +556,7 @@ module _ (t : List Entry) (w : NodeWorld) (orderly : IsOrderly w) (ups : Notices
       by_coming (λ p. Reads (t ++ p.1) p.0) w e comes (nothing t w a)
       (λ i far q. host_reads t w a e.link comes (steps (AtEnd e.link i)) (λ k b. steps_far (AtEnd e.link i) k b)) (λ i near q. near_reads e.link comes i q)
 
-  -- ## Time
+  -- ### Time
 
   pub aged_far : AreFar (all_aged w).1
   aged_far = far_flat (λ (s : Site). entries_for s.host (aged_entries Controller s.link.to_controller ++ aged_entries Host s.link.to_host))

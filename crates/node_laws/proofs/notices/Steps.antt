@@ -1,22 +1,358 @@
--- A whole step of a controller: its unanswered notice to a host stays the one that is read.
-use Rattle.node_laws.proofs.Words.{AllByRecursion, AreDifferent, AtEnd, Controller, Core, Creation, Deed, Entry, HciTables, IsComing, IsFresh, IsHost}
-use Rattle.node_laws.proofs.Words.{IsKeptNotice, IsOutside, IsRightNotice, IsShut, LinkInput, List, NodeInput, None, Notice, Option, Port, Release, Releases}
-use Rattle.node_laws.proofs.Words.{Reset, Some, Tick, TimePasses, Work, [], after_sessions, all_append, all_come, all_done, all_flat, all_map, all_owed}
-use Rattle.node_laws.proofs.Words.{answers_and_passes, ap, asked_at, by_option, by_test, cond, ended_by, false, filter, filter_map, flat_map, forgets, has_come}
-use Rattle.node_laws.proofs.Words.{input_at, is_forgotten, is_late, is_over, is_some, list_any, map, older_notice, option_and_then, option_map, option_map_or}
-use Rattle.node_laws.proofs.Words.{owed, own_side, passes, port_at, refl, reset_late, steps, subst, sym, synced, times_out, told_at, told_late, turn_at}
-use Rattle.node_laws.proofs.Words.{unless_cut, with_older, without_notice, ℕ, ◌++◌, ◌∙◌, ◌∷◌, ◌≡◌}
-use Rattle.gate_answers.specs.declared.response.Response.TheVariants as response
-use Rattle.node_laws.proofs.links.Noticing.{UpAt, at_all, at_host, outside as from_outside}
-use Rattle.node_laws.proofs.notices.Reading.{read_more, reads}
-use Rattle.node_laws.proofs.notices.Telling.{AreRight}
-use Rattle.node_laws.proofs.notices.Doing.{AreHostEnds, IsOn, Stands, all_stand, controller_side, read_in, then, turns}
-use Rattle.node_laws.proofs.notices.Turning.{kept_none, passes_stand}
-use Rattle.node_laws.proofs.notices.Stepping.{TellNoNotices, TellsNoNotice, no_notices_flat, no_notices_may, owed_no_notices}
-use Rattle.node_laws.proofs.notices.Stepping.{IsCome, IsComeAt, come_is, flat_reads, late_elsewhere, older_is, synced_no_notices, told_elsewhere, told_here}
-use Rattle.node_laws.proofs.notices.Stepping.{forgets_is, late_is, without_is}
-use Rattle.node_laws.proofs.steps.Ports.{at_port, come_host, forgets_host, late_host, sessions_node, without_host}
+-- A whole step of a controller: its unanswered notice to a host stays the one that is read, and so do the blocks that an end has to spare.
+use Rattle.node_laws.proofs.Words.{About, ActEvent, ActFrame, ActStart, ActStop, ActTake, ActTick, AllByRecursion, AreDifferent, AtEnd, Bare, Bool, Clf, Clt}
+use Rattle.node_laws.proofs.Words.{Commits, Control, Controller, Core, Creation, Deed, End, EndEvent, Ending, Entry, Fetch, Forgotten, FromNode, HciTables, I}
+use Rattle.node_laws.proofs.Words.{IsAbout, IsComing, IsCommand, IsFresh, IsHost, IsKeptNotice, IsNoticeOf, IsOutside, IsRightNotice, IsShut, Link, LinkEnd}
+use Rattle.node_laws.proofs.Words.{LinkInput, LinkState, List, Message, NodeInput, None, Notice, NumberedEnd, Option, Port, Refused, Release, Releases, Removed}
+use Rattle.node_laws.proofs.Words.{Reset, Response, Role, Rset, S, Sends, Some, Start, Stop, Sync, Take, TakeBroken, TakeUnknown, Tick, TimePasses, Turn, Ua}
+use Rattle.node_laws.proofs.Words.{Uicc, Up, Waiting, Waits, Work, [], act_answer, activated, activated_role, after_input, after_sessions, all_append, all_come}
+use Rattle.node_laws.proofs.Words.{all_done, all_flat, all_map, all_owed, and_from, and_parts, answers_and_passes, ap, ap₂, asked_at, by_list, by_option}
+use Rattle.node_laws.proofs.Words.{by_test, cond, creation_in, drop, ended_by, eq-eqb, eqb, eqb-false, eqb-true, false, filter, filter_map, finds_room}
+use Rattle.node_laws.proofs.Words.{flat_map, forgets, frame_fetched, had_tick, happens_at_controller, has_come, heard, in_use, inl, input_at, inr}
+use Rattle.node_laws.proofs.Words.{instruction_in, is_asked_at, is_forgotten, is_kept_sync, is_late, is_notice, is_of_creation, is_open, is_over, is_some}
+use Rattle.node_laws.proofs.Words.{is_up, le-leb, list_any, map, moved, moved_role, nat_le, ne_eqb, need_of_all, new_link_end, node_of, not, number_of}
+use Rattle.node_laws.proofs.Words.{older_notice, option_and_then, option_map, option_map_or, or-false, or-true, owed, own_session, own_side, passes, port_at}
+use Rattle.node_laws.proofs.Words.{put_down, refl, renewed, report, reset_late, reset_refusal, role_after, sent_all, session_now, spare, spare_at, steps}
+use Rattle.node_laws.proofs.Words.{stopped, subst, sym, synced, tick_answer, ticked, ticks_at_controller, times_out, told_at, told_late, took, true, true≢false}
+use Rattle.node_laws.proofs.Words.{turn, turn_at, turned, turned_role, unacknowledged_in, unless_cut, whole_among, with_act, with_older, without_notice, ℕ}
+use Rattle.node_laws.proofs.Words.{◌&&◌, ◌++◌, ◌+◌, ◌-◌, ◌==◌, ◌||◌, ◌∙◌, ◌∷◌, ◌≡◌, ◌⊎◌}
+use Rattle.link_laws.proofs.entries.Settling.{heard_role}
+use Rattle.link_laws.proofs.messages.Finishing.{tick_role}
+use Rattle.link_laws.proofs.messages.Steps.{role_closes}
+use Rattle.link_laws.proofs.sessions.Ties.{fetched-phase}
+use Rattle.shdlc_core.specs.declared.answers.LinkState.TheVariants.{Down}
+use Rattle.swp_base.specs.declared.control_frames.Act.{Act}
+use Rattle.node_laws.specs.notices.Spares.{IsEndRead}
 use Rattle.node_laws.proofs.kept.Doing.{uncut}
+use Rattle.node_laws.proofs.links.Sites.{here_is, tick_is}
+use Rattle.node_laws.proofs.links.Noticing.{UpAt, at_all, at_host, outside as from_outside, stays_up, turn-phase}
+use Rattle.node_laws.proofs.notices.Telling.{AreRight, MayTell, answer_other}
+use Rattle.node_laws.proofs.notices.Turning.{AreHostEnds, IsOn, Stands, all_stand, controller_side, kept_none, passes_stand, read_in, read_more, reads}
+use Rattle.node_laws.proofs.notices.Turning.{reads_append, then, told_reads, turns}
+use Rattle.node_laws.proofs.readings.Noticed.{up_is}
+use Rattle.node_laws.proofs.readings.Sites.{sent_phase}
+use Rattle.node_laws.proofs.steps.StepWalks.{at_port, come_host, forgets_host, late_host, sessions_node, without_host}
+use Rattle.gate_answers.specs.declared.response.Response.TheVariants as response
+
+-- ## An end that isn't active is Down
+
+-- an end becomes one with its role and its phase
+same_shut : (e f : LinkEnd) → f.role ≡ e.role → f.shdlc.phase ≡ e.shdlc.phase → IsShut e → IsShut f
+same_shut e f role phase a q = phase ∙ a (ap is_open (sym role) ∙ q)
+
+open_shut : (e f : LinkEnd) → f.role ≡ e.role → is_open e.role ≡ true → IsShut f
+open_shut e f role o q = absurd (true≢false (sym o ∙ (ap is_open (sym role) ∙ q)))
+
+-- ### Activation
+
+act_phase : (o : Option Act) (e : LinkEnd) → (with_act o e).shdlc.phase ≡ e.shdlc.phase
+act_phase None e = refl
+act_phase (Some act) e = refl
+
+down_phase : (e : LinkEnd) → (put_down true e).shdlc.phase ≡ Down
+down_phase e = go e.shdlc.phase refl where
+  go : (p : LinkState) → e.shdlc.phase ≡ p → (put_down true e).shdlc.phase ≡ Down
+  go Up q = rw q refl
+  go _ q = rw q refl
+
+down_either : (b : Bool) (e : LinkEnd) → (b ≡ false → e.shdlc.phase ≡ Down) → (put_down b e).shdlc.phase ≡ Down
+down_either true e a = down_phase e
+down_either false e a = a refl
+
+activated_shut : (e : LinkEnd) (event : ActEvent) → (is_open (role_after e.role event) ≡ false → (act_answer e.role event).ended_link ≡ false
+    → e.shdlc.phase ≡ Down) → IsShut (activated e event)
+activated_shut e event a q =
+    act_phase (act_answer e.role event).send (record (put_down (act_answer e.role event).ended_link e) { role = role_after e.role event })
+    ∙ down_either (act_answer e.role event).ended_link e (λ n. a (ap is_open (sym (activated_role e event)) ∙ q) n)
+
+taken_shut : (e : LinkEnd) (act : Act) (again : Bool) → IsShut e → IsShut (activated e (ActTake act again))
+taken_shut e act again a = activated_shut e (ActTake act again) (λ q n. go (role_closes e.role act again q) n) where
+  go : (is_open e.role ≡ false) ⊎ ((act_answer e.role (ActTake act again)).ended_link ≡ true) → (act_answer e.role (ActTake act again)).ended_link ≡ false
+      → e.shdlc.phase ≡ Down
+  go (inl o) n = a o
+  go (inr t) n = absurd (true≢false (sym t ∙ n))
+
+restart_shut : (e : LinkEnd) (event : ActEvent) → IsShut (activated (moved e true (stopped e.shdlc)) event)
+restart_shut e event = activated_shut (moved e true (stopped e.shdlc)) event (λ q n. refl)
+
+-- ### Inputs
+
+heard_shut : (e : LinkEnd) (c : Control) (b : Bool) → is_open e.role ≡ b → IsShut e → IsShut (cond b (heard e c) e)
+heard_shut e c true o a = open_shut e (heard e c) (heard_role e c) o
+heard_shut e c false o a = a
+
+took_shut : (e : LinkEnd) (c : Control) → IsShut e → IsShut (took e c)
+took_shut e (ActFrame act again) a = taken_shut e act again a
+took_shut e Clt a = a
+took_shut e (I ns nr info) a = heard_shut e (I ns nr info) (is_open e.role) refl a
+took_shut e (S kind nr) a = heard_shut e (S kind nr) (is_open e.role) refl a
+took_shut e (Rset w caps) a = heard_shut e (Rset w caps) (is_open e.role) refl a
+took_shut e Ua a = heard_shut e Ua (is_open e.role) refl a
+
+tick_shut : (e : LinkEnd) → IsShut e → IsShut (had_tick e)
+tick_shut e a = by_test (is_open e.role)
+    (λ o. let ended : Bool = Rattle.std.specs.Prelude.is_some (tick_answer e.shdlc).ended in
+    let is : had_tick e ≡ moved e ended (ticked e.shdlc) = rw o refl in
+    subst IsShut (sym is) (open_shut e (moved e ended (ticked e.shdlc)) (moved_role e ended (ticked e.shdlc)) o))
+    (λ o. let is : had_tick e ≡ activated e ActTick = rw o refl in
+    subst IsShut (sym is) (activated_shut e ActTick (λ q n. a (tick_role e.role q))))
+
+reset_shut : (e : LinkEnd) (window : Option Rattle.std.specs.Prelude.ℕ) → IsShut e → IsShut (after_input e (Reset window))
+reset_shut e window a = by_test (is_open e.role)
+    (λ o. open_shut e (after_input e (Reset window)) (role (reset_refusal e) refl) o)
+    (λ o. let is : after_input e (Reset window) ≡ e = rw o refl in subst IsShut (sym is) a) where
+      role : (o : Option Refused) → reset_refusal e ≡ o → (after_input e (Reset window)).role ≡ e.role
+      role None q = rw q (moved_role e _ _)
+      role (Some why) q = rw q refl
+
+turn_shut : (e : LinkEnd) (t : Turn) → IsShut e → IsShut (turn e t)
+turn_shut e t a = same_shut e (turn e t) (turned_role e (t ∷ [])) (turn-phase e t) a
+
+fetch_shut : (e : LinkEnd) → IsShut e → IsShut (frame_fetched e)
+fetch_shut e a = by_list e.acts
+    (λ q. rw q (λ o. fetched-phase e.shdlc ∙ a o))
+    (λ d acts q. by_test (d.behind == 0) (λ z. rw (q, z) a) (λ z. rw (q, z) (λ o. fetched-phase e.shdlc ∙ a o)))
+
+pub input_shut : (e : LinkEnd) (i : LinkInput) → IsShut e → IsShut (after_input e i)
+input_shut e (Take c) a = took_shut e c a
+input_shut e TakeUnknown a = a
+input_shut e (TakeBroken fault) a = a
+input_shut e Tick a = tick_shut e a
+input_shut e (Reset window) a = reset_shut e window a
+input_shut e (Start value) a = restart_shut e (ActStart value)
+input_shut e Stop a = restart_shut e ActStop
+input_shut e (FromNode t) a = turn_shut e t a
+input_shut e Fetch a = fetch_shut e a
+
+turns_shut : (e : LinkEnd) (ts : List Turn) → IsShut e → IsShut (turned e ts)
+turns_shut e [] a = a
+turns_shut e (t ∷ ts) a = turns_shut (turn e t) ts (turn_shut e t a)
+
+sent_shut : (e : LinkEnd) → IsShut e → IsShut (sent_all e)
+sent_shut e a o = sent_phase e [] ∙ a o
+
+new_shut : (r : Role) → IsShut (new_link_end (renewed r))
+new_shut Bare q = absurd (true≢false q)
+new_shut (Clf s) q = refl
+new_shut (Uicc s) q = refl
+
+-- ### Links
+
+pub here_shut : (l : Link) (x : EndEvent) → IsShut l.controller.side → IsShut (happens_at_controller l x).controller.side
+here_shut l x a = here_is IsShut input_shut turns_shut sent_shut (λ e b. new_shut e.role) l x a
+
+pub ticks_shut : (l : Link) (ts : List Turn) (ending : Ending) → IsShut l.controller.side → IsShut (ticks_at_controller l ts ending).controller.side
+ticks_shut l ts ending a = tick_is IsShut input_shut turns_shut sent_shut (λ e b. new_shut e.role) l ts ending a
+
+-- ## A controller has a step: its unanswered notice to a host stays the one that is read
+
+-- ### Quiet deeds
+
+-- it tells nobody of anything
+abbrev pub TellsNoNotice : Deed → Type 0
+TellsNoNotice (Commits c) = IsCommand c
+TellsNoNotice (Sends to m) = (eqb m.0 1 && is_notice m.1) ≡ false
+TellsNoNotice (Releases asker) = Unit {0}
+TellsNoNotice _ = ⊥
+
+abbrev pub TellNoNotices : List Deed → Type 0
+TellNoNotices deeds = AllByRecursion TellsNoNotice deeds
+
+pub no_notices_flat : (f : Port → List Deed) (P : Port → Type 0) → ((p : Port) → P p → TellNoNotices (f p)) → (ports : List Port) → AllByRecursion P ports
+    → TellNoNotices (flat_map f ports)
+no_notices_flat f P one [] a = tt
+no_notices_flat f P one (p ∷ ports) a = all_append TellsNoNotice (f p) (flat_map f ports) (one p a.0) (no_notices_flat f P one ports a.1)
+
+pub no_notices_may : (x : ℕ) (F : List ℕ → Type 0) (deeds : List Deed) → TellNoNotices deeds → MayTell x F deeds
+no_notices_may x F [] a = tt
+no_notices_may x F (Commits c ∷ deeds) a = (a.0, no_notices_may x F deeds a.1)
+no_notices_may x F (Sends to m ∷ deeds) a = (a.0, no_notices_may x (λ n. (eqb to x ≡ false) × F n) deeds a.1)
+no_notices_may x F (Releases asker ∷ deeds) a = no_notices_may x (λ n. ⊥) deeds a.1
+no_notices_may x F (_ ∷ deeds) a = absurd a.0
+
+owed_no_notices : (r : Response) (o : Option Creation) → TellNoNotices (owed r o)
+owed_no_notices r None = tt
+owed_no_notices r (Some c) = (tt, (answer_other r [], tt))
+
+pub synced_no_notices : (core : Core) (input : NodeInput) (p : Port) → IsHost p.desk.host → TellNoNotices (synced core input p)
+synced_no_notices core input p host = by_option (input_at input p)
+    (λ q. rw q tt)
+    (λ i q. by_option (report p.side i).sync
+    (λ e. rw (q, e) tt)
+    (λ id e. rw (q, e) (either (not (is_kept_sync core.tables.syncs p.desk.host id) && finds_room core (Sync p.desk.host id)) id))) where
+      may : (id : ℕ) → IsCommand (Sync p.desk.host id)
+      may id = and_from (nat_le 1 p.desk.host) (nat_le p.desk.host 7) (le-leb 1 p.desk.host host.0) (le-leb p.desk.host 7 host.1)
+
+      either : (b : Bool) (id : ℕ) → TellNoNotices (cond b (Commits (Sync p.desk.host id) ∷ []) [])
+      either true id = (may id, tt)
+      either false id = tt
+
+-- ### What is read of many ends
+
+module _ (x : ℕ) where
+  -- of ends with different hosts only that of x tells of its notice
+  pub flat_reads : (f : Port → List Entry) → ((p : Port) (r : Option (List ℕ)) → eqb p.desk.host x ≡ false → reads x (f p) r ≡ r) → (ports : List Port)
+      → AreDifferent (map (λ (p : Port). p.desk.host) ports) → (r : Option (List ℕ))
+      → reads x (flat_map f ports) r ≡ option_map_or (λ p. reads x (f p) r) (port_at ports x) r
+  flat_reads f silent [] d r = refl
+  flat_reads f silent (p ∷ ports) d r =
+      reads_append x (f p) (flat_map f ports) r ∙ by_test (eqb p.desk.host x)
+      (λ e. rw e (others ports d.0 e (reads x (f p) r)))
+      (λ e. rw e (ap (reads x (flat_map f ports)) (silent p r e) ∙ (flat_reads f silent ports d.1) r)) where
+        others : (ports : List Port) → AllByRecursion (λ (k : ℕ). eqb k p.desk.host ≡ false) (map (λ (p : Port). p.desk.host) ports)
+            → eqb p.desk.host x ≡ true → (r : Option (List ℕ)) → reads x (flat_map f ports) r ≡ r
+        others [] a e r = refl
+        others (q ∷ ports) a e r =
+            reads_append x (f q) (flat_map f ports) r
+            ∙ (ap (reads x (flat_map f ports)) (silent q r (ne_eqb q.desk.host x (λ s. eqb-false q.desk.host p.desk.host a.0
+            (s ∙ sym (eqb-true p.desk.host x e))))) ∙ others ports a.1 e r)
+
+  pub told_elsewhere : (core : Core) → own_side core ≡ Controller → (p : Port) (o : Option LinkInput) (r : Option (List ℕ)) → eqb p.desk.host x ≡ false
+      → reads x (told_at core p o) r ≡ r
+  told_elsewhere core side p None r e = refl
+  told_elsewhere core side p (Some i) r e = told_reads x core p i r side ∙ ap (λ b. cond (b && is_some (ended_by p.side i)) None r) e
+
+  pub told_here : (core : Core) → own_side core ≡ Controller → (p : Port) (i : LinkInput) (r : Option (List ℕ)) → p.desk.host ≡ x
+      → reads x (told_at core p (Some i)) r ≡ cond (is_some (ended_by p.side i)) None r
+  told_here core side p i r e =
+      told_reads x core p i r side ∙ ap (λ b. cond (b && is_some (ended_by p.side i)) None r) (eq-eqb p.desk.host x e)
+
+  pub late_elsewhere : (core : Core) → own_side core ≡ Controller → (p : Port) (r : Option (List ℕ)) → eqb p.desk.host x ≡ false
+      → reads x (told_late core p) r ≡ r
+  late_elsewhere core side p r e = by_test (is_late p) (λ q. rw q (told_elsewhere core side p (Some (Reset None)) r e)) (λ q. rw q refl)
+
+-- ### An end behind what came
+
+-- what is read and kept of it: nothing is read where its session ended
+pub record IsCome (r : Option (List ℕ)) (q : Port) : Type 0 where
+  pub kept : is_over q ≡ false → IsKeptNotice r q.desk.notice
+  pub gone : is_over q ≡ true → r ≡ None
+  pub up : is_over q ≡ false → is_some q.desk.notice ≡ true → q.side.shdlc.phase ≡ Up
+  pub shut : IsShut q.side
+
+abbrev pub IsComeAt : Option (List ℕ) → Option Port → Type 0
+IsComeAt r None = r ≡ None
+IsComeAt r (Some q) = IsCome r q
+
+module _ (p : Port) (fresh : IsFresh p) (up : UpAt (Some p)) (shut : IsShut p.side) where
+  pub come_is : (r : Option (List ℕ)) (o : Option LinkInput) → ((i : LinkInput) → o ≡ Some i → IsComing i) → IsKeptNotice r p.desk.notice
+      → IsCome (option_map_or (λ i. cond (is_some (ended_by p.side i)) None r) o r) (has_come p o)
+  come_is r None coming kept =
+      let not_over : is_over p ≡ false = rw (fresh.0, fresh.1) refl in
+      record {
+        kept = λ n. kept;
+        gone = λ y. absurd (true≢false (sym y ∙ not_over));
+        up = λ n some. up_is p.side.shdlc.phase (up some);
+        shut = shut;
+      }
+  come_is r (Some i) coming kept = go (is_some (ended_by p.side i)) refl where
+    over : (b : Bool) → is_some (ended_by p.side i) ≡ b → is_over (has_come p (Some i)) ≡ b
+    over b e = ap (λ c. c || p.late) e ∙ (ap (λ c. b || c) fresh.1 ∙ or-false b)
+
+    go : (b : Bool) → is_some (ended_by p.side i) ≡ b → IsCome (cond (is_some (ended_by p.side i)) None r) (has_come p (Some i))
+    go true e = subst (λ c. IsCome (cond c None r) (has_come p (Some i))) (sym e) (record {
+      kept = λ n. absurd (true≢false (sym (over true e) ∙ n));
+      gone = λ y. refl;
+      up = λ n. absurd (true≢false (sym (over true e) ∙ n));
+      shut = input_shut p.side i shut;
+    })
+    go false e = subst (λ c. IsCome (cond c None r) (has_come p (Some i))) (sym e) (record {
+      kept = λ n. kept;
+      gone = λ y. absurd (true≢false (sym y ∙ over false e));
+      up = λ n some. stays_up p.side i (coming i refl) (up_is p.side.shdlc.phase (up some)) e;
+      shut = input_shut p.side i shut;
+    })
+
+pub older_is : (r : Option (List ℕ)) (q : Port) → IsCome r q → IsCome r (with_older q)
+older_is r q a = record { kept = λ n. kept q.desk.notice (a.kept n); gone = a.gone; up = λ n some. a.up n (some_of q.desk.notice some); shut = a.shut } where
+  by : Option Notice → Option Notice
+  by None = None
+  by (Some n) = Some (older_notice n)
+
+  kept_of : (r : Option (List ℕ)) (n : Notice) → IsKeptNotice r (Some n) → IsKeptNotice r (Some (older_notice n))
+  kept_of None n k = k
+  kept_of (Some m) n k = k
+
+  kept : (o : Option Notice) → IsKeptNotice r o → IsKeptNotice r (by o)
+  kept None k = k
+  kept (Some n) k = kept_of r n k
+
+  some_of : (o : Option Notice) → is_some (by o) ≡ true → is_some o ≡ true
+  some_of None z = z
+  some_of (Some n) z = refl
+
+-- an end that is up loses its session by a reset
+pub reset_ends : (e : LinkEnd) → IsShut e → e.shdlc.phase ≡ Up → is_some (ended_by e (Reset None)) ≡ true
+reset_ends e shut up = by_test (is_open e.role) (λ o. rw (o, up) refl) (λ o. let z : Up ≡ Down = sym up ∙ shut o in absurd (cc z))
+
+late_is : (core : Core) (r : Option (List ℕ)) (q : Port) → q.late ≡ false → IsCome r q
+    → IsCome (cond (is_late q) (cond (is_some (ended_by q.side (Reset None))) None r) r) (reset_late q)
+late_is core r q fresh a = by_test (is_late q)
+    (λ e. let parts = and_parts (option_map_or (λ (n : Notice). nat_le 100 n.age) q.desk.notice false) (not q.ended) e in
+    let not_over : is_over q ≡ false = ap (λ b. b || q.late) (not_of q.ended parts.1) ∙ fresh in
+    let ends : is_some (ended_by q.side (Reset None)) ≡ true = reset_ends q.side a.shut (a.up not_over (some_of q.desk.notice parts.0)) in
+    let reset : Port = record q { side = after_input q.side (Reset None); late = true } in
+    let over : is_over reset ≡ true = or-true q.ended in
+    let here : IsCome None reset = record {
+      kept = λ n. absurd (true≢false (sym over ∙ n));
+      gone = λ y. refl;
+      up = λ n. absurd (true≢false (sym over ∙ n));
+      shut = input_shut q.side (Reset None) a.shut;
+    } in
+    let is : reset_late q ≡ reset = rw e refl in
+    let read : cond (is_late q) (cond (is_some (ended_by q.side (Reset None))) None r) r ≡ None =
+    ap (λ b. cond b (cond (is_some (ended_by q.side (Reset None))) None r) r) e ∙ ap (λ b. cond b None r) ends in
+    subst (λ z. IsCome z (reset_late q)) (sym read) (subst (IsCome None) (sym is) here))
+    (λ e. rw e a) where
+      some_of : (o : Option Notice) → option_map_or (λ (n : Notice). nat_le 100 n.age) o false ≡ true → is_some o ≡ true
+      some_of None e = e
+      some_of (Some n) e = refl
+
+      not_of : (b : Bool) → not b ≡ true → b ≡ false
+      not_of true e = sym e
+      not_of false e = refl
+
+forgets_is : (ports : List Port) (r : Option (List ℕ)) (q : Port) → IsCome r q → IsCome r (forgets ports q)
+forgets_is ports r q a = go (is_forgotten ports (asked_at q)) refl where
+  named : (c : Creation) (m : List ℕ) → IsNoticeOf c m → instruction_in m ≡ 18
+  named c m is = ap instruction_in is.message_is
+
+  about : (r : Option (List ℕ)) (n : Notice) (c : Creation) → creation_in (Some n) ≡ Some c → IsKeptNotice r (Some n)
+      → IsKeptNotice r (Some (record n { about = Forgotten }))
+  about None n c e k = k
+  about (Some m) n c e k = by n.about refl k where
+    by : (b : About) → n.about ≡ b → IsAbout n.about m → instruction_in m ≡ 18
+    by (Waits d) q k = let k2 : IsNoticeOf d m = subst (λ z. IsAbout z m) q k in named d m k2
+    by Forgotten q k = subst (λ z. IsAbout z m) q k
+    by Removed q k = let z : None ≡ Some c = rw q at e in absurd (cc z)
+
+  go : (b : Bool) → is_forgotten ports (asked_at q) ≡ b → IsCome r (forgets ports q)
+  go false e = rw e a
+  go true e = by_notice q.desk.notice refl where
+    by_notice : (o : Option Notice) → q.desk.notice ≡ o → IsCome r (forgets ports q)
+    by_notice None n = let z : false ≡ true = rw n at e in absurd (true≢false (sym z))
+    by_notice (Some n) is = by_option (creation_in (Some n))
+        (λ c. let none : asked_at q ≡ None = ap creation_in is ∙ c in
+        let z : false ≡ true = ap (is_forgotten ports) (sym none) ∙ e in absurd (true≢false (sym z)))
+        (λ c z. rw (e, is) (record {
+          kept = λ k. about r n c z (subst (IsKeptNotice r) is (a.kept k));
+          gone = a.gone;
+          up = λ k some. a.up k (ap (λ (o : Option Notice). is_some o) is);
+          shut = a.shut;
+        })) where
+          forgot : Port
+          forgot = record q { desk = record q.desk { notice = Some (record n { about = Forgotten }) } }
+
+-- an end as the node's turns begin
+pub record IsReady (r : Option (List ℕ)) (q : Port) : Type 0 where
+  pub kept : IsKeptNotice r q.desk.notice
+  pub up : UpAt (Some q)
+
+without_is : (r : Option (List ℕ)) (q : Port) → IsCome r q → IsReady r (without_notice q)
+without_is r q a = by_test (is_over q)
+    (λ e. rw e (record { kept = subst (λ z. IsKeptNotice z None) (sym (a.gone e)) tt; up = λ n. absurd (true≢false (sym n)) }))
+    (λ e. rw e (record { kept = a.kept e; up = λ n. ap is_up (a.up e n) }))
+
+-- ## A whole step of a controller: its unanswered notice to a host stays the one that is read
 
 -- the hosts of ends that keep theirs
 hosts_map : (f : Port → Port) → ((p : Port) → (f p).desk.host ≡ p.desk.host) → (ports : List Port)
@@ -93,7 +429,7 @@ module _ (x : ℕ) (before : List Entry) (w : Work) (a : IsOn x before w) where
     keeps None b = subst (λ r. IsKeptNotice r None) (sym b) tt
     keeps (Some q) b = (without_is (read_in x before v) (forgets v.ports q) (forgets_is v.ports (read_in x before v) q b)).kept
 
-  -- ## And what it does then
+  -- ### And what it does then
 
   pub frees : (cs : List Creation) (v : Work) → IsOn x before v → IsOn x before (all_done 0 (map (λ (c : Creation). Releases c.asker) cs) v)
   frees [] v b = b
@@ -123,7 +459,7 @@ module _ (x : ℕ) (before : List Entry) (w : Work) (a : IsOn x before w) where
       (all_flat TellsNoNotice (λ p. owed response.Timeout (asked_at p)) (λ p. owed_no_notices response.Timeout (asked_at p))
       (filter (λ (p : Port). p.late) left))
 
-  -- ## What comes
+  -- ### What comes
 
   module _ (input : NodeInput) (outside : IsOutside input) (different : AreDifferent (map (λ (p : Port). p.desk.host) w.ports))
       (fresh : AllByRecursion IsFresh w.ports) (shut : AllByRecursion (λ (p : Port). IsShut p.side) w.ports) where
@@ -254,3 +590,53 @@ module _ (x : ℕ) (before : List Entry) (w : Work) (a : IsOn x before w) where
     by : (input : NodeInput) → IsOutside input → Stands x before (steps input w)
     by (AtEnd h i) out = finish (AtEnd h i) (came_near h i out different fresh shut)
     by TimePasses out = finish TimePasses (came_tick different fresh shut)
+
+-- ## What a controller knows of hosts by its notices is what is read
+
+pub noticed_is : (message : Option (List ℕ)) (p : Port) → IsKeptNotice message p.desk.notice → is_some p.desk.notice ≡ is_some message
+noticed_is message p kept = go message p.desk.notice kept where
+  go : (r : Option (List ℕ)) (n : Option Notice) → IsKeptNotice r n → is_some n ≡ is_some r
+  go None None k = refl
+  go (Some m) (Some n) k = refl
+  go None (Some n) k = absurd k
+  go (Some m) None k = absurd k
+
+pub asked_is : (message : Option (List ℕ)) (p : Port) → IsKeptNotice message p.desk.notice → is_asked_at p ≡ is_of_creation message
+asked_is message p kept = go message p.desk.notice refl kept where
+  is : (m : List ℕ) (k : ℕ) (b : Bool) → instruction_in m ≡ k → eqb k 18 ≡ b → b ≡ eqb (instruction_in m) 18
+  is m k b e q = sym q ∙ ap (λ n. eqb n 18) (sym e)
+
+  asks : (n : Notice) → p.desk.notice ≡ Some n → (a : About) → n.about ≡ a → (m : List ℕ) → IsAbout a m
+      → is_asked_at p ≡ eqb (instruction_in m) 18
+  asks n e (Waits c) r m k = rw (e, r) (is m 18 true (ap instruction_in k.message_is) refl)
+  asks n e Forgotten r m k = rw (e, r) (is m 18 true k refl)
+  asks n e Removed r m (inl k) = rw (e, r) (is m 19 false k refl)
+  asks n e Removed r m (inr k) = rw (e, r) (is m 21 false k refl)
+
+  go : (r : Option (List ℕ)) (n : Option Notice) → p.desk.notice ≡ n → IsKeptNotice r n → is_asked_at p ≡ is_of_creation r
+  go None None e k = rw e refl
+  go (Some m) (Some n) e k = asks n e n.about refl m k
+  go None (Some n) e k = absurd k
+  go (Some m) None e k = absurd k
+
+-- ## The blocks that an end has to spare are those that are read
+
+in_use_is : (t : List Entry) (e : End) (near_end : NumberedEnd) → IsEndRead t e near_end
+    → need_of_all (unacknowledged_in t e (session_now t e (node_of e))) ≡ in_use near_end.side
+in_use_is t e near_end a = ap (λ o. need_of_all (unacknowledged_in t e o)) a.session ∙ go near_end.side.shdlc.phase refl where
+  nothing : (near_end.side.shdlc.phase ≡ Up → ⊥) → in_use near_end.side ≡ 0
+  nothing down = ap (λ (ms : List Message). need_of_all (drop (whole_among ms near_end.side.shdlc.session.acked) ms)) (a.none down)
+
+  go : (p : LinkState) → near_end.side.shdlc.phase ≡ p → need_of_all (unacknowledged_in t e (own_session near_end)) ≡ in_use near_end.side
+  go Up q =
+      let is : own_session near_end ≡ Some (number_of near_end) = rw q refl in
+      ap (λ o. need_of_all (unacknowledged_in t e o)) is ∙ ap₂ (λ n (ms : List Message). need_of_all (drop n ms)) (a.acked q) (a.sent q)
+  go Waiting q =
+      let is : own_session near_end ≡ None = rw q refl in
+      ap (λ o. need_of_all (unacknowledged_in t e o)) is ∙ sym (nothing (λ up. let z : Waiting ≡ Up = sym q ∙ up in cc))
+  go Down q =
+      let is : own_session near_end ≡ None = rw q refl in
+      ap (λ o. need_of_all (unacknowledged_in t e o)) is ∙ sym (nothing (λ up. let z : Down ≡ Up = sym q ∙ up in cc))
+
+pub spare_is : (t : List Entry) (e : End) (near_end : NumberedEnd) → IsEndRead t e near_end → spare_at t e ≡ spare near_end.side
+spare_is t e near_end a = ap₂ (λ n m. 128 - (n + m)) (in_use_is t e near_end a) a.aside

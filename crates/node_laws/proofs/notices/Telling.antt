@@ -1,22 +1,135 @@
--- Which notices a controller sends as it handles a message, and which message answers one.
-use Rattle.node_laws.proofs.Words.{About, AllByRecursion, Answer, AreDifferent, AreTables, Ask, Asks, AsksAsAllowed, Bool, Command, Commit, Commits, Core}
-use Rattle.node_laws.proofs.Words.{Create, Creation, Decision, Deed, Drops, Forgotten, HciTables, IsAnswered, IsAskedFor, IsCommand, IsNoticeOf}
-use Rattle.node_laws.proofs.Words.{IsRecordableDecision, IsRightAbout, IsRightNotice, JoinTwo, LinkView, List, Message, None, Notice, Option, PipeRow, Port}
-use Rattle.node_laws.proofs.Words.{Releases, Removed, SaysOk, Sends, SetsErrors, Some, Tells, Waits, [], agreed, and_parts, answer_of, answers_on, ap, arith}
-use Rattle.node_laws.proofs.Words.{asked_at, body_in, by_test, commit_deeds, cond, controller_deeds, controller_holds, creation_in, decided, decided_as_allowed}
-use Rattle.node_laws.proofs.Words.{decision_deeds, eqb, eqb-false, eqb-true, false, filter, finds_room, gates, has, has_link, identity_served, is_dynamic}
-use Rattle.node_laws.proofs.Words.{is_host, is_notice, is_response, is_some, length, link_deeds, link_served, map, ne_eqb, not, option_and_then, option_map_or}
-use Rattle.node_laws.proofs.Words.{own_gate, own_view, port_at, refl, subst, sym, true, true≢false, view_for, view_of, ℕ, ◌&&◌, ◌∙◌, ◌∷◌, ◌≡◌, ◌≤◌}
-use Rattle.gate_answers.specs.declared.response.Response.TheVariants as response
-use Rattle.gate_admin.specs.View.{hosts_where}
-use Rattle.node_laws.proofs.links.Noticing.{UpAt}
-use Rattle.node_laws.proofs.steps.Ports.{at_port}
+-- Which notices a controller decides on and sends, which message answers one, and that it asks and tells only hosts that have none.
+use Rattle.node_laws.proofs.Words.{About, AllByRecursion, Answer, AreDifferent, AreTables, Ask, Asks, AsksAsAllowed, Bool, Clear, Command, Commit, Commits}
+use Rattle.node_laws.proofs.Words.{Core, Create, Creation, Decision, Deed, Delete, Drops, Forgotten, GoesToFree, HciTables, IsAbout, IsAnswered, IsAskedFor}
+use Rattle.node_laws.proofs.Words.{IsCommand, IsNoticeOf, IsRecordableDecision, IsRightAbout, IsRightNotice, JoinTwo, LinkView, List, Message, None, Notice}
+use Rattle.node_laws.proofs.Words.{OfDecision, Option, PipeRow, Plain, Port, Releases, Removed, Response, SaysOk, Sends, Set, SetOpened, SetsErrors, Some}
+use Rattle.node_laws.proofs.Words.{Tells, Waits, [], agreed, all_false, all_of_controller, all_so, and_parts, answer_of, answers_on, ap, arith, asked_at}
+use Rattle.node_laws.proofs.Words.{body_in, by_test, commit_deeds, commits, commits_and_tells, cond, cond_both, controller_deeds, controller_holds, creation_in}
+use Rattle.node_laws.proofs.Words.{decided, decided_as_allowed, decided_holds, decision_deeds, dest_in, ends_of, eqb, eqb-false, eqb-true, false, far_end_of}
+use Rattle.node_laws.proofs.Words.{filter, finds_room, gates, has, has_link, has_notice, identity_served, inl, inr, is_connected, is_dynamic, is_host}
+use Rattle.node_laws.proofs.Words.{is_notice, is_response, is_some, leb-true, length, link_deeds, link_served, list_any, map, mask_of, nat_le, ne_eqb, new_row}
+use Rattle.node_laws.proofs.Words.{not, option_and_then, option_map_or, others_opened, own_gate, own_view, param_in, pipe_at, port_at, refl, shares, subst, suc}
+use Rattle.node_laws.proofs.Words.{sym, tests_to_clear, tests_to_create, tests_to_delete, told_of_clearing, told_of_deletion, true, true≢false, value_in}
+use Rattle.node_laws.proofs.Words.{view_for, view_of, zero, ℕ, ◌&&◌, ◌||◌, ◌∙◌, ◌∷◌, ◌≡◌, ◌≤◌}
+use Rattle.gate_admin.proofs.CreationLemmas.{AllFalse}
+use Rattle.gate_admin.specs.View.{hosts_where, is_noticed}
 use Rattle.node_machine.proofs.Walks.{AnswersNone}
-use Rattle.node_laws.proofs.kept.Deciding.{decided_recordable}
-use Rattle.node_laws.proofs.notices.Deciding.{IsOther, IsRemoval, IsAsking, AreTold, Says, answer_other, decided_says}
+use Rattle.tables_laws.proofs.gate.Decisions.{joins_two}
 use Rattle.node_laws.specs.notices.Worlds.{IsRight}
+use Rattle.node_laws.proofs.kept.Stepping.{decided_recordable}
+use Rattle.node_laws.proofs.links.Noticing.{UpAt, all_in, alone, from_mask, has_small, nobody}
+use Rattle.node_laws.proofs.steps.StepWalks.{at_port, is_in_mask}
+use Rattle.gate_answers.specs.declared.response.Response.TheVariants as response
 
--- ## Creations
+-- ## Which notices the administration gate decides on
+
+-- it is no notice
+abbrev pub IsOther : List ℕ → Type 0
+IsOther message = is_notice message ≡ false
+
+-- it is one about removal, and not too long
+pub record IsRemoval (message : List ℕ) : Type 0 where
+  pub test : is_notice message ≡ true
+  pub short : length message ≤ 4096
+  pub about : IsAbout Removed message
+
+-- it is one of a creation that this host asks for, and the answer that it gets then is none
+pub record IsAsking (h : ℕ) (notice : List ℕ) (c : Command) (answer : List ℕ) : Type 0 where
+  pub row : PipeRow
+  pub command : c ≡ Create row
+  pub creator : row.creator ≡ h
+  pub notice_is : notice ≡ 18 ∷ ends_of row
+  pub other : IsOther answer
+
+pub answer_other : (r : Response) (value : List ℕ) → IsOther (answer_of r value)
+answer_other response.Ok value = refl
+answer_other _ value = refl
+
+deleted_notice : (pid : ℕ) → IsRemoval (19 ∷ pid ∷ [])
+deleted_notice pid = record { test = refl; short = omega arith; about = inl refl }
+
+cleared_notice : (h : ℕ) → IsRemoval (21 ∷ h ∷ [])
+cleared_notice h = record { test = refl; short = omega arith; about = inr refl }
+
+-- each of these is told of a removal, and isn't this host
+abbrev pub AreTold : ℕ → List ℕ → List ℕ → Type 0
+AreTold h notice hosts = AllByRecursion (λ (y : ℕ). IsRemoval notice × (eqb y h ≡ false)) hosts
+
+-- so it is with a decision on a message of this host
+abbrev pub Says : ℕ → Decision → Type 0
+Says h (Answer answer) = IsOther answer.items
+Says h (Commit c answer tell notice) = IsOther answer.items × AreTold h notice.items (hosts_where (has tell))
+Says h (Ask dest notice c answer) = IsAsking h notice.items c answer.items
+
+module _ (v : LinkView) (h : ℕ) where
+  -- none of these is this host
+  abbrev AreElse : List ℕ → Type 0
+  AreElse hosts = AllByRecursion (λ (y : ℕ). eqb y h ≡ false) hosts
+
+  none_else : AreElse (hosts_where (has 0))
+  none_else = rw nobody tt
+
+  none_told : (notice : List ℕ) → AreTold h notice (hosts_where (has 0))
+  none_told notice = rw nobody tt
+
+  all_told : (notice : List ℕ) → IsRemoval notice → (hosts : List ℕ) → AreElse hosts → AreTold h notice hosts
+  all_told notice is [] a = tt
+  all_told notice is (y ∷ hosts) a = ((is, a.0), all_told notice is hosts a.1)
+
+  abbrev one_told : Option (ℕ × ℕ) → List ℕ
+  one_told o = option_map_or (λ (end : ℕ × ℕ). cond (is_connected v end.0) (end.0 ∷ []) []) o []
+
+  one_else : (y g : ℕ) → eqb y h ≡ false → AreElse (hosts_where (has (mask_of (one_told (Some (y, g))))))
+  one_else y g e = by_test (is_connected v y) (λ q. rw q (alone (λ k. eqb k h ≡ false) v.connected y q e)) (λ q. rw q none_else)
+
+  deletion_else : (o : Option PipeRow) → ((row : PipeRow) → o ≡ Some row → eqb row.creator row.dest ≡ false)
+      → AreElse (hosts_where (has (mask_of (one_told (option_and_then (far_end_of h) o)))))
+  deletion_else None two = none_else
+  deletion_else (Some row) two =
+      cond_both (eqb row.creator h) (Some (row.dest, row.dest_gate)) (cond (eqb row.dest h) (Some (row.creator, row.creator_gate)) None)
+      (λ o. AreElse (hosts_where (has (mask_of (one_told o)))))
+      (λ own. one_else row.dest row.dest_gate
+      (ne_eqb row.dest h (λ same. eqb-false row.creator row.dest (two row refl) (eqb-true row.creator h own ∙ sym same))))
+      (λ stranger. cond_both (eqb row.dest h) (Some (row.creator, row.creator_gate)) None (λ o. AreElse (hosts_where (has (mask_of (one_told o)))))
+      (λ here. one_else row.creator row.creator_gate stranger) (λ none. none_else))
+
+  -- each that is in the mask of the hosts that share a pipe is another one
+  sharing : (t : HciTables) (hosts : List ℕ) → AllByRecursion (λ y. has (mask_of (told_of_clearing t v h)) y ≡ true) hosts → AreElse hosts
+  sharing t [] a = tt
+  sharing t (y ∷ hosts) a = (first (is_connected v y) (eqb y h) refl refl (from_mask (shares t v h) y a.0), sharing t hosts a.1)
+    where
+      first : (b c : Bool) → is_connected v y ≡ b → eqb y h ≡ c → shares t v h y ≡ true → eqb y h ≡ false
+      first b false p q s = q
+      first true true p q s = absurd (true≢false (sym (rw (p, q) at s)))
+      first false true p q s = absurd (true≢false (sym (rw p at s)))
+
+  tells_say : (c : Command) (told notice : List ℕ) → IsRemoval notice → AreElse (hosts_where (has (mask_of told))) → Says h (commits_and_tells c told notice)
+  tells_say c [] notice is a = (answer_other response.Ok [], none_told [])
+  tells_say c (y ∷ told) notice is a = (answer_other response.Ok [], all_told notice is (hosts_where (has (mask_of (y ∷ told)))) a)
+
+  commits_say : (c : Command) (value : List ℕ) → Says h (commits c value)
+  commits_say c value = (answer_other response.Ok value, none_told [])
+
+  decided_says : (t : HciTables) (pipe instruction : ℕ) (body : List ℕ) → JoinTwo t.rows → Says h (decided t v h pipe instruction body)
+  decided_says t pipe n body two =
+      let row : PipeRow = new_row t v h body in
+      decided_holds (Says h) t v h pipe body n answer_other (λ _. record {
+        opens = commits_say (SetOpened h pipe true) (others_opened t h pipe ∷ []);
+        closes = commits_say (SetOpened h pipe false) [];
+        sets = λ _. commits_say (Set h 0 (param_in body) (record { items = value_in body })) [];
+        makes = λ _ controller. commits_say (Create row) (ends_of row);
+        asks = λ _ other. record { row = row; command = refl; creator = refl; notice_is = refl; other = answer_other response.Ok (ends_of row) };
+        deletes = λ _.
+            tells_say (Delete (param_in body)) (told_of_deletion t v h (param_in body)) (19 ∷ param_in body ∷ []) (deleted_notice (param_in body))
+            (deletion_else (pipe_at t.rows (param_in body)) (λ r e. joins_two t.rows (param_in body) r two e));
+        clears = λ _.
+            tells_say (Clear h) (told_of_clearing t v h) (21 ∷ h ∷ []) (cleared_notice h)
+            (sharing t (hosts_where (has (mask_of (told_of_clearing t v h)))) (all_in (has (mask_of (told_of_clearing t v h)))));
+      })
+
+-- ## Which notices a controller sends as it handles a message, and which message answers one
+
+-- ### Creations
 
 abbrev pub AreRight : List Port → Type 0
 AreRight ports = AllByRecursion (λ (p : Port). IsRightNotice p.desk.notice) ports
@@ -51,7 +164,7 @@ module _ (x : ℕ) where
   MayTell F (SetsErrors errors ∷ deeds) = MayTell F deeds
   MayTell F (_ ∷ deeds) = ⊥
 
-  -- ## Answers
+  -- ### Answers
 
   no_and : (a b : Bool) → b ≡ false → (a && b) ≡ false
   no_and true b e = e
@@ -74,7 +187,7 @@ module _ (x : ℕ) where
   abbrev May : List Deed → Type 0
   May deeds = MayTell IsShort deeds
 
-  -- ## Decisions
+  -- ### Decisions
 
   module _ (h : ℕ) where
     -- hosts are told one after another
@@ -175,7 +288,7 @@ module _ (x : ℕ) where
         commit_may (finds_room core c) pipe c answer.items notice.items (hosts_where (has tell)) may says.0 (mask_different (has tell)) says.1
     decision_may core v pipe (Ask asked notice c answer) says may allowed = asked_may core.tables v asked notice.items c answer.items says may allowed
 
-    -- ## Gates
+    -- ### Gates
 
     link_may : (pipe : ℕ) (answer : List ℕ × Option ℕ) → eqb pipe 1 ≡ false → May (link_deeds h pipe answer)
     link_may pipe answer e = by_value answer.0 answer.1 where
@@ -183,7 +296,7 @@ module _ (x : ℕ) where
       by_value message None = other_may IsShort h pipe message (off_and (eqb pipe 1) (is_notice message) e)
       by_value message (Some errors) = other_may IsShort h pipe message (off_and (eqb pipe 1) (is_notice message) e)
 
-    -- ## Of a controller
+    -- ### Of a controller
 
     -- a message of the host h answers a notice to it
     abbrev pub answers : Message → Bool
@@ -266,3 +379,137 @@ module _ (x : ℕ) where
             hears = λ p reply here none. IsHeard [] refl reply tt;
             agrees = λ flag p c reply here waits room. heard m c reply (right_there p c here waits) flag;
           })
+
+-- ## A controller asks and tells only hosts that have no notice to answer
+
+-- ### Decisions
+
+-- each of these has no notice to answer, and is one of the hosts from 01 to 07
+abbrev IsFree : LinkView → ℕ → Type 0
+IsFree v y = (is_noticed v y ≡ false) × (1 ≤ y) × (y ≤ 7)
+
+abbrev Frees : LinkView → Decision → Type 0
+Frees v (Answer answer) = Unit {0}
+Frees v (Commit c answer tell notice) = AllByRecursion (IsFree v) (hosts_where (has tell))
+Frees v (Ask dest notice c answer) = IsFree v dest
+
+-- a host in a mask is 01 at least
+has_some : (m y : ℕ) → has m y ≡ true → 1 ≤ y
+has_some m y q = by_test (nat_le 1 y) (λ p. leb-true 1 y p) (λ p. absurd (true≢false (sym (rw p at q))))
+
+module _ (v : LinkView) where
+  free_of : (m y : ℕ) → has m y ≡ true → is_noticed v y ≡ false → IsFree v y
+  free_of m y q e = (e, has_some m y q, has_small m y q)
+
+  none_told_of_freeing : AllByRecursion (IsFree v) (hosts_where (has 0))
+  none_told_of_freeing = rw nobody tt
+
+  -- none of the hosts that pass a test passes another one
+  none_both : (p q : ℕ → Bool) (hosts : List ℕ) → list_any p (filter q hosts) ≡ false → AllByRecursion (λ (y : ℕ). q y ≡ true → p y ≡ false) hosts
+  none_both p q [] e = tt
+  none_both p q (y ∷ hosts) e = by_test (q y)
+      (λ is. let both = parts (p y) (list_any p (filter q hosts)) (rw is at e) in
+      ((λ z. both.0), (none_both p q hosts) both.1))
+      (λ off. ((λ z. absurd (true≢false (sym z ∙ off))), (none_both p q hosts) (rw off at e))) where
+        parts : (a b : Bool) → (a || b) ≡ false → (a ≡ false) × (b ≡ false)
+        parts true b f = absurd (true≢false f)
+        parts false b f = (refl, f)
+
+  one_of : (p q : ℕ → Bool) → list_any p (hosts_where q) ≡ false → (y : ℕ) → 1 ≤ y → y ≤ 7 → q y ≡ true → p y ≡ false
+  unfolding hosts_where
+  one_of p q e y some most passed = by y some most passed where
+    all : AllByRecursion (λ (y : ℕ). q y ≡ true → p y ≡ false) (1 ∷ 2 ∷ 3 ∷ 4 ∷ 5 ∷ 6 ∷ 7 ∷ [])
+    all = none_both p q (1 ∷ 2 ∷ 3 ∷ 4 ∷ 5 ∷ 6 ∷ 7 ∷ []) e
+
+    by : (y : ℕ) → 1 ≤ y → y ≤ 7 → q y ≡ true → p y ≡ false
+    by zero some most z = absurd (omega arith)
+    by (suc zero) some most z = all.0 z
+    by (suc (suc zero)) some most z = all.1.0 z
+    by (suc (suc (suc zero))) some most z = all.1.1.0 z
+    by (suc (suc (suc (suc zero)))) some most z = all.1.1.1.0 z
+    by (suc (suc (suc (suc (suc zero))))) some most z = all.1.1.1.1.0 z
+    by (suc (suc (suc (suc (suc (suc zero)))))) some most z = all.1.1.1.1.1.0 z
+    by (suc (suc (suc (suc (suc (suc (suc zero))))))) some most z = all.1.1.1.1.1.1.0 z
+    by (suc (suc (suc (suc (suc (suc (suc (suc n)))))))) some most z = absurd (omega arith)
+
+  abbrev one_told_of_freeing : Option (ℕ × ℕ) → List ℕ
+  one_told_of_freeing o = option_map_or (λ (end : ℕ × ℕ). cond (is_connected v end.0) (end.0 ∷ []) []) o []
+
+  deletion_frees : (o : Option (ℕ × ℕ)) → list_any (is_noticed v) (one_told_of_freeing o) ≡ false
+      → AllByRecursion (IsFree v) (hosts_where (has (mask_of (one_told_of_freeing o))))
+  deletion_frees None e = none_told_of_freeing
+  deletion_frees (Some end) e = go (is_connected v end.0) refl e where
+    first : (a : Bool) → (a || false) ≡ false → a ≡ false
+    first true f = absurd (true≢false f)
+    first false f = refl
+
+    go : (b : Bool) → is_connected v end.0 ≡ b → list_any (is_noticed v) (cond b (end.0 ∷ []) []) ≡ false
+        → AllByRecursion (IsFree v) (hosts_where (has (mask_of (cond b (end.0 ∷ []) []))))
+    go true q f = alone (IsFree v) v.connected end.0 q (free_of v.connected end.0 q (first (is_noticed v end.0) f))
+    go false q f = none_told_of_freeing
+
+  sharing_frees : (t : HciTables) (h : ℕ) → list_any (is_noticed v) (told_of_clearing t v h) ≡ false → (hosts : List ℕ)
+      → AllByRecursion (λ y. has (mask_of (told_of_clearing t v h)) y ≡ true) hosts → AllByRecursion (IsFree v) hosts
+  sharing_frees t h e [] a = tt
+  sharing_frees t h e (y ∷ hosts) a =
+      let m : ℕ = mask_of (told_of_clearing t v h) in (
+        free_of m y a.0 (one_of (is_noticed v) (shares t v h) e y (has_some m y a.0) (has_small m y a.0) (from_mask (shares t v h) y a.0)),
+        sharing_frees t h e hosts a.1,
+      )
+
+  tells_free : (c : Command) (told notice : List ℕ) → AllByRecursion (IsFree v) (hosts_where (has (mask_of told))) → Frees v (commits_and_tells c told notice)
+  tells_free c [] notice a = none_told_of_freeing
+  tells_free c (y ∷ told) notice a = a
+
+  asked_free : (d : ℕ) → eqb d 0 ≡ false → (not (eqb d 0) && not (is_connected v d)) ≡ false → (not (eqb d 0) && is_noticed v d) ≡ false → IsFree v d
+  asked_free d off connected noticed =
+      let there : is_connected v d ≡ true = yes (is_connected v d) (rw off at connected) in
+      free_of v.connected d there (rw off at noticed) where
+        yes : (b : Bool) → not b ≡ false → b ≡ true
+        yes true e = refl
+        yes false e = absurd (true≢false e)
+
+  decided_frees : (t : HciTables) (h pipe instruction : ℕ) (body : List ℕ) → Frees v (decided t v h pipe instruction body)
+  unfolding AllFalse
+  decided_frees t h pipe instruction body =
+      decided_holds (Frees v) t v h pipe body instruction (λ r value. tt) (λ _. record {
+        opens = none_told_of_freeing;
+        closes = none_told_of_freeing;
+        sets = λ _. none_told_of_freeing;
+        makes = λ _ controller. none_told_of_freeing;
+        asks = λ passed other.
+            let none = all_false (tests_to_create t v h body) passed in asked_free (dest_in body) other none.1.1.1.1.0 none.1.1.1.1.1.1.0;
+        deletes = λ passed.
+            let none = all_false (tests_to_delete t v h body) passed in
+            tells_free (Delete (param_in body)) (told_of_deletion t v h (param_in body)) (19 ∷ param_in body ∷ [])
+            (deletion_frees (option_and_then (far_end_of h) (pipe_at t.rows (param_in body))) none.1.1.0);
+        clears = λ passed.
+            let none = all_false (tests_to_clear t v h body) passed in
+            tells_free (Clear h) (told_of_clearing t v h) (21 ∷ h ∷ [])
+            (sharing_frees t h none.1.1.0 (hosts_where (has (mask_of (told_of_clearing t v h)))) (all_in (has (mask_of (told_of_clearing t v h)))));
+      })
+
+-- ### Deeds
+
+-- a host that isn't in the view's mask has no notice
+no_notice : (t : HciTables) (ports : List Port) (h y : ℕ) → IsFree (view_for t ports h) y → has_notice ports y ≡ false
+no_notice t ports h y free = by_test (has_notice ports y)
+    (λ e. absurd (true≢false (sym (is_in_mask (has_notice ports) y free.1 free.2 e) ∙ free.0)))
+    (λ e. e)
+
+plain : (ports : List Port) → Plain (GoesToFree ports)
+plain ports = record { sends = λ to x. tt; says_ok = tt; releases = λ asker. tt; is_answered = tt; drops = λ pid. tt }
+
+decision_free : (t : HciTables) (ports : List Port) (h : ℕ) (d : Decision) → Frees (view_for t ports h) d → OfDecision (GoesToFree ports) h d
+decision_free t ports h (Answer answer) a = tt
+decision_free t ports h (Commit c answer tell notice) a = (tt, each (hosts_where (has tell)) a) where
+  each : (hosts : List ℕ) → AllByRecursion (IsFree (view_for t ports h)) hosts → AllByRecursion (λ y. has_notice ports y ≡ false) hosts
+  each hosts a = all_so (IsFree (view_for t ports h)) (λ y. has_notice ports y ≡ false) (no_notice t ports h) hosts a
+decision_free t ports h (Ask asked notice c answer) a = no_notice t ports h asked a
+
+pub controller_free : (core : Core) (ports : List Port) (h : ℕ) (m : Message) → AllByRecursion (GoesToFree ports) (controller_deeds (view_of core ports) h m)
+controller_free core ports h m =
+    let v : LinkView = view_for core.tables ports h in
+    all_of_controller (GoesToFree ports) (plain ports) core ports h m
+    (λ n. decision_free core.tables ports h (decided core.tables v h m.0 n (body_in m.1)) (decided_frees v core.tables h m.0 n (body_in m.1)))
+    (λ p c here asked. tt) (λ errors n value command gate is. tt)

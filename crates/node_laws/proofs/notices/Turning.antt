@@ -1,24 +1,456 @@
--- A controller has its turns: its unanswered notice to a host stays the one that is read.
-use Rattle.node_laws.proofs.Words.{AllByRecursion, AllReach, Asks, Bool, Commits, Deed, Drops, Entry, FetchMessage, Hold, IsAnswered, IsHost, IsKeptNotice}
-use Rattle.node_laws.proofs.Words.{IsRightNotice, List, Message, None, Notice, Option, Port, Releases, SaysOk, Sends, SetsErrors, Some, Tells, Up, Work, []}
-use Rattle.node_laws.proofs.Words.{after_turn, all_done, all_map, ap, by_option, by_test, cases_Bool, changed_if, cond, controller_deeds, done, end_c}
-use Rattle.node_laws.proofs.Words.{end_of_node, eq-eqb, eqb, eqb-false, eqb-true, false, give_refusal, goes_through_ends, handles, has_link, have_turns}
-use Rattle.node_laws.proofs.Words.{holds_back, inl, inr, is_held, is_response, is_up, lack, le-ltb, length, lets_go, map, nat_lt, ne_eqb, need, needs, noting}
-use Rattle.node_laws.proofs.Words.{option_and_then, option_map, option_map_or, passes, port_at, refl, same_end, spare, subst, sym, true, true≢false, turn_at}
-use Rattle.node_laws.proofs.Words.{view_of, with_desk, with_port, ℕ, ◌&&◌, ◌∙◌, ◌∷◌, ◌≡◌, ◌⊎◌}
-use Rattle.trace_model.specs.declared.entry.Entry.TheVariants as entry
-use Rattle.node_laws.proofs.links.Noticing.{UpAt, at_all, at_host}
-use Rattle.node_laws.proofs.links.Reaching.{controller_reach}
-use Rattle.node_laws.proofs.readings.Noticed.{up_is}
-use Rattle.node_laws.proofs.notices.Reading.{reads, same_near}
-use Rattle.node_laws.proofs.notices.Telling.{IsShort, MayTell, Outcome, answers, controller_outcome, noticed}
+-- A controller does the deeds of a message and has its turns: its unanswered notice to a host stays the one that is read.
+use Rattle.std.proofs.Math.Bool.{and-true}
+use Rattle.node_laws.proofs.Words.{About, AllByRecursion, AllReach, AreTables, AreTables-apply, Asks, Bool, Cause, Command, Commits, Controller, Core, Deed}
+use Rattle.node_laws.proofs.Words.{Desk, Down, Drops, Entry, FetchMessage, Give, Hold, IsAbout, IsAnswered, IsCommand, IsHost, IsKeptNotice, IsRightAbout}
+use Rattle.node_laws.proofs.Words.{IsRightNotice, JoinTwo, LinkInput, List, Message, None, Noted, Notice, Option, Port, Refused, Release, Releases, Removed}
+use Rattle.node_laws.proofs.Words.{SaysOk, Sends, Sent, SetAside, SetsErrors, Some, Tells, Turn, Up, Waits, Work, Write, [], after_input, after_turn, all_done}
+use Rattle.node_laws.proofs.Words.{all_map, and-false, ap, append_assoc, awaited_after, body_of, by_cut, by_option, by_test, cases_Bool, changed_if, commit}
+use Rattle.node_laws.proofs.Words.{commit_writes, cond, controller_deeds, done, end_c, end_of, end_of_node, ended_by, entries_for, eq-eqb, eqb, eqb-false}
+use Rattle.node_laws.proofs.Words.{eqb-true, fails_within, false, fold, fold-append, give_refusal, goes_through_ends, handles, has_link, have_turns, holds_back}
+use Rattle.node_laws.proofs.Words.{inl, inr, is_held, is_notice, is_response, is_some, is_up, keeps, lack, le-ltb, length, lets_go, map, nat_lt, ne_eqb, need}
+use Rattle.node_laws.proofs.Words.{needs, noted_of, notice_in, notified, noting, option_and_then, option_map, option_map_or, option_to_list, own_side, passes}
+use Rattle.node_laws.proofs.Words.{port_at, refl, report, same_end, sent_unless, spare, subst, sym, told_at, true, true≢false, turn_at, unless_cut, view_of}
+use Rattle.node_laws.proofs.Words.{whole_acked, with_desk, with_port, ℕ, ◌&&◌, ◌++◌, ◌∙◌, ◌∷◌, ◌≡◌, ◌⊎◌}
+use Rattle.link_laws.proofs.messages.Project.{give_tells}
+use Rattle.link_laws.specs.entries.Entries.{End as Side}
+use Rattle.tables_laws.proofs.tables.TwoHosts.{JoinTwo-after}
+use Rattle.node_laws.proofs.links.Noticing.{UpAt, at_all, at_host, controller_reach, turn-phase}
+use Rattle.node_laws.proofs.notices.Telling.{AreRight, IsShort, MayTell, Outcome, answers, controller_outcome, noticed}
 use Rattle.node_laws.proofs.notices.Telling.Outcome.{IsHeard, Leaves}
-use Rattle.node_laws.proofs.notices.Doing.{AreHostEnds, Holds, IsOn, Stands, Takes, all_stand, controller_side, desks, hushed, notes, then, turns}
-use Rattle.node_laws.proofs.notices.Doing.{read_in}
-use Rattle.node_laws.proofs.readings.Turning.{lack_parts}
-use Rattle.node_laws.proofs.steps.Ports.{changed_host}
+use Rattle.node_laws.proofs.readings.Noticed.{up_is}
+use Rattle.node_laws.proofs.readings.Turning.{IsQuiet, lack_parts, rest_quiet, told_rest}
+use Rattle.node_laws.proofs.steps.StepWalks.{changed_host}
+use Rattle.trace_model.specs.declared.entry.Entry.TheVariants as entry
 
--- ## Room
+-- ## What is read of the unanswered notice to a host
+
+-- the end of this link is the one with that host
+pub same_near : (k x : ℕ) → same_end (end_of k Controller) (end_c x) ≡ eqb k x
+same_near k x = and-true (eqb k x)
+
+module _ (x : ℕ) where
+  -- what is read after these entries, where this was read before
+  abbrev pub reads : List Entry → Option (List ℕ) → Option (List ℕ)
+  reads es waits = fold (awaited_after is_notice (end_c x) 0) waits es
+
+  pub notice_more : (t es : List Entry) → notice_in (t ++ es) x ≡ reads es (notice_in t x)
+  notice_more t es = fold-append (awaited_after is_notice (end_c x) 0) None t es
+
+  pub reads_append : (xs ys : List Entry) (c : Option (List ℕ)) → reads (xs ++ ys) c ≡ reads ys (reads xs c)
+  reads_append xs ys c = fold-append (awaited_after is_notice (end_c x) 0) c xs ys
+
+  -- what is read behind more entries
+  pub read_more : (before now es : List Entry) (c d : Option (List ℕ)) → notice_in (before ++ now) x ≡ c → reads es c ≡ d
+      → notice_in (before ++ (now ++ es)) x ≡ d
+  read_more before now es c d was more =
+      ap (λ l. notice_in l x) (sym (append_assoc before now es)) ∙ (notice_more (before ++ now) es ∙ (ap (reads es) was ∙ more))
+
+  -- ### Notes
+
+  quiet_reads : (k : ℕ) (notes : List Noted) (c : Option (List ℕ)) → AllByRecursion IsQuiet notes → reads (entries_for k notes) c ≡ c
+  quiet_reads k [] c all = refl
+  quiet_reads k (Down who cause ∷ notes) c all = absurd all.0
+  quiet_reads k (Sent who n m ∷ notes) c all = absurd all.0
+  quiet_reads k (_ ∷ notes) c all = quiet_reads k notes c all.1
+
+  -- with the session of its link a notice is read no more
+  pub told_reads : (core : Core) (p : Port) (i : LinkInput) (c : Option (List ℕ)) → own_side core ≡ Controller
+      → reads (told_at core p (Some i)) c ≡ cond (eqb p.desk.host x && is_some (ended_by p.side i)) None c
+  told_reads core p i c side = rw side (go (ended_by p.side i))
+    where
+      rest : List Noted
+      rest = told_rest Controller p.session (whole_acked (after_input p.side i)) (report p.side i)
+
+      quiet : AllByRecursion IsQuiet rest
+      quiet = rest_quiet Controller p.session (whole_acked (after_input p.side i)) (report p.side i)
+
+      go : (o : Option Cause) → reads (entries_for p.desk.host (map (Down Controller) (option_to_list o) ++ rest)) c
+          ≡ cond (eqb p.desk.host x && is_some o) None c
+      go None = quiet_reads p.desk.host rest c quiet ∙ ap (λ b. cond b None c) (sym (and-false (eqb p.desk.host x)))
+      go (Some cause) = quiet_reads p.desk.host rest (cond (same_end (end_of p.desk.host Controller) (end_c x)) None c) quiet
+
+  -- a message that is no notice on pipe 01 reads as nothing
+  no_notice : (a b c : Bool) (y z : Option (List ℕ)) → (b && c) ≡ false → cond (a && b && c) y z ≡ z
+  no_notice false b c y z e = refl
+  no_notice true false c y z e = refl
+  no_notice true true false y z e = refl
+  no_notice true true true y z e = cc
+
+  sent_reads : (k : ℕ) (who : Side) (n : ℕ) (m : Message) (o : Option Refused) (c : Option (List ℕ)) → (eqb m.0 1 && is_notice m.1) ≡ false
+      → reads (entries_for k (sent_unless o who n m)) c ≡ c
+  sent_reads k who n m (Some why) c e = refl
+  sent_reads k who n m None c e = no_notice (same_end (end_of k who) (end_c x)) (eqb m.0 1) (is_notice m.1) (Some m.1) c e
+
+  -- nor does one to another host
+  off_all : (a b c : Bool) (y z : Option (List ℕ)) → a ≡ false → cond (a && b && c) y z ≡ z
+  off_all a b c y z e = rw e refl
+
+  sent_elsewhere : (k n : ℕ) (m : Message) (o : Option Refused) (c : Option (List ℕ)) → eqb k x ≡ false
+      → reads (entries_for k (sent_unless o Controller n m)) c ≡ c
+  sent_elsewhere k n m (Some why) c e = refl
+  sent_elsewhere k n m None c e =
+      off_all (same_end (end_of k Controller) (end_c x)) (eqb m.0 1) (is_notice m.1) (Some m.1) c (same_near k x ∙ e)
+
+  -- a notice that isn't refused is what is read
+  notice_reads : (k n : ℕ) (message : List ℕ) (c : Option (List ℕ)) → eqb k x ≡ true → is_notice message ≡ true
+      → reads (entries_for k (sent_unless None Controller n (1, message))) c ≡ Some message
+  notice_reads k n message c e is = rw (e, is) refl
+
+-- ## A controller does the deeds of a message: its unanswered notice to a host stays the one that is read
+
+abbrev pub AreHostEnds : List Port → Type 0
+AreHostEnds ports = AllByRecursion (λ (p : Port). IsHost p.desk.host) ports
+
+-- an end takes this notice, where there is one
+abbrev pub Takes : Option Port → List ℕ → Type 0
+Takes None message = Unit {0}
+Takes (Some p) message = give_refusal p.side (1, message) ≡ None
+
+pub controller_side : (core : Core) → core.node ≡ 0 → own_side core ≡ Controller
+controller_side core e = rw e refl
+
+changed_is : (P : Port → Port → Type 0) (b : Bool) (g : Port → Port) (p : Port) → P p p → P p (g p) → P p (changed_if b g p)
+changed_is P true g p same one = one
+changed_is P false g p same one = same
+
+-- what is done to the end with another host leaves this one
+pub else_same : (k x : ℕ) (g : Port → Port) (ports : List Port) → ((q : Port) → (g q).desk.host ≡ q.desk.host) → eqb k x ≡ false
+    → port_at (with_port k g ports) x ≡ port_at ports x
+else_same k x g ports host off =
+    at_all ports x (λ p. changed_if (eqb p.desk.host k) g p)
+    (λ p. changed_is (λ q r. r.desk.host ≡ q.desk.host) (eqb p.desk.host k) g p refl (host p)) ∙ go (port_at ports x) refl
+  where
+    go : (o : Option Port) → port_at ports x ≡ o → option_map (λ (p : Port). changed_if (eqb p.desk.host k) g p) o ≡ o
+    go None e = refl
+    go (Some p) e =
+        let other : eqb p.desk.host k ≡ false = ne_eqb p.desk.host k (λ s. eqb-false k x off (sym s ∙ at_host ports x p e)) in
+        ap (λ b. Some (changed_if b g p)) other
+
+module _ (x : ℕ) (before : List Entry) where
+  -- what is read of the notice to the host x
+  abbrev pub read_in : Work → Option (List ℕ)
+  read_in w = notice_in (before ++ w.entries) x
+
+  -- a controller runs, and what is read and what it keeps are so
+  pub record Holds (K : Option (List ℕ) → Option Notice → Type 0) (w : Work) : Type 0 where
+    pub on : w.cut ≡ false
+    pub node : w.core.node ≡ 0
+    pub sorted : AreTables w.core.tables
+    pub two : JoinTwo w.core.tables.rows
+    pub hosts : AreHostEnds w.ports
+    pub right : AreRight w.ports
+    pub up : UpAt (port_at w.ports x)
+    pub kept : K (read_in w) (noticed w.ports x)
+
+  -- its power is cut, which was noted last
+  pub record IsOff (w : Work) : Type 0 where
+    pub off : w.cut ≡ true
+    pub front : List Entry
+    pub ends : before ++ w.entries ≡ front ++ entry.Cut 0 ∷ []
+
+  abbrev pub IsOn : Work → Type 0
+  IsOn w = Holds IsKeptNotice w
+
+  abbrev pub Stands : Work → Type 0
+  Stands w = IsOn w ⊎ IsOff w
+
+  -- one thing after another, unless the power is cut
+  pub then : (f : Work → Work) (w : Work) → Stands w → (IsOn w → Stands (f w)) → Stands (unless_cut f w)
+  then f w a next = by_cut Stands f w (λ q. a) (λ q. go q a) where
+    go : w.cut ≡ false → Stands w → Stands (f w)
+    go q (inl b) = next b
+    go q (inr b) = absurd (true≢false (sym b.off ∙ q))
+
+  -- it is noted so
+  pub notes : (K L : Option (List ℕ) → Option Notice → Type 0) (es : List Entry) (w : Work)
+      → ((r : Option (List ℕ)) (n : Option Notice) → K r n → L (reads x es r) n) → Holds K w → Holds L (noting es w)
+  notes K L es w one a = record {
+    on = a.on;
+    node = a.node;
+    sorted = a.sorted;
+    two = a.two;
+    hosts = a.hosts;
+    right = a.right;
+    up = a.up;
+    kept = subst (λ r. L r (noticed w.ports x)) (sym (read_more x before w.entries es (read_in w) (reads x es (read_in w)) refl refl))
+        (one (read_in w) (noticed w.ports x) a.kept);
+  }
+
+  -- it is noted what tells nothing
+  hushed : (K : Option (List ℕ) → Option Notice → Type 0) (es : List Entry) (w : Work) → ((r : Option (List ℕ)) → reads x es r ≡ r)
+      → Holds K w → Holds K (noting es w)
+  hushed K es w silent a = notes K K es w (λ r n k. subst (λ z. K z n) (sym (silent r)) k) a
+
+  -- ### Ends
+
+  noticed_map : (f : Port → Port) → ((q : Port) → (f q).desk.notice ≡ q.desk.notice) → (o : Option Port)
+      → option_and_then (λ (p : Port). p.desk.notice) (option_map f o) ≡ option_and_then (λ (p : Port). p.desk.notice) o
+  noticed_map f notice None = refl
+  noticed_map f notice (Some p) = notice p
+
+  up_map : (f : Port → Port) → ((q : Port) → (f q).desk.notice ≡ q.desk.notice) → ((q : Port) → (f q).side.shdlc.phase ≡ q.side.shdlc.phase)
+      → (o : Option Port) → UpAt o → UpAt (option_map f o)
+  up_map f notice phase None a = tt
+  up_map f notice phase (Some p) a = λ n. ap is_up (phase p) ∙ a (sym (ap (λ (z : Option Notice). is_some z) (notice p)) ∙ n)
+
+  -- ends are changed that keep their hosts, phases and notices
+  alters : (K : Option (List ℕ) → Option Notice → Type 0) (f : Port → Port) (w : Work) → ((q : Port) → (f q).desk.host ≡ q.desk.host)
+      → ((q : Port) → (f q).side.shdlc.phase ≡ q.side.shdlc.phase) → ((q : Port) → (f q).desk.notice ≡ q.desk.notice)
+      → Holds K w → Holds K (record w { ports = map f w.ports })
+  alters K f w host phase notice a = record {
+    on = a.on;
+    node = a.node;
+    sorted = a.sorted;
+    two = a.two;
+    hosts = all_map (λ (p : Port). IsHost p.desk.host) (λ (p : Port). IsHost p.desk.host) f (λ p b. subst IsHost (sym (host p)) b) w.ports a.hosts;
+    right = all_map (λ (p : Port). IsRightNotice p.desk.notice) (λ (p : Port). IsRightNotice p.desk.notice) f
+        (λ p b. subst IsRightNotice (sym (notice p)) b) w.ports a.right;
+    up = subst UpAt (sym (at_all w.ports x f host)) (up_map f notice phase (port_at w.ports x) a.up);
+    kept = subst (K (read_in w)) (sym (ap (λ o. option_and_then (λ (p : Port). p.desk.notice) o) (at_all w.ports x f host)
+        ∙ noticed_map f notice (port_at w.ports x))) a.kept;
+  }
+
+  alters_one : (K : Option (List ℕ) → Option Notice → Type 0) (k : ℕ) (g : Port → Port) (w : Work) → ((q : Port) → (g q).desk.host ≡ q.desk.host)
+      → ((q : Port) → (g q).side.shdlc.phase ≡ q.side.shdlc.phase) → ((q : Port) → (g q).desk.notice ≡ q.desk.notice)
+      → Holds K w → Holds K (record w { ports = with_port k g w.ports })
+  alters_one K k g w host phase notice a =
+      alters K (λ p. changed_if (eqb p.desk.host k) g p) w
+      (λ p. changed_is (λ q r. r.desk.host ≡ q.desk.host) (eqb p.desk.host k) g p refl (host p))
+      (λ p. changed_is (λ q r. r.side.shdlc.phase ≡ q.side.shdlc.phase) (eqb p.desk.host k) g p refl (phase p))
+      (λ p. changed_is (λ q r. r.desk.notice ≡ q.desk.notice) (eqb p.desk.host k) g p refl (notice p)) a
+
+  pub turns : (K : Option (List ℕ) → Option Notice → Type 0) (k : ℕ) (t : Turn) (w : Work)
+      → ((p : Port) (r : Option (List ℕ)) → reads x (noted_of w.core t p) r ≡ r) → Holds K w → Holds K (turn_at k t w)
+  turns K k t w silent a =
+      hushed K (option_map_or (noted_of w.core t) (port_at w.ports k) []) (record w { ports = with_port k (after_turn t) w.ports })
+      (λ r. go (port_at w.ports k) r) (alters_one K k (after_turn t) w (λ q. refl) (λ q. turn-phase q.side t) (λ q. refl) a)
+    where
+      go : (o : Option Port) (r : Option (List ℕ)) → reads x (option_map_or (noted_of w.core t) o []) r ≡ r
+      go None r = refl
+      go (Some p) r = silent p r
+
+  -- a message that is no notice is given
+  gives : (k : ℕ) (m : Message) (w : Work) → (eqb m.0 1 && is_notice m.1) ≡ false → IsOn w → IsOn (turn_at k (Give m) w)
+  gives k m w other a =
+      turns IsKeptNotice k (Give m) w (λ p r. sent_reads x p.desk.host (own_side w.core) p.session m (give_refusal p.side m) r other) a
+
+  pub desks : (K : Option (List ℕ) → Option Notice → Type 0) (k : ℕ) (f : Desk → Desk) (w : Work) → ((d : Desk) → (f d).host ≡ d.host)
+      → ((d : Desk) → (f d).notice ≡ d.notice) → Holds K w → Holds K (with_desk k f w)
+  desks K k f w host notice a = alters_one K k (λ p. record p { desk = f p.desk }) w (λ q. host q.desk) (λ q. refl) (λ q. notice q.desk) a
+
+  -- ### Notices
+
+  module _ (k : ℕ) (about : About) (message : List ℕ) where
+    abbrev new : Desk → Desk
+    new d = record d { notice = Some (record { about = about; age = 0 }) }
+
+    abbrev as_new : Port → Port
+    as_new p = record p { desk = new p.desk }
+
+    abbrev given : Port → Port
+    given p = changed_if (eqb p.desk.host k) (after_turn (Give (1, message))) p
+
+    abbrev told : Port → Port
+    told p = changed_if (eqb p.desk.host k) as_new p
+
+    given_host : (p : Port) → (given p).desk.host ≡ p.desk.host
+    given_host p = changed_is (λ q r. r.desk.host ≡ q.desk.host) (eqb p.desk.host k) (after_turn (Give (1, message))) p refl refl
+
+    told_host : (p : Port) → (told p).desk.host ≡ p.desk.host
+    told_host p = changed_is (λ q r. r.desk.host ≡ q.desk.host) (eqb p.desk.host k) as_new p refl refl
+
+    given_right : (p : Port) → IsRightNotice p.desk.notice → IsRightNotice (given p).desk.notice
+    given_right p a = changed_is (λ q r. IsRightNotice r.desk.notice) (eqb p.desk.host k) (after_turn (Give (1, message))) p a a
+
+    told_right : IsRightAbout about → (p : Port) → IsRightNotice p.desk.notice → IsRightNotice (told p).desk.notice
+    told_right right p a = changed_is (λ q r. IsRightNotice r.desk.notice) (eqb p.desk.host k) as_new p a right
+
+    at_told : (ports : List Port) → port_at (with_port k as_new (with_port k (after_turn (Give (1, message))) ports)) x
+        ≡ option_map told (option_map given (port_at ports x))
+    at_told ports = at_all (with_port k (after_turn (Give (1, message))) ports) x told told_host ∙ ap (option_map told) (at_all ports x given given_host)
+
+    -- it is told to another host
+    told_elsewhere : (w : Work) → eqb k x ≡ false → IsRightAbout about → IsOn w → IsOn (notified k about message w)
+    told_elsewhere w off right a = record {
+      on = a.on;
+      node = a.node;
+      sorted = a.sorted;
+      two = a.two;
+      hosts = all_map (λ (p : Port). IsHost p.desk.host) (λ (p : Port). IsHost p.desk.host) told (λ p b. subst IsHost (sym (told_host p)) b)
+          (map given w.ports) (all_map (λ (p : Port). IsHost p.desk.host) (λ (p : Port). IsHost p.desk.host) given
+          (λ p b. subst IsHost (sym (given_host p)) b) w.ports a.hosts);
+      right = all_map (λ (p : Port). IsRightNotice p.desk.notice) (λ (p : Port). IsRightNotice p.desk.notice) told (told_right right)
+          (map given w.ports) (all_map (λ (p : Port). IsRightNotice p.desk.notice) (λ (p : Port). IsRightNotice p.desk.notice) given given_right w.ports
+          a.right);
+      up = subst UpAt (sym same) a.up;
+      kept = subst (λ r. IsKeptNotice r (noticed (notified k about message w).ports x))
+          (sym (read_more x before w.entries (option_map_or (noted_of w.core (Give (1, message))) (port_at w.ports k) []) (read_in w) (read_in w) refl
+          (silent (port_at w.ports k) refl (read_in w))))
+          (subst (λ o. IsKeptNotice (read_in w) (option_and_then (λ (p : Port). p.desk.notice) o)) (sym same) a.kept);
+    } where
+      same : port_at (notified k about message w).ports x ≡ port_at w.ports x
+      same =
+          else_same k x as_new (with_port k (after_turn (Give (1, message))) w.ports) (λ q. refl) off
+          ∙ else_same k x (after_turn (Give (1, message))) w.ports (λ q. refl) off
+
+      silent : (o : Option Port) → port_at w.ports k ≡ o → (r : Option (List ℕ)) → reads x (option_map_or (noted_of w.core (Give (1, message))) o []) r ≡ r
+      silent None e r = refl
+      silent (Some p) e r =
+          ap (λ s. reads x (entries_for p.desk.host (sent_unless (give_refusal p.side (1, message)) s p.session (1, message))) r)
+          (controller_side w.core a.node)
+          ∙ sent_elsewhere x p.desk.host p.session (1, message) (give_refusal p.side (1, message)) r
+          (ap (λ n. eqb n x) (at_host w.ports k p e) ∙ off)
+
+    -- it is told to this one
+    told_here : (w : Work) → eqb k x ≡ true → Takes (port_at w.ports x) message → is_notice message ≡ true → IsAbout about message → IsRightAbout about
+        → IsOn w → IsOn (notified k about message w)
+    told_here w here takes is says right a = record {
+      on = a.on;
+      node = a.node;
+      sorted = a.sorted;
+      two = a.two;
+      hosts = all_map (λ (p : Port). IsHost p.desk.host) (λ (p : Port). IsHost p.desk.host) told (λ p b. subst IsHost (sym (told_host p)) b)
+          (map given w.ports) (all_map (λ (p : Port). IsHost p.desk.host) (λ (p : Port). IsHost p.desk.host) given
+          (λ p b. subst IsHost (sym (given_host p)) b) w.ports a.hosts);
+      right = all_map (λ (p : Port). IsRightNotice p.desk.notice) (λ (p : Port). IsRightNotice p.desk.notice) told (told_right right)
+          (map given w.ports) (all_map (λ (p : Port). IsRightNotice p.desk.notice) (λ (p : Port). IsRightNotice p.desk.notice) given given_right w.ports
+          a.right);
+      up = subst UpAt (sym (at_told w.ports)) (ups (port_at w.ports x) refl takes a.up);
+      kept = subst (λ r. IsKeptNotice r (noticed (notified k about message w).ports x))
+          (sym (read_more x before w.entries (option_map_or (noted_of w.core (Give (1, message))) (port_at w.ports k) []) (read_in w)
+          (reads x (option_map_or (noted_of w.core (Give (1, message))) (port_at w.ports k) []) (read_in w)) refl refl))
+          (subst (λ o. IsKeptNotice (reads x (option_map_or (noted_of w.core (Give (1, message))) (port_at w.ports k) []) (read_in w))
+          (option_and_then (λ (p : Port). p.desk.notice) o)) (sym (at_told w.ports))
+          (subst (λ n. IsKeptNotice (reads x (option_map_or (noted_of w.core (Give (1, message))) (port_at w.ports n) []) (read_in w))
+          (option_and_then (λ (p : Port). p.desk.notice) (option_map told (option_map given (port_at w.ports x))))) (sym (eqb-true k x here))
+          (keeps_it (port_at w.ports x) refl takes a.kept)));
+    } where
+      is_told : (p : Port) → port_at w.ports x ≡ Some p → told (given p) ≡ as_new (after_turn (Give (1, message)) p)
+      is_told p e =
+          let there : eqb p.desk.host k ≡ true = eq-eqb p.desk.host k (at_host w.ports x p e ∙ sym (eqb-true k x here)) in
+          ap (λ b. told (changed_if b (after_turn (Give (1, message))) p)) there
+          ∙ ap (λ b. changed_if b as_new (after_turn (Give (1, message)) p)) there
+
+      ups : (o : Option Port) → port_at w.ports x ≡ o → Takes o message → UpAt o → UpAt (option_map told (option_map given o))
+      ups None e t u = tt
+      ups (Some p) e t u =
+          subst (λ (q : Port). UpAt (Some q)) (sym (is_told p e))
+          (λ n. ap is_up (turn-phase p.side (Give (1, message)) ∙ (give_tells p.side (1, message) t).0))
+
+      keeps_it : (o : Option Port) → port_at w.ports x ≡ o → Takes o message → IsKeptNotice (read_in w) (option_and_then (λ (p : Port). p.desk.notice) o)
+          → IsKeptNotice (reads x (option_map_or (noted_of w.core (Give (1, message))) o []) (read_in w))
+          (option_and_then (λ (p : Port). p.desk.notice) (option_map told (option_map given o)))
+      keeps_it None e t b = b
+      keeps_it (Some p) e t b =
+          let sent : noted_of w.core (Give (1, message)) p ≡ entries_for p.desk.host (sent_unless None Controller p.session (1, message)) =
+          ap (λ o. entries_for p.desk.host (sent_unless o (own_side w.core) p.session (1, message))) t
+          ∙ ap (λ s. entries_for p.desk.host (sent_unless None s p.session (1, message))) (controller_side w.core a.node) in
+          let read : reads x (noted_of w.core (Give (1, message)) p) (read_in w) ≡ Some message =
+          ap (λ es. reads x es (read_in w)) sent
+          ∙ notice_reads x p.desk.host p.session message (read_in w) (eq-eqb p.desk.host x (at_host w.ports x p e)) is in
+          subst (λ r. IsKeptNotice r (told (given p)).desk.notice) (sym read)
+          (subst (λ (q : Port). IsKeptNotice (Some message) q.desk.notice) (sym (is_told p e)) says)
+
+    pub tells : (w : Work) → (eqb k x ≡ true → Takes (port_at w.ports x) message) → is_notice message ≡ true → IsAbout about message
+        → IsRightAbout about → IsOn w → IsOn (notified k about message w)
+    tells w takes is says right a = by_test (eqb k x) (λ e. told_here w e (takes e) is says right a) (λ e. told_elsewhere w e right a)
+
+  -- ### Commits
+
+  beside : (w v : Work) → v.cut ≡ w.cut → v.core.node ≡ w.core.node → AreTables v.core.tables → JoinTwo v.core.tables.rows → v.ports ≡ w.ports
+      → v.entries ≡ w.entries → IsOn w → IsOn v
+  beside w v cut node sorted two ports entries a = record {
+    on = cut ∙ a.on;
+    node = node ∙ a.node;
+    sorted = sorted;
+    two = two;
+    hosts = subst AreHostEnds (sym ports) a.hosts;
+    right = subst AreRight (sym ports) a.right;
+    up = subst (λ ps. UpAt (port_at ps x)) (sym ports) a.up;
+    kept = subst (λ es. IsKeptNotice (notice_in (before ++ es) x) (noticed v.ports x)) (sym entries)
+        (subst (λ ps. IsKeptNotice (read_in w) (noticed ps x)) (sym ports) a.kept);
+  }
+
+  pub commit_ports : (c : Command) (w : Work) → (commit c w).ports ≡ w.ports
+  commit_ports c w = by_test (fails_within (length (commit_writes w.core.journal w.core.tables (body_of c))) w.plan) (λ e. rw e refl) (λ e. rw e refl)
+
+  commits : (c : Command) (w : Work) → IsCommand c → IsOn w → Stands (commit c w)
+  commits c w may a = by_plan (cases_Bool (fails_within (length writes) w.plan)) where
+    writes : List Write
+    writes = commit_writes w.core.journal w.core.tables (body_of c)
+
+    noted : Work
+    noted = noting (entry.Command w.core.node c ∷ []) w
+
+    begun : IsOn noted
+    begun = hushed IsKeptNotice (entry.Command w.core.node c ∷ []) w (λ r. refl) a
+
+    by_plan : (fails_within (length writes) w.plan ≡ true) ⊎ (fails_within (length writes) w.plan ≡ false) → Stands (commit c w)
+    by_plan (inl e) = rw e (inr record {
+      off = refl;
+      front = before ++ noted.entries;
+      ends = sym (append_assoc before noted.entries (entry.Cut w.core.node ∷ []))
+          ∙ ap (λ n. (before ++ noted.entries) ++ entry.Cut n ∷ []) a.node;
+    })
+    by_plan (inr e) =
+        rw e (inl (beside noted (keeps c writes noted) refl refl (AreTables-apply w.core.tables c may a.sorted)
+        (JoinTwo-after w.core.tables (c ∷ []) (may, tt) a.two) refl refl begun))
+
+  -- ### Deeds
+
+  still_takes : (to : ℕ) (g : Port → Port) (ports : List Port) → ((q : Port) → (g q).desk.host ≡ q.desk.host) → (message : List ℕ) → eqb to x ≡ false
+      → Takes (port_at ports x) message → Takes (port_at (with_port to g ports) x) message
+  still_takes to g ports host message off takes = subst (λ o. Takes o message) (sym (else_same to x g ports host off)) takes
+
+  pub all_stand : (k : ℕ) (F : List ℕ → Type 0) (deeds : List Deed) (w : Work) → ((m : List ℕ) → F m → Takes (port_at w.ports x) m)
+      → MayTell x F deeds → IsOn w → Stands (all_done k deeds w)
+  all_stand k F [] w fits may a = inl a
+  all_stand k F (Commits c ∷ deeds) w fits may a =
+      then (all_done k deeds) (commit c w) (commits c w may.0 a) (λ b. all_stand k F deeds (commit c w)
+      (subst (λ ps. (m : List ℕ) → F m → Takes (port_at ps x) m) (sym (commit_ports c w)) fits) may.1 b)
+  all_stand k F (Sends to m ∷ deeds) w fits may a =
+      then (all_done k deeds) (turn_at to (Give m) w) (inl (gives to m w may.0 a)) (all_stand k (λ n. (eqb to x ≡ false) × F n) deeds
+      (turn_at to (Give m) w)
+      (λ n f. still_takes to (after_turn (Give m)) w.ports (λ q. refl) n f.0 (fits n f.1)) may.1)
+  all_stand k F (SaysOk ∷ deeds) w fits may a =
+      then (all_done k deeds) (done k SaysOk w) (inl (hushed IsKeptNotice _ w (λ r. refl) a)) (all_stand k F deeds (done k SaysOk w) fits may)
+  all_stand k F (Asks to message c ∷ deeds) w fits may a =
+      let aside : Work = turn_at c.asker SetAside w in
+      let asked : Work = noting (entry.Ask to message ∷ []) aside in
+      let b : IsOn asked = hushed IsKeptNotice (entry.Ask to message ∷ []) aside (λ r. refl) (turns IsKeptNotice c.asker SetAside w (λ p r. refl) a) in
+      then (all_done k deeds) (done k (Asks to message c) w) (inl (tells to (Waits c) message asked
+      (λ e. still_takes c.asker (after_turn SetAside) w.ports (λ q. refl) message (ap (λ n. eqb c.asker n) (sym (eqb-true to x e)) ∙ may.1.else)
+      (fits message (may.0 e)))
+      may.1.test may.1.notice may.1.right b)) (all_stand k (λ n. ⊥) deeds (done k (Asks to message c) w) (λ n f. absurd f) may.2)
+  all_stand k F (Releases asker ∷ deeds) w fits may a =
+      then (all_done k deeds) (turn_at asker Release w) (inl (turns IsKeptNotice asker Release w (λ p r. refl) a)) (all_stand k (λ n. ⊥) deeds
+      (turn_at asker Release w) (λ n f. absurd f) may)
+  all_stand k F (Tells to message ∷ deeds) w fits may a =
+      then (all_done k deeds) (notified to Removed message w) (inl (tells to Removed message w (λ e. fits message (may.0 e)) may.1.test may.1.about tt a))
+      (all_stand k (λ n. (eqb to x ≡ false) × F n) deeds (notified to Removed message w)
+      (λ n f. still_takes to (λ p. record p { desk = record p.desk { notice = Some (record { about = Removed; age = 0 }) } })
+      (with_port to (after_turn (Give (1, message))) w.ports) (λ q. refl) n f.0
+      (still_takes to (after_turn (Give (1, message))) w.ports (λ q. refl) n f.0 (fits n f.1))) may.2)
+  all_stand k F (Drops pid ∷ deeds) w fits may a =
+      then (all_done k deeds) (done k (Drops pid) w) (inl (hushed IsKeptNotice _ w (λ r. refl) a)) (all_stand k F deeds (done k (Drops pid) w) fits may)
+  all_stand k F (SetsErrors errors ∷ deeds) w fits may a =
+      then (all_done k deeds) (done k (SetsErrors errors) w) (inl (desks IsKeptNotice k (λ d. record d { errors = errors }) w (λ d. refl) (λ d. refl) a))
+      (all_stand k F deeds (done k (SetsErrors errors) w) (set_takes fits) may) where
+        set_takes : ((m : List ℕ) → F m → Takes (port_at w.ports x) m) → (m : List ℕ) → F m → Takes (port_at (done k (SetsErrors errors) w).ports x) m
+        set_takes fits m f =
+            subst (λ o. Takes o m) (sym (at_all w.ports x (λ p. changed_if (eqb p.desk.host k) set p)
+            (λ p. changed_is (λ q r. r.desk.host ≡ q.desk.host) (eqb p.desk.host k) set p refl refl))) (go (port_at w.ports x) (fits m f)) where
+              set : Port → Port
+              set p = record p { desk = record p.desk { errors = errors } }
+
+              go : (o : Option Port) → Takes o m → Takes (option_map (λ (p : Port). changed_if (eqb p.desk.host k) set p) o) m
+              go None t = tt
+              go (Some p) t = changed_is (λ q r. give_refusal r.side (1, m) ≡ None) (eqb p.desk.host k) set p t t
+  all_stand k F (_ ∷ deeds) w fits may a = absurd may
+
+-- ## A controller has its turns: its unanswered notice to a host stays the one that is read
+
+-- ### Room
 
 -- there is room for a notice at the end of the link with this host, which is up
 pub record HasRoom (ports : List Port) (k : ℕ) (message : List ℕ) : Type 0 where
@@ -174,7 +606,7 @@ module _ (x : ℕ) (before : List Entry) (k : ℕ) where
         let other : eqb p.desk.host k ≡ false = ne_eqb p.desk.host k (λ s. eqb-false k x e (sym s ∙ at_host w.ports x p q)) in
         subst (λ c. IsKeptNotice (read_in x before w) (changed_if c none p).desk.notice) (sym other) (b.1 (rw e refl))
 
-  -- ## Messages
+  -- ### Messages
 
   leaves_stand : (m : Message) (deeds : List Deed) (w : Work) → On w
       → ((eqb k x && answers x k m) ≡ true → noticed w.ports x ≡ None)
@@ -255,7 +687,7 @@ module _ (x : ℕ) (before : List Entry) (k : ℕ) where
       (λ q. rw q (turns x before IsKeptNotice k (Hold false) w (λ p r. refl) a))
       (λ q. rw q a)
 
-  pub have_stand : (messages : List Message) (w : Work) → IsHost k → On w → Fine (have_turns k messages w)
+  have_stand : (messages : List Message) (w : Work) → IsHost k → On w → Fine (have_turns k messages w)
   have_stand [] w host a = inl (lets_stand w a)
   have_stand (m ∷ messages) w host a =
       let zero : eqb w.core.node 0 ≡ true = eq-eqb w.core.node 0 a.node in

@@ -23,8 +23,8 @@ use Rattle.link_laws.specs.entries.Filters.{same_link_end}
 use Rattle.link_laws.proofs.entries.Books.{same_self, same_far}
 use Rattle.link_laws.proofs.entries.Settling.{heard_role}
 use Rattle.link_laws.proofs.entries.Running.{IsUnderWay, goes_on, start_under_way}
-use Rattle.node_laws.proofs.order.Listing.{Holds, are-append, are_so, are_mapped, are_last, are_turns, are_lost, are_puts, are_aged}
-use Rattle.node_laws.proofs.links.Ends.{here_is, tick_is, here_host, role_input}
+use Rattle.node_laws.proofs.order.TickResets.{Holds, are-append, are_aged, are_last, are_lost, are_mapped, are_puts, are_so, are_turns}
+use Rattle.node_laws.proofs.links.Sites.{here_host, here_is, role_input, tick_is}
 
 -- ## What is read
 

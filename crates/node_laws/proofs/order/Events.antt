@@ -1,36 +1,224 @@
--- Each event of a world but a tick leaves each link told.
-use Rattle.node_laws.proofs.Words.{AllByRecursion, AtController, AtEnd, AtHost, Bool, Broken, Clf, Comes, Controller, CutOff, Deed, Desk, End, EndEvent, Entry}
-use Rattle.node_laws.proofs.Words.{HasEnds, Host, IfItRuns, IfOff, IsClf, IsOrderly, Link, LinkEnd, LinkEvent, LinkInput, List, Lose, Loss, Memory, NoInput}
-use Rattle.node_laws.proofs.Words.{NodeWorld, None, NumberedEnd, OnWire, Option, Running, Site, Some, StandsOf, Step, TellOf, Uicc, Work, [], after_controller}
-use Rattle.node_laws.proofs.Words.{after_host, after_planned, ap, arrival, begins_with, boot_found, boot_writes, boot_written, boots, by_boot, by_coming}
-use Rattle.node_laws.proofs.Words.{by_controller, by_counts, by_memory, by_option, by_power, by_running, by_test, comes_at, comes_to, cond, controller_does}
-use Rattle.node_laws.proofs.Words.{controller_work, count_of, counts, ending_of, entries_for, eqb-true, errors_all, exchanged, false, first_lost, frame_lost}
-use Rattle.node_laws.proofs.Words.{happens, happens_at_controller, host_cut, host_does, host_work, hosts_in, input_of, link_after_controller, link_to, links_of}
-use Rattle.node_laws.proofs.Words.{loses_power_at, map, memory_at, near_end_in, new_clf, new_desk, new_link_end, new_uicc, of_link, refl, runs_on, same_number}
-use Rattle.node_laws.proofs.Words.{site_at, steps, subst, sym, true, turns_at, with_memory, with_node, with_site, work_of, ℕ, ◌++◌, ◌==◌, ◌∙◌, ◌∷◌, ◌≡◌}
-use Rattle.trace_model.specs.declared.entry.Entry.TheVariants as entry
+-- What is known of each link by what was noted so far lasts: each event of a world but a tick leaves each link told.
+use Rattle.node_laws.proofs.Words.{AllByRecursion, AsksReset, AtController, AtEnd, AtHost, Bare, Bool, Broken, Clf, Comes, Controller, CutOff, Deed, Desk, End}
+use Rattle.node_laws.proofs.Words.{EndEvent, Entry, HasEnds, Host, IfItRuns, IfOff, IsClf, IsLinkTold, IsOrderly, IsUicc, Link, LinkEnd, LinkEvent, LinkInput}
+use Rattle.node_laws.proofs.Words.{List, Lose, Loss, Memory, NextFrame, NoInput, NodeWorld, None, NumberedEnd, OnWire, Option, Reset, Role, Running, Site, Some}
+use Rattle.node_laws.proofs.Words.{Standing, StandsOf, Start, Starts, Step, Stop, Stops, Take, TellOf, Turn, Uicc, Work, [], after_controller, after_host}
+use Rattle.node_laws.proofs.Words.{after_input, after_link_events, after_planned, ap, append-nil, arrival, begins_with, boot_found, boot_writes, boot_written}
+use Rattle.node_laws.proofs.Words.{boots, by_boot, by_coming, by_controller, by_counts, by_list, by_memory, by_option, by_power, by_running, by_test}
+use Rattle.node_laws.proofs.Words.{changed_if, changed_same, comes_at, comes_to, cond, controller_does, controller_work, count_of, counts, ending_of, entries}
+use Rattle.node_laws.proofs.Words.{entries_for, eqb-true, errors_all, event_entries, exchanged, false, first_lost, fold-append, frame_lost, happens}
+use Rattle.node_laws.proofs.Words.{happens_at_controller, has_taken, host_cut, host_does, host_work, hosts_in, input_of, kept, law_noted, link_after_controller}
+use Rattle.node_laws.proofs.Words.{link_to, links_of, loses_power_at, map, memory_at, near_end_in, new_clf, new_desk, new_line, new_link_end, new_standing}
+use Rattle.node_laws.proofs.Words.{new_uicc, of_link, refl, renewed, runs_on, same_number, site_at, standing, standing_by_law, stands_noted, steps}
+use Rattle.node_laws.proofs.Words.{steps_at_controller, subst, sym, true, turned, turns_at, with_memory, with_node, with_site, work_of, ℕ, ◌++◌, ◌==◌, ◌∙◌, ◌∷◌}
+use Rattle.node_laws.proofs.Words.{◌≡◌}
 use Rattle.link_laws.specs.entries.Entries.{End as Side}
-use Rattle.node_laws.proofs.links.Ends.{here_host}
-use Rattle.node_laws.proofs.links.Works.{IsFineWork, all_done_fine, steps_fine}
-use Rattle.node_laws.proofs.links.Deeds.{AreFine}
-use Rattle.node_laws.proofs.links.Sites.{MayCome, can_come, can_end, clf_line, uicc_line}
-use Rattle.node_laws.proofs.links.Worlds.{AreTrueDesks, AtHostOnly, CanReach, IsFineNode, IsFineSite, IsFineWorld, fine_clean, near_clean, near_end_clean}
-use Rattle.node_laws.proofs.links.Worlds.{may_here, memory_fine, ports_fine, turns_fine}
-use Rattle.node_laws.proofs.links.Playing.{plain_reach}
-use Rattle.node_laws.proofs.telling.Mute.{AreMute}
-use Rattle.node_laws.proofs.telling.Powers.{away_stands, clear_stands, entries_uncut}
-use Rattle.node_laws.proofs.telling.Shapes.{clear_lost, shaped_step}
-use Rattle.node_laws.proofs.telling.Accounts.{of_other}
-use Rattle.node_laws.proofs.telling.Parts.{IsStep}
-use Rattle.node_laws.proofs.telling.Nodes.{controller_stands, controller_tells, is_step, link_is, other_power, own_power, ports_for, site_host}
-use Rattle.node_laws.proofs.telling.Worlds.{HostDoes, host_does_begin, host_does_step, node_is, site_is}
-use Rattle.node_laws.proofs.telling.Events.{memory_goes}
-use Rattle.node_laws.proofs.readings.NoticedWorlds.{far_side}
-use Rattle.node_laws.proofs.order.Unnoticed.{AreUnnoticed, HasNoNotices, IfNone, all_done_none, runs_none, steps_none}
-use Rattle.node_laws.proofs.order.Watches.{IsStepOf, WatchedLink, opened, watched}
-use Rattle.node_laws.proofs.order.Knowing.{Each, Knows, LeaveLink, cut_clf, cut_uicc, each_alike, each_back, each_empty, later, told_more, told_same}
-use Rattle.node_laws.proofs.order.Knowing.{each_map, each_site}
-use Rattle.node_laws.proofs.order.Wires.{Shown, clear_unstarted, shown_more, shown_same, step_shown}
+use Rattle.node_laws.proofs.links.Works.{AreFine, IsFineWork, all_done_fine, steps_fine}
+use Rattle.node_laws.proofs.links.Sites.{MayCome, can_come, can_end, clf_line, here_clf, here_host, here_uicc, run_of_more, uicc_line}
+use Rattle.node_laws.proofs.links.Worlds.{AreTrueDesks, AtHostOnly, CanReach, IsFineNode, IsFineSite, IsFineWorld, fine_clean, may_here, memory_fine}
+use Rattle.node_laws.proofs.links.Worlds.{near_clean, near_end_clean, plain_reach, ports_fine, turns_fine}
+use Rattle.node_laws.proofs.order.Wires.{AreReady, Shown, ShownBy, clear_unstarted, shown_more, shown_same, step_shown}
+use Rattle.node_laws.proofs.order.Marking.{AreUnnoticed, HasNoNotices, IfNone, all_done_none, runs_none, steps_none}
+use Rattle.node_laws.proofs.order.Watches.{IsStepOf, WatchedLink, kept_left, opened, watched}
+use Rattle.node_laws.proofs.readings.Noticed.{far_side}
+use Rattle.node_laws.proofs.telling.Accounts.{AreMute, of-append, of_other}
+use Rattle.node_laws.proofs.telling.Events.{HostDoes, controller_stands, controller_tells, entries-append, host_does_begin, host_does_step, is_step, link_is}
+use Rattle.node_laws.proofs.telling.Events.{memory_goes, node_is, other_power, own_power, ports_for, site_host, site_is, site_map, swapped}
+use Rattle.node_laws.proofs.telling.Steps.{IsStep, notes-append}
+use Rattle.node_laws.proofs.telling.Shapes.{away_stands, clear_lost, clear_stands, entries_uncut, shaped_step}
+use Rattle.node_laws.proofs.turns.Nodes.{site_none}
+use Rattle.trace_model.specs.declared.entry.Entry.TheVariants as entry
+
+-- ## What is known of each link of a world of nodes by what was noted so far, and how it lasts as links go on
+
+-- ### One link
+
+-- one event more
+pub told_more : (h : ℕ) (l : Link) (e : LinkEvent) (t u : List Entry) → IsStepOf h l e u → IsLinkTold h l t → IsLinkTold h (happens l e) (t ++ u)
+told_more h l e t u n a =
+    let O : List Entry → List Entry = of_link h in
+    let es : List LinkEvent = a.events in
+    let last : entries (after_link_events new_line es) (e ∷ []) ≡ event_entries l e =
+    append-nil (event_entries (after_link_events new_line es) e) ∙ ap (λ k. event_entries k e) a.run.is in
+    let from : (x : Standing) → standing h x (t ++ u) ≡ standing_by_law h x (entries new_line (es ++ e ∷ [])) =
+    λ x.
+    let y : Standing = standing_by_law h x (entries new_line es) in
+    fold-append (stands_noted h) x t u
+    ∙ (ap (λ z. standing h z u) (a.stands_from x)
+    ∙ (n.stands y
+    ∙ (ap (standing_by_law h y) (sym last)
+    ∙ sym (ap (standing_by_law h x) (entries-append es (e ∷ []) new_line)
+    ∙ fold-append (law_noted h) x (entries new_line es) (entries (after_link_events new_line es) (e ∷ [])))))) in
+    record {
+      events = es ++ e ∷ [];
+      run = run_of_more es l e n.can a.run;
+      told =
+          of-append h t u
+          ∙ (ap (λ z. z ++ O u) a.told
+          ∙ (ap (λ z. O (entries_for h (entries new_line es)) ++ z) (n.tells ∙ ap (λ z. O (entries_for h z)) (sym last))
+          ∙ sym (ap (λ z. O (entries_for h z)) (entries-append es (e ∷ []) new_line)
+          ∙ notes-append h (entries new_line es) (entries (after_link_events new_line es) (e ∷ [])))));
+      stands = from new_standing;
+      stands_from = from;
+    }
+
+-- these entries tell nothing of a link
+record LeaveLink (h : ℕ) (u : List Entry) : Type 0 where
+  pub none : of_link h u ≡ []
+  pub stands : (x : Standing) → standing h x u ≡ x
+
+told_same : (h : ℕ) (l : Link) (t u : List Entry) → LeaveLink h u → IsLinkTold h l t → IsLinkTold h l (t ++ u)
+told_same h l t u q a =
+    let from : (x : Standing) → standing h x (t ++ u) ≡ standing_by_law h x (entries new_line a.events) =
+    λ x. fold-append (stands_noted h) x t u ∙ (q.stands (standing h x t) ∙ a.stands_from x) in
+    record {
+      events = a.events;
+      run = a.run;
+      told = of-append h t u ∙ (ap (λ z. of_link h t ++ z) q.none ∙ (append-nil (of_link h t) ∙ a.told));
+      stands = from new_standing;
+      stands_from = from;
+    }
+
+-- ### Ends whose nodes lose power
+
+pub renewed_clf : (r : Role) → IsClf (renewed r) → new_link_end (renewed r) ≡ new_link_end (Clf new_clf)
+renewed_clf (Clf s) a = refl
+renewed_clf (Uicc s) a = absurd a
+renewed_clf Bare a = absurd a
+
+pub renewed_uicc : (r : Role) → IsUicc (renewed r) → new_link_end (renewed r) ≡ new_link_end (Uicc new_uicc)
+renewed_uicc (Uicc s) a = refl
+renewed_uicc (Clf s) a = absurd a
+renewed_uicc Bare a = absurd a
+
+-- an end is new after a step in which something came, or its node had turns, and its power went
+record IsCutNew (e : LinkEnd) : Type 0 where
+  role : Role
+  is : e ≡ new_link_end (renewed role)
+
+cut_new : (l : Link) (comes : Comes) (ts : List Turn) (o : Option LinkInput) → input_of l comes ≡ o → IsStep comes o
+    → IsCutNew (happens_at_controller l (Step comes ts CutOff)).controller.side
+cut_new l NextFrame ts None q c = absurd c
+cut_new l NextFrame ts (Some i) q c = by_list l.to_controller
+    (λ e. let z : None ≡ Some i = rw e at q in absurd (cc z))
+    (λ x xs e. let is : steps_at_controller l NextFrame ts CutOff ≡ has_taken l x xs ts CutOff = rw e refl in
+    record { role = (turned (after_input l.controller.side (Take x.frame)) ts).role; is = ap (λ (k : Link). k.controller.side) is })
+cut_new l (AsksReset window) ts o q c = record { role = (turned (after_input l.controller.side (Reset window)) ts).role; is = refl }
+cut_new l (Starts value) ts o q c = record { role = (turned (after_input l.controller.side (Start value)) ts).role; is = refl }
+cut_new l Stops ts o q c = record { role = (turned (after_input l.controller.side Stop) ts).role; is = refl }
+cut_new l NoInput ts o q c = record { role = (turned l.controller.side ts).role; is = refl }
+
+cut_clf : (l : Link) (comes : Comes) (ts : List Turn) (o : Option LinkInput) → input_of l comes ≡ o → IsStep comes o → IsClf l.controller.side.role
+    → (happens_at_controller l (Step comes ts CutOff)).controller.side ≡ new_link_end (Clf new_clf)
+cut_clf l comes ts o q c a =
+    let z = cut_new l comes ts o q c in
+    z.is ∙ renewed_clf z.role (subst (λ (e : LinkEnd). IsClf e.role) z.is (here_clf l (Step comes ts CutOff) a))
+
+cut_uicc : (l : Link) (comes : Comes) (ts : List Turn) (o : Option LinkInput) → input_of l comes ≡ o → IsStep comes o → IsUicc l.controller.side.role
+    → (happens_at_controller l (Step comes ts CutOff)).controller.side ≡ new_link_end (Uicc new_uicc)
+cut_uicc l comes ts o q c a =
+    let z = cut_new l comes ts o q c in
+    z.is ∙ renewed_uicc z.role (subst (λ (e : LinkEnd). IsUicc e.role) z.is (here_uicc l (Step comes ts CutOff) a))
+
+-- ### Worlds
+
+-- the link with a host is told, its wires are those that are read, its ends are new while their nodes don't run, and its host has no
+-- notice of a controller
+pub record Knows (t : List Entry) (x : WatchedLink) (o : Option Running) (h : ℕ) (s : Site) : Type 0 where
+  pub told : IsLinkTold h s.link t
+  pub shown : Shown s.link x
+  pub near : IfOff o (new_link_end (Clf new_clf)) s.link.controller.side
+  pub far : IfOff s.node (new_link_end (Uicc new_uicc)) s.link.host.side
+  pub none : IfNone s.node
+
+-- so it is with each link
+abbrev pub Each : List Entry → (ℕ → WatchedLink) → NodeWorld → Type 0
+Each t X w = (h : ℕ) (s : Site) → site_at w.sites h ≡ Some s → Knows t (X h) w.controller h s
+
+-- how each link stands behind more entries
+abbrev pub later : (ℕ → WatchedLink) → List Entry → ℕ → WatchedLink
+later X u h = watched h (X h) u
+
+-- where each link stands alike, and no more is known of it
+pub each_known : (t : List Entry) (X Y : ℕ → WatchedLink) (w : NodeWorld) → ((h : ℕ) → (Y h).stands ≡ (X h).stands)
+    → ((h : ℕ) → (Y h).since ≡ true → (X h).since ≡ true) → ((h : ℕ) → (Y h).whole ≡ true → (X h).whole ≡ true) → Each t X w → Each t Y w
+each_known t X Y w stands since whole a h s found =
+    let b : Knows t (X h) w.controller h s = a h s found in
+    record {
+      told = b.told;
+      shown = record {
+        wires = subst (ShownBy (kept s.link)) (sym (stands h)) b.shown.wires;
+        since = λ z. b.shown.since (since h z);
+        ready = λ z. subst (AreReady s.link) (sym (stands h)) (b.shown.ready (whole h z));
+      };
+      near = b.near;
+      far = b.far;
+      none = b.none;
+    }
+
+-- nothing was noted
+each_empty : (t : List Entry) (X : ℕ → WatchedLink) (w : NodeWorld) → Each t X w → Each (t ++ []) (later X []) w
+each_empty t X w a =
+    let P : List Entry → Type 0 = λ z. Each z (later X []) w in
+    subst P (sym (append-nil t)) (each_known t X (later X []) w (λ h. refl) (λ h q. kept_left (X h).since true q) (λ h q. q) a)
+
+each_back : (t : List Entry) (X : ℕ → WatchedLink) (w : NodeWorld) → Each (t ++ []) (later X []) w → Each t X w
+each_back t X w a =
+    subst (λ (z : List Entry). Each z X w) (append-nil t) (each_known (t ++ []) (later X []) X w (λ h. refl) (λ h q. rw q refl) (λ h q. q) a)
+
+pub each_alike : (t : List Entry) (X Y : ℕ → WatchedLink) (w : NodeWorld) → ((h : ℕ) → X h ≡ Y h) → Each t X w → Each t Y w
+each_alike t X Y w same a h s found = subst (λ x. Knows t x w.controller h s) (same h) (a h s found)
+
+-- a changed site was one of those before
+pub record WasThere (f : Site → Site) (sites : List Site) (h : ℕ) (v : Site) : Type 0 where
+  pub site : Site
+  pub there : site_at sites h ≡ Some site
+  pub is : f site ≡ v
+
+pub was_there : (f : Site → Site) → ((s : Site) → (f s).host ≡ s.host) → (sites : List Site) (h : ℕ) (v : Site) → site_at (map f sites) h ≡ Some v
+    → WasThere f sites h v
+was_there f keeps sites h v q = by_option (site_at sites h)
+    (λ e. let is : None ≡ Some v = sym (site_none f keeps sites h e) ∙ q in absurd (cc is))
+    (λ s e. let is : Some (f s) ≡ Some v = sym (site_map f keeps sites h s e) ∙ q in
+    record { site = s; there = e; is = cc })
+
+module _ (w : NodeWorld) (memory : Memory) (o : Option Running) (t u : List Entry) (X : ℕ → WatchedLink) where
+  -- each site becomes another one
+  each_map : (Y : ℕ → WatchedLink) (f : Site → Site) → ((s : Site) → (f s).host ≡ s.host)
+      → ((h : ℕ) (s : Site) → site_at w.sites h ≡ Some s → Knows t (X h) w.controller h s → Knows (t ++ u) (Y h) o h (f s)) → Each t X w
+      → Each (t ++ u) Y (record { memory = memory; controller = o; sites = map f w.sites })
+  each_map Y f keeps one a h v q =
+      let was = was_there f keeps w.sites h v q in
+      subst (λ (s : Site). Knows (t ++ u) (Y h) o h s) was.is (one h was.site was.there (a h was.site was.there))
+
+  -- one becomes another one, and nothing is told of the others
+  each_site : (k : ℕ) (g : Site → Site) → ((s : Site) → (g s).host ≡ s.host)
+      → ((r : ℕ) (s : Site) → IfOff w.controller (new_link_end (Clf new_clf)) s.link.controller.side
+      → IfOff o (new_link_end (Clf new_clf)) s.link.controller.side)
+      → ((s : Site) → site_at w.sites k ≡ Some s → Knows t (X k) w.controller k s → Knows (t ++ u) (later X u k) o k (g s))
+      → ((h : ℕ) → (k == h) ≡ false → LeaveLink h u) → Each t X w
+      → Each (t ++ u) (later X u) (record { memory = memory; controller = o; sites = map (λ (s : Site). changed_if (s.host == k) g s) w.sites })
+  each_site k g keeps off own others a =
+      each_map (later X u) (λ (s : Site). changed_if (s.host == k) g s) (λ s. changed_same (λ (x : Site). x.host) (s.host == k) g s keeps)
+      (λ h s found b. go h s found b (s.host == k) refl) a
+    where
+      go : (h : ℕ) (s : Site) → site_at w.sites h ≡ Some s → Knows t (X h) w.controller h s → (b : Bool) → (s.host == k) ≡ b
+          → Knows (t ++ u) (later X u h) o h (changed_if b g s)
+      go h s found b true q =
+          let is : k ≡ h = sym (eqb-true s.host k q) ∙ site_host w.sites h s found in
+          let Q : ℕ → Type 0 = λ n. Knows t (X n) w.controller n s in
+          subst (λ (n : ℕ). Knows (t ++ u) (later X u n) o n (g s)) is (own s (ap (site_at w.sites) is ∙ found) (subst Q (sym is) b))
+      go h s found b false q =
+          let leave : LeaveLink h u = others h (swapped h k (ap (λ n. n == k) (sym (site_host w.sites h s found)) ∙ q)) in
+          record {
+            told = told_same h s.link t u leave b.told;
+            shown = shown_same h s.link (X h) u (leave.stands (X h).stands) b.shown;
+            near = off h s b.near;
+            far = b.far;
+            none = b.none;
+          }
+
+-- ## Each event of a world but a tick leaves each link told
 
 -- a world that is orderly, and whose nodes send what may be sent
 pub record IsWell (w : NodeWorld) : Type 0 where
@@ -41,7 +229,7 @@ pub record IsWell (w : NodeWorld) : Type 0 where
 near_side : (l : Link) (e : EndEvent) → (happens l (AtController e)).host.side ≡ l.host.side
 near_side l e = ap (λ (h : NumberedEnd). h.side) (here_host l e)
 
--- ## Steps of the controller
+-- ### Steps of the controller
 
 module _ (w : NodeWorld) (t : List Entry) (X : ℕ → WatchedLink) (a : IsWell w) (each : Each t X w) (k : ℕ) (comes : Comes) (i : LinkInput) (may : MayCome comes)
     (q : input_of (link_to w.sites k) comes ≡ Some i) where
@@ -143,7 +331,7 @@ module _ (w : NodeWorld) (t : List Entry) (X : ℕ → WatchedLink) (a : IsWell 
     pub after : Each (t ++ u) Y (after_controller w k comes v).0
     after = each_map w (after_planned v.writes w.memory) (runs_on v) t u X Y (link_after_controller k comes v) (λ s. refl) one each
 
-  pub controller_each : ((h : ℕ) → opened (comes_to k comes h) (X h) ≡ X h)
+  controller_each : ((h : ℕ) → opened (comes_to k comes h) (X h) ≡ X h)
       → Each (t ++ (controller_does w k comes (steps (AtEnd k i))).1) (later X (controller_does w k comes (steps (AtEnd k i))).1)
       (controller_does w k comes (steps (AtEnd k i))).0
   controller_each plain =
@@ -151,7 +339,7 @@ module _ (w : NodeWorld) (t : List Entry) (X : ℕ → WatchedLink) (a : IsWell 
       (λ r e. each_alike (t ++ u r e) (Y r e) (later X (u r e)) (after_controller w k comes (v r e)).0
       (λ h. ap (λ x. watched h x (u r e)) (plain h)) (after r e))
 
--- ## Steps of a host
+-- ### Steps of a host
 
 module _ (w : NodeWorld) (t : List Entry) (X : ℕ → WatchedLink) (a : IsWell w) (each : Each t X w) (k : ℕ) (comes : Comes) (f : Work → Work)
     (reach : AllByRecursion (AtHostOnly (CanReach comes) k) w.sites)
@@ -267,7 +455,7 @@ module _ (w : NodeWorld) (t : List Entry) (X : ℕ → WatchedLink) (a : IsWell 
           → (host_does w k comes f).0 ≡ record w { sites = with_site k (after_host comes (host_work s r comes f)) w.sites }
       on_is s r e n = rw (e, n) refl
 
--- ## What comes to an end
+-- ### What comes to an end
 
 -- activation neither begins nor ends
 plain_at : (comes : Comes) → ((x : WatchedLink) → opened comes x ≡ x) → (b : Bool) (x : WatchedLink) → opened (cond b comes NoInput) x ≡ x
@@ -296,10 +484,10 @@ begins_each w t X k deeds m f u a each =
     (λ s r found runs. host_does_begin w s r k a.orderly found runs deeds m) (λ v b. all_done_fine k deeds v f b) (λ v b. all_done_none k deeds v u b)
     None tt (λ s found. refl) (λ s found. refl)
 
--- ## Power and memories
+-- ### Power and memories
 
 -- where only the memory of a host and its node change, and nothing is told
-pub each_beside : (w : NodeWorld) (t u : List Entry) (X : ℕ → WatchedLink) (k : ℕ) (memory : Site → Memory) (node : Site → Option Running)
+each_beside : (w : NodeWorld) (t u : List Entry) (X : ℕ → WatchedLink) (k : ℕ) (memory : Site → Memory) (node : Site → Option Running)
     → ((s : Site) → (IfOff s.node (new_link_end (Uicc new_uicc)) s.link.host.side → IfOff (node s) (new_link_end (Uicc new_uicc)) s.link.host.side)
     × (IfNone s.node → IfNone (node s))) → ((h : ℕ) → LeaveLink h u) → Each t X w
     → Each (t ++ u) (later X u) (record w { sites = with_site k (λ s. record s { memory = memory s; node = node s }) w.sites })
@@ -397,7 +585,7 @@ boots_each w t X n a each =
     well : IsWell (boot_written w n)
     well = record { orderly = (memory_goes n m w a.orderly).orderly; fine = memory_fine n m w a.fine }
 
--- ## Losses
+-- ### Losses
 
 counts_none : (why : Loss) (h : ℕ) (o : Option Running) → IfNone o → IfNone (counts why h o)
 counts_none why h o a = by_counts IfNone why h o a (λ r q. errors_all (λ d. d.notice ≡ None) (λ d n b. b) h r.desks (subst IfNone q a))

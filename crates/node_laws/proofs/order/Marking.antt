@@ -1,29 +1,416 @@
--- Below the ended sessions of an end another may stand, of which nothing is known: so it doesn't come up with its number again.
-use Rattle.node_laws.proofs.Words.{Acts, AllShdlcAllowed, AreTurns, Bool, Control, Deliver, EndState, Ignore, LinkState, List, None, NumberedShdlc, OnWire}
-use Rattle.node_laws.proofs.Words.{Option, SafeLink, Session, ShdlcEndEvent, ShdlcLink, ShdlcLinkEvent, ShdlcTurn, Some, Turns, Up, Waiting, [], act_frame, ap}
-use Rattle.node_laws.proofs.Words.{by_test, ended_session, false, frames_of, if◌then◌else◌, is_rset, is_some, is_up, is_waiting, map, most_frames, new_end}
-use Rattle.node_laws.proofs.Words.{no_session, refl, reset_with, shdlc_after, shdlc_aged, shdlc_all_at_controller, shdlc_becomes, shdlc_exchanged}
-use Rattle.node_laws.proofs.Words.{shdlc_happens, shdlc_happens_at_controller, shdlc_number_of, shdlc_put, shdlc_put_all, shdlc_session_of, shdlc_silent}
-use Rattle.node_laws.proofs.Words.{shdlc_ticks_at_controller, shdlc_turned, stopped, subst, sym, take_answer, taken, tick_answer, ticked, ticks_if_waiting}
-use Rattle.node_laws.proofs.Words.{ticks_or_cut, took_with, true, with_shdlc_ended, ℕ, ◌++◌, ◌<◌, ◌==◌, ◌∙◌, ◌∷◌, ◌≡◌}
-use Rattle.shdlc_core.specs.declared.answers.LinkState.TheVariants.{Down}
-use Rattle.shdlc_core.specs.Machine.{after_frames}
-use Rattle.link_laws.specs.sessions.Sessions.ShdlcEndEvent.{Lose, Reset, Cut, Stop}
-use Rattle.link_laws.specs.sessions.Sessions.ShdlcLinkEvent.{AtController, AtHost, Tick, TickWithout}
-use Rattle.link_laws.specs.sessions.Losses.{sans}
-use Rattle.link_laws.proofs.sessions.Data.{Base, OnLive, Below, bound}
+-- The numbers of ended sessions: none comes again, and an end that was below another goes past it, if its number grows.
+use Rattle.node_laws.proofs.Words.{Acts, AllByRecursion, AllShdlcAllowed, AreTurns, Asks, AtEnd, Bool, Command, Commits, Control, Controller, Core, Cut, Deed}
+use Rattle.node_laws.proofs.Words.{Deliver, Desk, Emit, EndState, FetchMessage, Give, Hold, Host, Ignore, IsAnswered, LinkInput, LinkState, List, Lost, Message}
+use Rattle.node_laws.proofs.Words.{NodeInput, None, NumberedShdlc, OfHost, OnWire, Option, Orders, Plain, Port, Release, Releases, Restarted, Running, SafeLink}
+use Rattle.node_laws.proofs.Words.{Seen, Sends, Session, SetsErrors, ShdlcEndEvent, ShdlcLink, ShdlcLinkEvent, ShdlcTurn, Some, Tells, TimePasses, Took, Turn}
+use Rattle.node_laws.proofs.Words.{Turns, Up, Waiting, Work, [], act_frame, after_sessions, after_turn, all_changed, all_come, all_done, all_map, all_of_host}
+use Rattle.node_laws.proofs.Words.{all_owed, all_owed_hold, all_synced_hold, anyone, ap, arith, asked_at, body_of, by_option, by_test, commit, commit_writes}
+use Rattle.node_laws.proofs.Words.{deeds_of, done, drop, ended_session, fails_within, false, flat_map, forgets, forgotten, forgotten_hold, frames_of, has_come}
+use Rattle.node_laws.proofs.Words.{if◌then◌else◌, inl, input_at, inr, is_forgotten, is_late, is_over, is_rset, is_some, is_up, is_waiting, length, list_any}
+use Rattle.node_laws.proofs.Words.{ltb-false, ltb-true, map, max, most_frames, nat_lt, new_end, no_session, older, port_at, refl, reset_late, reset_with}
+use Rattle.node_laws.proofs.Words.{runs_on, see, see_all, shdlc_after, shdlc_aged, shdlc_all_at_controller, shdlc_becomes, shdlc_exchanged, shdlc_happens}
+use Rattle.node_laws.proofs.Words.{shdlc_happens_at_controller, shdlc_number_of, shdlc_put, shdlc_put_all, shdlc_session_of, shdlc_silent}
+use Rattle.node_laws.proofs.Words.{shdlc_ticks_at_controller, shdlc_turned, silences, steps, stopped, subst, sym, synced, take_answer, taken, tick_answer}
+use Rattle.node_laws.proofs.Words.{ticked, ticks_if_waiting, ticks_or_cut, times_out, took_with, true, true≢false, turn_at, with_desk, with_older, with_port}
+use Rattle.node_laws.proofs.Words.{with_shdlc_ended, without_notice, ℕ, ◌++◌, ◌+◌, ◌<◌, ◌==◌, ◌∙◌, ◌∷◌, ◌≡◌, ◌≤◌, ◌⊎◌}
+use Rattle.link_laws.proofs.sessions.Data.{Base, Below, OnLive, bound}
+use Rattle.link_laws.proofs.sessions.Steps.{safe_event, safe_turns}
 use Rattle.link_laws.proofs.sessions.Wire.{live}
-use Rattle.link_laws.proofs.sessions.Steps.{safe_turns, safe_event}
+use Rattle.link_laws.specs.entries.Entries.{End, Entry}
+use Rattle.link_laws.specs.entries.Entries.Entry.{Tick}
+use Rattle.link_laws.specs.entries.Reading.{numbered, taken_first}
+use Rattle.link_laws.specs.sessions.Losses.{sans}
+use Rattle.link_laws.specs.sessions.Sessions.ShdlcEndEvent.{Cut as CoreCut, Lose, Reset, Stop}
+use Rattle.link_laws.specs.sessions.Sessions.ShdlcLinkEvent.{AtController, AtHost, Tick as CoreTick, TickWithout}
+use Rattle.shdlc_core.specs.Machine.{after_frames}
+use Rattle.shdlc_core.specs.declared.answers.LinkState.TheVariants.{Down}
+use Rattle.node_laws.proofs.links.Noticing.{came_node}
+use Rattle.node_laws.proofs.steps.StepWalks.{Lasts, all_do, got_at, rest_lasts, sessions_node}
+
+-- ## A host keeps no notice of a controller: nothing that it does in a step gives it one
+
+-- ### Deeds
+
+-- no notice comes of it
+abbrev pub IsUnnoticed : Deed → Type 0
+IsUnnoticed (Asks to message c) = ⊥
+IsUnnoticed (Tells to message) = ⊥
+IsUnnoticed _ = Unit {0}
+
+abbrev pub AreUnnoticed : List Deed → Type 0
+AreUnnoticed deeds = AllByRecursion IsUnnoticed deeds
+
+plain : Plain IsUnnoticed
+plain = record { sends = λ to x. tt; says_ok = tt; releases = λ asker. tt; is_answered = tt; drops = λ pid. tt }
+
+own : (core : Core) → OfHost IsUnnoticed core
+own core = record { commits = λ c. tt; hears = tt; goes_on = λ i. tt; orders = λ i k order is. tt; same = tt; made = λ count. tt; failed = λ code. tt }
+
+-- ### Ends
+
+-- a host in a step, whose ends have no notice
+abbrev HasNone : Port → Type 0
+HasNone p = p.desk.notice ≡ None
+
+pub record HasNoNotices (w : Work) : Type 0 where
+  pub host : (w.core.node == 0) ≡ false
+  pub none : AllByRecursion HasNone w.ports
+
+port_none : (h : ℕ) (f : Port → Port) → ((q : Port) → HasNone q → HasNone (f q)) → (ports : List Port) → AllByRecursion HasNone ports
+    → AllByRecursion HasNone (with_port h f ports)
+port_none h f one ports a = all_changed HasNone (λ p. p.desk.host == h) f one ports a
+
+turn_none : (h : ℕ) (t : Turn) (w : Work) → HasNoNotices w → HasNoNotices (turn_at h t w)
+turn_none h t w a = record { host = a.host; none = port_none h (after_turn t) (λ p b. b) w.ports a.none }
+
+desk_none : (h : ℕ) (f : Desk → Desk) (w : Work) → ((d : Desk) → d.notice ≡ None → (f d).notice ≡ None) → HasNoNotices w → HasNoNotices (with_desk h f w)
+desk_none h f w one a = record { host = a.host; none = port_none h (λ p. record p { desk = f p.desk }) (λ p b. one p.desk b) w.ports a.none }
+
+commit_none : (c : Command) (w : Work) → HasNoNotices w → HasNoNotices (commit c w)
+commit_none c w a = by_test (fails_within (length (commit_writes w.core.journal w.core.tables (body_of c))) w.plan)
+    (λ q. rw q (record { host = a.host; none = a.none }))
+    (λ q. rw q (record { host = a.host; none = a.none }))
+
+done_none : (h : ℕ) (d : Deed) (w : Work) → IsUnnoticed d → HasNoNotices w → HasNoNotices (done h d w)
+done_none h (Commits c) w u a = commit_none c w a
+done_none h (Sends to m) w u a = turn_none to (Give m) w a
+done_none h (Asks to message c) w u a = absurd u
+done_none h (Releases asker) w u a = turn_none asker Release w a
+done_none h (Tells to message) w u a = absurd u
+done_none h IsAnswered w u a = desk_none h (λ d. record d { notice = None }) w (λ d b. refl) a
+done_none h (SetsErrors errors) w u a = desk_none h (λ d. record d { errors = errors }) w (λ d b. b) a
+done_none h (Orders message) w u a =
+    turn_none h (Give (1, message)) (record w { core = record w.core { command = Some message } }) (record { host = a.host; none = a.none })
+done_none h _ w u a = record { host = a.host; none = a.none }
+
+pub all_done_none : (h : ℕ) (deeds : List Deed) (w : Work) → AreUnnoticed deeds → HasNoNotices w → HasNoNotices (all_done h deeds w)
+all_done_none h deeds w u a = all_do HasNoNotices IsUnnoticed done_none h deeds w u a
+
+-- ### The pass over its ends
+
+deeds_unnoticed : (core : Core) (ports : List Port) (h : ℕ) (m : Message) → (core.node == 0) ≡ false → AreUnnoticed (deeds_of core ports h m)
+deeds_unnoticed core ports h m off = by_option (port_at ports h)
+    (λ q. rw (off, q) tt)
+    (λ p q. rw (off, q) (all_of_host IsUnnoticed core plain (own core) p m (λ n value command zero is. tt)))
+
+abbrev Any : ℕ → Message → Type 0
+Any h m = Unit {0}
+
+none_lasts : Lasts HasNoNotices IsUnnoticed Any
+none_lasts = record {
+  does = done_none;
+  turn_told = λ h m w any a. record { host = a.host; none = a.none };
+  held_told = λ h need spare w a. record { host = a.host; none = a.none };
+  fetched = λ h w a. turn_none h FetchMessage w a;
+  held = λ h flag w a. turn_none h (Hold flag) w a;
+  marked = λ h flag w a. desk_none h (λ d. record d { holds = flag }) w (λ d b. b) a;
+  come = λ h w a. anyone (Any h) (λ m. tt) (got_at h w);
+  causes = λ h m w any a. deeds_unnoticed w.core w.ports h m a.host;
+}
+
+-- ### Steps
+
+come_none : (p : Port) (o : Option LinkInput) → HasNone p → HasNone (has_come p o)
+come_none p None a = a
+come_none p (Some i) a = a
+
+older_none : (p : Port) → HasNone p → HasNone (with_older p)
+older_none p a = rw a refl
+
+late_none : (p : Port) → HasNone p → HasNone (reset_late p)
+late_none p a = by_test (is_late p) (λ q. rw q a) (λ q. rw q a)
+
+without_none : (p : Port) → HasNone p → HasNone (without_notice p)
+without_none p a = by_test (is_over p) (λ q. rw q refl) (λ q. rw q a)
+
+forgets_none : (ports : List Port) (p : Port) → HasNone p → HasNone (forgets ports p)
+forgets_none ports p a = by_test (is_forgotten ports (asked_at p)) (λ q. rw (q, a) refl) (λ q. rw q a)
+
+came_none : (input : NodeInput) (w : Work) → HasNoNotices w → AllByRecursion HasNone (times_out input (all_come input w)).ports
+came_none (AtEnd h i) w a = all_map HasNone HasNone (λ p. has_come p (input_at (AtEnd h i) p)) (λ p b. come_none p (input_at (AtEnd h i) p) b) w.ports a.none
+came_none TimePasses w a =
+    all_map HasNone HasNone reset_late late_none _
+    (all_map HasNone HasNone with_older older_none _
+    (all_map HasNone HasNone (λ p. has_come p (input_at TimePasses p)) (λ p b. come_none p (input_at TimePasses p) b) w.ports a.none))
+
+pub steps_none : (input : NodeInput) (w : Work) → HasNoNotices w → HasNoNotices (steps input w)
+steps_none input w a =
+    let came : Work = times_out input (all_come input w) in
+    let left : List Port = map (forgets came.ports) came.ports in
+    let begun : Work = record came { core = after_sessions came.core came.ports; ports = map without_notice left } in
+    let so : (came.core.node == 0) ≡ false = ap (λ (c : Core). c.node == 0) (came_node input w) ∙ a.host in
+    let first : HasNoNotices begun = record {
+      host = ap (λ n. n == 0) (sessions_node came.core came.ports) ∙ so;
+      none = all_map HasNone HasNone without_notice without_none left
+          (all_map HasNone HasNone (forgets came.ports) (forgets_none came.ports) came.ports (came_none input w a));
+    } in
+    rest_lasts HasNoNotices IsUnnoticed Any none_lasts (forgotten came.ports) (flat_map (synced w.core input) w.ports) (all_owed left) begun
+    (forgotten_hold IsUnnoticed (λ asker. tt) came.ports) (all_synced_hold IsUnnoticed (λ host id. tt) w.core input w.ports)
+    (all_owed_hold IsUnnoticed (λ asker. tt) (λ to r. tt) left) first
+
+-- ### Hosts
+
+-- a host that runs has no notice of a controller
+abbrev pub IfNone : Option Running → Type 0
+IfNone None = Unit {0}
+IfNone (Some r) = AllByRecursion (λ (d : Desk). d.notice ≡ None) r.desks
+
+desks_none : (ports : List Port) → AllByRecursion HasNone ports → AllByRecursion (λ (d : Desk). d.notice ≡ None) (map (λ (p : Port). p.desk) ports)
+desks_none [] a = tt
+desks_none (p ∷ ports) a = (a.0, desks_none ports a.1)
+
+pub runs_none : (k : Work) → HasNoNotices k → IfNone (runs_on k)
+runs_none k a = by_test k.cut (λ q. rw q tt) (λ q. rw q (desks_none k.ports a.none))
+
+-- ## Once both wires are empty, the number of an end that was below another goes past that one, if it grows at all
+
+-- the frames on their way to an end, and the greatest number that it has put on the link and taken
+abbrev pub mail : End → Seen → List OnWire
+mail Controller s = s.to_controller
+mail Host s = s.to_host
+
+abbrev pub put_by : End → Seen → ℕ
+put_by Controller s = s.by_controller
+put_by Host s = s.by_host
+
+abbrev pub taken_by : End → Seen → ℕ
+taken_by Controller s = s.at_controller
+taken_by Host s = s.at_host
+
+abbrev pub number_seen : End → Seen → ℕ
+number_seen who s = max (put_by who s) (taken_by who s)
+
+module _ (n : ℕ) where
+  -- an RSET has a greater number
+  abbrev pub IsOver : OnWire → Type 0
+  IsOver x = is_rset x.frame ≡ true → n < x.number
+
+  abbrev pub AreOver : List OnWire → Type 0
+  AreOver [] = Unit {0}
+  AreOver (x ∷ xs) = IsOver x × AreOver xs
+
+  -- the end doesn't have this number, and won't
+  pub record Jumps (who : End) (s : Seen) : Type 0 where
+    pub over : AreOver (mail who s)
+    pub resets : n ≤ s.resets
+    pub gave : put_by who s ≡ n → ⊥
+    pub took : taken_by who s ≡ n → ⊥
+
+  over_push : (w : List OnWire) (x : OnWire) → AreOver w → IsOver x → AreOver (w ++ x ∷ [])
+  over_push [] x a b = (b, tt)
+  over_push (y ∷ w) x a b = (a.0, over_push w x a.1 b)
+
+  over_drop : (w : List OnWire) → AreOver w → AreOver (drop 1 w)
+  over_drop [] a = tt
+  over_drop (x ∷ w) a = a.1
+
+  over_older : (w : List OnWire) → AreOver w → AreOver (older w)
+  over_older [] a = tt
+  over_older (x ∷ w) a = (a.0, over_older w a.1)
+
+  over_new : (s : Seen) (c : Control) → n ≤ s.resets → IsOver (numbered s c)
+  over_new s c r q = rw q (omega (arith, r))
+
+  more : (b : Bool) (k : ℕ) → n ≤ k → n ≤ (if b then k + 1 else k)
+  more true k r = omega (arith, r)
+  more false k r = r
+
+  not_new : (b : Bool) (k m : ℕ) → n ≤ k → (m ≡ n → ⊥) → (if b then k + 1 else m) ≡ n → ⊥
+  not_new true k m r d q = absurd (omega (arith, r, q))
+  not_new false k m r d q = d q
+
+  not_taken : (w : List OnWire) (m : ℕ) → AreOver w → (m ≡ n → ⊥) → taken_first m w ≡ n → ⊥
+  not_taken [] m a d q = d q
+  not_taken (x ∷ w) m a d q = by_test (is_rset x.frame)
+      (λ p. let over : n < x.number = a.0 p in let z : max m x.number ≡ n = rw p at q in absurd (omega (arith, over, z)))
+      (λ p. d (let z = q in rw p at z))
+
+  see_jumps : (who : End) (s : Seen) (e : Entry) → Jumps who s → Jumps who (see s e)
+  see_jumps Controller s (Emit Controller c) j =
+      record { over = j.over; resets = more (is_rset c) s.resets j.resets; gave = not_new (is_rset c) s.resets s.by_controller j.resets j.gave; took = j.took }
+  see_jumps Controller s (Emit Host c) j =
+      record {
+        over = over_push s.to_controller (numbered s c) j.over (over_new s c j.resets);
+        resets = more (is_rset c) s.resets j.resets;
+        gave = j.gave;
+        took = j.took;
+      }
+  see_jumps Host s (Emit Host c) j =
+      record { over = j.over; resets = more (is_rset c) s.resets j.resets; gave = not_new (is_rset c) s.resets s.by_host j.resets j.gave; took = j.took }
+  see_jumps Host s (Emit Controller c) j =
+      record {
+        over = over_push s.to_host (numbered s c) j.over (over_new s c j.resets);
+        resets = more (is_rset c) s.resets j.resets;
+        gave = j.gave;
+        took = j.took;
+      }
+  see_jumps Controller s (Took Controller c) j =
+      record { over = over_drop s.to_controller j.over; resets = j.resets; gave = j.gave; took = not_taken s.to_controller s.at_controller j.over j.took }
+  see_jumps Controller s (Took Host c) j = record { over = j.over; resets = j.resets; gave = j.gave; took = j.took }
+  see_jumps Host s (Took Host c) j =
+      record { over = over_drop s.to_host j.over; resets = j.resets; gave = j.gave; took = not_taken s.to_host s.at_host j.over j.took }
+  see_jumps Host s (Took Controller c) j = record { over = j.over; resets = j.resets; gave = j.gave; took = j.took }
+  see_jumps Controller s (Lost Controller c why) j =
+      record { over = over_drop s.to_controller j.over; resets = j.resets; gave = j.gave; took = j.took }
+  see_jumps Controller s (Lost Host c why) j = record { over = j.over; resets = j.resets; gave = j.gave; took = j.took }
+  see_jumps Host s (Lost Host c why) j = record { over = over_drop s.to_host j.over; resets = j.resets; gave = j.gave; took = j.took }
+  see_jumps Host s (Lost Controller c why) j = record { over = j.over; resets = j.resets; gave = j.gave; took = j.took }
+  see_jumps Controller s Tick j = record { over = over_older s.to_controller j.over; resets = j.resets; gave = j.gave; took = j.took }
+  see_jumps Host s Tick j = record { over = over_older s.to_host j.over; resets = j.resets; gave = j.gave; took = j.took }
+  see_jumps Controller s (Restarted w) j = record { over = tt; resets = j.resets; gave = j.gave; took = j.took }
+  see_jumps Host s (Restarted w) j = record { over = tt; resets = j.resets; gave = j.gave; took = j.took }
+  see_jumps Controller s (Cut w) j = record { over = tt; resets = j.resets; gave = j.gave; took = j.took }
+  see_jumps Host s (Cut w) j = record { over = tt; resets = j.resets; gave = j.gave; took = j.took }
+  see_jumps who s _ j = j
+
+  pub all_jump : (who : End) (t : List Entry) (s : Seen) → Jumps who s → Jumps who (see_all s t)
+  all_jump who [] s j = j
+  all_jump who (e ∷ t) s j = all_jump who t (see s e) (see_jumps who s e j)
+
+-- ### Numbers only grow
+
+-- its numbers are those of RSETs that were put on the link
+abbrev pub StaysWithin : End → Seen → Type 0
+StaysWithin who s = put_by who s ≤ s.resets
+
+kept_within : (b : Bool) (k m : ℕ) → m ≤ k → (if b then k + 1 else m) ≤ (if b then k + 1 else k)
+kept_within true k m r = omega arith
+kept_within false k m r = r
+
+still_within : (b : Bool) (k m : ℕ) → m ≤ k → m ≤ (if b then k + 1 else k)
+still_within true k m r = omega (arith, r)
+still_within false k m r = r
+
+pub see_within : (who : End) (s : Seen) (e : Entry) → StaysWithin who s → StaysWithin who (see s e)
+see_within Controller s (Emit Controller c) w = kept_within (is_rset c) s.resets s.by_controller w
+see_within Controller s (Emit Host c) w = still_within (is_rset c) s.resets s.by_controller w
+see_within Host s (Emit Host c) w = kept_within (is_rset c) s.resets s.by_host w
+see_within Host s (Emit Controller c) w = still_within (is_rset c) s.resets s.by_host w
+see_within Controller s (Took Controller c) w = w
+see_within Controller s (Took Host c) w = w
+see_within Host s (Took Controller c) w = w
+see_within Host s (Took Host c) w = w
+see_within Controller s (Lost Controller c why) w = w
+see_within Controller s (Lost Host c why) w = w
+see_within Host s (Lost Controller c why) w = w
+see_within Host s (Lost Host c why) w = w
+see_within Controller s Tick w = w
+see_within Host s Tick w = w
+see_within Controller s (Restarted x) w = w
+see_within Host s (Restarted x) w = w
+see_within Controller s (Cut x) w = w
+see_within Host s (Cut x) w = w
+see_within who s _ w = w
+
+more_resets : (b : Bool) (k : ℕ) → k ≤ (if b then k + 1 else k)
+more_resets true k = omega arith
+more_resets false k = omega arith
+
+see_resets : (s : Seen) (e : Entry) → s.resets ≤ (see s e).resets
+see_resets s (Emit Controller c) = more_resets (is_rset c) s.resets
+see_resets s (Emit Host c) = more_resets (is_rset c) s.resets
+see_resets s (Took Controller c) = omega arith
+see_resets s (Took Host c) = omega arith
+see_resets s (Lost Controller c why) = omega arith
+see_resets s (Lost Host c why) = omega arith
+see_resets s _ = omega arith
+
+more_given : (b : Bool) (k m t : ℕ) → m ≤ k → max m t ≤ max (if b then k + 1 else m) t
+more_given true k m t r = omega (arith, r)
+more_given false k m t r = omega arith
+
+more_taken : (w : List OnWire) (g m : ℕ) → max g m ≤ max g (taken_first m w)
+more_taken [] g m = omega arith
+more_taken (x ∷ w) g m = by_test (is_rset x.frame) (λ q. rw q (omega arith)) (λ q. rw q (omega arith))
+
+same : (m : ℕ) → m ≤ m
+same m = omega arith
+
+see_number : (who : End) (s : Seen) (e : Entry) → StaysWithin who s → number_seen who s ≤ number_seen who (see s e)
+see_number Controller s (Emit Controller c) w = more_given (is_rset c) s.resets s.by_controller s.at_controller w
+see_number Controller s (Emit Host c) w = same (max s.by_controller s.at_controller)
+see_number Host s (Emit Host c) w = more_given (is_rset c) s.resets s.by_host s.at_host w
+see_number Host s (Emit Controller c) w = same (max s.by_host s.at_host)
+see_number Controller s (Took Controller c) w = more_taken s.to_controller s.by_controller s.at_controller
+see_number Controller s (Took Host c) w = same (max s.by_controller s.at_controller)
+see_number Host s (Took Host c) w = more_taken s.to_host s.by_host s.at_host
+see_number Host s (Took Controller c) w = same (max s.by_host s.at_host)
+see_number Controller s (Lost Controller c why) w = same (max s.by_controller s.at_controller)
+see_number Controller s (Lost Host c why) w = same (max s.by_controller s.at_controller)
+see_number Host s (Lost Controller c why) w = same (max s.by_host s.at_host)
+see_number Host s (Lost Host c why) w = same (max s.by_host s.at_host)
+see_number Controller s Tick w = same (max s.by_controller s.at_controller)
+see_number Host s Tick w = same (max s.by_host s.at_host)
+see_number Controller s (Restarted x) w = same (max s.by_controller s.at_controller)
+see_number Host s (Restarted x) w = same (max s.by_host s.at_host)
+see_number Controller s (Cut x) w = same (max s.by_controller s.at_controller)
+see_number Host s (Cut x) w = same (max s.by_host s.at_host)
+see_number who s _ w = same (number_seen who s)
+
+pub all_resets : (t : List Entry) (s : Seen) → s.resets ≤ (see_all s t).resets
+all_resets [] s = same s.resets
+all_resets (e ∷ t) s = omega (arith, see_resets s e, all_resets t (see s e))
+
+pub all_number : (who : End) (t : List Entry) (s : Seen) → StaysWithin who s → number_seen who s ≤ number_seen who (see_all s t)
+all_number who [] s w = same (number_seen who s)
+all_number who (e ∷ t) s w = omega (arith, see_number who s e w, all_number who t (see s e) (see_within who s e w))
+
+-- ### Both wires are empty once
+
+-- behind a start, a stop or a cut an end doesn't have a number that is in use and won't, or has it or a greater one
+pub silenced : (n : ℕ) (who : End) (t : List Entry) (s : Seen) → StaysWithin who s → n ≤ s.resets → list_any silences t ≡ true
+    → Jumps n who (see_all s t) ⊎ (n ≤ number_seen who (see_all s t))
+silenced n who [] s w r q = absurd (true≢false (sym q))
+silenced n who (e ∷ t) s w r q =
+    let r' = see_resets s e in
+    go (silences e) refl (silenced n who t (see s e) (see_within who s e w) (omega (arith, r, r')))
+  where
+    empty : (who : End) → silences e ≡ true → mail who (see s e) ≡ []
+    empty who p = by who e p
+      where
+        by : (who : End) (e : Entry) → silences e ≡ true → mail who (see s e) ≡ []
+        by Controller (Restarted x) p = refl
+        by Host (Restarted x) p = refl
+        by Controller (Cut x) p = refl
+        by Host (Cut x) p = refl
+        by who _ p = absurd (true≢false (sym p))
+
+    over : (w : List OnWire) → w ≡ [] → AreOver n w
+    over w p = rw p tt
+
+    decide : silences e ≡ true → (b : Bool) → nat_lt (number_seen who (see s e)) n ≡ b
+        → Jumps n who (see_all s (e ∷ t)) ⊎ (n ≤ number_seen who (see_all s (e ∷ t)))
+    decide p true z =
+        let low : number_seen who (see s e) < n = ltb-true (number_seen who (see s e)) n z in
+        let res = see_resets s e in
+        inl (all_jump n who t (see s e) (record {
+          over = over (mail who (see s e)) (empty who p);
+          resets = omega (arith, r, res);
+          gave = λ x. absurd (omega (arith, low, x));
+          took = λ x. absurd (omega (arith, low, x));
+        }))
+    decide p false z =
+        let high : n ≤ number_seen who (see s e) = ltb-false (number_seen who (see s e)) n z in
+        let more = all_number who t (see s e) (see_within who s e w) in
+        inr (omega (arith, high, more))
+
+    go : (b : Bool) → silences e ≡ b
+        → (list_any silences t ≡ true → Jumps n who (see_all (see s e) t) ⊎ (n ≤ number_seen who (see_all (see s e) t)))
+        → Jumps n who (see_all s (e ∷ t)) ⊎ (n ≤ number_seen who (see_all s (e ∷ t)))
+    go true p later = decide p (nat_lt (number_seen who (see s e)) n) refl
+    go false p later = later (let z = q in rw p at z)
+
+-- ## Below the ended sessions of an end another may stand, of which nothing is known: so it doesn't come up with its number again
 
 -- an end below whose ended sessions these stand
-abbrev pub below : List (ℕ × Session) → NumberedShdlc → NumberedShdlc
+abbrev below : List (ℕ × Session) → NumberedShdlc → NumberedShdlc
 below p h = record h { past = h.past ++ p }
 
 -- a link with such ends
-abbrev pub marked : List (ℕ × Session) → List (ℕ × Session) → ShdlcLink → ShdlcLink
+abbrev marked : List (ℕ × Session) → List (ℕ × Session) → ShdlcLink → ShdlcLink
 marked p q l = record l { controller = below p l.controller; host = below q l.host }
 
--- ## All that happens leaves them there
+-- ### All that happens leaves them there
 
 -- an end that is inactive passes over a frame
 ignored : (l : ShdlcLink) (ts : List ShdlcTurn) (y : OnWire) (ys : List OnWire) → l.controller.side.phase ≡ Down → l.to_controller ≡ y ∷ ys
@@ -103,7 +490,7 @@ module _ (p q : List (ℕ × Session)) where
   here_marked l (Reset w ts) =
       let b : Bool = is_up l.controller.side.phase in
       then_becomes (with_shdlc_ended l b) (with_shdlc_ended (marked p q l) b) (shdlc_turned (reset_with l.controller.side w) ts) (ended_marked l b)
-  here_marked l Cut = silent_marked l (new_end 4)
+  here_marked l CoreCut = silent_marked l (new_end 4)
   here_marked l Stop = silent_marked l (stopped l.controller.side)
 
   all_marked : (es : List ShdlcEndEvent) (l : ShdlcLink) → shdlc_all_at_controller (marked p q l) es ≡ marked p q (shdlc_all_at_controller l es)
@@ -131,17 +518,18 @@ module _ (p q : List (ℕ × Session)) where
       ∙ (ap (λ z. shdlc_exchanged (ticks_or_cut o (shdlc_exchanged z))) (all_marked p q es l)
       ∙ ap shdlc_exchanged (tick_marked q p o (shdlc_exchanged (shdlc_all_at_controller l es))))
 
-  pub event_marked : (l : ShdlcLink) (e : ShdlcLinkEvent) → shdlc_happens (marked p q l) e ≡ marked p q (shdlc_happens l e)
+  event_marked : (l : ShdlcLink) (e : ShdlcLinkEvent) → shdlc_happens (marked p q l) e ≡ marked p q (shdlc_happens l e)
   event_marked l (AtController e) = here_marked p q l e
   event_marked l (AtHost e) = ap shdlc_exchanged (here_marked q p (shdlc_exchanged l) e)
-  event_marked l (Tick c es h) = then_there es h (ticks_or_cut c (shdlc_aged l)) (ticks_or_cut c (shdlc_aged (marked p q l))) (tick_marked p q c (shdlc_aged l))
+  event_marked l (CoreTick c es h) = then_there es h (ticks_or_cut c (shdlc_aged l)) (ticks_or_cut c (shdlc_aged (marked p q l)))
+      (tick_marked p q c (shdlc_aged l))
   event_marked l (TickWithout es h) =
       then_there es h (ticks_if_waiting (shdlc_aged l)) (ticks_if_waiting (shdlc_aged (marked p q l))) (waits_marked p q (shdlc_aged l))
 
--- ## They change no session
+-- ### They change no session
 
 -- these sessions have no fragments
-abbrev pub Blank : List (ℕ × Session) → Type 0
+abbrev Blank : List (ℕ × Session) → Type 0
 Blank [] = Unit {0}
 Blank (x ∷ xs) = (x.1 ≡ no_session) × Blank xs
 
@@ -179,7 +567,7 @@ below_right : (b : ℕ) (past p : List (ℕ × Session)) → Below b (past ++ p)
 below_right b [] p x = x
 below_right b (z ∷ past) p x = below_right b past p x.1
 
-pub safe_marked : (kn kf : ℕ) (p q : List (ℕ × Session)) (l : ShdlcLink) → Blank p → Blank q → Below (bound l.controller) p → Below (bound l.host) q
+safe_marked : (kn kf : ℕ) (p q : List (ℕ × Session)) (l : ShdlcLink) → Blank p → Blank q → Below (bound l.controller) p → Below (bound l.host) q
     → SafeLink kn kf l → SafeLink kn kf (marked p q l)
 safe_marked kn kf p q l bp bq up uq h =
     record {
@@ -223,15 +611,15 @@ safe_marked kn kf p q l bp bq up uq h =
     lives : (o : Option (List OnWire)) (s s' t t' : Session) → s' ≡ s → t' ≡ t → OnLive o s t → OnLive o s' t'
     lives o s s' t t' a b x = rw (a, b) x
 
-pub near_bound : (kn kf : ℕ) (p q : List (ℕ × Session)) (l : ShdlcLink) → SafeLink kn kf (marked p q l) → Below (bound l.controller) p
+near_bound : (kn kf : ℕ) (p q : List (ℕ × Session)) (l : ShdlcLink) → SafeLink kn kf (marked p q l) → Below (bound l.controller) p
 near_bound kn kf p q l h =
     below_right (bound l.controller) l.controller.past p (subst (λ (b : ℕ). Below b (l.controller.past ++ p)) (bound_below p l.controller) h.n_past)
 
-pub far_bound : (kn kf : ℕ) (p q : List (ℕ × Session)) (l : ShdlcLink) → SafeLink kn kf (marked p q l) → Below (bound l.host) q
+far_bound : (kn kf : ℕ) (p q : List (ℕ × Session)) (l : ShdlcLink) → SafeLink kn kf (marked p q l) → Below (bound l.host) q
 far_bound kn kf p q l h =
     below_right (bound l.host) l.host.past q (subst (λ (b : ℕ). Below b (l.host.past ++ q)) (bound_below q l.host) h.f_past)
 
--- ## What is past stays so
+-- ### What is past stays so
 
 -- no session of the end begins with this number any more
 abbrev pub IsPast : ℕ → NumberedShdlc → Type 0

@@ -1,30 +1,96 @@
--- A tick in which the controller's end of a link is reset, as its notice is late, is read off what is noted of it.
+-- A tick in which the controller's end of a link is reset is read off what is noted of it.
 use Rattle.node_laws.proofs.Words.{Acked, Act, ActTick, Active, AllByRecursion, Asked, AsksReset, Bool, ByAct, Cause, Clt, Control, Controller, Cut, CutOff}
-use Rattle.node_laws.proofs.Words.{Down, Emit, EndState, Ending, Entry, FindsReady, GaveUp, GoesOut, Got, HasTick, Host, I, IsDown, IsRunOf, IsUpNow}
-use Rattle.node_laws.proofs.Words.{IsWaitingNow, Link, LinkEnd, LinkEvent, LinkInput, LinkState, List, Lost, Node, None, Noted, Option, Refused, Report, Reset}
-use Rattle.node_laws.proofs.Words.{Restarted, Rset, S, Some, Step, TicksWithout, Turn, Ua, [], act_answer, after_input, aged, aged_entries, ap, append_assoc}
-use Rattle.node_laws.proofs.Words.{behind_reset_of, by_test, cond, cuts_on, end_c, end_h, end_of, ended_by, ended_by_reset, entries_for, event_entries}
-use Rattle.node_laws.proofs.Words.{exchanged, false, frames_out, happens, happens_at_controller, if_so, if_up, if◌then◌else◌, is_act, is_open, is_own_reset}
-use Rattle.node_laws.proofs.Words.{is_reset_down, is_rset, is_some, list_any, list_any-append, lost_as, lpdu_of, map, nat_lt, not, number_of, of_link}
-use Rattle.node_laws.proofs.Words.{option_to_list, or_none, puts_entries, refl, report, reset_refusal, rest_entries, runs_timer, said, same_number}
-use Rattle.node_laws.proofs.Words.{step_entries, sym, tells_of, tick_answer, tick_entries, ticks_at_controller, told, told_of, true, true≢false, turn_entries}
-use Rattle.node_laws.proofs.Words.{turned, whole_acked, with_ended, withholds, ℕ, ◌++◌, ◌+◌, ◌||◌, ◌∙◌, ◌∷◌, ◌≡◌}
-use Rattle.trace_model.specs.declared.entry.Entry.TheVariants as entry
-use Rattle.link_laws.specs.entries.Entries.{End as Side}
-use Rattle.link_laws.specs.entries.Entries.Entry.{Up, Tick}
+use Rattle.node_laws.proofs.Words.{Down, Emit, EndState, Ending, Entry, FindsReady, GaveUp, Give, GoesOut, Got, HasTick, Host, I, IsDown, IsRunOf, IsUpNow}
+use Rattle.node_laws.proofs.Words.{IsWaitingNow, Link, LinkEnd, LinkEvent, LinkInput, LinkState, List, Loss, Lost, Message, Node, None, Noted, OnWire, Option}
+use Rattle.node_laws.proofs.Words.{Refused, Report, Reset, Restarted, Rset, S, Sent, Some, Step, TicksWithout, TooMany, TooOld, Turn, Ua, [], act_answer}
+use Rattle.node_laws.proofs.Words.{after_input, aged, aged_entries, ap, append_assoc, behind_reset_of, by_test, cond, cuts_on, end_c, end_h, end_of, ended_by}
+use Rattle.node_laws.proofs.Words.{ended_by_reset, entries_for, event_entries, exchanged, false, far, first_lost, frames_out, give_refusal, happens}
+use Rattle.node_laws.proofs.Words.{happens_at_controller, if_so, if_up, if◌then◌else◌, is_act, is_open, is_own_reset, is_reset_down, is_rset, is_some, length}
+use Rattle.node_laws.proofs.Words.{list_any, list_any-append, lost_as, lpdu_of, map, nat_lt, not, number_of, of_link, option_to_list, or_none, pushed_out, put}
+use Rattle.node_laws.proofs.Words.{puts_entries, refl, report, reset_refusal, rest_entries, runs_timer, said, same_number, sent_unless, step_entries, sym}
+use Rattle.node_laws.proofs.Words.{tells_of, tick_answer, tick_entries, ticks_at_controller, told, told_of, true, true≢false, turn, turn_entries, turn_entry}
+use Rattle.node_laws.proofs.Words.{turned, whole_acked, wire_with, with_ended, withholds, ℕ, ◌++◌, ◌+◌, ◌||◌, ◌∙◌, ◌∷◌, ◌≡◌}
+use Rattle.link_laws.specs.entries.Entries.{End, End as Side}
+use Rattle.link_laws.specs.entries.Entries.Entry.{Tick, Up}
 use Rattle.node_laws.specs.order.Resets.{asks_at}
-use Rattle.node_laws.proofs.order.Withheld.{loses_one_on}
-use Rattle.node_laws.proofs.telling.Reported.{rest_all}
+use Rattle.node_laws.proofs.order.Watches.{IsSince, IsStepOf, input_cut, is_cut, kept_act, loses_one_on, no_cut, since_reset, spoils_none}
 use Rattle.node_laws.proofs.telling.Accounts.{untold}
+use Rattle.node_laws.proofs.telling.Shapes.{rest_all}
 use Rattle.node_laws.proofs.telling.WorldTicks.{tick_event}
-use Rattle.node_laws.proofs.order.Listing.{Holds, are-append, are_so, are_mapped, are_last, are_turns, are_puts, are_aged}
-use Rattle.node_laws.proofs.order.Activations.{kept_act}
-use Rattle.node_laws.proofs.order.Watches.{IsStepOf, IsSince, is_cut, no_cut, spoils_none, since_reset, input_cut}
+use Rattle.trace_model.specs.declared.entry.Entry.TheVariants as entry
 
--- ## Notes of a reset
+-- ## What holds of all notes that an end makes but for a few kinds of them holds of what is noted of its steps
+
+-- It holds of the notes of messages, and of frames that go out of this end, or are lost.
+pub record Holds (D : Noted → Type 0) (who : End) : Type 0 where
+  pub up : (n : ℕ) → D (Up who n)
+  pub gave_up : (tries : ℕ) → D (GaveUp who tries)
+  pub acked : (n count : ℕ) → D (Acked who n count)
+  pub got : (n : ℕ) (m : Message) → D (Got who n m)
+  pub sent : (n : ℕ) (m : Message) → D (Sent who n m)
+  pub emit : (c : Control) → D (Emit who c)
+  pub lost : (w : End) (c : Control) (why : Loss) → D (Lost w c why)
+
+module _ (D : Noted → Type 0) (who : End) (holds : Holds D who) where
+  abbrev Are : List Noted → Type 0
+  Are t = AllByRecursion D t
+
+  pub are-append : (t u : List Noted) → Are t → Are u → Are (t ++ u)
+  are-append [] u a b = b
+  are-append (x ∷ t) u a b = (a.0, are-append t u a.1 b)
+
+  pub are_so : (c : Bool) (x : Noted) → D x → Are (if_so c x)
+  are_so true x a = (a, tt)
+  are_so false x a = tt
+
+  pub are_mapped : {A : Type 0} (f : A → Noted) (xs : List A) → ((x : A) → D (f x)) → Are (map f xs)
+  are_mapped f [] a = tt
+  are_mapped f (x ∷ xs) a = (a x, are_mapped f xs a)
+
+  -- what is told of an input behind that activation is done
+  pub are_last : (n : ℕ) (r : Report) (acked : ℕ)
+      → Are (map (GaveUp who) (option_to_list r.gave_up) ++ (if_so (nat_lt 0 r.acked) (Acked who n acked) ++ map (Got who n) r.got))
+  are_last n r acked =
+      are-append (map (GaveUp who) (option_to_list r.gave_up)) _ (are_mapped (GaveUp who) (option_to_list r.gave_up) holds.gave_up)
+      (are-append (if_so (nat_lt 0 r.acked) (Acked who n acked)) _ (are_so (nat_lt 0 r.acked) (Acked who n acked) (holds.acked n acked))
+      (are_mapped (Got who n) r.got (holds.got n)))
+
+  are_sent : (o : Option Refused) (n : ℕ) (m : Message) → Are (sent_unless o who n m)
+  are_sent None n m = (holds.sent n m, tt)
+  are_sent (Some why) n m = tt
+
+  pub are_turns : (n : ℕ) (e : LinkEnd) (ts : List Turn) → Are (turn_entries who n e ts)
+  are_turns n e [] = tt
+  are_turns n e (t ∷ ts) = are-append (turn_entry who n e t) (turn_entries who n (turn e t) ts) (one t) (are_turns n (turn e t) ts)
+    where
+      one : (t : Turn) → Are (turn_entry who n e t)
+      one (Give m) = are_sent (give_refusal e m) n m
+      one _ = tt
+
+  pub are_lost : (w : End) (why : Loss) (xs : List OnWire) → Are (first_lost w why xs)
+  are_lost w why [] = tt
+  are_lost w why (x ∷ xs) = (holds.lost w x.frame why, tt)
+
+  are_pushed : (w : End) (wire : List OnWire) → Are (pushed_out w wire)
+  are_pushed w wire = by_test (nat_lt 64 (length wire)) (λ q. rw q (are_lost w TooMany wire)) (λ q. rw q tt)
+
+  pub are_puts : (cs : List Control) (l : Link) → Are (puts_entries who l cs)
+  are_puts [] l = tt
+  are_puts (c ∷ cs) l = (
+    holds.emit c,
+    are-append (pushed_out (far who) (wire_with l c)) (puts_entries who (put l c) cs) (are_pushed (far who) (wire_with l c)) (are_puts cs (put l c)),
+  )
+
+  pub are_aged : (w : End) (xs : List OnWire) → Are (aged_entries w xs)
+  are_aged w [] = tt
+  are_aged w (x ∷ xs) = by_test (nat_lt x.age 4) (λ q. rw q (are_aged w xs)) (λ q. rw q (holds.lost w x.frame TooOld, are_aged w xs))
+
+-- ## A tick in which the controller's end of a link is reset, as its notice is late, is read off what is noted of it
+
+-- ### Notes of a reset
 
 -- the controller's end was reset: its session ended so
-abbrev pub asked : Noted → Bool
+abbrev asked : Noted → Bool
 asked (Down Controller cause) = is_own_reset cause
 asked _ = false
 
@@ -121,7 +187,7 @@ reset_granted e window q = go (reset_refusal e) q
     go None z = refl
     go (Some why) z = absurd (cc z)
 
--- ## A tick
+-- ### A tick
 
 aged_none : (f : Noted → Bool) (l : Link) (t : List Noted) → Holds (λ n. f n ≡ false) Controller → f Tick ≡ false
     → list_any f (Tick ∷ (aged_entries Controller l.to_controller ++ (aged_entries Host l.to_host ++ t))) ≡ true → list_any f t ≡ true
@@ -145,11 +211,11 @@ host_unasked k n =
     (ending_unasked Host m (after_input e HasTick) n.turns n.ending))
 
 -- where such a reset is noted of a tick, the tick had it, and it was granted
-pub record IsResetInTick (late : Bool) (l : Link) : Type 0 where
+record IsResetInTick (late : Bool) (l : Link) : Type 0 where
   pub late_is : late ≡ true
   pub granted : reset_refusal l.controller.side ≡ None
 
-pub tick_asked : (late : Bool) (l : Link) (c n : Node) → list_any asked (event_entries l (tick_event late c n)) ≡ true → IsResetInTick late l
+tick_asked : (late : Bool) (l : Link) (c n : Node) → list_any asked (event_entries l (tick_event late c n)) ≡ true → IsResetInTick late l
 tick_asked false l c n q =
     let near : List Noted = tick_entries Controller (aged l) c in
     let k : Link = exchanged (ticks_at_controller (aged l) c.turns c.ending) in
@@ -169,7 +235,7 @@ tick_asked true l c n q =
           (aged_none asked l ((near ++ []) ++ tick_entries Host k n) (unasked Controller) refl q))));
     }
 
--- ## What is told of it
+-- ### What is told of it
 
 module _ (h : ℕ) where
   -- only what tells of the link counts
@@ -277,7 +343,7 @@ module _ (h : ℕ) where
   far_notes (Emit Host Clt ∷ t) q = far_notes t (or_none (asks_by Host Clt) (list_any (asks_at (end_h h)) (entries_for h t)) q).1
   far_notes (_ ∷ t) q = far_notes t q
 
--- ## What withholds no answer
+-- ### What withholds no answer
 
 -- it is no frame that goes out of the controller's end, and begins or ends no activation
 abbrev IsFar : Noted → Type 0
@@ -329,7 +395,7 @@ left_alone h (Emit Host c ∷ t) a q r s =
     let z = or_none (is_rset c) (list_any (asks_far h) t) r in ap (λ b. b || list_any withholds t) z.0 ∙ left_alone h t a.1 q z.1 s
 left_alone h (_ ∷ t) a q r s = left_alone h t a.1 q r s
 
--- ## The link behind it
+-- ### The link behind it
 
 -- of a tick with such a reset: what its entries say of the link
 pub record IsAnsweredTick (h : ℕ) (u : List Entry) : Type 0 where

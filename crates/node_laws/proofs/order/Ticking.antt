@@ -8,23 +8,19 @@ use Rattle.node_laws.proofs.Words.{is_due, is_late_at, is_open, is_some, is_wait
 use Rattle.node_laws.proofs.Words.{option_map, port_at, port_for, refl, reset_refusal, runs_on, sent_all, site_at, site_ticked, site_unticked, subst, sym}
 use Rattle.node_laws.proofs.Words.{ticked_so, ticks_at_controller, true, true≢false, turned, turns_at, work_of, world_ticks, ℕ, ◌&&◌, ◌++◌, ◌==◌, ◌∙◌, ◌∷◌, ◌≡◌}
 use Rattle.shdlc_core.specs.declared.answers.LinkState.TheVariants.{Down}
-use Rattle.node_laws.proofs.links.Got.{Clean}
-use Rattle.node_laws.proofs.links.Ends.{here_clf, tick_clf, tick_uicc}
+use Rattle.node_laws.proofs.links.Sites.{AreNodes, Clean, here_clf, reset_allowed, tick_allowed, tick_clf, tick_uicc}
 use Rattle.node_laws.proofs.links.Works.{steps_fine}
-use Rattle.node_laws.proofs.links.Sites.{AreNodes, reset_allowed, tick_allowed}
 use Rattle.node_laws.proofs.links.Worlds.{AreClean, AreFineSites, AreTrueDesks, IsFineNode, IsFineSite, near_clean, ports_fine, turns_fine}
-use Rattle.node_laws.proofs.telling.Nodes.{link_is, ports_for}
-use Rattle.node_laws.proofs.telling.Worlds.{site_is}
+use Rattle.node_laws.proofs.telling.Events.{link_is, ports_for, site_is}
 use Rattle.node_laws.proofs.telling.WorldTicks.{Ticking, between, between_far, host_turns, near_turns, tick_event, ticking}
 use Rattle.node_laws.proofs.telling.WorldTicks.{ticked_at}
-use Rattle.node_laws.proofs.readings.NoticedWorlds.{host_tick_side}
-use Rattle.node_laws.proofs.order.Unnoticed.{IfNone, runs_none, steps_none}
-use Rattle.node_laws.proofs.order.Knowing.{Each, Knows, WasThere, later, renewed_clf, renewed_uicc, told_more, was_there}
+use Rattle.node_laws.proofs.readings.Noticed.{host_tick_side}
+use Rattle.node_laws.proofs.order.Marking.{IfNone, runs_none, steps_none}
+use Rattle.node_laws.proofs.order.Events.{Each, IsWell, Knows, WasThere, later, renewed_clf, renewed_uicc, told_more, was_there}
 use Rattle.node_laws.proofs.order.TickResets.{IsAnsweredTick, reset_in_tick}
 use Rattle.node_laws.proofs.order.Watches.{IsSince, IsStepOf, WatchedLink}
 use Rattle.node_laws.proofs.order.Wires.{Shown, shown_more, tick_unstarted}
-use Rattle.node_laws.proofs.order.Events.{IsWell}
-use Rattle.node_laws.proofs.turns.Works.{site_none}
+use Rattle.node_laws.proofs.turns.Nodes.{site_none}
 
 -- ## Every world is timely
 

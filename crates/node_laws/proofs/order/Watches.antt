@@ -1,30 +1,228 @@
--- How a link stands, and whether nothing has withheld the answer to a reset of it.
-use Rattle.node_laws.proofs.Words.{Acked, Act, Activates, Active, AllByRecursion, Begins, Bool, Clt, Comes, Controller, Counts, Cut, CutOff, Down, Emit, End}
-use Rattle.node_laws.proofs.Words.{Entry, GaveUp, Gets, Got, Happening, Host, I, IsEvent, IsRunOf, Link, LinkEnd, LinkEvent, LinkInput, List, Lost, None, Noted}
-use Rattle.node_laws.proofs.Words.{Option, Puts, Restarted, Rset, S, Saying, Sent, Some, Standing, StandsOf, Starts, Stops, TellOf, Took, Turn, Ua, []}
-use Rattle.node_laws.proofs.Words.{after_input, after_link_events, and_parts, ap, append-nil, append_assoc, arith, as_event_begins, as_event_ends, becomes_at}
-use Rattle.node_laws.proofs.Words.{by_test, cond, cuts_on, drop, drops_on, end_of, ended_by, entries, entries_for, event_entries, false, fold-append, happens}
-use Rattle.node_laws.proofs.Words.{if◌then◌else◌, input_entries, is_of, is_some, law_noted, length, length-append, length-replicate, list_any, list_any-append}
-use Rattle.node_laws.proofs.Words.{lost_as, lpdu_of, made_active, new_line, new_standing, no_longer_waits, not, number_of, of_link, or-true, or_none, refl}
-use Rattle.node_laws.proofs.Words.{replicate, rest_entries, said, said_far, said_near, standing, standing_by_law, stands_noted, stands_said, stands_told, subst}
-use Rattle.node_laws.proofs.Words.{suc, sym, tells_of, told_of, true, true≢false, turn_entries, with_empty_wires, with_ended, withholds, ℕ, ◌&&◌, ◌++◌, ◌+◌}
-use Rattle.node_laws.proofs.Words.{◌==◌, ◌||◌, ◌∙◌, ◌∷◌, ◌≡◌, ◌≤◌}
-use Rattle.trace_model.specs.declared.entry.Entry.TheVariants as entry
-use Rattle.link_laws.specs.entries.Entries.{End as Side}
-use Rattle.link_laws.specs.entries.Entries.Entry.{Up, Tick}
-use Rattle.link_laws.specs.entries.Settled.{IsReset, rest_of}
-use Rattle.link_laws.proofs.entries.Settling.{Spared, Stands, none_withheld, spoils}
-use Rattle.history.specs.Filters.Saying.{Ends, Sends, Takes, Loses}
-use Rattle.history.specs.Legal.{resets_on}
+-- How a link stands, and whether nothing has withheld the answer to a reset of it, as it is read off entries.
+use Rattle.node_laws.proofs.Words.{Acked, Act, Activates, Active, AllByRecursion, Arms, Begins, Bool, Boots, Clt, Comes, Control, Controller, Counts, Cut}
+use Rattle.node_laws.proofs.Words.{CutOff, Down, Emit, End, Entry, Err, GaveUp, Gets, Gives, Got, Happening, Host, I, Inits, IsCut, IsEvent, IsFreeOfLinkFrames}
+use Rattle.node_laws.proofs.Words.{IsRunOf, Link, LinkEnd, LinkEvent, LinkInput, List, Loses, Loss, Lost, LpduRow, NodeWorld, None, Noted, Ok, Option, Puts}
+use Rattle.node_laws.proofs.Words.{Resets, Restarted, Rset, S, Saying, Sent, Some, Standing, StandsOf, Starts, Stops, Takes, TellOf, Ticks, Took, Turn, Ua, []}
+use Rattle.node_laws.proofs.Words.{after_input, after_link_events, and-false, and_parts, ap, append-nil, append_assoc, arith, as_event_begins, as_event_ends}
+use Rattle.node_laws.proofs.Words.{becomes_at, behind_reset_of, by_loss, by_test, cond, cuts_on, drop, drops_on, end_of, ended_by, entries, entries_for}
+use Rattle.node_laws.proofs.Words.{event_entries, false, find, first_lost, fold-append, frames_on, happens, if◌then◌else◌, inl, input_entries, inr, is_act}
+use Rattle.node_laws.proofs.Words.{is_act_lpdu, is_lost_by_line, is_of, is_reset_down, is_some, is_within, kind_number, law_noted, leb-true, length}
+use Rattle.node_laws.proofs.Words.{length-append, length-replicate, link_to, list_any, list_any-append, lost_as, lpdu_of, made_active, nat_le, nat_lt, new_line}
+use Rattle.node_laws.proofs.Words.{new_standing, no_longer_waits, not, number_of, of_link, or-true, or_none, read_by, refl, replicate, rest_entries, said}
+use Rattle.node_laws.proofs.Words.{said_far, said_near, sans, slice_index, standing, standing_by_law, stands_noted, stands_said, stands_told, subst, suc, sym}
+use Rattle.node_laws.proofs.Words.{table, tells_of, told_of, true, true≢false, turn_entries, with_empty_wires, with_ended, withholds, withholds_in, world_step}
+use Rattle.node_laws.proofs.Words.{ℕ, ◌&&◌, ◌*◌, ◌++◌, ◌+◌, ◌<◌, ◌==◌, ◌||◌, ◌∙◌, ◌∷◌, ◌≡◌, ◌≤◌, ◌⊎◌}
 use Rattle.history.proofs.legal.Reading.{link_same}
-use Rattle.node_laws.proofs.links.Sites.{run_of_more}
+use Rattle.history.specs.Filters.Saying.{Ends, Loses as SayingLoses, Sends, Takes as SayingTakes}
+use Rattle.history.specs.Legal.{resets_on}
+use Rattle.link_laws.proofs.entries.Settling.{Spared, Stands, none_withheld, spoils}
+use Rattle.link_laws.specs.entries.Entries.{End as Side}
+use Rattle.link_laws.specs.entries.Entries.Entry.{Tick, Up}
+use Rattle.link_laws.specs.entries.Settled.{IsReset, rest_of}
+use Rattle.link_laws.specs.places.Wire.{OnWire}
+use Rattle.swp_lpdu.specs.declared.LpduFault.TheVariants.{Short, TooLong}
+use Rattle.node_laws.specs.order.Resets.{is_act_read, loses_at, loses_one_in, spoils_in}
 use Rattle.node_laws.specs.telling.Standing.{with_inactive_ends}
+use Rattle.node_laws.proofs.links.Sites.{run_of_more}
 use Rattle.node_laws.proofs.telling.Accounts.{untold}
 use Rattle.node_laws.proofs.telling.Events.{after-append, entries-append}
-use Rattle.node_laws.proofs.order.Withheld.{loses_one_on, spoils_on, withholds_on}
-use Rattle.node_laws.proofs.order.Activations.{kept_act}
+use Rattle.node_laws.proofs.worlds.Lineless.{AreLineless, event_lineless}
+use Rattle.trace_model.specs.declared.entry.Entry.TheVariants as entry
 
--- ## A link since a reset
+-- ## What withholds the answer to a reset in an event of a world, as it is read off the entries alone
+
+-- a frame of a link is lost, but of activation
+abbrev pub loses_one_on : ℕ → Entry → Bool
+loses_one_on h e = drops_on h (said e)
+
+-- so it is, or RSET is put on the link
+abbrev pub spoils_on : ℕ → Entry → Bool
+spoils_on h e = loses_one_on h e || resets_on h (said e)
+
+-- what withholds the answer to a reset of it
+abbrev pub withholds_on : ℕ → Entry → Bool
+withholds_on h e = cuts_on h e || spoils_on h e
+
+-- ### Frames that a line loses
+
+-- an entry is believed: it tells of no frame of the link that a line loses, but where one does
+abbrev pub IsBelieved : ℕ → Happening → Entry → Type 0
+IsBelieved h c x = (loses_one_on h x && not (loses_at h c || not (is_lost_by_line x))) ≡ false
+
+abbrev pub AreBelieved : ℕ → Happening → List Entry → Type 0
+AreBelieved h c es = AllByRecursion (IsBelieved h c) es
+
+lineless_believed : (h : ℕ) (c : Happening) (es : List Entry) → AreLineless es → AreBelieved h c es
+lineless_believed h c [] a = tt
+lineless_believed h c (x ∷ es) a = (
+  ap (λ b. loses_one_on h x && not (loses_at h c || not b)) a.0 ∙ (ap (λ b. loses_one_on h x && not b) (or-true (loses_at h c))
+      ∙ and-false (loses_one_on h x)),
+  lineless_believed h c es a.1,
+)
+
+-- a line loses a frame of one link
+lost_believed : (h k : ℕ) (who : Side) (why : Loss) (e : End) (loss : Loss) (w : List OnWire) → e.link ≡ k
+    → AreBelieved h (Loses e loss) (entries_for k (first_lost who why w))
+lost_believed h k who why e loss [] same = tt
+lost_believed h k who why e loss (x ∷ w) same = (by (e.link == h) refl, tt) where
+  lost : Entry
+  lost = entry.Lost (end_of k who) (lpdu_of x.frame) (lost_as why)
+
+  kept : Bool
+  kept = not (is_act_lpdu (lpdu_of x.frame))
+
+  link : (end_of k who).link ≡ k
+  link = by_side who where
+    by_side : (s : Side) → (end_of k s).link ≡ k
+    by_side Controller = refl
+    by_side Host = refl
+
+  by : (b : Bool) → (e.link == h) ≡ b → IsBelieved h (Loses e loss) lost
+  by true q = ap (λ b. loses_one_on h lost && not (b || not (is_lost_by_line lost))) q ∙ and-false (loses_one_on h lost)
+  by false q =
+      let off : loses_one_on h lost ≡ false = ap (λ n. (n == h) && kept) (link ∙ sym same) ∙ ap (λ b. b && kept) q in
+      ap (λ b. b && not (loses_at h (Loses e loss) || not (is_lost_by_line lost))) off
+
+-- So it is with each entry of an event.
+pub event_believed : (h : ℕ) (w : NodeWorld) (c : Happening) → AreBelieved h c (world_step w c).1
+event_believed h w (Loses e why) =
+    by_loss (λ p. AreBelieved h (Loses e why) p.1) w e why (λ z. lost_believed h e.link Host why e why (link_to w.sites e.link).to_host refl)
+    (λ z. lost_believed h e.link Controller why e why (link_to w.sites e.link).to_controller refl)
+event_believed h w (Boots n) = lineless_believed h (Boots n) (world_step w (Boots n)).1 (event_lineless w (Boots n) tt)
+event_believed h w (IsCut n) = lineless_believed h (IsCut n) (world_step w (IsCut n)).1 (event_lineless w (IsCut n) tt)
+event_believed h w (Gives e m) = lineless_believed h (Gives e m) (world_step w (Gives e m)).1 (event_lineless w (Gives e m) tt)
+event_believed h w (Inits e identity pipes) =
+    lineless_believed h (Inits e identity pipes) (world_step w (Inits e identity pipes)).1 (event_lineless w (Inits e identity pipes) tt)
+event_believed h w (Takes e) = lineless_believed h (Takes e) (world_step w (Takes e)).1 (event_lineless w (Takes e) tt)
+event_believed h w Ticks = lineless_believed h Ticks (world_step w Ticks).1 (event_lineless w Ticks tt)
+event_believed h w (Resets e window) = lineless_believed h (Resets e window) (world_step w (Resets e window)).1 (event_lineless w (Resets e window) tt)
+event_believed h w (Activates k sync power) =
+    lineless_believed h (Activates k sync power) (world_step w (Activates k sync power)).1 (event_lineless w (Activates k sync power) tt)
+event_believed h w (Arms n plan) = lineless_believed h (Arms n plan) (world_step w (Arms n plan)).1 (event_lineless w (Arms n plan) tt)
+
+-- ### What is read by events and by entries
+
+one_lost : (a b : Bool) → (a && not b) ≡ false → (a && b) ≡ false → a ≡ false
+one_lost true true p q = q
+one_lost true false p q = p
+one_lost false b p q = refl
+
+none_lost : (h : ℕ) (c : Happening) (es : List Entry) → AreBelieved h c es → list_any (loses_one_in h c) es ≡ false → list_any (loses_one_on h) es ≡ false
+none_lost h c [] a q = refl
+none_lost h c (x ∷ es) a q =
+    let both = or_none (loses_one_in h c x) (list_any (loses_one_in h c) es) q in
+    ap (λ b. b || list_any (loses_one_on h) es) (one_lost (loses_one_on h x) (loses_at h c || not (is_lost_by_line x)) a.0 both.0)
+    ∙ none_lost h c es a.1 both.1
+
+pub none_withheld_on : (h : ℕ) (c : Happening) (es : List Entry) → AreBelieved h c es → list_any (withholds_in h c) es ≡ false
+    → list_any (withholds_on h) es ≡ false
+none_withheld_on h c [] a q = refl
+none_withheld_on h c (x ∷ es) a q =
+    let both = or_none (withholds_in h c x) (list_any (withholds_in h c) es) q in
+    let cut = or_none (cuts_on h x) (spoils_in h c x) both.0 in
+    let spoilt = or_none (loses_one_in h c x) (resets_on h (said x)) cut.1 in
+    let lost : loses_one_on h x ≡ false = one_lost (loses_one_on h x) (loses_at h c || not (is_lost_by_line x)) a.0 spoilt.0 in
+    ap (λ b. (b || spoils_on h x) || list_any (withholds_on h) es) cut.0
+    ∙ (ap (λ b. (b || resets_on h (said x)) || list_any (withholds_on h) es) lost
+    ∙ (ap (λ b. b || list_any (withholds_on h) es) spoilt.1 ∙ none_withheld_on h c es a.1 both.1))
+
+-- behind a reset in a tick
+believed_behind : (h : ℕ) (c : Happening) (e : End) (es : List Entry) → AreBelieved h c es → AreBelieved h c (behind_reset_of e es)
+believed_behind h c e [] a = tt
+believed_behind h c e (x ∷ es) a = by_test (is_reset_down e x) (λ q. rw q a.1) (λ q. rw q (believed_behind h c e es a.1))
+
+pub none_lost_behind : (h : ℕ) (c : Happening) (e : End) (es : List Entry) → AreBelieved h c es
+    → list_any (loses_one_in h c) (behind_reset_of e es) ≡ false → list_any (loses_one_on h) (behind_reset_of e es) ≡ false
+none_lost_behind h c e es a q = none_lost h c (behind_reset_of e es) (believed_behind h c e es a) q
+
+-- ## Frames of activation are read off the bytes of frames
+
+-- ### Bytes
+
+-- a row says no frame of activation, or isn't that of this first byte
+abbrev IsFree : ℕ → LpduRow → Type 0
+IsFree byte r = (is_within r.first r.last byte ≡ false) ⊎ ((bytes : List ℕ) → is_act (r.says bytes) ≡ false)
+
+free_read : (r : LpduRow) (bytes : List ℕ) → is_act (r.says bytes) ≡ false → is_act_read (read_by (Some r) bytes) ≡ false
+free_read r bytes free = go (nat_lt (length bytes) r.need) (nat_lt r.most (length bytes)) where
+  go : (short long : Bool) → is_act_read (cond short (Err (Short r.need (length bytes)))
+      (cond long (Err (TooLong (length bytes))) (Ok (r.says bytes)))) ≡ false
+  go true long = refl
+  go false true = refl
+  go false false = free
+
+-- the row of a first byte
+row_free : (byte : ℕ) (rows : List LpduRow) → AllByRecursion (IsFree byte) rows → (bytes : List ℕ)
+    → is_act_read (read_by (find (λ (r : LpduRow). is_within r.first r.last byte) rows) bytes) ≡ false
+row_free byte [] a bytes = refl
+row_free byte (r ∷ rows) a bytes = by_test (is_within r.first r.last byte)
+    (λ q. rw q (by q a.0))
+    (λ q. rw q (row_free byte rows a.1 bytes)) where
+      by : is_within r.first r.last byte ≡ true → IsFree byte r → is_act_read (read_by (Some r) bytes) ≡ false
+      by q (inl other) = absurd (true≢false (sym q ∙ other))
+      by q (inr free) = free_read r bytes (free bytes)
+
+low_row : (low high n : ℕ) → high < n → is_within low high n ≡ false
+low_row low high n less = go (nat_le low n) (nat_le n high) refl where
+  go : (a b : Bool) → nat_le n high ≡ b → (a && b) ≡ false
+  go true true q = absurd (let most = leb-true n high q in omega (arith, less, most))
+  go true false q = refl
+  go false b q = refl
+
+-- frames of SHDLC have greater first bytes than those of activation
+high_free : (n : ℕ) → 0x80 ≤ n → (bytes : List ℕ) → slice_index bytes 0 ≡ n → is_act_lpdu bytes ≡ false
+high_free n high bytes first =
+    ap (λ k. is_act_read (read_by (find (λ (r : LpduRow). is_within r.first r.last k) table) bytes)) first ∙ row_free n table rows bytes
+  where
+    apart : (k : ℕ) → k < 0x80 → is_within k k n ≡ false
+    apart k less = low_row k k n (omega (arith, high, less))
+
+    acts : AllByRecursion (IsFree n) (drop 7 table)
+    acts = (
+      inl (apart 0x60 (omega arith)),
+      (
+        inl (apart 0x68 (omega arith)),
+        (
+          inl (apart 0x61 (omega arith)),
+          (inl (apart 0x69 (omega arith)), (inl (apart 0x62 (omega arith)), (inl (apart 0x6A (omega arith)), (inr (λ b. refl), tt)))),
+        ),
+      ),
+    )
+
+    rows : AllByRecursion (IsFree n) table
+    rows = (
+      inr (λ b. refl),
+      (inr (λ b. refl), (inr (λ b. refl), (inr (λ b. refl), (inr (λ b. refl), (inr (λ b. refl), (inr (λ b. refl), acts)))))),
+    )
+
+-- what is read as a frame of activation is one
+act_read : (c : Control) → is_act c ≡ false → is_act_lpdu (lpdu_of c) ≡ false
+act_read (I ns nr info) other = high_free (0x80 + 8 * ns + nr) (omega arith) (lpdu_of (I ns nr info)) refl
+act_read (S kind nr) other = high_free (0xC0 + 8 * kind_number kind + nr) (omega arith) (lpdu_of (S kind nr)) refl
+act_read (Act act again) other = absurd (true≢false other)
+act_read _ other = refl
+
+kept_act_lpdu : (c : Control) → not (is_act_lpdu (lpdu_of c)) ≡ false → not (is_act c) ≡ false
+kept_act_lpdu c q = by_test (is_act c) (λ z. rw z refl) (λ z. rw z (absurd (true≢false (sym (ap not (act_read c z)) ∙ q))))
+
+-- ### What is lost
+
+-- where no frame is told as lost but of activation
+pub kept_act : (h : ℕ) (w : Side) (c : Control) (why : Loss) → loses_one_on h (entry.Lost (end_of h w) (lpdu_of c) (lost_as why)) ≡ false
+    → not (is_act c) ≡ false
+kept_act h w c why q = kept_act_lpdu c (sym (ap (λ b. b && not (is_act_lpdu (lpdu_of c))) (link_same h w)) ∙ q)
+
+-- ### Wires
+
+pub sans_none : (w : List OnWire) → IsFreeOfLinkFrames (frames_on w) → sans w ≡ []
+sans_none [] q = refl
+sans_none (x ∷ w) q =
+    let both = or_none (not (is_act_lpdu (lpdu_of x.frame))) (list_any (λ lpdu. not (is_act_lpdu lpdu)) (frames_on w)) q in
+    by_test (is_act x.frame) (λ z. rw z (sans_none w both.1)) (λ z. absurd (true≢false (sym (ap not z) ∙ kept_act_lpdu x.frame both.0)))
+
+-- ## How a link stands, and whether nothing has withheld the answer to a reset of it
+
+-- ### A link since a reset
 
 -- how a link stands, whether it is known that nothing withheld the answer to a reset, and whether its ends are as they are read, as they
 -- aren't between the two steps by which activation begins
@@ -49,7 +247,7 @@ pub record IsSince (l : Link) : Type 0 where
       ≡ false
 
 -- one event more
-pub since_more : (l : Link) (e : LinkEvent) → IsEvent l e → list_any withholds (event_entries l e) ≡ false → IsSince l → IsSince (happens l e)
+since_more : (l : Link) (e : LinkEvent) → IsEvent l e → list_any withholds (event_entries l e) ≡ false → IsSince l → IsSince (happens l e)
 since_more l e can none a =
     let first : Link = after_link_events new_line a.before in
     let m : Link = happens first a.reset in
@@ -72,7 +270,7 @@ since_more l e can none a =
           ∙ (ap (λ b. b || list_any withholds (event_entries l e)) a.undisturbed ∙ none));
     }
 
--- ## What is told of power
+-- ### What is told of power
 
 -- the frames on the wire to a host are at most one more, or one less
 record IsOneOff (x y : Standing) : Type 0 where
@@ -105,16 +303,16 @@ near_said : (s : Saying) (x : Standing) → IsOneOff x (said_near s x)
 near_said (Begins n) x = near_same x (said_near (Begins n) x) refl
 near_said Ends x = near_same x (said_near Ends x) refl
 near_said (Puts f) x = near_put x (said_near (Puts f) x) f refl
-near_said (Takes f) x = near_same x (said_near (Takes f) x) refl
-near_said (Loses f) x = near_same x (said_near (Loses f) x) refl
+near_said (SayingTakes f) x = near_same x (said_near (SayingTakes f) x) refl
+near_said (SayingLoses f) x = near_same x (said_near (SayingLoses f) x) refl
 near_said _ x = near_same x x refl
 
 far_said : (s : Saying) (x : Standing) → IsOneOff x (said_far s x)
 far_said (Begins n) x = near_same x (said_far (Begins n) x) refl
 far_said Ends x = near_same x (said_far Ends x) refl
 far_said (Puts f) x = near_same x (said_far (Puts f) x) refl
-far_said (Takes f) x = near_dropped x (said_far (Takes f) x) refl
-far_said (Loses f) x = near_dropped x (said_far (Loses f) x) refl
+far_said (SayingTakes f) x = near_dropped x (said_far (SayingTakes f) x) refl
+far_said (SayingLoses f) x = near_dropped x (said_far (SayingLoses f) x) refl
 far_said _ x = near_same x x refl
 
 abbrev pub is_cut : Noted → Bool
@@ -174,8 +372,8 @@ module _ (h : ℕ) where
   law_one x (Got w k m) = (one_off x (Some (end_of h w, Gets k m))).more
   law_one x (Sent w k m) = (one_off x (Some (end_of h w, Sends k m))).more
   law_one x (Emit w c) = (one_off x (Some (end_of h w, Puts (lpdu_of c)))).more
-  law_one x (Took w c) = (one_off x (Some (end_of h w, Takes (lpdu_of c)))).more
-  law_one x (Lost w c why) = (one_off x (Some (end_of h w, Loses (lpdu_of c)))).more
+  law_one x (Took w c) = (one_off x (Some (end_of h w, SayingTakes (lpdu_of c)))).more
+  law_one x (Lost w c why) = (one_off x (Some (end_of h w, SayingLoses (lpdu_of c)))).more
   law_one x Tick = omega arith
   law_one x (Restarted w) = omega arith
   law_one x (Cut Controller) = omega arith
@@ -208,13 +406,13 @@ module _ (h : ℕ) where
       x : Standing
       x = record new_standing { to_host = replicate (suc (length u + length notes)) [] }
 
--- ## What is told of frames
+-- ### What is told of frames
 
 module _ (h : ℕ) where
   pub spoils_none : (o : Option (End × Saying)) → is_of h o ≡ false → (drops_on h o || resets_on h o) ≡ false
   spoils_none None q = refl
   spoils_none (Some (e, Puts f)) q = rw q refl
-  spoils_none (Some (e, Loses f)) q = rw q refl
+  spoils_none (Some (e, SayingLoses f)) q = rw q refl
   spoils_none (Some (e, _)) q = refl
 
   -- only what says something of the link spoils
@@ -248,7 +446,7 @@ module _ (h : ℕ) where
       let more = withheld_parts u a.1 in
       (ap (λ z. z || list_any (cuts_on h) u) b.0 ∙ more.0, ap (λ z. z || list_any (spoils_on h) u) b.1 ∙ more.1)
 
--- ## Notes in which no activation begins
+-- ### Notes in which no activation begins
 
 abbrev pub IsUnstarted : Noted → Type 0
 IsUnstarted (Restarted who) = ⊥
@@ -263,7 +461,7 @@ stands_of h (Restarted who ∷ t) a q = absurd a.0
 stands_of h (Cut who ∷ t) a q = absurd (true≢false q)
 stands_of h (_ ∷ t) a q = stands_of h t a.1 q
 
--- ## One event
+-- ### One event
 
 kept_both : (a b : Bool) → (a && not b) ≡ true → (a ≡ true) × (b ≡ false)
 kept_both true false q = (refl, refl)
@@ -370,7 +568,7 @@ since_known h c x u b q leaves = subst P (sym q) (same c leaves)
     same (Activates k sync power) z = go (h == k) z
     same c z = z
 
--- ## A link with a reset
+-- ### A link with a reset
 
 pub since_reset : (l : Link) (e : LinkEvent) (events : List LinkEvent) → IsRunOf events l → IsEvent l e → IsReset l e
     → list_any withholds (rest_of l e) ≡ false → IsSince (happens l e)

@@ -1,27 +1,405 @@
--- The frames on the wires of a link are read off what is noted of it.
-use Rattle.node_laws.proofs.Words.{Acked, Active, AsksReset, AtController, Bare, Begins, Bool, Clf, Comes, Controller, Counts, Cut, CutOff, Down, Emit}
-use Rattle.node_laws.proofs.Words.{EndState, Ending, Entry, FetchMessage, GaveUp, Gets, Give, GoesOut, Got, Hold, Host, IsClf, IsDown, IsLinkTold, Link}
-use Rattle.node_laws.proofs.Words.{LinkEnd, LinkEvent, List, Lost, Node, None, Noted, OnWire, Puts, Release, Reset, Restarted, Role, Saying, Seen, Sent}
-use Rattle.node_laws.proofs.Words.{Session, SetAside, Some, Standing, Starts, Step, Stops, Took, Turn, Uicc, [], aged, aged_entries, all_append, ap}
-use Rattle.node_laws.proofs.Words.{aside_refusal, becomes_at, by_option, drop, end_of, event_entries, exchanged, false, frames_on, frames_out, happens}
-use Rattle.node_laws.proofs.Words.{inactive, kept, law_noted, list_any, lpdu_of, made_active, no_longer_waits, no_session, not, older, put_all, readiness_of}
-use Rattle.node_laws.proofs.Words.{refl, said_far, said_near, same_number, see, see_all, silent, standing, standing_by_law, stands_said, started, step_entries}
-use Rattle.node_laws.proofs.Words.{subst, sym, tick_entries, true, true≢false, turn, turned, with_empty_wires, with_ready, ℕ, ◌++◌, ◌∙◌, ◌∷◌, ◌≡◌}
-use Rattle.shdlc_core.specs.Machine.{frame_due}
+-- The frames on the wires of a link, and how ready its ends are, are read off what is noted of it.
+use Rattle.node_laws.proofs.Words.{Acked, Act, ActStart, Active, AllAllowed, AllByRecursion, AsksReset, AtController, Bare, Begins, Bool, Clf, Comes, Control}
+use Rattle.node_laws.proofs.Words.{Controller, Counts, Cut, CutOff, Down, Emit, EndState, Ending, Entry, FetchMessage, GaveUp, Gets, Give, GoesOut, Good, Got}
+use Rattle.node_laws.proofs.Words.{Hold, Host, I, IsClf, IsDown, IsEvent, IsLine, IsLinkTold, IsRunOf, IsUpNow, Link, LinkEnd, LinkEvent, List, Lost, Node}
+use Rattle.node_laws.proofs.Words.{None, Noted, NumberedEnd, OnWire, PowerMode, Puts, Reached, Readiness, Ready, Release, Reset, Restarted, Role, S, Saying}
+use Rattle.node_laws.proofs.Words.{Seen, Sent, Session, SetAside, Some, Standing, Starts, Step, Stops, SyncId, Took, Turn, Uicc, [], activated_role}
+use Rattle.node_laws.proofs.Words.{after_link_events, aged, aged_entries, all_append, ap, append-nil, append_assoc, arith, aside_refusal, becomes_at, begins}
+use Rattle.node_laws.proofs.Words.{by_option, by_test, core_end, core_event, core_of, drop, end_of, entries, event_entries, event_step, exchanged, false}
+use Rattle.node_laws.proofs.Words.{frames_on, frames_out, happens, happens_at_controller, inactive, inl, inr, is_open, is_rset, is_waiting, kept, law_noted}
+use Rattle.node_laws.proofs.Words.{le-leb, length, list_any, lpdu_of, lpdu_row_of, lt-ltb, ltb-false, ltb-true, made_active, max, most_frames, moved, nat_le}
+use Rattle.node_laws.proofs.Words.{nat_lt, new_line, new_link_end, no_longer_waits, no_session, not, nothing_seen, number_of, older, or_none, put_all}
+use Rattle.node_laws.proofs.Words.{reached_more, readiness_of, refl, renewed, role_after, said_far, said_near, same_number, see, see_all, sent_all, silences}
+use Rattle.node_laws.proofs.Words.{silent, since, slice_index, standing, standing_by_law, stands_said, start_good, start_reached, started, step_entries}
+use Rattle.node_laws.proofs.Words.{stopped, subst, suc, sym, tick_entries, true, true≢false, turn, turned, turned_role, turned_same, with_empty_wires}
+use Rattle.node_laws.proofs.Words.{with_ready, zero, ℕ, ◌&&◌, ◌*◌, ◌++◌, ◌+◌, ◌<◌, ◌∙◌, ◌∷◌, ◌≡◌, ◌≤◌, ◌⊎◌}
+use Rattle.history.proofs.legal.Plain.{out_numbers}
+use Rattle.history.proofs.waits.Harked.{controller_harked, host_harked}
+use Rattle.history.proofs.waits.Harking.{hark, harks, harks-append, waits}
+use Rattle.history.specs.Filters.Saying.{Ends, Loses, Sends, Takes}
+use Rattle.history.specs.Legal.{is_rset_lpdu}
+use Rattle.link_laws.proofs.entries.Seeing.{read_off, see_all-append}
+use Rattle.link_laws.proofs.messages.Project.{frames_alike}
 use Rattle.link_laws.specs.entries.Entries.{End as Side}
 use Rattle.link_laws.specs.entries.Entries.Entry.{Tick, Up}
-use Rattle.link_laws.proofs.entries.Seeing.{see_all-append}
-use Rattle.history.specs.Filters.Saying.{Ends, Loses, Sends, Takes}
-use Rattle.node_laws.proofs.telling.Powers.{AreClear}
-use Rattle.node_laws.proofs.telling.Shapes.{IsShaped, IsStepShaped, clear_aged, last_of, opened_by, opened_stands, shaped_step, shaped_tick}
-use Rattle.node_laws.proofs.telling.WorldTicks.{between, near_notes, tick_event}
-use Rattle.node_laws.proofs.order.Withheld.{withholds_on}
-use Rattle.node_laws.proofs.order.Activity.{IsLined}
-use Rattle.node_laws.proofs.order.Since.{event_seen as seen_of}
-use Rattle.node_laws.proofs.order.Readying.{AreReady, ready_more, started_unready}
+use Rattle.shdlc_core.specs.Machine.{frame_due}
+use Rattle.swp_base.specs.declared.control_frames.Kind.TheVariants.{Rej, Rnr, Rr, Srej}
+use Rattle.swp_lpdu.specs.Controls.{HasNumbers, i_frame, lpdu_row}
+use Rattle.node_laws.proofs.links.Sites.{run_of_more}
+use Rattle.node_laws.proofs.order.Activity.{IsLined, acted, acting, acting-append, acts, all_acting, lined_acts}
+use Rattle.node_laws.proofs.order.Gone.{Gone, Hears, HearsNone, event_begins, event_keeps, event_silenced, events_mute, hears_parts}
+use Rattle.node_laws.proofs.order.Marking.{IsPast, all_resets}
 use Rattle.node_laws.proofs.order.Watches.{AreUnstarted, IsSince, IsStepOf, IsUnstarted, WatchedLink, kept_left, opened, since_step, unwatched, watched}
+use Rattle.node_laws.proofs.order.Watches.{withholds_on}
+use Rattle.node_laws.proofs.telling.Events.{after-append, entries-append}
+use Rattle.node_laws.proofs.telling.Shapes.{AreClear, IsShaped, IsStepShaped, clear_aged, last_of, opened_by, opened_stands, shaped_step, shaped_tick}
+use Rattle.node_laws.proofs.telling.WorldTicks.{between, near_notes, tick_event}
 
--- ## Wires that are seen
+-- ## Frames that are put on a link have their numbers, so RSET is read off their bytes
+
+-- ### Numbers
+
+abbrev pub misnumbered : Noted → Bool
+misnumbered (Emit who (I ns nr info)) = not (nat_lt ns 8 && nat_lt nr 8)
+misnumbered (Emit who (S kind nr)) = not (nat_lt nr 8)
+misnumbered _ = false
+
+low_number : (n : ℕ) → n < 8 → nat_lt n 8 ≡ true
+low_number n q = lt-ltb n 8 q
+
+numbers_fit : (who : Side) (cs : List Control) → AllByRecursion HasNumbers cs → AllByRecursion (λ c. misnumbered (Emit who c) ≡ false) cs
+numbers_fit who [] a = tt
+numbers_fit who (I ns nr info ∷ cs) a =
+    let x = low_number ns a.0.0 in let y = low_number nr a.0.1 in (rw (x, y) refl, numbers_fit who cs a.1)
+numbers_fit who (S kind nr ∷ cs) a = let x = low_number nr a.0 in (rw x refl, numbers_fit who cs a.1)
+numbers_fit who (_ ∷ cs) a = (refl, numbers_fit who cs a.1)
+
+pub misnumbered_mute : HearsNone misnumbered
+misnumbered_mute =
+    record {
+      deaf = record {
+        down = λ w c. refl;
+        active = λ w. refl;
+        gave_up = λ w t. refl;
+        acked = λ w n c. refl;
+        got = λ w n m. refl;
+        sent = λ w n m. refl;
+        emit = λ w e. numbers_fit w (frames_out e) (out_numbers e);
+        took = λ w c. refl;
+        lost = λ w c y. refl;
+        tick = refl;
+      };
+      up = λ w n. refl;
+      restarted = λ w. refl;
+      cut = λ w. refl;
+    }
+
+pub numbered : (who : Side) (c : Control) → misnumbered (Emit who c) ≡ false → HasNumbers c
+numbered who (I ns nr info) q = go (nat_lt ns 8) (nat_lt nr 8) refl refl
+  where
+    go : (a b : Bool) → nat_lt ns 8 ≡ a → nat_lt nr 8 ≡ b → (ns < 8) × (nr < 8)
+    go true true x y = (ltb-true ns 8 x, ltb-true nr 8 y)
+    go true false x y = absurd (true≢false (rw (x, y) at q))
+    go false b x y = absurd (true≢false (rw x at q))
+numbered who (S kind nr) q = by_test (nat_lt nr 8) (λ x. ltb-true nr 8 x) (λ x. absurd (true≢false (rw x at q)))
+numbered who _ q = tt
+
+-- ### RSET
+
+-- what holds of all numbers below this one
+abbrev HoldsBelow : (ℕ → Type 0) → ℕ → Type 0
+HoldsBelow P zero = Unit {0}
+HoldsBelow P (suc n) = P zero × HoldsBelow (λ k. P (suc k)) n
+
+each_below : (P : ℕ → Type 0) (n : ℕ) → HoldsBelow P n → (k : ℕ) → k < n → P k
+each_below P zero a k low = absurd (omega (arith, low))
+each_below P (suc n) a zero low = a.0
+each_below P (suc n) a (suc k) low = each_below (λ j. P (suc j)) n a.1 k (omega (arith, low))
+
+-- bytes that are read by the row of information frames
+fragment_read : (bytes : List ℕ) → lpdu_row_of (slice_index bytes 0) ≡ Some (lpdu_row 0x80 0xBF 2 30 i_frame) → is_rset_lpdu bytes ≡ false
+fragment_read bytes q = by (nat_lt (length bytes) 2) (nat_lt 30 (length bytes)) refl refl
+  where
+    by : (short long : Bool) → nat_lt (length bytes) 2 ≡ short → nat_lt 30 (length bytes) ≡ long → is_rset_lpdu bytes ≡ false
+    by true long p r = rw (q, p) refl
+    by false true p r = rw (q, p, r) refl
+    by false false p r = rw (q, p, r) refl
+
+-- RSET alone is read as RSET
+rset_read : (c : Control) → HasNumbers c → is_rset_lpdu (lpdu_of c) ≡ is_rset c
+rset_read (I ns nr info) low =
+    let small = low.0 in
+    let few = low.1 in
+    let first : nat_le 0x80 (0x80 + 8 * ns + nr) ≡ true = le-leb 0x80 (0x80 + 8 * ns + nr) (omega arith) in
+    let last : nat_le (0x80 + 8 * ns + nr) 0xBF ≡ true = le-leb (0x80 + 8 * ns + nr) 0xBF (omega (arith, small, few)) in
+    fragment_read (lpdu_of (I ns nr info)) (rw (first, last) refl)
+rset_read (S Rr nr) low =
+    each_below (λ n. is_rset_lpdu (lpdu_of (S Rr n)) ≡ false) 8 (refl, (refl, (refl, (refl, (refl, (refl, (refl, (refl, tt)))))))) nr low
+rset_read (S Rej nr) low =
+    each_below (λ n. is_rset_lpdu (lpdu_of (S Rej n)) ≡ false) 8 (refl, (refl, (refl, (refl, (refl, (refl, (refl, (refl, tt)))))))) nr low
+rset_read (S Rnr nr) low =
+    each_below (λ n. is_rset_lpdu (lpdu_of (S Rnr n)) ≡ false) 8 (refl, (refl, (refl, (refl, (refl, (refl, (refl, (refl, tt)))))))) nr low
+rset_read (S Srej nr) low =
+    each_below (λ n. is_rset_lpdu (lpdu_of (S Srej n)) ≡ false) 8 (refl, (refl, (refl, (refl, (refl, (refl, (refl, (refl, tt)))))))) nr low
+rset_read (Act Ready true) low = refl
+rset_read (Act Ready false) low = refl
+rset_read (Act (SyncId id) true) low = refl
+rset_read (Act (SyncId id) false) low = refl
+rset_read (Act (PowerMode power) true) low = refl
+rset_read (Act (PowerMode power) false) low = refl
+rset_read _ low = refl
+
+-- ## How ready the ends of a link are, as it is read off what its law notes
+
+-- ### Notes
+
+-- how ready an end is after one more note, and after these
+abbrev heard : Side → Readiness → Noted → Readiness
+heard who r n = record { active = acting who r.active n; waits = hark who r.waits n }
+
+abbrev all_heard : Side → Readiness → List Noted → Readiness
+all_heard who r t = record { active = all_acting who r.active t; waits = harks who r.waits t }
+
+-- how ready both ends are, as it is read
+record AreRead (x y : Standing) (near far : Readiness) : Type 0 where
+  near_is : y.near ≡ near
+  far_is : y.far ≡ far
+
+module _ (h : ℕ) where
+  note_read : (x : Standing) (n : Noted) → IsUnstarted n → misnumbered n ≡ false → AreRead x (law_noted h x n) (heard Controller x.near n) (heard Host x.far n)
+  note_read x (Up Controller k) u m = let q = same_number h in record { near_is = rw q refl; far_is = rw q refl }
+  note_read x (Up Host k) u m = let q = same_number h in record { near_is = rw q refl; far_is = rw q refl }
+  note_read x (Down Controller cause) u m = let q = same_number h in record { near_is = rw q refl; far_is = rw q refl }
+  note_read x (Down Host cause) u m = let q = same_number h in record { near_is = rw q refl; far_is = rw q refl }
+  note_read x (Active Controller) u m = let q = same_number h in record { near_is = rw q refl; far_is = rw q refl }
+  note_read x (Active Host) u m = let q = same_number h in record { near_is = rw q refl; far_is = rw q refl }
+  note_read x (GaveUp Controller tries) u m = let q = same_number h in record { near_is = rw q refl; far_is = rw q refl }
+  note_read x (GaveUp Host tries) u m = let q = same_number h in record { near_is = rw q refl; far_is = rw q refl }
+  note_read x (Acked Controller k count) u m = let q = same_number h in record { near_is = rw q refl; far_is = rw q refl }
+  note_read x (Acked Host k count) u m = let q = same_number h in record { near_is = rw q refl; far_is = rw q refl }
+  note_read x (Got Controller k message) u m = let q = same_number h in record { near_is = rw q refl; far_is = rw q refl }
+  note_read x (Got Host k message) u m = let q = same_number h in record { near_is = rw q refl; far_is = rw q refl }
+  note_read x (Sent Controller k message) u m = let q = same_number h in record { near_is = rw q refl; far_is = rw q refl }
+  note_read x (Sent Host k message) u m = let q = same_number h in record { near_is = rw q refl; far_is = rw q refl }
+  note_read x (Emit Controller c) u m =
+      let q = same_number h in let r = rset_read c (numbered Controller c m) in record { near_is = rw (q, r) refl; far_is = rw q refl }
+  note_read x (Emit Host c) u m =
+      let q = same_number h in let r = rset_read c (numbered Host c m) in record { near_is = rw q refl; far_is = rw (q, r) refl }
+  note_read x (Took Controller c) u m = let q = same_number h in record { near_is = rw q refl; far_is = rw q refl }
+  note_read x (Took Host c) u m = let q = same_number h in record { near_is = rw q refl; far_is = rw q refl }
+  note_read x (Lost Controller c why) u m = let q = same_number h in record { near_is = rw q refl; far_is = rw q refl }
+  note_read x (Lost Host c why) u m = let q = same_number h in record { near_is = rw q refl; far_is = rw q refl }
+  note_read x Tick u m = record { near_is = refl; far_is = refl }
+  note_read x (Restarted w) u m = absurd u
+  note_read x (Cut Controller) u m = record { near_is = refl; far_is = refl }
+  note_read x (Cut Host) u m = record { near_is = refl; far_is = refl }
+
+  notes_read : (t : List Noted) (x : Standing) → AreUnstarted t → list_any misnumbered t ≡ false
+      → AreRead x (standing_by_law h x t) (all_heard Controller x.near t) (all_heard Host x.far t)
+  notes_read [] x u m = record { near_is = refl; far_is = refl }
+  notes_read (n ∷ t) x u m =
+      let a = or_none (misnumbered n) (list_any misnumbered t) m in
+      let one = note_read x n u.0 a.0 in
+      let more = notes_read t (law_noted h x n) u.1 a.1 in
+      record {
+        near_is = more.near_is ∙ ap (λ r. all_heard Controller r t) one.near_is;
+        far_is = more.far_is ∙ ap (λ r. all_heard Host r t) one.far_is;
+      }
+
+-- ### Events
+
+-- what holds of runs of a new link holds of one event more
+module _ (f : Bool → List Noted → Bool) (parts : (b : Bool) (t u : List Noted) → f b (t ++ u) ≡ f (f b t) u) (R : Link → Bool)
+    (law : (es : List LinkEvent) → AllAllowed new_line es → f false (entries new_line es) ≡ R (after_link_events new_line es)) where
+  one_more : (es : List LinkEvent) (l : Link) (e : LinkEvent) → IsEvent l e → IsRunOf es l → f (R l) (event_entries l e) ≡ R (happens l e)
+  one_more es l e can run =
+      let m : Link = after_link_events new_line es in
+      let next : IsRunOf (es ++ e ∷ []) (happens l e) = run_of_more es l e can run in
+      let before : f false (entries new_line es) ≡ R m = law es run.allowed in
+      let behind : f false (entries new_line (es ++ e ∷ [])) ≡ R (happens m e) = law (es ++ e ∷ []) next.allowed ∙ ap R (after-append es (e ∷ []) new_line) in
+      subst (λ (k : Link). f (R k) (event_entries k e) ≡ R (happens k e)) run.is
+      (ap (f (R m)) (sym (append-nil (event_entries m e)))
+      ∙ (ap (λ b. f b (entries m (e ∷ []))) (sym before)
+      ∙ (sym (parts false (entries new_line es) (entries m (e ∷ [])))
+      ∙ (ap (f false) (sym (entries-append es (e ∷ []) new_line)) ∙ behind))))
+
+-- the ends of a link are as ready as it is read
+pub record AreReady (l : Link) (x : Standing) : Type 0 where
+  pub near : x.near ≡ readiness_of l.controller.side
+  pub far : x.far ≡ readiness_of l.host.side
+
+ready_more : (h : ℕ) (l : Link) (e : LinkEvent) (t u : List Entry) (x : Standing) → IsLinkTold h l t → IsStepOf h l e u → AreUnstarted (event_entries l e)
+    → AreReady l x → AreReady (happens l e) (standing h x u)
+ready_more h l e t u x a n plain ready =
+    let notes : List Noted = event_entries l e in
+    let numbers : list_any misnumbered notes ≡ false =
+    ap (list_any misnumbered) (sym (append-nil notes)) ∙ events_mute misnumbered misnumbered_mute (e ∷ []) l in
+    let read = notes_read h notes x plain numbers in
+    let active_near : all_acting Controller (acts l.controller) notes ≡ acts (happens l e).controller =
+    one_more (all_acting Controller) (acting-append Controller) (λ k. acts k.controller) (λ es can. (acted es can).controller) a.events l e n.can a.run in
+    let active_far : all_acting Host (acts l.host) notes ≡ acts (happens l e).host =
+    one_more (all_acting Host) (acting-append Host) (λ k. acts k.host) (λ es can. (acted es can).host) a.events l e n.can a.run in
+    let waits_near : harks Controller (waits l.controller) notes ≡ waits (happens l e).controller =
+    one_more (harks Controller) (harks-append Controller) (λ k. waits k.controller) (controller_harked new_line IsLine) a.events l e n.can a.run in
+    let waits_far : harks Host (waits l.host) notes ≡ waits (happens l e).host =
+    one_more (harks Host) (harks-append Host) (λ k. waits k.host) (host_harked new_line IsLine) a.events l e n.can a.run in
+    record {
+      near = ap (λ (z : Standing). z.near) (n.stands x)
+          ∙ (read.near_is ∙ (ap (λ r. all_heard Controller r notes) ready.near
+          ∙ (ap (λ b. record { active = b; waits = harks Controller (waits l.controller) notes }) active_near
+          ∙ ap (λ b. record { active = acts (happens l e).controller; waits = b }) waits_near)));
+      far = ap (λ (z : Standing). z.far) (n.stands x)
+          ∙ (read.far_is ∙ (ap (λ r. all_heard Host r notes) ready.far
+          ∙ (ap (λ b. record { active = b; waits = harks Host (waits l.host) notes }) active_far
+          ∙ ap (λ b. record { active = acts (happens l e).host; waits = b }) waits_far)));
+    }
+
+-- ### Activation begins
+
+-- an end that has begun activation is neither active, nor waits
+pub started_unready : (l : Link) (value : ℕ) (ts : List Turn) (ending : Ending) → IsLined l.controller.side.role
+    → readiness_of (happens_at_controller l (Step (Starts value) ts ending)).controller.side ≡ inactive
+started_unready l value ts CutOff a =
+    let e : LinkEnd = started l.controller.side value in
+    let role : is_open (renewed (turned e ts).role) ≡ false =
+    ap (λ r. is_open (renewed r)) (turned_role e ts ∙ activated_role (moved l.controller.side true (stopped l.controller.side.shdlc)) (ActStart value))
+    ∙ lined_acts l.controller.side.role (ActStart value) a in
+    ap (λ b. record { active = b; waits = is_waiting (new_link_end (renewed (turned e ts).role)).shdlc }) role
+    ∙ ap (λ b. record { active = false; waits = b }) (new_free (turned e ts).role)
+  where
+    new_free : (r : Role) → is_waiting (new_link_end (renewed r)).shdlc ≡ false
+    new_free Bare = refl
+    new_free _ = refl
+started_unready l value ts GoesOut a = go l.controller.side.role refl a
+  where
+    e : LinkEnd
+    e = started l.controller.side value
+
+    free : (s : EndState) → s.phase ≡ IsDown → is_waiting s ≡ false
+    free s q = rw q refl
+
+    ends : e.shdlc.phase ≡ IsDown → is_open (role_after l.controller.side.role (ActStart value)) ≡ false → readiness_of (sent_all (turned e ts)) ≡ inactive
+    ends down shut =
+        let role : is_open (turned e ts).role ≡ false =
+        ap is_open (turned_role e ts ∙ activated_role (moved l.controller.side true (stopped l.controller.side.shdlc)) (ActStart value)) ∙ shut in
+        let waits_not : is_waiting (sent_all (turned e ts)).shdlc ≡ false =
+        free (sent_all (turned e ts)).shdlc ((frames_alike most_frames (turned e ts).shdlc).phase ∙ (turned_same ts e ∙ down)) in
+        ap (λ b. record { active = b; waits = is_waiting (sent_all (turned e ts)).shdlc }) role ∙ ap (λ b. record { active = false; waits = b }) waits_not
+
+    go : (r : Role) → l.controller.side.role ≡ r → IsLined r → readiness_of (sent_all (turned e ts)) ≡ inactive
+    go Bare q z = absurd (true≢false z)
+    go (Clf s) q z = ends (rw q refl) (ap (λ x. is_open (role_after x (ActStart value))) q)
+    go (Uicc s) q z = ends (rw q refl) (ap (λ x. is_open (role_after x (ActStart value))) q)
+
+-- ## Where both ends are up in a session, none was started, stopped or cut off since the first came up in it
+
+-- ### Since an end came up
+
+since_more : (n : ℕ) (t u : List Noted) → list_any (begins n) t ≡ true → since n (t ++ u) ≡ since n t ++ u
+since_more n [] u h = absurd (true≢false (sym h))
+since_more n (e ∷ t) u h = by_test (begins n e) (λ q. rw q refl) (λ q. rw q (since_more n t u (let z = h in rw q at z)))
+
+since_later : (n : ℕ) (t u : List Noted) → list_any (begins n) t ≡ false → since n (t ++ u) ≡ since n u
+since_later n [] u h = refl
+since_later n (e ∷ t) u h = by_test (begins n e) (λ q. absurd (true≢false (let z = h in rw q at z))) (λ q. rw q (since_later n t u (let z = h in rw q at z)))
+
+-- what is heard since then is heard, and an end came up
+since_hears : (n : ℕ) (u : List Noted) → Hears silences (since n u) → Hears (begins n) u × Hears silences u
+since_hears n [] q = absurd (true≢false (sym q))
+since_hears n (e ∷ u) q = by_test (begins n e)
+    (λ p. by_test (silences e) (λ s. (rw p refl, rw s refl)) (λ s. (rw p refl, rw s (let z = q in rw p at z))))
+    (λ p. let x = since_hears n u (let z = q in rw p at z) in by_test (silences e) (λ s. (rw p x.0, rw s refl)) (λ s. (rw p x.0, rw s x.1)))
+
+-- ### Along a run
+
+-- what is known of a number
+record Watched (n : ℕ) (t : List Noted) (l : Link) : Type 0 where
+  used : Hears (begins n) t → n ≤ l.resets
+  gone : Hears silences (since n t) → Gone n l
+
+watched_more : (n : ℕ) (t : List Noted) (l : Link) (e : LinkEvent) → IsEvent l e → Good l → Reached (core_of l)
+    → see_all (kept l) (event_entries l e) ≡ kept (happens l e) → Watched n t l → Watched n (t ++ event_entries l e) (happens l e)
+watched_more n t l e a g r seen w = go (list_any (begins n) t) refl
+  where
+    u : List Noted
+    u = event_entries l e
+
+    k : Link
+    k = happens l e
+
+    go : (b : Bool) → list_any (begins n) t ≡ b → Watched n (t ++ u) k
+    go true h =
+        let i : n ≤ l.resets = w.used h in
+        let x = all_resets u (kept l) in
+        let y : (see_all (kept l) u).resets ≡ k.resets = ap (λ (s : Seen). s.resets) seen in
+        record {
+          used = λ _. omega (arith, i, x, y);
+          gone = λ q. which i (hears_parts silences (since n t) u (subst (λ z. Hears silences z) (since_more n t u h) q));
+        }
+      where
+        which : n ≤ l.resets → Hears silences (since n t) ⊎ Hears silences u → Gone n k
+        which i (inl q) = event_keeps n l e a g r seen (w.gone q)
+        which i (inr q) = event_silenced n l e a g r i q
+    go false h =
+        record {
+          used = λ q. (event_begins n l e a g r (came (hears_parts (begins n) t u q))).used;
+          gone = λ q. let x = since_hears n u (subst (λ z. Hears silences z) (since_later n t u h) q) in (event_begins n l e a g r x.0).gone x.1;
+        }
+      where
+        came : Hears (begins n) t ⊎ Hears (begins n) u → Hears (begins n) u
+        came (inl x) = absurd (true≢false (sym x ∙ h))
+        came (inr x) = x
+
+-- what is seen of an event of a run
+event_seen_of_since : (es : List LinkEvent) (e : LinkEvent)
+    → (let l : Link = after_link_events new_line es in see_all (kept l) (event_entries l e) ≡ kept (happens l e))
+event_seen_of_since es e =
+    let m : Link = after_link_events new_line es in
+    let before : see_all nothing_seen (entries new_line es) ≡ kept m = read_off new_line IsLine es in
+    let behind : see_all nothing_seen (entries new_line (es ++ e ∷ [])) ≡ kept (after_link_events new_line (es ++ e ∷ [])) =
+    read_off new_line IsLine (es ++ e ∷ []) in
+    let last : see_all (kept m) (entries m (e ∷ [])) ≡ kept (happens m e) =
+    sym (ap (see_all nothing_seen) (entries-append es (e ∷ []) new_line)
+    ∙ (see_all-append nothing_seen (entries new_line es) (entries m (e ∷ [])) ∙ ap (λ s. see_all s (entries m (e ∷ []))) before))
+    ∙ (behind ∙ ap kept (after-append es (e ∷ []) new_line)) in
+    ap (see_all (kept m)) (sym (append-nil (event_entries m e))) ∙ last
+
+abbrev At : ℕ → List LinkEvent → Type 0
+At n es = Watched n (entries new_line es) (after_link_events new_line es)
+
+watched_all : (n : ℕ) (es before : List LinkEvent) → AllAllowed (after_link_events new_line before) es → Good (after_link_events new_line before)
+    → Reached (core_of (after_link_events new_line before)) → At n before → At n (before ++ es)
+watched_all n [] before a g r w = subst (At n) (sym (append-nil before)) w
+watched_all n (e ∷ es) before a g r w =
+    let l : Link = after_link_events new_line before in
+    let m : Link = happens l e in
+    let st = event_step l e a.0 g r in
+    let next : Reached (core_of m) = subst Reached (sym st.core) (reached_more (core_of l) (core_event l e) st.allowed r) in
+    let more : Watched n (entries new_line before ++ event_entries l e) m = watched_more n (entries new_line before) l e a.0 g r (event_seen_of_since before e)
+    w in
+    let one : List LinkEvent = before ++ e ∷ [] in
+    let is : after_link_events new_line one ≡ m = after-append before (e ∷ []) new_line in
+    let noted : entries new_line one ≡ entries new_line before ++ event_entries l e =
+    entries-append before (e ∷ []) new_line ∙ ap (λ z. entries new_line before ++ z) (append-nil (event_entries l e)) in
+    let Q : Link → Type 0 = λ z. Reached (core_of z) in
+    let now : At n one = subst (λ (z : Link). Watched n (entries new_line one) z) (sym is) (subst (λ (z : List Noted). Watched n z m) (sym noted) more) in
+    subst (At n) (append_assoc before (e ∷ []) es)
+    (watched_all n es one (subst (λ (z : Link). AllAllowed z es) (sym is) a.1) (subst Good (sym is) st.good) (subst Q (sym is) next) now)
+
+watched_of_since : (n : ℕ) (es : List LinkEvent) → AllAllowed new_line es → At n es
+watched_of_since n es a =
+    watched_all n es [] a (start_good new_line IsLine) (start_reached new_line IsLine)
+    (record { used = λ q. absurd (true≢false (sym q)); gone = λ q. absurd (true≢false (sym q)) })
+
+-- ### Both ends are up
+
+-- an end that is up has none that is gone
+jumped_none : (n emitted took : ℕ) → (emitted ≡ n → ⊥) → (took ≡ n → ⊥) → max emitted took ≡ n → ⊥
+jumped_none n emitted took x y q = by_test (nat_lt emitted took)
+    (λ p. let z = ltb-true emitted took p in y (omega (arith, z, q)))
+    (λ p. let z = ltb-false emitted took p in x (omega (arith, z, q)))
+
+past_none : (n : ℕ) (h : NumberedEnd) → h.side.shdlc.phase ≡ IsUpNow → number_of h ≡ n → IsPast n (core_end h) → ⊥
+past_none n h up q p = let z : n < number_of h = rw up at p in absurd (omega (arith, z, q))
+
+up_not_gone : (n : ℕ) (l : Link) → l.controller.side.shdlc.phase ≡ IsUpNow → l.host.side.shdlc.phase ≡ IsUpNow → number_of l.controller ≡ n
+    → number_of l.host ≡ n → Gone n l → ⊥
+up_not_gone n l near far p q (inl (inl j)) = jumped_none n l.controller.emitted l.controller.took j.gave j.took p
+up_not_gone n l near far p q (inl (inr x)) = past_none n l.controller near p x
+up_not_gone n l near far p q (inr (inl j)) = jumped_none n l.host.emitted l.host.took j.gave j.took q
+up_not_gone n l near far p q (inr (inr x)) = past_none n l.host far q x
+
+pub none_silenced : (n : ℕ) (es : List LinkEvent) → AllAllowed new_line es
+    → (let l : Link = after_link_events new_line es in
+    l.controller.side.shdlc.phase ≡ IsUpNow → l.host.side.shdlc.phase ≡ IsUpNow → number_of l.controller ≡ n → number_of l.host ≡ n
+    → list_any silences (since n (entries new_line es)) ≡ false)
+none_silenced n es a near far p q = by_test (list_any silences (since n (entries new_line es)))
+    (λ x. absurd (up_not_gone n (after_link_events new_line es) near far p q ((watched_of_since n es a).gone x)))
+    (λ x. x)
+
+-- ## The frames on the wires of a link are read off what is noted of it
+
+-- ### Wires that are seen
 
 pub record ShownBy (s : Seen) (x : Standing) : Type 0 where
   pub to_controller : x.to_controller ≡ frames_on s.to_controller
@@ -115,7 +493,7 @@ module _ (h : ℕ) where
   notes_shown [] s x u a = a
   notes_shown (n ∷ notes) s x u a = notes_shown notes (see s n) (law_noted h x n) u.1 (note_shown s x n u.0 a)
 
--- ## Notes in which no activation begins
+-- ### Notes in which no activation begins
 
 pub clear_unstarted : (xs : List Noted) → AreClear xs → AreUnstarted xs
 clear_unstarted [] a = tt
@@ -151,11 +529,12 @@ tick_unstarted true l c n =
           (shaped_unstarted Host n.ending _ (shaped_tick Host (exchanged (between true (aged l) c)) n)))),
     )
 
--- ## Events
+-- ### Events
 
 -- what is seen of an event of a link that is told
 event_seen : (h : ℕ) (l : Link) (t : List Entry) (e : LinkEvent) → IsLinkTold h l t → see_all (kept l) (event_entries l e) ≡ kept (happens l e)
-event_seen h l t e a = let P : Link → Type 0 = λ k. see_all (kept k) (event_entries k e) ≡ kept (happens k e) in subst P a.run.is (seen_of a.events e)
+event_seen h l t e a = let P : Link → Type 0 = λ k. see_all (kept k) (event_entries k e) ≡ kept (happens k e) in subst P a.run.is
+    (event_seen_of_since a.events e)
 
 module _ (h : ℕ) (l : Link) (e : LinkEvent) (t u : List Entry) (x : WatchedLink) (a : IsLinkTold h l t) (n : IsStepOf h l e u) (shown : Shown l x) where
   pub shown_more : AreUnstarted (event_entries l e) → Shown (happens l e) (watched h x u)
@@ -210,7 +589,7 @@ module _ (h : ℕ) (l : Link) (e : LinkEvent) (t u : List Entry) (x : WatchedLin
       goes Stops q = λ z. absurd (true≢false (sym z))
       goes _ q = plainly q
 
--- ## Activation at the controller's end puts nothing on the wire
+-- ### Activation at the controller's end puts nothing on the wire
 
 -- nothing is due at an end that is Down
 record IsBlank (e : LinkEnd) : Type 0 where

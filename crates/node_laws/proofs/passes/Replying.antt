@@ -1,19 +1,145 @@
--- What deeds note where each message that they send is taken.
-use Rattle.node_laws.proofs.Words.{About, AreTaken, Asks, Bool, Command, Commits, Core, CountsCommands, Deed, Desk, Drops, Ends, Entry, Give, GoesOn, Hears}
-use Rattle.node_laws.proofs.Words.{IsAnswered, IsReplyNoted, LinkState, List, Message, None, Option, Orders, Port, Release, Releases, Removed, SaysOk, Sends}
-use Rattle.node_laws.proofs.Words.{SetAside, SetsErrors, Some, TakesMessage, Tells, Turn, Up, Waiting, Waits, Work, Write, [], after_turn, all_done, ap}
-use Rattle.node_laws.proofs.Words.{append_assoc, body_of, by_option, by_test, changed_if, commit, commit_writes, cond, count_of, done, end_of_node}
-use Rattle.node_laws.proofs.Words.{entries_of_reply, eqb-true, false, give_refusal, goes_in, is_up, keeps, loses_power, map, next_count, noted_by_deed}
-use Rattle.node_laws.proofs.Words.{noted_by_deeds, noted_of, notified, noting, option_and_then, option_map_or, port_at, refl, sent_in_session, session_of_port}
-use Rattle.node_laws.proofs.Words.{subst, sym, true, turn_at, with_desk, ℕ, ◌++◌, ◌==◌, ◌∙◌, ◌∷◌, ◌≡◌}
-use Rattle.trace_model.specs.declared.entry.Entry.TheVariants as entry
+-- What deeds note and leave at the ends of a node where each message that they send is taken, and that it is taken where none lacks room.
+use Rattle.node_laws.proofs.Words.{About, AreTables, AreTaken, Asks, Bool, Command, Commits, Core, CountsCommands, Deed, Desk, Drops, Ends, Entry, FetchMessage}
+use Rattle.node_laws.proofs.Words.{Give, GiveOnce, GoesOn, HciTables, Hears, Hold, Init, IsAnswered, IsNoneOf, IsRecordable, IsReplyNoted, Knows, LinkEnd}
+use Rattle.node_laws.proofs.Words.{LinkState, List, MayBeDone, Message, None, Option, Orders, Port, Refused, Release, Releases, Removed, SaysOk, Sends}
+use Rattle.node_laws.proofs.Words.{SetAside, SetsErrors, Some, State, TakesMessage, Tells, Turn, Up, Waiting, Waits, Work, Write, [], after_turn, all_done, ap}
+use Rattle.node_laws.proofs.Words.{append_assoc, apply, arith, aside_refusal, body_of, by_option, by_test, changed_if, commit, commit_writes, committed, cond}
+use Rattle.node_laws.proofs.Words.{count_of, done, end_of_node, entries_of_reply, eq-eqb, eqb-true, false, give_refusal, given, goes_in, handles, in_use}
+use Rattle.node_laws.proofs.Words.{is_held, is_up, keeps, lack, le-ltb, length, lets_go, loses_power, ltb-false, map, nat_lt, need, needs, next_count}
+use Rattle.node_laws.proofs.Words.{noted_by_deed, noted_by_deeds, noted_of, notified, noting, option_and_then, option_map_or, port_at, refl, sent_in_session}
+use Rattle.node_laws.proofs.Words.{session_of_port, spare, subst, sym, takes_up, true, true≢false, turn, turn_at, waiting_at, with_desk, with_port, ℕ, ◌++◌}
+use Rattle.node_laws.proofs.Words.{◌+◌, ◌-◌, ◌/◌, ◌==◌, ◌∙◌, ◌∷◌, ◌≡◌, ◌≤◌}
+use Rattle.link_laws.specs.machine.Machine.{unless}
 use Rattle.shdlc_core.specs.declared.answers.LinkState.TheVariants.{Down}
-use Rattle.node_laws.proofs.steps.Ports.{changed_host}
-use Rattle.node_laws.proofs.telling.Accounts.{at_host}
-use Rattle.node_laws.proofs.telling.Away.{at_map, none_map}
+use Rattle.node_laws.proofs.kept.Reckoned.{commit_count}
 use Rattle.node_laws.proofs.links.Noticing.{turn-phase}
+use Rattle.node_laws.proofs.steps.StepWalks.{changed_host, unless as unless_lost}
+use Rattle.node_laws.proofs.telling.Accounts.{IsNoFetch, at_host}
+use Rattle.node_laws.proofs.telling.Steps.{at_map, none_map}
+use Rattle.trace_model.specs.declared.entry.Entry.TheVariants as entry
 
--- ## Sessions
+-- ## What waits at an end of a node, and whether it was noted as held, as the node does something to it or to another one
+
+-- these messages wait there, and whether the first one was noted as held
+abbrev pub Sees : List Message → Bool → Option Port → Type 0
+Sees ms b o = (option_map_or (λ (p : Port). p.side.got) o [] ≡ ms) × (option_map_or (λ (p : Port). p.desk.holds) o false ≡ b)
+
+abbrev pub SeesAt : ℕ → List Message → Bool → Work → Type 0
+SeesAt k ms b w = Sees ms b (port_at w.ports k)
+
+map_sees : (f : Port → Port) → ((p : Port) → (f p).desk.host ≡ p.desk.host) → ((p : Port) → (f p).side.got ≡ p.side.got)
+    → ((p : Port) → (f p).desk.holds ≡ p.desk.holds) → (ports : List Port) (k : ℕ) (ms : List Message) (b : Bool) → Sees ms b (port_at ports k)
+    → Sees ms b (port_at (map f ports) k)
+map_sees f host got holds ports k ms b s = by_option (port_at ports k)
+    (λ q. subst (Sees ms b) (sym (none_map f host ports k q)) (subst (Sees ms b) q s))
+    (λ p q. let was : Sees ms b (Some p) = subst (Sees ms b) q s in
+    subst (Sees ms b) (sym (at_map f host ports k p q)) (got p ∙ was.0, holds p ∙ was.1))
+
+-- the end with another number stays as it is
+pub other_stays : (j k : ℕ) (f : Port → Port) → ((p : Port) → (f p).desk.host ≡ p.desk.host) → (ports : List Port) → (j == k) ≡ false
+    → port_at (with_port j f ports) k ≡ port_at ports k
+other_stays j k f host ports off = by_option (port_at ports k)
+    (λ q. none_map g keeps ports k q ∙ sym q)
+    (λ p q. at_map g keeps ports k p q ∙ (ap (λ z. Some z) (by_test (p.desk.host == j)
+    (λ e. rw e (absurd (true≢false (sym (eq-eqb j k (sym (eqb-true p.desk.host j e) ∙ eqb-true p.desk.host k (at_host ports k p q))) ∙ off))))
+    (λ e. rw e refl)) ∙ sym q))
+  where
+    g : Port → Port
+    g p = changed_if (p.desk.host == j) f p
+
+    keeps : (p : Port) → (g p).desk.host ≡ p.desk.host
+    keeps p = changed_host (p.desk.host == j) f p host
+
+-- a turn that fetches no message leaves those that came
+unless_got : (o : Option Refused) (e f : LinkEnd) → f.got ≡ e.got → (unless o e f).got ≡ e.got
+unless_got None e f q = q
+unless_got (Some why) e f q = refl
+
+got_same : (e : LinkEnd) (t : Turn) → IsNoFetch t → (turn e t).got ≡ e.got
+got_same e (Give m) n = unless_got (give_refusal e m) e (given e m) refl
+got_same e (Hold held) n = refl
+got_same e FetchMessage n = absurd n
+got_same e SetAside n = unless_got (aside_refusal e) e (record e { aside = e.aside + 1 }) refl
+got_same e Release n = refl
+
+changed_got : (b : Bool) (f : Port → Port) (p : Port) → (f p).side.got ≡ p.side.got → (changed_if b f p).side.got ≡ p.side.got
+changed_got true f p q = q
+changed_got false f p q = refl
+
+changed_holds : (b : Bool) (f : Port → Port) (p : Port) → (f p).desk.holds ≡ p.desk.holds → (changed_if b f p).desk.holds ≡ p.desk.holds
+changed_holds true f p q = q
+changed_holds false f p q = refl
+
+module _ (k : ℕ) (ms : List Message) (b : Bool) where
+  abbrev pub Same : Work → Type 0
+  Same w = SeesAt k ms b w
+
+  pub turn_sees : (j : ℕ) (t : Turn) (w : Work) → IsNoFetch t → Same w → Same (turn_at j t w)
+  turn_sees j t w n s =
+      map_sees (λ p. changed_if (p.desk.host == j) (after_turn t) p) (λ p. changed_host (p.desk.host == j) (after_turn t) p (λ q. refl))
+      (λ p. changed_got (p.desk.host == j) (after_turn t) p (got_same p.side t n)) (λ p. changed_holds (p.desk.host == j) (after_turn t) p refl)
+      w.ports k ms b s
+
+  desk_sees : (j : ℕ) (f : Desk → Desk) (w : Work) → ((d : Desk) → (f d).host ≡ d.host) → ((d : Desk) → (f d).holds ≡ d.holds) → Same w
+      → Same (with_desk j f w)
+  desk_sees j f w host holds s =
+      let g : Port → Port = λ p. record p { desk = f p.desk } in
+      map_sees (λ p. changed_if (p.desk.host == j) g p) (λ p. changed_host (p.desk.host == j) g p (λ q. host q.desk))
+      (λ p. changed_got (p.desk.host == j) g p refl) (λ p. changed_holds (p.desk.host == j) g p (holds p.desk)) w.ports k ms b s
+
+  notified_sees : (j : ℕ) (about : About) (message : List ℕ) (w : Work) → Same w → Same (notified j about message w)
+  notified_sees j about message w s =
+      desk_sees j (λ d. record d { notice = Some (record { about = about; age = 0 }) }) (turn_at j (Give (1, message)) w) (λ d. refl) (λ d. refl)
+      (turn_sees j (Give (1, message)) w tt s)
+
+  commit_sees : (c : Command) (w : Work) → Same w → Same (commit c w)
+  commit_sees c w s = by_test (goes_in c w) (λ q. rw q s) (λ q. rw q s)
+
+  deed_sees : (h : ℕ) (d : Deed) (w : Work) → Same w → Same (done h d w)
+  deed_sees h (Commits c) w s = commit_sees c w s
+  deed_sees h (Sends to m) w s = turn_sees to (Give m) w tt s
+  deed_sees h (Asks to message c) w s =
+      notified_sees to (Waits c) message (noting (entry.Ask to message ∷ []) (turn_at c.asker SetAside w)) (turn_sees c.asker SetAside w tt s)
+  deed_sees h (Releases asker) w s = turn_sees asker Release w tt s
+  deed_sees h (Tells to message) w s = notified_sees to Removed message w s
+  deed_sees h IsAnswered w s = desk_sees h (λ d. record d { notice = None }) w (λ d. refl) (λ d. refl) s
+  deed_sees h (SetsErrors errors) w s = desk_sees h (λ d. record d { errors = errors }) w (λ d. refl) (λ d. refl) s
+  deed_sees h (Orders message) w s = turn_sees h (Give (1, message)) (record w { core = record w.core { command = Some message } }) tt s
+  deed_sees h _ w s = s
+
+  pub deeds_see : (h : ℕ) (deeds : List Deed) (w : Work) → Same w → Same (all_done h deeds w)
+  deeds_see h [] w s = s
+  deeds_see h (d ∷ deeds) w s = unless_lost Same (all_done h deeds) (done h d w) (λ v t. deeds_see h deeds v t) (deed_sees h d w s)
+
+  pub lets_see : (h : ℕ) (w : Work) → Same w → Same (lets_go h w)
+  lets_see h w s = by_test (option_map_or (λ (p : Port). is_held p.side) (port_at w.ports h) false) (λ q. rw q (turn_sees h (Hold false) w tt s)) (λ q. rw q s)
+
+-- ### An end with messages
+
+-- the end where the first message waits
+pub record HasFirst (ports : List Port) (h : ℕ) (m : Message) (messages : List Message) : Type 0 where
+  pub port : Port
+  pub here : port_at ports h ≡ Some port
+  pub got : port.side.got ≡ m ∷ messages
+
+pub has_first : (ports : List Port) (h : ℕ) (m : Message) (messages : List Message) → waiting_at ports h ≡ m ∷ messages → HasFirst ports h m messages
+has_first ports h m messages e = by_option (port_at ports h)
+    (λ q. let none : [] ≡ m ∷ messages = subst P q e in absurd (cc none))
+    (λ p q. record { port = p; here = q; got = subst P q e })
+  where
+    P : Option Port → Type 0
+    P o = option_map_or (λ (p : Port). p.side.got) o [] ≡ m ∷ messages
+
+-- its own end, as it is changed
+pub own_changed : (h : ℕ) (f : Port → Port) → ((p : Port) → (f p).desk.host ≡ p.desk.host) → (ports : List Port) (p : Port) → port_at ports h ≡ Some p
+    → port_at (with_port h f ports) h ≡ Some (f p)
+own_changed h f host ports p q =
+    at_map (λ x. changed_if (x.desk.host == h) f x) (λ x. changed_host (x.desk.host == h) f x host) ports h p q
+    ∙ ap (λ b. Some (changed_if b f p)) (at_host ports h p q)
+
+-- ## What deeds note where each message that they send is taken
+
+-- ### Sessions
 
 abbrev pub session_in : Option Port → Option ℕ
 session_in o = option_and_then (λ (p : Port). cond (is_up p.side.shdlc.phase) (Some p.session) None) o
@@ -34,7 +160,7 @@ turn_sessions j t w k =
     session_map (λ p. changed_if (p.desk.host == j) (after_turn t) p) (λ p. changed_host (p.desk.host == j) (after_turn t) p (λ q. refl))
     (λ p. changed_session (p.desk.host == j) (after_turn t) p (ap (λ s. cond (is_up s) (Some p.session) None) (turn-phase p.side t))) w.ports k
 
-pub desk_sessions : (j : ℕ) (f : Desk → Desk) (w : Work) → ((d : Desk) → (f d).host ≡ d.host) → (k : ℕ)
+desk_sessions : (j : ℕ) (f : Desk → Desk) (w : Work) → ((d : Desk) → (f d).host ≡ d.host) → (k : ℕ)
     → session_of_port (with_desk j f w).ports k ≡ session_of_port w.ports k
 desk_sessions j f w host k =
     let g : Port → Port = λ p. record p { desk = f p.desk } in
@@ -62,9 +188,9 @@ deed_sessions h (SetsErrors errors) w k = desk_sessions h (λ d. record d { erro
 deed_sessions h (Orders message) w k = turn_sessions h (Give (1, message)) (record w { core = record w.core { command = Some message } }) k
 deed_sessions h _ w k = refl
 
--- ## Numbers
+-- ### Numbers
 
--- ## Messages
+-- ### Messages
 
 -- what is noted of a message that an end takes where it is up
 given_so : (core : Core) (to : ℕ) (m : Message) (ports : List Port) → TakesMessage ports to m
@@ -82,7 +208,7 @@ given_so core to m ports takes = go (port_at ports to) refl
         by Down e = rw (q, e) refl
         by Waiting e = rw (q, e) refl
 
--- ## One deed after another
+-- ### One deed after another
 
 sent_same : (node : ℕ) (s t : ℕ → Option ℕ) (h : ℕ) (m : Message) → s h ≡ t h → sent_in_session node s h m ≡ sent_in_session node t h m
 sent_same node s t h m e = rw e refl
@@ -192,3 +318,210 @@ module _ (sessions : ℕ → Option ℕ) (h : ℕ) where
       onward (GoesOn i) deeds w w.core.node [] _ on refl (noted_so deeds (done h (GoesOn i) w) on same t.1 c)
   noted_so (Ends e ∷ deeds) w on same t c =
       onward (Ends e) deeds w w.core.node (e ∷ []) _ on refl (noted_so deeds (done h (Ends e) w) on same t.1 c)
+
+-- ## Where no deed lacks room, and deeds give each end one message or block at most, each message is taken
+
+-- ### Blocks
+
+abbrev spare_in : Option Port → ℕ
+spare_in o = option_map_or (λ (p : Port). spare p.side) o 0
+
+abbrev spare_of : List Port → ℕ → ℕ
+spare_of ports h = spare_in (port_at ports h)
+
+-- an end that is up takes a message for which it has the blocks: none of those is too long
+short_enough : (s n : ℕ) → s ≤ 128 → (n + 31) / 32 ≤ s → n ≤ 4096
+short_enough s n most room = omega arith
+
+takes_it : (e : LinkEnd) (m : Message) → e.shdlc.phase ≡ Up → nat_lt (spare e) (need m.1) ≡ false → give_refusal e m ≡ None
+takes_it e m up room =
+    let most : spare e ≤ 128 = omega arith in
+    rw (up, le-ltb 4096 (length m.1) (short_enough (spare e) (length m.1) most (ltb-false (spare e) (need m.1) room)), room) refl
+
+has_room : (ports : List Port) (h : ℕ) (m : Message) → need m.1 ≤ spare_of ports h → TakesMessage ports h m
+has_room ports h m room p here up =
+    let P : Option Port → Type 0 = λ o. need m.1 ≤ spare_in o in
+    takes_it p.side m up (le-ltb (spare p.side) (need m.1) (subst P here room))
+
+-- ### Blocks as deeds are done
+
+more_spare : (f : Port → Port) → ((p : Port) → (f p).desk.host ≡ p.desk.host) → ((p : Port) → spare p.side ≤ spare (f p).side) → (ports : List Port) (k : ℕ)
+    → spare_of ports k ≤ spare_of (map f ports) k
+more_spare f host more ports k = by_option (port_at ports k)
+    (λ q. omega (arith, ap spare_in q))
+    (λ p q. omega (arith, ap spare_in q, ap spare_in (at_map f host ports k p q), more p))
+
+changed_more : (b : Bool) (f : Port → Port) (p : Port) → spare p.side ≤ spare (f p).side → spare p.side ≤ spare (changed_if b f p).side
+changed_more true f p q = q
+changed_more false f p q = omega arith
+
+same_most : (n : ℕ) → n ≤ n
+same_most n = omega arith
+
+desk_spare : (j : ℕ) (f : Desk → Desk) (w : Work) → ((d : Desk) → (f d).host ≡ d.host) → (k : ℕ) → spare_of w.ports k ≤ spare_of (with_desk j f w).ports k
+desk_spare j f w host k =
+    let g : Port → Port = λ p. record p { desk = f p.desk } in
+    more_spare (λ p. changed_if (p.desk.host == j) g p) (λ p. changed_host (p.desk.host == j) g p (λ q. host q.desk))
+    (λ p. changed_more (p.desk.host == j) g p (same_most (spare p.side))) w.ports k
+
+released : (used aside : ℕ) → 128 - (used + aside) ≤ 128 - (used + (aside - 1))
+released used aside = omega arith
+
+release_spare : (j : ℕ) (w : Work) (k : ℕ) → spare_of w.ports k ≤ spare_of (turn_at j Release w).ports k
+release_spare j w k =
+    more_spare (λ p. changed_if (p.desk.host == j) (after_turn Release) p)
+    (λ p. changed_host (p.desk.host == j) (after_turn Release) p (λ q. refl))
+    (λ p. changed_more (p.desk.host == j) (after_turn Release) p (released (in_use p.side) p.side.aside)) w.ports k
+
+fetch_spare : (j : ℕ) (w : Work) (k : ℕ) → spare_of w.ports k ≤ spare_of (turn_at j FetchMessage w).ports k
+fetch_spare j w k =
+    more_spare (λ p. changed_if (p.desk.host == j) (after_turn FetchMessage) p)
+    (λ p. changed_host (p.desk.host == j) (after_turn FetchMessage) p (λ q. refl))
+    (λ p. changed_more (p.desk.host == j) (after_turn FetchMessage) p (same_most (spare p.side))) w.ports k
+
+other_spare : (j : ℕ) (t : Turn) (w : Work) (k : ℕ) → (j == k) ≡ false → spare_of w.ports k ≤ spare_of (turn_at j t w).ports k
+other_spare j t w k off = omega (arith, ap spare_in (other_stays j k (after_turn t) (λ p. refl) w.ports off))
+
+notified_spare : (j : ℕ) (about : About) (message : List ℕ) (w : Work) (k : ℕ) → (j == k) ≡ false
+    → spare_of w.ports k ≤ spare_of (notified j about message w).ports k
+notified_spare j about message w k off =
+    let f : Desk → Desk = λ d. record d { notice = Some (record { about = about; age = 0 }) } in
+    let one = other_spare j (Give (1, message)) w k off in
+    let two = desk_spare j f (turn_at j (Give (1, message)) w) (λ d. refl) k in omega arith
+
+commit_spare : (c : Command) (w : Work) (k : ℕ) → spare_of w.ports k ≤ spare_of (commit c w).ports k
+commit_spare c w k = by_test (goes_in c w) (λ q. rw q (same_most (spare_of w.ports k))) (λ q. rw q (same_most (spare_of w.ports k)))
+
+lack_first : (ports : List Port) (k n : ℕ) (later : List (ℕ × ℕ)) → lack ports ((k, n) ∷ later) ≡ None → (n ≤ spare_of ports k) × (lack ports later ≡ None)
+lack_first ports k n later none = go (nat_lt (spare_of ports k) n) refl none
+  where
+    go : (b : Bool) → nat_lt (spare_of ports k) n ≡ b → cond b (Some (n, spare_of ports k)) (lack ports later) ≡ None
+        → (n ≤ spare_of ports k) × (lack ports later ≡ None)
+    go true e z = absurd (cc z)
+    go false e z = (ltb-false (spare_of ports k) n e, z)
+
+module _ (h : ℕ) (start : List Port) where
+  -- the ends to which nothing was given have at least what was spare as the deeds began
+  abbrev HasKept : List ℕ → List Port → Type 0
+  HasKept given ports = (k : ℕ) → IsNoneOf k given → spare_of start k ≤ spare_of ports k
+
+  kept_then : (given : List ℕ) (ps qs : List Port) → ((k : ℕ) → spare_of ps k ≤ spare_of qs k) → HasKept given ps → HasKept given qs
+  kept_then given ps qs more a k none = let one = a k none in let two = more k in omega arith
+
+  kept_more : (j : ℕ) (given : List ℕ) (ps qs : List Port) → ((k : ℕ) → (j == k) ≡ false → spare_of ps k ≤ spare_of qs k) → HasKept given ps
+      → HasKept (j ∷ given) qs
+  kept_more j given ps qs more a k none = let one = a k none.1 in let two = more k none.0 in omega arith
+
+  takes : (to : ℕ) (m : Message) (given : List ℕ) (ports : List Port) → IsNoneOf to given → HasKept given ports → need m.1 ≤ spare_of start to
+      → TakesMessage ports to m
+  takes to m given ports none a room = let more = a to none in has_room ports to m (omega arith)
+
+  all_taken : (deeds : List Deed) (given : List ℕ) (w : Work) → GiveOnce h given deeds → lack start (needs h deeds) ≡ None → HasKept given w.ports
+      → AreTaken h deeds w
+  all_taken [] given w apart none a = tt
+  all_taken (Commits c ∷ deeds) given w apart none a =
+      (tt, all_taken deeds given (commit c w) apart none (kept_then given w.ports (commit c w).ports (commit_spare c w) a))
+  all_taken (Sends to m ∷ deeds) given w apart none a =
+      let parts = lack_first start to (need m.1) (needs h deeds) none in
+      let v : Work = turn_at to (Give m) w in (
+        takes to m given w.ports apart.0 a parts.0,
+        all_taken deeds (to ∷ given) v apart.1 parts.1 (kept_more to given w.ports v.ports (other_spare to (Give m) w) a),
+      )
+  all_taken (SaysOk ∷ deeds) given w apart none a = (tt, all_taken deeds given (done h SaysOk w) apart none a)
+  all_taken (Asks to message c ∷ deeds) given w apart none a =
+      let first = lack_first start c.asker 1 ((to, need message) ∷ needs h deeds) none in
+      let parts = lack_first start to (need message) (needs h deeds) first.1 in
+      let aside : Work = turn_at c.asker SetAside w in
+      let told : Work = noting (entry.Ask to message ∷ []) aside in
+      let v : Work = notified to (Waits c) message told in
+      let kept : HasKept (c.asker ∷ given) aside.ports = kept_more c.asker given w.ports aside.ports (other_spare c.asker SetAside w) a in (
+        takes to (1, message) (c.asker ∷ given) aside.ports apart.1 kept parts.0,
+        all_taken deeds (to ∷ c.asker ∷ given) v apart.2 parts.1
+            (kept_more to (c.asker ∷ given) aside.ports v.ports (notified_spare to (Waits c) message told) kept),
+      )
+  all_taken (Releases asker ∷ deeds) given w apart none a =
+      (tt, all_taken deeds given (turn_at asker Release w) apart none (kept_then given w.ports (turn_at asker Release w).ports (release_spare asker w) a))
+  all_taken (Tells to message ∷ deeds) given w apart none a =
+      let parts = lack_first start to (need message) (needs h deeds) none in
+      let v : Work = notified to Removed message w in (
+        takes to (1, message) given w.ports apart.0 a parts.0,
+        all_taken deeds (to ∷ given) v apart.1 parts.1 (kept_more to given w.ports v.ports (notified_spare to Removed message w) a),
+      )
+  all_taken (IsAnswered ∷ deeds) given w apart none a = (
+    tt,
+    all_taken deeds given (done h IsAnswered w) apart none
+        (kept_then given w.ports (done h IsAnswered w).ports (desk_spare h (λ d. record d { notice = None }) w (λ d. refl)) a),
+  )
+  all_taken (Drops pid ∷ deeds) given w apart none a = (tt, all_taken deeds given (done h (Drops pid) w) apart none a)
+  all_taken (SetsErrors errors ∷ deeds) given w apart none a = (
+    tt,
+    all_taken deeds given (done h (SetsErrors errors) w) apart none
+        (kept_then given w.ports (done h (SetsErrors errors) w).ports (desk_spare h (λ d. record d { errors = errors }) w (λ d. refl)) a),
+  )
+  all_taken (Orders message ∷ deeds) given w apart none a =
+      let parts = lack_first start h (need message) (needs h deeds) none in
+      let v : Work = record w { core = record w.core { command = Some message } } in (
+        takes h (1, message) given w.ports apart.0 a parts.0,
+        all_taken deeds (h ∷ given) (turn_at h (Give (1, message)) v) apart.1 parts.1
+            (kept_more h given w.ports (turn_at h (Give (1, message)) v).ports (other_spare h (Give (1, message)) v) a),
+      )
+  all_taken (Hears ∷ deeds) given w apart none a = (tt, all_taken deeds given (done h Hears w) apart none a)
+  all_taken (GoesOn i ∷ deeds) given w apart none a = (tt, all_taken deeds given (done h (GoesOn i) w) apart none a)
+  all_taken (Ends e ∷ deeds) given w apart none a = (tt, all_taken deeds given (done h (Ends e) w) apart none a)
+
+-- ## The commands of a reply are counted one by one, and its entries are made of sessions and a count
+
+counts_none : (s : State) (t : HciTables) (command : Option (List ℕ)) (init : Option Init) (deeds : List Deed) → MayBeDone None command init deeds
+    → CountsCommands s t deeds
+counts_none s t command init [] may = tt
+counts_none s t command init (Commits c ∷ deeds) may = absurd may.0
+counts_none s t command init (Asks to message c ∷ deeds) may = absurd may.0
+counts_none s t command init (Orders message ∷ deeds) may = counts_none s t (Some message) init deeds may
+counts_none s t command init (Hears ∷ deeds) may = counts_none s t None init deeds may
+counts_none s t command init (GoesOn i ∷ deeds) may = counts_none s t command (Some i) deeds may
+counts_none s t command init (Ends e ∷ deeds) may = counts_none s t command None deeds may.1
+counts_none s t command init (_ ∷ deeds) may = counts_none s t command init deeds may
+
+module _ (content : List ℕ) (s : State) (t : HciTables) (knows : Knows content s t) (are : AreTables t) (recordable : IsRecordable t) where
+  pub counts_one : (command : Option (List ℕ)) (init : Option Init) (deeds : List Deed) → MayBeDone (Some s) command init deeds → CountsCommands s t deeds
+  counts_one command init [] may = tt
+  counts_one command init (Commits c ∷ deeds) may = (
+    commit_count content s t c knows are recordable may.0.0 may.0.1,
+    counts_none (committed s t (body_of c)) (apply t c) command init deeds may.1,
+  )
+  counts_one command init (Asks to message c ∷ deeds) may = counts_none s t command init deeds may.1
+  counts_one command init (Orders message ∷ deeds) may = counts_one (Some message) init deeds may
+  counts_one command init (Hears ∷ deeds) may = counts_one None init deeds may
+  counts_one command init (GoesOn i ∷ deeds) may = counts_one command (Some i) deeds may
+  counts_one command init (Ends e ∷ deeds) may = counts_one command None deeds may.1
+  counts_one command init (_ ∷ deeds) may = counts_one command init deeds may
+
+-- ### The reply to a message
+
+same_spare : (n : ℕ) → n ≤ n
+same_spare n = omega arith
+
+pub taken_at_once : (h : ℕ) (deeds : List Deed) (w : Work) → GiveOnce h [] deeds → lack w.ports (needs h deeds) ≡ None → AreTaken h deeds w
+taken_at_once h deeds w apart none = all_taken h w.ports deeds [] w apart none (λ k free. same_spare (spare_of w.ports k))
+
+pub reply_noted : (h : ℕ) (m : Message) (deeds : List Deed) (w : Work) → w.cut ≡ false → GiveOnce h [] deeds → lack w.ports (needs h deeds) ≡ None
+    → CountsCommands w.core.journal w.core.tables deeds
+    → IsReplyNoted (handles h m deeds w).cut w.core.node (noted_by_deeds h deeds (takes_up h m w))
+    (entries_of_reply w.core.node (session_of_port w.ports) h (count_of w.core.journal) deeds)
+reply_noted h m deeds w on apart none counts =
+    noted_so (session_of_port w.ports) h deeds (takes_up h m w) on same
+    (all_taken h w.ports deeds [] (takes_up h m w) apart none kept) counts
+  where
+    told : Work
+    told = noting (entry.Turn (end_of_node w.core h) m.0 m.1 ∷ []) w
+
+    fetched : Work
+    fetched = turn_at h FetchMessage told
+
+    same : (k : ℕ) → session_of_port (takes_up h m w).ports k ≡ session_of_port w.ports k
+    same k = desk_sessions h (λ d. record d { holds = false }) fetched (λ d. refl) k ∙ turn_sessions h FetchMessage told k
+
+    kept : (k : ℕ) → IsNoneOf k [] → spare_of w.ports k ≤ spare_of (takes_up h m w).ports k
+    kept k free =
+        let one = fetch_spare h told k in
+        let two = desk_spare h (λ d. record d { holds = false }) fetched (λ d. refl) k in omega arith

@@ -3,10 +3,10 @@ use Rattle.node_laws.proofs.Words.{AreNoTurns, Bool, ComesTo, Deed, Entry, IsNoT
 use Rattle.node_laws.proofs.Words.{append_assoc, by_test, cond, deeds_of, drop, end_of_node, eqb-true, false, handles, holds_back, is_held_at, lets_go}
 use Rattle.node_laws.proofs.Words.{noted_by_deeds, refl, subst, sym, takes_up, true, waiting_after, waiting_at, waits_behind, ℕ, ◌++◌, ◌==◌, ◌∙◌, ◌∷◌, ◌≡◌}
 use Rattle.trace_model.specs.declared.entry.Entry.TheVariants as entry
-use Rattle.node_laws.proofs.passes.Ends.{SeesAt, lets_see}
-use Rattle.node_laws.proofs.passes.Turnless.{reply_none}
-use Rattle.node_laws.proofs.passes.Passing.{lets_notes, own_held, holds_notes, handles_entries, handles_sees, link_is, comes_so}
-use Rattle.node_laws.proofs.passes.Behind.{other_handles, other_holds, held_own}
+use Rattle.node_laws.proofs.passes.Replying.{SeesAt, lets_see}
+use Rattle.node_laws.proofs.passes.InSteps.{reply_none}
+use Rattle.node_laws.proofs.passes.Passing.{comes_so, handles_entries, handles_sees, held_own, holds_notes, lets_notes, link_is, other_handles, other_holds}
+use Rattle.node_laws.proofs.passes.Passing.{own_held}
 
 abbrev State : Type 0
 State = List Message × Bool

@@ -1,26 +1,24 @@
--- In each event nothing of a node stands behind its cut.
-use Rattle.node_laws.proofs.Words.{Activates, AllByRecursion, AreDifferent, AreNotOf, Arms, AsksReset, AtEnd, Bool, Boots, Comes, Controller, Deed, End, Entry}
-use Rattle.node_laws.proofs.Words.{Gives, Happening, HasEnds, Host, IfItRuns, Inits, IsCut, IsOrderly, Link, List, Loses, Loss, Message, NextFrame, NoInput}
-use Rattle.node_laws.proofs.Words.{NodeWorld, None, Noted, NumberedEnd, Option, Plan, Port, Resets, Running, Site, Start, Starts, Takes, Ticks, TimePasses}
-use Rattle.node_laws.proofs.Words.{Work, [], aged_entries, all_aged, all_append, ap, append-nil, arrival, beginning, begins_with, boots, by_boot, by_coming}
-use Rattle.node_laws.proofs.Words.{by_controller, by_controller_tick, by_host, by_host_tick, by_loss, by_test, comes_at, comes_to, controller_does}
-use Rattle.node_laws.proofs.Words.{controller_ticks, end_c, end_h, entries_for, eqb-true, exchanged, false, first_lost, flat_map, frame_lost, frames_noted}
-use Rattle.node_laws.proofs.Words.{host_does, host_tick, host_ticks, host_work, hosts_in, hosts_of_ends, hosts_tick, is_command_message, link_to, near_end_in}
-use Rattle.node_laws.proofs.Words.{near_tick, node_of, refl, sending, site_at, steps, subst, sym, true, true≢false, wires_for, work_of, world_step, world_ticks}
-use Rattle.node_laws.proofs.Words.{ℕ, ◌&&◌, ◌++◌, ◌==◌, ◌∙◌, ◌∷◌, ◌≡◌}
-use Rattle.node_laws.proofs.telling.Walks.{AreUncut, IsUncut}
-use Rattle.node_laws.proofs.telling.Nodes.{hosts_same, ports_for, site_host}
-use Rattle.node_laws.proofs.telling.Worlds.{site_is}
-use Rattle.node_laws.proofs.telling.Events.{comes_goes}
-use Rattle.node_laws.proofs.telling.Powers.{entries_uncut}
+-- In each event, and so over histories, nothing of a node stands behind its cut.
+use Rattle.node_laws.proofs.Words.{Activates, AllByRecursion, AreDifferent, AreNotOf, Arms, AsksReset, AtEnd, Bool, Boots, Comes, Controller, CutsEndParts}
+use Rattle.node_laws.proofs.Words.{Deed, End, Entry, FollowsNodes, Gives, Happening, HasEnds, Header, Host, IfItRuns, Inits, IsCut, IsOrderly, Line, Link, List}
+use Rattle.node_laws.proofs.Words.{Loses, Loss, Message, NextFrame, NoInput, NodeHistory, NodeWorld, None, Noted, NumberedEnd, Option, Plan, Port, Resets}
+use Rattle.node_laws.proofs.Words.{Running, Site, Start, Starts, Takes, Ticks, TimePasses, Work, [], aged_entries, all_aged, all_append, ap, append-nil}
+use Rattle.node_laws.proofs.Words.{arrival, beginning, begins_with, boots, by_boot, by_coming, by_controller, by_controller_tick, by_host, by_host_tick}
+use Rattle.node_laws.proofs.Words.{by_loss, by_test, comes_at, comes_to, controller_does, controller_ticks, end_c, end_h, entries_for, eqb-true, exchanged}
+use Rattle.node_laws.proofs.Words.{false, first_lost, flat_map, frame_lost, frames_noted, host_does, host_tick, host_ticks, host_work, hosts_in, hosts_of_ends}
+use Rattle.node_laws.proofs.Words.{hosts_tick, is_command_message, link_to, near_end_in, near_tick, node_of, refl, sending, site_at, steps, subst, sym, true}
+use Rattle.node_laws.proofs.Words.{true≢false, wires_for, work_of, world_step, world_ticks, ℕ, ◌&&◌, ◌++◌, ◌==◌, ◌∙◌, ◌∷◌, ◌≡◌}
+use Rattle.node_laws.proofs.power.Steps.{AreEnds, AreOver, AreOwn, Fine, IsEndOf, IsMine, IsOwn, IsPart, Runs, arrival_of_side, deeds_fine, frames_own}
+use Rattle.node_laws.proofs.power.Steps.{links_own, nothing_part, over_front, over_part, over_split, own_not, part_over, part_own, steps_fine, work_part}
+use Rattle.node_laws.proofs.telling.Events.{comes_goes, hosts_same_of_nodes as hosts_same, ports_for, site_host, site_is}
+use Rattle.node_laws.proofs.telling.Lasting.{history_event}
+use Rattle.node_laws.proofs.telling.Shapes.{entries_uncut, frames_none, frames_uncut}
+use Rattle.node_laws.proofs.telling.Accounts.{AreUncut, IsUncut}
 use Rattle.node_laws.proofs.telling.WorldTicks.{aged_orderly, ticked_orderly}
-use Rattle.node_laws.proofs.telling.Shapes.{frames_none, frames_uncut}
-use Rattle.node_laws.proofs.power.Parts.{AreOver, AreOwn, IsOwn, IsPart, nothing_part, over_front, over_part, own_not, part_over, part_own}
-use Rattle.node_laws.proofs.power.Links.{arrival_of_side, links_own}
-use Rattle.node_laws.proofs.power.Doing.{AreEnds, Fine, IsEndOf, IsMine, Runs, deeds_fine}
-use Rattle.node_laws.proofs.power.Steps.{frames_own, steps_fine, work_part}
 
--- ## Nodes as a step begins
+-- ## In each event nothing of a node stands behind its cut
+
+-- ### Nodes as a step begins
 
 -- all ends of a controller are its own
 all_near : (ports : List Port) → AreEnds 0 ports
@@ -56,7 +54,7 @@ far_runs h r plan near_ends es other has own uncut = record {
   uncut = uncut;
 }
 
--- ## Steps
+-- ### Steps
 
 flat_frames_none : (f : Site → List Entry) → ((s : Site) → f s ≡ []) → (sites : List Site) → flat_map f sites ≡ []
 flat_frames_none f none [] = refl
@@ -124,7 +122,7 @@ begins_part w h deeds mine a = host_part w h NoInput (begins_with h deeds) (λ v
 pub sending_mine : (h : ℕ) (m : Message) → AllByRecursion (IsMine h h) (sending h m)
 sending_mine h m = by_test (m.0 == 1 && is_command_message m.1) (λ q. rw q (tt, tt)) (λ q. rw q (tt, tt))
 
--- ## Ticks
+-- ### Ticks
 
 pub near_ticks_part : (w : NodeWorld) → IsOrderly w → IsPart 0 (controller_ticks w).1
 near_ticks_part w a =
@@ -146,7 +144,7 @@ far_tick s other runs =
 abbrev pub AreNodes : List Site → Type 0
 AreNodes sites = AllByRecursion (λ (s : Site). ((s.host == 0) ≡ false) × IfItRuns s.host (s.host ∷ []) s.node) sites
 
-pub both_nodes : (sites : List Site) → AllByRecursion (λ (s : Site). (s.host == 0) ≡ false) sites
+both_nodes : (sites : List Site) → AllByRecursion (λ (s : Site). (s.host == 0) ≡ false) sites
     → AllByRecursion (λ (s : Site). IfItRuns s.host (s.host ∷ []) s.node) sites → AreNodes sites
 both_nodes [] a b = tt
 both_nodes (s ∷ sites) a b = ((a.0, b.0), both_nodes sites a.1 b.1)
@@ -164,7 +162,7 @@ hosts_over [] d a = tt
 hosts_over (s ∷ sites) d a =
     over_part s.host (host_ticks s).1 (hosts_tick sites).1 (far_tick s a.0.0 a.0.1) (others_tick s.host sites d.0 a.1) (hosts_over sites d.1 a.1)
 
-pub none_zero : (sites : List Site) → AllByRecursion (λ (s : Site). (s.host == 0) ≡ false) sites → AllByRecursion (λ h. (h == 0) ≡ false) (hosts_in sites)
+none_zero : (sites : List Site) → AllByRecursion (λ (s : Site). (s.host == 0) ≡ false) sites → AllByRecursion (λ h. (h == 0) ≡ false) (hosts_in sites)
 none_zero [] a = tt
 none_zero (s ∷ sites) a = (a.0, none_zero sites a.1)
 
@@ -194,7 +192,7 @@ ticks_over w a =
     near : List Site
     near = (controller_ticks old).0.sites
 
--- ## Events
+-- ### Events
 
 boots_over : (w : NodeWorld) (n : ℕ) → AreOver (boots w n).1
 boots_over w n = by_boot (λ p. AreOver p.1) w n (tt, tt) (tt, tt)
@@ -243,7 +241,7 @@ activates_over w h sync power a =
         host_none near.0 h (Starts sync) (steps (AtEnd h (Start sync))) (no_site near.0.sites h q b.hosts) in
         subst (AreNotOf 0) (sym none) tt
 
-pub step_over : (w : NodeWorld) (c : Happening) → IsOrderly w → AreOver (world_step w c).1
+step_over : (w : NodeWorld) (c : Happening) → IsOrderly w → AreOver (world_step w c).1
 step_over w (Boots n) a = boots_over w n
 step_over w (IsCut n) a = (tt, tt)
 step_over w (Gives e m) a =
@@ -257,3 +255,10 @@ step_over w Ticks a = ticks_over w a
 step_over w (Resets e window) a = part_over (node_of e) (comes_at w e (AsksReset window)).1 (comes_part w e (AsksReset window) a)
 step_over w (Activates h sync power) a = activates_over w h sync power a
 step_over w (Arms n plan) a = tt
+
+-- ## Over histories
+
+pub cuts_end : (header : Header) (lines : List Line) (t : NodeHistory) → FollowsNodes header lines t → AreDifferent header.hosts.items
+    → AllByRecursion (λ h. (h == 0) ≡ false) header.hosts.items → CutsEndParts t
+cuts_end header lines t follows different numbers past later o before behind n is split =
+    over_split o.entries before behind n (history_event AreOver step_over header lines t follows different numbers past later o is) split

@@ -1,34 +1,29 @@
--- What is known of the ends of the controller as it begins to go through them in a step.
-use Rattle.node_laws.proofs.Words.{AtEnd, Before, Bool, Comes, Controller, Deed, Entry, FramesFor, HasEnds, IsLinkTold, IsOrderly, Link, LinkEnd, LinkInput}
-use Rattle.node_laws.proofs.Words.{List, NextFrame, NodeInput, NodeWorld, None, Noted, NumberedEnd, Option, Port, Running, Site, Some, Work, [], after_input}
-use Rattle.node_laws.proofs.Words.{after_sessions, all_come, all_done, all_owed, all_owed_hold, all_synced_hold, ap, arith, arrival, by_list, by_test, comes_to}
-use Rattle.node_laws.proofs.Words.{comes_to_pass, cond, controller_begins, entries_for, eqb-true, false, flat_map, forgets, forgotten, forgotten_hold, has_come}
-use Rattle.node_laws.proofs.Words.{hosts_in, hosts_of_ends, input_at, input_of, link_to, map, near_end_in, number_of, of_link, port_at, refl, report, site_at}
-use Rattle.node_laws.proofs.Words.{subst, sym, synced, times_out, true, whole_acked, without_notice, without_power, ℕ, ◌++◌, ◌==◌, ◌∙◌, ◌∷◌, ◌≡◌}
-use Rattle.link_laws.specs.entries.Entries.{End as Side}
+-- What is known of the ends of the controller, and of the end of a host, as it begins to go through them in a step.
+use Rattle.node_laws.proofs.Words.{AtEnd, Before, Bool, Comes, Controller, Deed, Entry, FramesFor, HasEnds, Host, IsLinkTold, IsOrderly, Link, LinkEnd}
+use Rattle.node_laws.proofs.Words.{LinkInput, List, NextFrame, NodeInput, NodeWorld, None, Noted, NumberedEnd, Option, Port, Running, Site, Some, Work, []}
+use Rattle.node_laws.proofs.Words.{after_input, after_sessions, all_come, all_done, all_owed, all_owed_hold, all_synced_hold, ap, arith, arrival, by_list}
+use Rattle.node_laws.proofs.Words.{by_test, comes_to, comes_to_pass, cond, controller_begins, entries_for, eqb-true, exchanged, false, flat_map, forgets}
+use Rattle.node_laws.proofs.Words.{forgotten, forgotten_hold, has_come, host_begins_step, hosts_in, hosts_of_ends, input_at, input_of, link_to, map}
+use Rattle.node_laws.proofs.Words.{near_end_in, number_of, of_link, port_at, refl, report, same_number, site_at, subst, sym, synced, times_out, true}
+use Rattle.node_laws.proofs.Words.{whole_acked, without_notice, without_power, ℕ, ◌++◌, ◌==◌, ◌∙◌, ◌∷◌, ◌≡◌}
 use Rattle.link_laws.proofs.entries.Running.{frame_facts}
-use Rattle.node_laws.proofs.kept.Plainly.{hosts_map}
-use Rattle.node_laws.proofs.links.Works.{IsFineWork, map_fine, came_fine, without_fine, forgets_fine}
-use Rattle.node_laws.proofs.links.Worlds.{IsFineWorld, near_end_clean, near_clean, fine_clean, ports_fine}
-use Rattle.node_laws.proofs.telling.Mute.{forgotten_mute, all_owed_mute, all_synced_mute}
-use Rattle.node_laws.proofs.steps.StepWalks.{unless}
-use Rattle.node_laws.proofs.telling.Powers.{AreClear, entries_uncut, came_uncut}
-use Rattle.node_laws.proofs.telling.Shapes.{clear-append, clear_told, twice}
-use Rattle.node_laws.proofs.telling.Accounts.{Account, at_host}
-use Rattle.node_laws.proofs.telling.Parts.{after_coming, told_coming}
-use Rattle.node_laws.proofs.telling.Steps.{notes-append, Opening, GoesLate, came}
-use Rattle.node_laws.proofs.telling.Nodes.{hosts_same, opened, given, is_so}
-use Rattle.node_laws.proofs.telling.Worlds.{node_is}
-use Rattle.node_laws.proofs.steps.Ports.{come_host, forgets_host, without_host}
+use Rattle.link_laws.specs.entries.Entries.{End as Side}
+use Rattle.node_laws.proofs.kept.Doing.{hosts_map}
+use Rattle.node_laws.proofs.links.Works.{IsFine, IsFineWork, came_fine, forgets_fine, low, map_fine, without_fine}
+use Rattle.node_laws.proofs.links.Worlds.{IsFineSite, IsFineWorld, fine_clean, near_clean, near_end_clean, ports_fine}
 use Rattle.node_laws.proofs.order.Lines.{host_number}
 use Rattle.node_laws.proofs.order.Ticking.{some_desks}
-use Rattle.node_laws.proofs.read_rooms.Coming.{Came, has_come_so}
-use Rattle.node_laws.proofs.read_rooms.Reading.{AreNoted, its_notes, are_noted, before_near, near_says}
-use Rattle.node_laws.proofs.read_rooms.Carrying.{Carries}
-use Rattle.node_laws.proofs.read_rooms.Lasting.{IsCarried, carried_deeds}
-use Rattle.node_laws.proofs.links.Deeds.{IsFine, low}
+use Rattle.node_laws.proofs.read_rooms.Carrying.{AreNoted, Came, Carries, IsCarried, are_noted, before_far, before_near, carried_deeds, far_says, has_come_so}
+use Rattle.node_laws.proofs.read_rooms.Carrying.{its_notes, near_says}
+use Rattle.node_laws.proofs.steps.StepWalks.{come_host, forgets_host, unless, without_host}
+use Rattle.node_laws.proofs.telling.Accounts.{Account, all_owed_mute, all_synced_mute, at_host, forgotten_mute}
+use Rattle.node_laws.proofs.telling.Events.{given, host_opened, hosts_same_of_nodes as hosts_same, is_so, is_step, node_is, opened}
+use Rattle.node_laws.proofs.telling.Steps.{GoesLate, Opening, after_coming, came, notes-append, told_coming}
+use Rattle.node_laws.proofs.telling.Shapes.{AreClear, came_uncut, clear-append, clear_told, entries_uncut, twice}
 
--- ## One end
+-- ## What is known of the ends of the controller as it begins to go through them in a step
+
+-- ### One end
 
 arrival_clear : (who : Side) (l : Link) (comes : Comes) → AreClear (arrival who l comes)
 arrival_clear who l NextFrame = by_list l.to_controller (λ q. rw q tt) (λ x xs q. rw q (tt, tt))
@@ -61,11 +56,11 @@ module _ (t : List Entry) (h : ℕ) (who : Side) (l : Link) (comes : Comes) (o :
       }
 
 -- what is known of a frame that is taken
-pub frames_for : (l : Link) (comes : Comes) → Before l → FramesFor comes l []
+frames_for : (l : Link) (comes : Comes) → Before l → FramesFor comes l []
 frames_for l NextFrame b = frame_facts l [] tt b
 frames_for l _ b = tt
 
--- ## All ends
+-- ### All ends
 
 -- the host of an end
 pub record HasSite (sites : List Site) (h : ℕ) : Type 0 where
@@ -115,7 +110,7 @@ begun_fine input w a =
     let v : Work = times_out input (all_come input w) in
     map_fine without_notice without_fine (map (forgets v.ports) v.ports) (map_fine (forgets v.ports) (forgets_fine v.ports) v.ports (came_fine input w a))
 
--- ## Something comes to an end of the controller
+-- ### Something comes to an end of the controller
 
 module _ (w : NodeWorld) (t : List Entry) (orderly : IsOrderly w) (fine : IsFineWorld w)
     (told : (h : ℕ) (s : Site) → site_at w.sites h ≡ Some s → IsLinkTold h s.link t) (r : Running) (runs : w.controller ≡ Some r) where
@@ -167,4 +162,62 @@ module _ (w : NodeWorld) (t : List Entry) (orderly : IsOrderly w) (fine : IsFine
               (ports_fine near_ends
               (λ j. near_end_clean (link_to w.sites j) (comes_to k comes j) (near_clean w.sites j (fine_clean w.sites fine.sites))) r.desks
               (some_desks w.controller r runs fine.controller));
+        })
+
+-- ## What is known of the end of a host as it begins to go through its messages in a step
+
+-- where a node has one end, it is the one of the link with this host
+pub only_end : (ports : List Port) (n h : ℕ) (p : Port) → hosts_of_ends ports ≡ n ∷ [] → port_at ports h ≡ Some p → n ≡ h
+only_end [] n h p e q = absurd (cc q)
+only_end (x ∷ y ∷ ports) n h p e q = absurd (cc e)
+only_end (x ∷ []) n h p e q = by_test (x.desk.host == h) (λ f. sym one ∙ eqb-true x.desk.host h f) (λ f. let is : None ≡ Some p = rw f at q in absurd (cc is))
+  where
+    one : x.desk.host ≡ n
+    one = cc
+
+module _ (t : List Entry) (s : Site) (fine : IsFineSite s) (told : IsLinkTold s.host s.link t) (r : Running) (runs : s.node ≡ Some r)
+    (number : (s.host == 0) ≡ false) (node : HasEnds s.host (s.host ∷ []) r) where
+  module _ (comes : Comes) (i : LinkInput) (q : input_of (exchanged s.link) comes ≡ Some i) where
+    abbrev host_start : Work
+    host_start = host_begins_step s r comes
+
+    abbrev host_come : Work
+    host_come = all_come (AtEnd s.host i) host_start
+
+    abbrev host_begun : Work
+    host_begun = record host_come {
+      core = after_sessions host_come.core host_come.ports;
+      ports = map without_notice
+          (map (forgets host_come.ports) host_come.ports);
+    }
+
+    host_begun_hosts : hosts_of_ends host_begun.ports ≡ s.host ∷ []
+    host_begun_hosts =
+        hosts_map without_notice without_host (map (forgets host_come.ports) host_come.ports)
+        ∙ (hosts_map (forgets host_come.ports) (forgets_host host_come.ports) host_come.ports
+        ∙ (hosts_map (λ p. has_come p (input_at (AtEnd s.host i) p)) (λ p. come_host p (input_at (AtEnd s.host i) p)) host_start.ports
+        ∙ (hosts_same (λ j. near_end_in (exchanged s.link) comes) r.desks ∙ node.ends)))
+
+    carries_own : Carries t s.host Host host_begun
+    carries_own =
+        let a : Opening s.host Host (exchanged s.link) comes host_start = host_opened s r comes number node in
+        let host : a.port.desk.host ≡ s.host = eqb-true a.port.desk.host s.host (at_host host_start.ports s.host a.port a.here) in
+        let same : cond (s.host == s.host) (Some i) None ≡ Some i = ap (λ b. cond b (Some i) None) (same_number s.host) in
+        let notes : List Noted = its_notes s.host s.link t told in
+        carries_from t s.host Host (exchanged s.link) comes (Some i) false notes host_begun number (are_noted s.host s.link t told)
+        (has_come_so notes Host (exchanged s.link) comes (Some i) q (is_step comes i)
+        (frames_for (exchanged s.link) comes (before_far s.host s.link t told)) (far_says s.host s.link t told))
+        (came s.host Host (exchanged s.link) comes (Some i) s.host i host_start a (ap (λ n. cond (n == s.host) (Some i) None) host ∙ same) host_come.ports)
+
+    pub host_carried : IsCarried t Host (comes_to_pass (AtEnd s.host i) host_start)
+    host_carried =
+        pass_carried t Host (AtEnd s.host i) host_start (record {
+          carry = record {
+            uncut = λ _. came_uncut 0 0 (without_power Controller) (λ x. refl) (twice Controller) (AtEnd s.host i) host_start
+                (entries_uncut s.host (arrival Host (exchanged s.link) comes));
+            each = λ h p here. subst (λ (h : ℕ). Carries t h Host host_begun) (only_end host_begun.ports s.host h p host_begun_hosts here) carries_own;
+          };
+          fine = begun_fine (AtEnd s.host i) host_start
+              (ports_fine (λ j. near_end_in (exchanged s.link) comes) (λ j. near_end_clean (exchanged s.link) comes fine.link.line.far) r.desks
+              (some_desks s.node r runs fine.node));
         })

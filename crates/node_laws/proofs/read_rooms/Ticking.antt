@@ -7,24 +7,19 @@ use Rattle.node_laws.proofs.Words.{with_older, without_notice, without_power, â„
 use Rattle.link_laws.specs.entries.Entries.{End as Side}
 use Rattle.link_laws.proofs.entries.Books.{Silent, silent-append, silent_cons}
 use Rattle.link_laws.proofs.entries.Hearing.{passes-append, passes_aged}
-use Rattle.node_laws.proofs.kept.Plainly.{hosts_map}
+use Rattle.node_laws.proofs.kept.Doing.{hosts_map}
 use Rattle.node_laws.proofs.links.Worlds.{IsFineWorld, near_clean, ports_fine}
-use Rattle.node_laws.proofs.telling.Powers.{AreClear, came_uncut}
-use Rattle.node_laws.proofs.telling.Shapes.{clear-append, clear_aged, twice}
+use Rattle.node_laws.proofs.telling.Shapes.{AreClear, came_uncut, clear-append, clear_aged, twice}
 use Rattle.node_laws.proofs.telling.Steps.{Opening}
-use Rattle.node_laws.proofs.telling.Ticks.{older, in_time, too_late}
-use Rattle.node_laws.proofs.telling.Nodes.{hosts_same}
-use Rattle.node_laws.proofs.telling.Worlds.{node_is}
+use Rattle.node_laws.proofs.telling.Ticks.{in_time, older, too_late}
+use Rattle.node_laws.proofs.telling.Events.{hosts_same_of_nodes as hosts_same, node_is}
 use Rattle.node_laws.proofs.telling.WorldTicks.{opened, up_late, old_orderly, old_found, old_told, aged_uncut}
-use Rattle.node_laws.proofs.steps.Ports.{forgets_host, without_host, late_host}
+use Rattle.node_laws.proofs.steps.StepWalks.{forgets_host, late_host, without_host}
 use Rattle.node_laws.proofs.order.Lines.{host_number}
-use Rattle.node_laws.proofs.order.Knowing.{WasThere, was_there}
+use Rattle.node_laws.proofs.order.Events.{WasThere, was_there}
 use Rattle.node_laws.proofs.order.Ticking.{some_desks, aged_clean}
-use Rattle.node_laws.proofs.read_rooms.Inputs.{Says, says_silent}
-use Rattle.node_laws.proofs.read_rooms.Coming.{has_come_so, has_ticked_so}
-use Rattle.node_laws.proofs.read_rooms.Reading.{AreNoted, noted_more, its_notes, are_noted, near_says}
-use Rattle.node_laws.proofs.read_rooms.Carrying.{Carries}
-use Rattle.node_laws.proofs.read_rooms.Lasting.{IsCarried}
+use Rattle.node_laws.proofs.read_rooms.Carrying.{AreNoted, Carries, IsCarried, Says, are_noted, has_come_so, has_ticked_so, its_notes, near_says, noted_more}
+use Rattle.node_laws.proofs.read_rooms.Carrying.{says_silent}
 use Rattle.node_laws.proofs.read_rooms.Beginning.{carries_from, HasSite, site_for, pass_carried, begun_fine}
 
 -- ## Frames that are too old

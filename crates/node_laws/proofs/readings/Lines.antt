@@ -1,20 +1,245 @@
--- What is read of all hosts over the lines of a schedule.
-use Rattle.node_laws.proofs.Words.{Activates, AllByRecursion, AllRead, AreHosts, Arms, AsksReset, Bool, Boots, End, Entry, FollowsNodes, Gives, Happening}
-use Rattle.node_laws.proofs.Words.{Header, Inits, IsCut, IsInitOfHost, IsSentByHost, IsTrue, Line, List, Loses, Message, NextFrame, NoCause, NodeHistory}
-use Rattle.node_laws.proofs.Words.{NodeWorld, None, NotUp, Occurrence, Option, Refused, Resets, Some, Takes, Ticks, [], ap, entries_in, eqb, false, first_cause}
-use Rattle.node_laws.proofs.Words.{first_verdict, frames_at, give_refusal, happenings, has_order, if_not_sent, if_off, if_waiting, is_command_message, link_to}
-use Rattle.node_laws.proofs.Words.{machine_in, memory_at, new_world, node_at, node_entries, node_of, occurrences_in, refl, refusal_in, subst, sym, taken_of}
-use Rattle.node_laws.proofs.Words.{true, unwrap_or, world_after, world_behind, world_step, ℕ, ◌&&◌, ◌++◌, ◌∙◌, ◌∷◌, ◌≡◌}
-use Rattle.trace_model.specs.declared.line.Line.TheVariants as line
-use Rattle.node_laws.proofs.telling.Lasting.{AllMay, damaged_may, entries_of_steps, history_holds, lines_last}
-use Rattle.node_laws.proofs.telling.Lasting.{repeated_may, stands_none}
+-- What is read of all hosts as frames are lost and as nodes lose their power and boot, and so over the lines of a schedule.
+use Rattle.node_laws.proofs.Words.{Activates, AllByRecursion, AllRead, AreDifferent, AreHosts, Arms, AsksReset, AtController, AtHost, Bool, Boots, Broken}
+use Rattle.node_laws.proofs.Words.{Controller, CutOff, Desk, End, Entry, FollowsNodes, Gives, Happening, Header, Host, IfHostRuns, IfZero, Inits, IsCut, IsHost}
+use Rattle.node_laws.proofs.Words.{IsInitOfHost, IsSentByHost, IsTrue, Line, Link, List, Lose, Loses, Loss, Memory, Message, NextFrame, NoCause, NoInput}
+use Rattle.node_laws.proofs.Words.{NodeHistory, NodeWorld, None, NotUp, NumberedEnd, Occurrence, Option, Refused, Resets, Running, Site, SiteReads, Some, Step}
+use Rattle.node_laws.proofs.Words.{Takes, Ticks, [], after_planned, all_so, ap, append-nil, boot_writes, boots, by_counts, by_option, by_test, cases_Bool}
+use Rattle.node_laws.proofs.Words.{changed_if, controller_cut, count_of, counts, entries_for, entries_in, eqb, eqb-true, fails_within, false, first_cause}
+use Rattle.node_laws.proofs.Words.{first_lost, first_verdict, found, frame_lost, frames_at, give_refusal, happenings, happens, has_order, host_cut, if_not_sent}
+use Rattle.node_laws.proofs.Words.{if_off, if_waiting, inl, inr, is_command_message, length, link_to, links_of, loses_power_at, machine_in, map, memory_at}
+use Rattle.node_laws.proofs.Words.{new_world, node_at, node_entries, node_of, occurrences_in, order_of, refl, refusal_in, site_at, subst, sym, taken_of, true}
+use Rattle.node_laws.proofs.Words.{unwrap_or, with_memory, with_node, with_site, world_after, world_behind, world_step, ℕ, ◌&&◌, ◌++◌, ◌+◌, ◌∙◌, ◌∷◌, ◌≡◌, ◌⊎◌}
 use Rattle.node_laws.specs.readings.Worlds.{MayBeRead}
-use Rattle.node_laws.proofs.readings.Worlds.{activates_read, comes_read}
-use Rattle.node_laws.proofs.readings.Events.{all_begin, gives_read, inits_read, ticks_read_all}
-use Rattle.node_laws.proofs.readings.Powers.{boots_read, cut_read, memory_read}
-use Rattle.node_laws.proofs.readings.Losses.{lost_read}
+use Rattle.node_laws.proofs.kept.Events.{hosts_same, hosts_with, loses_is, none_found, site_found, with_site_twice}
+use Rattle.node_laws.proofs.links.Sites.{here_host}
+use Rattle.node_laws.proofs.readings.Noting.{AreSilent, quiet_silent}
+use Rattle.node_laws.proofs.readings.Sites.{activates_read, all_begin, boot_reads, comes_read, cut_reads, gives_read, hosts_in, inits_read, lost_quiet}
+use Rattle.node_laws.proofs.readings.Sites.{map_reads, none_zero, others_read, others_stay, ticks_read_all, with_reads}
+use Rattle.node_laws.proofs.telling.Lasting.{AllMay, damaged_may, entries_of_steps, history_holds, lines_last, repeated_may, stands_none}
+use Rattle.trace_model.specs.declared.entry.Entry.TheVariants as entry
+use Rattle.trace_model.specs.declared.line.Line.TheVariants as line
 
--- ## What a line that isn't refused says
+-- ## What is read of all hosts as a frame is lost on its way
+
+zero_counts : (why : Loss) (h : ℕ) (o : Option Running) → IfZero o → IfZero (counts why h o)
+zero_counts why h o z = by_counts IfZero why h o z (λ r q. subst IfZero q z)
+
+changed_desk : (b : Bool) (f : Desk → Desk) (d : Desk) (P : Desk → Type 0) → P d → P (f d) → P (changed_if b f d)
+changed_desk true f d P x y = y
+changed_desk false f d P x y = x
+
+-- a frame that is counted leaves the command
+order_counts : (why : Loss) (h : ℕ) (o : Option Running) → order_of (counts why h o) ≡ order_of o
+order_counts why h o = by_counts (λ x. order_of x ≡ order_of o) why h o refl (λ r q. ap order_of (sym q))
+
+runs_counts : (why : Loss) (h n : ℕ) (l : Link) (o : Option Running) → IfHostRuns n l o → IfHostRuns n l (counts why h o)
+runs_counts (Broken fault) h n l None so = tt
+runs_counts (Broken fault) h n l (Some r) so = record {
+  number = so.number;
+  desk = changed_if (eqb so.desk.host h) more so.desk;
+  desks_are = ap (Rattle.node_machine.specs.Node.with_error h) so.desks_are;
+  host = changed_desk (eqb so.desk.host h) more so.desk (λ d. d.host ≡ n) so.host so.host;
+  no_notice = changed_desk (eqb so.desk.host h) more so.desk (λ d. d.notice ≡ None) so.no_notice so.no_notice;
+  short = so.short;
+  up = so.up;
+} where
+  more : Desk → Desk
+  more d = record d { errors = Rattle.std.specs.Prelude.min 65535 (d.errors + 1) }
+runs_counts _ h n l o so = so
+
+each_site : (t es : List Entry) (g : Site → Site) → ((s : Site) → SiteReads t s → SiteReads (t ++ es) (g s)) → (sites : List Site)
+    → AllByRecursion (SiteReads t) sites → AllByRecursion (SiteReads (t ++ es)) (map g sites)
+each_site t es g one [] all = tt
+each_site t es g one (s ∷ sites) all = (one s all.0, each_site t es g one sites all.1)
+
+module _ (hosts : List ℕ) (t : List Entry) (w : NodeWorld) (all : AllRead hosts t w) where
+  lost_read : (e : End) (why : Loss) → AllRead hosts (t ++ (frame_lost w e why).1) (frame_lost w e why).0
+  lost_read e why = by_side e.at_host refl where
+    l : Link
+    l = link_to w.sites e.link
+
+    near : Site → Site
+    near s = record s { link = happens s.link (AtController (Lose why)) }
+
+    lost : Site → Site
+    lost s = record s { link = happens s.link (AtHost (Lose why)) }
+
+    far : Site → Site
+    far s = record (lost s) { node = counts why e.link s.node }
+
+    -- what is noted tells nothing of a host, and the site at this link becomes another one
+    site : (es : List Entry) (f : Site → Site) → ((k : ℕ) → AreSilent k es) → ((s : Site) → SiteReads t s → SiteReads (t ++ es) (f s))
+        → AllByRecursion (SiteReads (t ++ es)) (with_site e.link f w.sites)
+    site es f silent one = each_site t es (λ s. changed_if (eqb s.host e.link) f s)
+        (λ s k. by_test (eqb s.host e.link) (λ q. rw q (one s k)) (λ q. rw q (others_read t es s s (silent s.host) refl refl refl k))) w.sites all.sites
+
+    by_side : (b : Bool) → e.at_host ≡ b → (AllRead hosts (t ++ (frame_lost w e why).1) (frame_lost w e why).0)
+    by_side false b =
+        let es : List Entry = entries_for e.link (first_lost Controller why l.to_controller) in
+        let silent : (k : ℕ) → AreSilent k es =
+        λ k. quiet_silent k e.link (first_lost Controller why l.to_controller) (lost_quiet Controller why l.to_controller) in
+        rw b (record {
+          controller = zero_counts why e.link w.controller all.controller;
+          hosts_are = hosts_with e.link near (λ s. refl) w.sites ∙ all.hosts_are;
+          sites = site es near silent (λ s k. others_read t es s (near s) (silent s.host) refl refl refl k);
+        })
+    by_side true b =
+        let es : List Entry = entries_for e.link (first_lost Host why l.to_host) in
+        let silent : (k : ℕ) → AreSilent k es = λ k. quiet_silent k e.link (first_lost Host why l.to_host) (lost_quiet Host why l.to_host) in
+        rw b (record {
+          controller = all.controller;
+          hosts_are = hosts_with e.link far (λ s. refl) w.sites ∙ all.hosts_are;
+          sites = site es far silent (λ s k.
+              let so : SiteReads (t ++ es) (lost s) = others_read t es s (lost s) (silent s.host) refl refl refl k in
+              record { order = so.order ∙ sym (order_counts why e.link s.node); runs = runs_counts why e.link s.host (far s).link s.node so.runs });
+        })
+
+-- ## What is read of all hosts as a node loses its power, as it boots, and as a write to a memory is to fail
+
+cut_silent : (n k : ℕ) → eqb n k ≡ false → AreSilent k (entry.Cut n ∷ [])
+cut_silent n k off = ((λ c. rw off refl), tt)
+
+module _ (hosts : List ℕ) (are : AreHosts hosts) where
+  known : (t : List Entry) (w : NodeWorld) → AllRead hosts t w → AllByRecursion IsHost (hosts_in w.sites)
+  known t w all = subst (AllByRecursion IsHost) (sym all.hosts_are) are.all
+
+  near_cut : (t : List Entry) (w : NodeWorld) → AllRead hosts t w → AllRead hosts (t ++ entry.Cut 0 ∷ []) (controller_cut w)
+  near_cut t w all = record {
+    controller = tt;
+    hosts_are = hosts_same cut_here (λ s. refl) w.sites ∙ all.hosts_are;
+    sites = map_reads t (entry.Cut 0 ∷ []) cut_here (λ s. refl) (λ s. refl)
+        (λ s. ap (λ (x : NumberedEnd). x.side) (here_host s.link (Step NoInput [] CutOff))) (λ k host. cut_silent 0 k (none_zero k host)) w.sites
+        (known t w all) all.sites;
+  } where
+    cut_here : Site → Site
+    cut_here s = record s { link = happens s.link (AtController (Step NoInput [] CutOff)) }
+
+  -- a host is changed, and what is noted of it tells nothing of others
+  alters : (t es : List Entry) (w : NodeWorld) (n : ℕ) (f : Site → Site) → ((s : Site) → (f s).host ≡ s.host)
+      → ((k : ℕ) → eqb n k ≡ false → AreSilent k es) → AllRead hosts t w
+      → ((x : Site) → site_at w.sites n ≡ Some x → SiteReads t x → x.host ≡ n → SiteReads (t ++ es) (f x))
+      → AllRead hosts (t ++ es) (record w { sites = with_site n f w.sites })
+  alters t es w n f host silent all changed = by_option (site_at w.sites n)
+      (λ here. record {
+        controller = all.controller;
+        hosts_are = hosts_with n f host w.sites ∙ all.hosts_are;
+        sites = others_stay t es n f silent w.sites (none_found w.sites n here) all.sites;
+      })
+      (λ x here. let known_x = site_found (SiteReads t) IsHost w.sites n x all.sites (known t w all) here in
+      record {
+        controller = all.controller;
+        hosts_are = hosts_with n f host w.sites ∙ all.hosts_are;
+        sites = with_reads t es n f silent w.sites x (subst AreDifferent (sym all.hosts_are) are.different) here
+            (changed x here known_x.0 known_x.2) all.sites;
+      })
+
+  loses_near : (w : NodeWorld) (n : ℕ) → eqb n 0 ≡ true → loses_power_at n w ≡ controller_cut w
+  loses_near w n e = rw e refl
+
+  cut_read : (t : List Entry) (w : NodeWorld) (n : ℕ) → AllRead hosts t w → AllRead hosts (t ++ entry.Cut n ∷ []) (loses_power_at n w)
+  cut_read t w n all = by_test (eqb n 0)
+      (λ e. subst (AllRead hosts (t ++ entry.Cut n ∷ [])) (sym (loses_near w n e))
+      (subst (λ m. AllRead hosts (t ++ entry.Cut m ∷ []) (controller_cut w)) (sym (eqb-true n 0 e)) (near_cut t w all)))
+      (λ e. subst (AllRead hosts (t ++ entry.Cut n ∷ [])) (sym (loses_is w n e))
+      (alters t (entry.Cut n ∷ []) w n host_cut (λ s. refl) (λ k off. cut_silent n k off) all
+      (λ x here reads same. subst (λ m. SiteReads (t ++ entry.Cut m ∷ []) (host_cut x)) same (cut_reads t x))))
+
+  memory_read : (t : List Entry) (w : NodeWorld) (n : ℕ) (m : Memory) → AllRead hosts t w → AllRead hosts (t ++ []) (with_memory n m w)
+  memory_read t w n m all = by_test (eqb n 0)
+      (λ e. rw e (subst (λ l. AllRead hosts l (record w { memory = m })) (sym (append-nil t))
+      (record { controller = all.controller; hosts_are = all.hosts_are; sites = all.sites })))
+      (λ e. rw e (record {
+        controller = all.controller;
+        hosts_are = hosts_with n has (λ s. refl) w.sites ∙ all.hosts_are;
+        sites = map_reads t [] g (λ s. change (eqb s.host n) s (λ v. v.host ≡ s.host) refl refl) (λ s. change (eqb s.host n) s (λ v. v.node ≡ s.node) refl refl)
+            (λ s. change (eqb s.host n) s (λ v. v.link.host.side ≡ s.link.host.side) refl refl) (λ k host. tt) w.sites (known t w all) all.sites;
+      })) where
+        has : Site → Site
+        has s = record s { memory = m }
+
+        change : (b : Bool) (s : Site) (P : Site → Type 0) → P s → P (has s) → P (changed_if b has s)
+        change true s P x y = y
+        change false s P x y = x
+
+        g : Site → Site
+        g s = changed_if (eqb s.host n) has s
+
+  -- ### A boot
+
+  module _ (t : List Entry) (w : NodeWorld) (n : ℕ) (all : AllRead hosts t w) (stands : node_at w n ≡ None) where
+    abbrev before : Memory
+    before = memory_at w n
+
+    abbrev after_it : Memory
+    after_it = after_planned (boot_writes before.content) before
+
+    abbrev found_it : Running
+    found_it = found n (n ∷ []) before.content
+
+    abbrev noted : List Entry
+    noted = entry.Booted n (count_of found_it.core.journal) ∷ []
+
+    abbrev Fine : NodeWorld × List Entry → Type 0
+    Fine p = AllRead hosts (t ++ p.1) p.0
+
+    lost_is : fails_within (length (boot_writes before.content)) before.plan ≡ true → boots w n
+        ≡ (loses_power_at n (with_memory n after_it w), entry.Cut n ∷ [])
+    lost_is e = rw e refl
+
+    runs_is : fails_within (length (boot_writes before.content)) before.plan ≡ false → boots w n
+        ≡ (with_node n (found n (links_of w n) before.content) (with_memory n after_it w), entry.Booted n (count_of found_it.core.journal) ∷ [])
+    runs_is e = rw e refl
+
+    near_runs : (r : Running) (m : Memory) → eqb n 0 ≡ true → with_node n r (with_memory n m w) ≡ record w { memory = m; controller = Some r }
+    near_runs r m e = rw e refl
+
+    far_memory : (m : Memory) → eqb n 0 ≡ false → with_memory n m w ≡ record w { sites = with_site n (λ (s : Site). record s { memory = m }) w.sites }
+    far_memory m e = rw e refl
+
+    far_node : (v : NodeWorld) (r : Running) → eqb n 0 ≡ false → with_node n r v
+        ≡ record v { sites = with_site n (λ (s : Site). record s { node = Some r }) v.sites }
+    far_node v r e = rw e refl
+
+    far_links : eqb n 0 ≡ false → links_of w n ≡ n ∷ []
+    far_links e = rw e refl
+
+    far_stands : eqb n 0 ≡ false → (x : Site) → site_at w.sites n ≡ Some x → x.node ≡ None
+    far_stands e x here = rw here at (rw e at stands)
+
+    -- an entry that tells nothing of any host
+    booted_silent : (k : ℕ) → AreSilent k noted
+    booted_silent k = ((λ c. refl), tt)
+
+    all_stay : (sites : List Site) → AllByRecursion (SiteReads t) sites → AllByRecursion (SiteReads (t ++ noted)) sites
+    all_stay sites a = all_so (SiteReads t) (SiteReads (t ++ noted)) (λ s b. others_read t noted s s (booted_silent s.host) refl refl refl b) sites a
+
+    lost_reads : Fine (loses_power_at n (with_memory n after_it w), entry.Cut n ∷ [])
+    lost_reads = subst (λ l. AllRead hosts (l ++ entry.Cut n ∷ []) (loses_power_at n (with_memory n after_it w))) (append-nil t)
+        (cut_read (t ++ []) (with_memory n after_it w) n (memory_read t w n after_it all))
+
+    runs_reads : (eqb n 0 ≡ true) ⊎ (eqb n 0 ≡ false) → AllRead hosts (t ++ noted) (with_node n (found n (links_of w n) before.content)
+        (with_memory n after_it w))
+    runs_reads (inl e) = subst (AllRead hosts (t ++ noted)) (sym (near_runs (found n (links_of w n) before.content) after_it e))
+        (record { controller = eqb-true n 0 e; hosts_are = all.hosts_are; sites = all_stay w.sites all.sites })
+    runs_reads (inr e) =
+        subst (AllRead hosts (t ++ noted)) (sym (ap (λ l. with_node n (found n l before.content) (with_memory n after_it w)) (far_links e)
+        ∙ ap (with_node n found_it) (far_memory after_it e)
+        ∙ far_node (record w { sites = with_site n (λ (s : Site). record s { memory = after_it }) w.sites }) found_it e
+        ∙ ap (λ l. record w { sites = l }) (with_site_twice n (λ (s : Site). record s { memory = after_it })
+        (λ (s : Site). record s { node = Some found_it }) (λ s. refl) w.sites)))
+        (alters t noted w n (λ (s : Site). record s { memory = after_it; node = Some found_it }) (λ s. refl) (λ k off. booted_silent k) all
+        (λ x here reads same. subst (λ j. SiteReads (t ++ entry.Booted j (count_of found_it.core.journal) ∷ [])
+        (record x { memory = after_it; node = Some (found j (j ∷ []) before.content) })) same
+        (boot_reads t x after_it before.content (count_of found_it.core.journal) reads (far_stands e x here))))
+
+    boots_read : Fine (boots w n)
+    boots_read = by_test (fails_within (length (boot_writes before.content)) before.plan)
+        (λ fails. subst Fine (sym (lost_is fails)) lost_reads)
+        (λ none. subst Fine (sym (runs_is none)) (runs_reads (cases_Bool (eqb n 0))))
+
+-- ## What is read of all hosts over the lines of a schedule
+
+-- ### What a line that isn't refused says
 
 -- the second of two causes doesn't apply where none does
 second_none : (a b : Option NoCause) → first_cause a b ≡ None → b ≡ None
@@ -53,7 +278,7 @@ line_may w (line.Settle n) side init none = tt
 line_may w _ side init none = (tt, tt)
 
 module _ (hosts : List ℕ) (are : AreHosts hosts) where
-  -- ## Events
+  -- ### Events
 
   pub event_read : (t : List Entry) (w : NodeWorld) (c : Happening) → AllRead hosts t w → MayBeRead w c
       → AllRead hosts (t ++ (world_step w c).1) (world_step w c).0
@@ -68,7 +293,7 @@ module _ (hosts : List ℕ) (are : AreHosts hosts) where
   event_read t w (Activates h sync power) all may = activates_read hosts are t w h sync power all
   event_read t w (Arms n plan) all may = memory_read hosts are t w n (record (memory_at w n) { plan = Some plan }) all
 
--- ## Schedules
+-- ### Schedules
 
 -- a line sends as hosts do, and begins an init as it may
 abbrev IsPlain : Line → Type 0

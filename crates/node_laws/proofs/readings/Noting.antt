@@ -1,22 +1,30 @@
--- What a node notes in a step: a fact of entries holds of all of them, where it holds of what is noted of its own ends, of what it
--- notes beside them, and of what its deeds note.
-use Rattle.node_laws.proofs.Words.{About, Acked, Active, AllByRecursion, AllByRecursion-append, Asks, AtEnd, Command, Commits, Controller, Core, Deed, Desk}
-use Rattle.node_laws.proofs.Words.{Down, Drops, Ends, Entry, FetchMessage, GaveUp, Give, GoesOn, Got, Hears, Hold, Host, IsAnswered, LinkInput, List, Message}
-use Rattle.node_laws.proofs.Words.{NodeInput, None, Noted, OfHost, Option, Orders, Plain, Port, Release, Releases, Removed, Report, Reset, SaysOk, Sends, Sent}
-use Rattle.node_laws.proofs.Words.{SetAside, SetsErrors, Some, Tells, TimePasses, Turn, Waits, Work, [], after_input, after_sessions, after_turn, all_come}
-use Rattle.node_laws.proofs.Words.{all_done, all_of_host, all_owed, all_owed_hold, all_synced_hold, any_of_controller, anyone, ap, body_of, by_option, by_test}
-use Rattle.node_laws.proofs.Words.{changed_if, commit, commit_writes, cond, cond_both, controller_deeds, count_of, deeds_of, done, end_of, end_of_node}
-use Rattle.node_laws.proofs.Words.{end_view, entries_for, entry_of, eqb, fails_within, flat_map, forgets, forgotten, forgotten_hold, give_refusal, has_come}
-use Rattle.node_laws.proofs.Words.{host_deeds, input_at, is_late, length, map, noted_of, notified, noting, option_map_or, own_side, own_view, port_at, refl}
-use Rattle.node_laws.proofs.Words.{report, reset_late, steps, subst, sym, synced, times_out, told, told_at, told_late, turn_at, view_of, whole_acked, with_desk}
-use Rattle.node_laws.proofs.Words.{with_older, with_port, without_notice, ℕ, ◌++◌, ◌∙◌, ◌∷◌, ◌≡◌}
-use Rattle.trace_model.specs.declared.entry.Entry.TheVariants as entry
+-- What a node notes in a step, by its kinds; over a step of a host or of another node the unanswered command stays the one that is read.
+use Rattle.node_laws.proofs.Words.{About, Acked, Active, AllByRecursion, AllByRecursion-append, Asks, AtEnd, Bool, Command, Commits, Controller, Core, Cut}
+use Rattle.node_laws.proofs.Words.{Deed, Desk, Down, Drops, Ends, Entry, FetchMessage, Fits, GaveUp, Give, GoesOn, Got, Hears, Hold, Host, IsAnswered, IsComing}
+use Rattle.node_laws.proofs.Words.{IsFresh, IsHost, IsItsEnd, IsOutside, IsSilent, KeepsOrder, LinkInput, LinkState, List, MayDo, Message, NodeInput, None}
+use Rattle.node_laws.proofs.Words.{Noted, OfHost, Option, Orders, Plain, Port, Release, Releases, Removed, Report, Reset, Restarted, SaysOk, Sends, Sent}
+use Rattle.node_laws.proofs.Words.{SetAside, SetsErrors, Some, Sync, Tells, TimePasses, Turn, Up as IsUpNow, Waits, Work, [], after_input, after_sessions}
+use Rattle.node_laws.proofs.Words.{after_turn, all_come, all_done, all_of_host, all_owed, all_owed_hold, all_synced_hold, any_of_controller, anyone, ap}
+use Rattle.node_laws.proofs.Words.{append-nil, begins_with, body_of, by_option, by_test, changed_if, comes_to_pass, commit, commit_writes, cond, cond_both}
+use Rattle.node_laws.proofs.Words.{controller_deeds, count_of, deeds_hold, deeds_of, done, end_h, end_of, end_of_node, end_view, entries_for, entry_of, eqb}
+use Rattle.node_laws.proofs.Words.{fails_within, false, flat_map, forgets, forgotten, forgotten_hold, give_refusal, has_come, host_deeds, inl, input_at}
+use Rattle.node_laws.proofs.Words.{is_command_message, is_late, is_response, is_some, length, map, noted_of, notified, noting, option_map_or, own_side}
+use Rattle.node_laws.proofs.Words.{own_view, passes, port_at, refl, report, reset_late, same_end, steps, subst, sym, synced, times_out, told, told_at}
+use Rattle.node_laws.proofs.Words.{told_late, true, true≢false, turn_at, unless_cut, view_of, whole_acked, with_desk, with_older, with_port, without_notice, ℕ}
+use Rattle.node_laws.proofs.Words.{◌&&◌, ◌++◌, ◌||◌, ◌∙◌, ◌∷◌, ◌≡◌}
 use Rattle.link_laws.specs.entries.Entries.{End as Side}
-use Rattle.link_laws.specs.entries.Entries.Entry.{Up}
-use Rattle.node_laws.proofs.steps.StepWalks.{got_at, all_do as all_note, Lasts, rest_lasts}
-use Rattle.node_laws.proofs.steps.Ports.{come_host, forgets_host, late_host, without_host, changed_host, sessions_node, at_port}
-use Rattle.node_laws.proofs.links.Noticing.{at_host}
-use Rattle.node_laws.proofs.telling.Reported.{told_all}
+use Rattle.link_laws.specs.entries.Entries.Entry.{Tick, Up}
+use Rattle.node_laws.proofs.links.Noticing.{at_host, outside, stays_up}
+use Rattle.node_laws.proofs.readings.Turning.{IsQuiet, Runs, Stands, all_stand, host_side, keeps_stand, passes_stand, read_more, reads, stands_keep, then}
+use Rattle.node_laws.proofs.readings.Turning.{told_reads}
+use Rattle.node_laws.proofs.steps.StepWalks.{Lasts, all_do as all_note, at_port, changed_host, come_host, forgets_host, got_at, late_host, rest_lasts}
+use Rattle.node_laws.proofs.steps.StepWalks.{sessions_node, without_host}
+use Rattle.node_laws.proofs.telling.Shapes.{told_all}
+use Rattle.trace_model.specs.declared.entry.Entry.TheVariants as entry
+
+-- ## What a node notes in a step
+-- A fact of entries holds of all of them, where it holds of what is noted of its own ends, of what it notes beside them, and of what its
+-- deeds note.
 
 -- this is noted of an end of this side
 abbrev pub IsOwnNote : Side → Noted → Type 0
@@ -44,7 +52,7 @@ abbrev pub NotesSo : (Entry → Type 0) → Deed → Type 0
 NotesSo P (Ends x) = P x
 NotesSo P _ = Unit {0}
 
--- ## Deeds
+-- ### Deeds
 
 plain : (P : Entry → Type 0) → Plain (NotesSo P)
 plain P = record { sends = λ to x. tt; says_ok = tt; releases = λ asker. tt; is_answered = tt; drops = λ pid. tt }
@@ -64,7 +72,7 @@ module _ (P : Entry → Type 0) (core : Core) (same : P (entry.InitSame (end_of_
   pub host_notes : (p : Port) (m : Message) → AllByRecursion (NotesSo P) (host_deeds (own_view core) (end_view p) m)
   host_notes p m = all_of_host (NotesSo P) core (plain P) of_host p m (λ n value command zero is. tt)
 
--- ## What is told of an end
+-- ### What is told of an end
 
 pub all_notes : (who : Side) (n acked : ℕ) (r : Report) → AllByRecursion (IsOwnNote who) (told who n r acked)
 all_notes who n acked r = told_all (IsOwnNote who) who n acked refl refl (λ k. refl) refl (λ m. refl) (λ c. refl) r
@@ -74,7 +82,7 @@ turn_notes : (core : Core) (who : Side) (t : Turn) (p : Port) → own_side core 
 turn_notes core who (Give m) p is = by_option (give_refusal p.side m) (λ q. rw q (is, tt)) (λ why q. rw q tt)
 turn_notes core who _ p is = tt
 
--- ## A node
+-- ### A node
 
 module _ (P : Entry → Type 0) (n : ℕ) (who : Side) (At : ℕ → Type 0) where
   -- the node has this number and this side of its links, and so is all that it noted
@@ -176,7 +184,7 @@ module _ (P : Entry → Type 0) (n : ℕ) (who : Side) (At : ℕ → Type 0) whe
     pub all_do : (h : ℕ) (deeds : List Deed) (w : Work) → AllByRecursion (NotesSo P) deeds → Notes w → Notes (all_done h deeds w)
     all_do h deeds w q a = all_note Notes (NotesSo P) does h deeds w q a
 
-    -- ## Turns
+    -- ### Turns
 
     abbrev ComesAt : ℕ → Message → Type 0
     ComesAt h m = At h
@@ -201,7 +209,7 @@ module _ (P : Entry → Type 0) (n : ℕ) (who : Side) (At : ℕ → Type 0) whe
       causes = λ h m w at a. deeds_note w.core w.ports h m a.number;
     }
 
-    -- ## Steps
+    -- ### Steps
 
     come_told : (core : Core) (p : Port) (o : Option LinkInput) → own_side core ≡ who → At p.desk.host → AllByRecursion P (told_at core p o)
     come_told core p None side at = tt
@@ -246,3 +254,287 @@ module _ (P : Entry → Type 0) (n : ℕ) (who : Side) (At : ℕ → Type 0) whe
         rest_lasts Notes (NotesSo P) ComesAt notes_last (forgotten came.ports) (flat_map (synced w.core input) w.ports) (all_owed left) begun
         (forgotten_hold (NotesSo P) (λ asker. tt) came.ports) (all_synced_hold (NotesSo P) (λ host id. tt) w.core input w.ports)
         (all_owed_hold (NotesSo P) (λ asker. tt) (λ to r. tt) left) first
+
+-- ## A step of a host: its unanswered command stays the one that is read
+
+-- ### An end without a notice
+
+older_same : (q : Port) → q.desk.notice ≡ None → with_older q ≡ q
+older_same q e = rw e refl
+
+late_same : (q : Port) → q.desk.notice ≡ None → reset_late q ≡ q
+late_same q e = rw e refl
+
+late_told_of_stepping : (core : Core) (q : Port) → q.desk.notice ≡ None → told_late core q ≡ []
+late_told_of_stepping core q e = rw e refl
+
+pub forgets_same : (ports : List Port) (q : Port) → q.desk.notice ≡ None → forgets ports q ≡ q
+forgets_same ports q e = rw e refl
+
+without_same : (q : Port) → q.desk.notice ≡ None → without_notice q ≡ q
+without_same q e = by_test (q.ended || q.late) (λ z. rw z (ap (λ n. record q { desk = record q.desk { notice = n } }) (sym e))) (λ z. rw z refl)
+
+none_forgotten : (q : Port) → q.desk.notice ≡ None → forgotten (q ∷ []) ≡ []
+none_forgotten q e = rw e refl
+
+none_owed : (q : Port) → q.desk.notice ≡ None → all_owed (q ∷ []) ≡ []
+none_owed q e = go q.ended q.late refl refl where
+  go : (a b : Bool) → q.ended ≡ a → q.late ≡ b → all_owed (q ∷ []) ≡ []
+  go true true x y = rw (x, y, e) refl
+  go true false x y = rw (x, y, e) refl
+  go false true x y = rw (x, y, e) refl
+  go false false x y = rw (x, y) refl
+
+-- time passes at an end without a notice, and nothing more comes of it
+times_same : (input : NodeInput) (w : Work) (q : Port) → w.ports ≡ q ∷ [] → q.desk.notice ≡ None → times_out input w ≡ w
+times_same (AtEnd k i) w q is quiet = refl
+times_same TimePasses w q is quiet =
+    ap (λ ps. times_out TimePasses (record w { ports = ps })) is
+    ∙ (ap (λ x. noting (told_late w.core x ++ []) (record w { ports = reset_late x ∷ [] })) (older_same q quiet)
+    ∙ (ap (λ es. noting (es ++ []) (record w { ports = reset_late q ∷ [] })) (late_told_of_stepping w.core q quiet)
+    ∙ (ap (λ x. noting [] (record w { ports = x ∷ [] })) (late_same q quiet)
+    ∙ (ap (λ es. record w { entries = es; ports = q ∷ [] }) (append-nil w.entries)
+    ∙ ap (λ ps. record w { ports = ps }) (sym is)))))
+
+pub came_is : (input : NodeInput) (w : Work) (p : Port) → (has_come p (input_at input p)).desk.notice ≡ None
+    → times_out input (all_come input (record w { ports = p ∷ [] }))
+    ≡ record w { ports = has_come p (input_at input p) ∷ []; entries = w.entries ++ told_at w.core p (input_at input p) }
+came_is input w p quiet =
+    let q : Port = has_come p (input_at input p) in
+    times_same input (all_come input (record w { ports = p ∷ [] })) q refl quiet
+    ∙ ap (λ es. record w { ports = q ∷ []; entries = w.entries ++ es }) (append-nil (told_at w.core p (input_at input p)))
+
+-- the sessions behind what came to an end that ends, or that goes on
+pub over_is : (core : Core) (q : Port) → q.ended ≡ true → after_sessions core (q ∷ []) ≡ record core { command = None; init = None }
+over_is core q e = rw e refl
+
+pub on_is : (core : Core) (q : Port) → q.late ≡ false → q.ended ≡ false → after_sessions core (q ∷ []) ≡ core
+on_is core q late e = rw (e, late) refl
+
+-- what stands behind what came, before the node passes its ends
+abbrev pub behind : List Deed → Work → Work
+behind syncs came =
+    unless_cut (all_done 0 (all_owed (map (forgets came.ports) came.ports)))
+    (all_done 0 syncs (all_done 0 (forgotten came.ports)
+    (record came { core = after_sessions came.core came.ports; ports = map without_notice (map (forgets came.ports) came.ports) })))
+
+pub behind_is : (syncs : List Deed) (w : Work) (q : Port) (more : List Entry) → q.desk.notice ≡ None
+    → behind syncs (record w { ports = q ∷ []; entries = w.entries ++ more })
+    ≡ unless_cut (all_done 0 []) (all_done 0 syncs (record w { core = after_sessions w.core (q ∷ []); ports = q ∷ []; entries = w.entries ++ more }))
+behind_is syncs w q more quiet =
+    ap (λ l. then_owed (forgotten (q ∷ [])) (all_owed l) (begun (map without_notice l))) (ap (λ x. x ∷ []) (forgets_same (q ∷ []) q quiet))
+    ∙ (ap (λ d. then_owed d (all_owed (q ∷ [])) (begun (map without_notice (q ∷ [])))) (none_forgotten q quiet)
+    ∙ (ap (λ d. then_owed [] d (begun (map without_notice (q ∷ [])))) (none_owed q quiet)
+    ∙ ap (λ x. then_owed [] [] (begun (x ∷ []))) (without_same q quiet))) where
+      begun : List Port → Work
+      begun ports = record w { core = after_sessions w.core (q ∷ []); ports = ports; entries = w.entries ++ more }
+
+      then_owed : List Deed → List Deed → Work → Work
+      then_owed freed owing v = unless_cut (all_done 0 owing) (all_done 0 syncs (all_done 0 freed v))
+
+synced_may : (h : ℕ) (F : List ℕ → Type 0) (core : Core) (input : NodeInput) (p : Port) → MayDo h F (synced core input p)
+synced_may h F core input p = by_option (input_at input p)
+    (λ q. rw q tt)
+    (λ i q. by_option (report p.side i).sync (λ e. rw (q, e) tt) (λ id e. rw (q, e) (either _ (Commits (Sync p.desk.host id) ∷ []) tt))) where
+      either : (b : Bool) (d : List Deed) → MayDo h F d → MayDo h F (cond b d [])
+      either true d x = x
+      either false d x = tt
+
+module _ (h : ℕ) (host : IsHost h) (before : List Entry) where
+  -- what came to the end of a host
+  record HasCome (w : Work) (p q : Port) (more : List Entry) : Type 0 where
+    at : q.desk.host ≡ h
+    quiet : q.desk.notice ≡ None
+    late : q.late ≡ false
+    told : (c : Option (List ℕ)) → reads h more c ≡ cond q.ended None c
+    up : is_some w.core.command ≡ true → q.ended ≡ false → q.side.shdlc.phase ≡ IsUpNow
+
+  came_so : (w : Work) (p : Port) (o : Option LinkInput) → ((i : LinkInput) → o ≡ Some i → IsComing i) → w.core.node ≡ h
+      → IsItsEnd h w.core.command p → IsFresh p → HasCome w p (has_come p o) (told_at w.core p o)
+  came_so w p None coming node its fresh = record {
+    at = its.host;
+    quiet = its.no_notice;
+    late = fresh.1;
+    told = λ c. sym (ap (λ b. cond b None c) fresh.0);
+    up = λ some ended. its.up some;
+  }
+  came_so w p (Some i) coming node its fresh = record {
+    at = its.host;
+    quiet = its.no_notice;
+    late = fresh.1;
+    told = λ c. told_reads h w.core p i c (host_side w.core h host node) its.host;
+    up = λ some ended. stays_up p.side i (coming i refl) (its.up some) ended;
+  }
+
+  -- the host behind what came
+  begun_runs : (now : LinkState) (w : Work) (p q : Port) (more : List Entry) → Runs h host before now w → HasCome w p q more
+      → Runs h host before q.side.shdlc.phase (record w { core = after_sessions w.core (q ∷ []); ports = q ∷ []; entries = w.entries ++ more })
+  begun_runs now w p q more r came = by_test q.ended
+      (λ e. subst Fine (sym (over_is w.core q e)) (record {
+        on = r.on;
+        node = r.node;
+        port = q;
+        is = refl;
+        its = record { host = came.at; no_notice = came.quiet; up = λ some. absurd (true≢false (sym some)) };
+        phase = refl;
+        short = tt;
+        order = read_more h host before now w more w.core.command None r.order (came.told w.core.command ∙ ap (λ b. cond b None w.core.command) e);
+      }))
+      (λ e. subst Fine (sym (on_is w.core q came.late e)) (record {
+        on = r.on;
+        node = r.node;
+        port = q;
+        is = refl;
+        its = record { host = came.at; no_notice = came.quiet; up = λ some. came.up some e };
+        phase = refl;
+        short = r.short;
+        order = read_more h host before now w more w.core.command w.core.command r.order (came.told w.core.command ∙ ap (λ b. cond b None w.core.command) e);
+      })) where
+        Fine : Core → Type 0
+        Fine core = Runs h host before q.side.shdlc.phase (record w { core = core; ports = q ∷ []; entries = w.entries ++ more })
+
+  -- and what it does then, before its turns
+  rest_stands : (now : LinkState) (syncs : List Deed) (v : Work) → MayDo h (λ o. ⊥) syncs → Runs h host before now v → Stands h host before now
+      (unless_cut (all_done 0 []) (all_done 0 syncs v))
+  rest_stands now syncs v may r =
+      then h host before now (all_done 0 []) (all_done 0 syncs v) (all_stand h host before now 0 (λ o. ⊥) syncs v (λ o x. absurd x) may r) (λ s. inl s)
+
+  behind_stands : (now : LinkState) (syncs : List Deed) (w : Work) (p q : Port) (more : List Entry) → MayDo h (λ o. ⊥) syncs
+      → Runs h host before now w → HasCome w p q more
+      → Stands h host before q.side.shdlc.phase (behind syncs (record w { ports = q ∷ []; entries = w.entries ++ more }))
+  behind_stands now syncs w p q more may r came =
+      let begun : Work = record w { core = after_sessions w.core (q ∷ []); ports = q ∷ []; entries = w.entries ++ more } in
+      subst (Stands h host before q.side.shdlc.phase) (sym (behind_is syncs w q more came.quiet)) (rest_stands q.side.shdlc.phase syncs begun may
+      (begun_runs now w p q more r came))
+
+  -- as its pass begins
+  pub ready_stand : (now : LinkState) (input : NodeInput) (w : Work) → IsOutside input → (r : Runs h host before now w) → IsFresh r.port
+      → Stands h host before (has_come r.port (input_at input r.port)).side.shdlc.phase (comes_to_pass input w)
+  ready_stand now input w out r fresh =
+      subst (λ v. Stands h host before q.side.shdlc.phase (comes_to_pass input v)) (sym (ap (λ ps. record w { ports = ps }) r.is))
+      (subst (λ u. Stands h host before q.side.shdlc.phase (behind syncs u)) (sym (came_is input w p came.quiet))
+      (behind_stands now syncs w p q more may r came)) where
+        p : Port
+        p = r.port
+
+        v : Work
+        v = record w { ports = p ∷ [] }
+
+        q : Port
+        q = has_come p (input_at input p)
+
+        more : List Entry
+        more = told_at w.core p (input_at input p)
+
+        came : HasCome w p q more
+        came = came_so w p (input_at input p) (outside input out p) r.node r.its fresh
+
+        syncs : List Deed
+        syncs = flat_map (synced w.core input) (p ∷ [])
+
+        may : MayDo h (λ o. ⊥) syncs
+        may = subst (MayDo h (λ o. ⊥)) (sym (append-nil (synced w.core input p))) (synced_may h (λ o. ⊥) w.core input p)
+
+  pub steps_stand : (now : LinkState) (input : NodeInput) (w : Work) → IsOutside input → (r : Runs h host before now w) → IsFresh r.port
+      → Stands h host before (has_come r.port (input_at input r.port)).side.shdlc.phase (steps input w)
+  steps_stand now input w out r fresh =
+      let later : LinkState = (has_come r.port (input_at input r.port)).side.shdlc.phase in
+      then h host before later passes (comes_to_pass input w) (ready_stand now input w out r fresh)
+      (λ s. passes_stand h host before later (comes_to_pass input w) s)
+
+pub steps_keep : (h : ℕ) (before : List Entry) (input : NodeInput) (w : Work) → IsHost h → IsOutside input → KeepsOrder h before w → w.cut ≡ false
+    → AllByRecursion IsFresh w.ports → KeepsOrder h before (steps input w)
+steps_keep h before input w host out k on fresh =
+    let now : LinkState = k.port.side.shdlc.phase in
+    let r : Runs h host before now w = keeps_stand h host before now w on k refl in
+    let all : AllByRecursion IsFresh (r.port ∷ []) = subst (AllByRecursion IsFresh) r.is fresh in
+    stands_keep h host before (has_come r.port (input_at input r.port)).side.shdlc.phase (steps input w) (steps_stand h host before now input w out r all.0)
+
+pub begins_keep : (h : ℕ) (before : List Entry) (deeds : List Deed) (w : Work) → IsHost h → KeepsOrder h before w → w.cut ≡ false
+    → MayDo h (Fits w.ports) deeds → KeepsOrder h before (begins_with h deeds w)
+begins_keep h before deeds w host k on may =
+    let now : LinkState = k.port.side.shdlc.phase in
+    stands_keep h host before now (begins_with h deeds w)
+    (all_stand h host before now h (Fits w.ports) deeds w (λ order fits. (refl, fits)) may (keeps_stand h host before now w on k refl))
+
+-- ## What other nodes do tells nothing of the unanswered command of a host
+
+-- what deeds end in tells nothing of it
+abbrev pub AreHushed : ℕ → List Deed → Type 0
+AreHushed k deeds = AllByRecursion (NotesSo (IsSilent k)) deeds
+
+deeds_hushed : (k : ℕ) (core : Core) (ports : List Port) (h : ℕ) (m : Message) → AreHushed k (deeds_of core ports h m)
+deeds_hushed k core ports h m =
+    deeds_hold (AreHushed k) core ports h m (controller_notes (IsSilent k) core ports h m) tt
+    (λ p. host_notes (IsSilent k) core (λ waits. refl) (λ count waits. refl) (λ code waits. refl) p m)
+
+-- ## A step of another node tells nothing of the unanswered command of a host
+
+abbrev pub AreSilent : ℕ → List Entry → Type 0
+AreSilent k es = AllByRecursion (IsSilent k) es
+
+pub silent-append : (k : ℕ) (xs ys : List Entry) → AreSilent k xs → AreSilent k ys → AreSilent k (xs ++ ys)
+silent-append k [] ys a b = b
+silent-append k (x ∷ xs) ys a b = (a.0, silent-append k xs ys a.1 b)
+
+pub silent_flat : {X : Type 0} (k : ℕ) (f : X → List Entry) → ((x : X) → AreSilent k (f x)) → (xs : List X) → AreSilent k (flat_map f xs)
+silent_flat k f one [] = tt
+silent_flat k f one (x ∷ xs) = silent-append k (f x) (flat_map f xs) (one x) (silent_flat k f one xs)
+
+-- ### Notes
+
+pub quiet_silent : (k h : ℕ) (notes : List Noted) → AllByRecursion IsQuiet notes → AreSilent k (entries_for h notes)
+quiet_silent k h [] all = tt
+quiet_silent k h (Down who cause ∷ notes) all = absurd all.0
+quiet_silent k h (Sent who n m ∷ notes) all = absurd all.0
+quiet_silent k h (Tick ∷ notes) all = quiet_silent k h notes all.1
+quiet_silent k h (Restarted who ∷ notes) all = quiet_silent k h notes all.1
+quiet_silent k h (Cut who ∷ notes) all = quiet_silent k h notes all.1
+quiet_silent k h (_ ∷ notes) all = ((λ c. refl), quiet_silent k h notes all.1)
+
+module _ (k : ℕ) where
+  abbrev pub Away : Side → ℕ → Type 0
+  Away who h = same_end (end_of h who) (end_h k) ≡ false
+
+  off_cond : (b : Bool) (x y : Option (List ℕ)) → b ≡ false → cond b x y ≡ y
+  off_cond b x y e = rw e refl
+
+  off_all : (a b c : Bool) (x y : Option (List ℕ)) → a ≡ false → cond (a && b && c) x y ≡ y
+  off_all a b c x y e = rw e refl
+
+  module _ (n : ℕ) (other : eqb n k ≡ false) (who : Side) where
+    -- the node isn't this host, none of its ends is, and what was noted tells nothing of it
+    abbrev pub IsAway : Work → Type 0
+    IsAway w = Notes (IsSilent k) n who (Away who) w
+
+    noted : (h : ℕ) (x : Noted) → Away who h → IsOwnNote who x → AreSilent k (entry_of h x)
+    noted h (Up side number) away own = ((λ c. refl), tt)
+    noted h (Down side cause) away own =
+        ((λ c. off_cond (same_end (end_of h side) (end_h k)) None c (subst (λ s. Away s h) (sym own) away)), tt)
+    noted h (Active side) away own = ((λ c. refl), tt)
+    noted h (GaveUp side tries) away own = ((λ c. refl), tt)
+    noted h (Acked side number count) away own = ((λ c. refl), tt)
+    noted h (Got side number m) away own = ((λ c. refl), tt)
+    noted h (Sent side number m) away own = (
+      (λ c. off_all (same_end (end_of h side) (end_h k)) (eqb m.0 1) (is_command_message m.1) (Some m.1) c (subst (λ s. Away s h) (sym own) away)),
+      tt,
+    )
+    noted h x away own = absurd own
+
+    turned : (h pid : ℕ) (message : List ℕ) → Away who h → IsSilent k (entry.Turn (end_of h who) pid message)
+    turned h pid message away = λ c. off_all (same_end (end_of h who) (end_h k)) (eqb pid 1) (is_response message) None c away
+
+    beside : (x : Entry) → IsBeside n x → IsSilent k x
+    beside (entry.Held e need spare) own = λ c. refl
+    beside (entry.Ask host message) own = λ c. refl
+    beside (entry.Dropped e pid) own = λ c. refl
+    beside (entry.Command node command) own = λ c. refl
+    beside (entry.AnyOk node count) own = λ c. refl
+    beside (entry.Cut node) own = λ c. off_cond (eqb node k) None c (ap (λ m. eqb m k) own ∙ other)
+    beside x own = absurd own
+
+    pub all_do_of_elsewhere : (h : ℕ) (deeds : List Deed) (w : Work) → AreHushed k deeds → IsAway w → IsAway (all_done h deeds w)
+    all_do_of_elsewhere = all_do (IsSilent k) n who (Away who) noted turned beside (λ core ports h m is. deeds_hushed k core ports h m)
+
+    pub steps_away : (input : NodeInput) (w : Work) → IsAway w → IsAway (steps input w)
+    steps_away = steps_note (IsSilent k) n who (Away who) noted turned beside (λ core ports h m is. deeds_hushed k core ports h m)

@@ -1,24 +1,435 @@
--- A host has its turns: its unanswered command stays the one that is read.
-use Rattle.node_laws.proofs.Words.{Bool, Commits, Deed, Drops, Ends, Entry, Err, FetchMessage, Fits, GoesOn, Hears, Hold, IsHost, IsResponse, LinkEnd}
-use Rattle.node_laws.proofs.Words.{LinkState, List, MayDo, Message, MessageFault, MessageKind, None, Ok, Option, Orders, Port, Releases, Result, SaysOk, Sends}
-use Rattle.node_laws.proofs.Words.{SetsErrors, Some, Up, Waiting, Work, [], after_turn, all_done, ap, arith, body_in, by_test, changed_if, cond, cond-true}
-use Rattle.node_laws.proofs.Words.{deeds_of, done, end_of_node, end_view, eq-eqb, eqb, false, gate_of_pipe, give_refusal, goes_through_ends, handles}
-use Rattle.node_laws.proofs.Words.{have_turns, header_of, holds_back, host_deeds, init_deeds, inl, is_command_message, is_gate, is_held, is_response, is_some}
-use Rattle.node_laws.proofs.Words.{is_up, lack, le-ltb, learned, length, lets_go, map, nat_lt, ne_eqb, need, needs, noting, option_map, option_map_or}
-use Rattle.node_laws.proofs.Words.{ordered_deeds, own_view, passes, port_at, refl, response_deeds, spare, subst, sym, true, true≢false, turn_at, unless_cut}
-use Rattle.node_laws.proofs.Words.{with_desk, with_port, ℕ, ◌&&◌, ◌++◌, ◌∙◌, ◌∷◌, ◌≡◌, ◌≤◌}
-use Rattle.trace_model.specs.declared.entry.Entry.TheVariants as entry
-use Rattle.hcp_packet.specs.declared.MessageKind.TheVariants.{Command as IsCommand, Event as IsEvent}
-use Rattle.shdlc_core.specs.declared.answers.LinkState.TheVariants.{Down}
+-- A host does the deeds of a message and has its turns: its unanswered command stays the one that is read.
+use Rattle.node_laws.proofs.Words.{Acked, Active, AllByRecursion, AllByRecursion-get, AreInitsShort, Bool, Clear, Command, Commits, Core, Create, Deed, Delete}
+use Rattle.node_laws.proofs.Words.{Desk, Down as NotedDown, Drops, Ends, Entry, Err, FetchMessage, Fits, GaveUp, Give, GoesOn, Got, Hears, Hold, Host, Init}
+use Rattle.node_laws.proofs.Words.{InitMade, IsHost, IsItsEnd, IsResponse, KeepsOrder, LinkEnd, LinkInput, LinkState, List, MayDo, Message, MessageFault}
+use Rattle.node_laws.proofs.Words.{MessageKind, None, NotUp, Noted, Ok, Option, Orders, Port, Refused, Release, Releases, Report, Result, SaysOk, Sends, Sent}
+use Rattle.node_laws.proofs.Words.{Set, SetsErrors, Some, Turn, Up, Waiting, Work, [], accepts, after_input, after_turn, all_done, answers_on, ap, append_assoc}
+use Rattle.node_laws.proofs.Words.{arith, awaited_after, body_in, body_of, by_option, by_test, cases_Bool, changed_if, commit, commit_writes, cond, cond-true}
+use Rattle.node_laws.proofs.Words.{cond_both, deeds_of, done, end_h, end_of, end_of_node, end_view, ended_by, entries_for, eq-eqb, eqb, fails_within, false}
+use Rattle.node_laws.proofs.Words.{finds_room, fold, fold-append, gate_of_pipe, gates, give_refusal, goes_through_ends, handles, have_turns, header_of}
+use Rattle.node_laws.proofs.Words.{holds_back, host_deeds, identity_served, if_so, init_deeds, init_holds, inl, inr, is_command_message, is_gate, is_held}
+use Rattle.node_laws.proofs.Words.{is_response, is_some, is_up, lack, le-ltb, learned, learned_holds, learns, learns_holds, length, lets_go, link_deeds}
+use Rattle.node_laws.proofs.Words.{link_served, map, nat_lt, ne_eqb, need, needs, noted_of, noting, option_map, option_map_or, option_to_list, order_in}
+use Rattle.node_laws.proofs.Words.{order_of, ordered_deeds, ordered_holds, orders_hold, orders_of, own_side, own_view, passes, port_at, refl, report}
+use Rattle.node_laws.proofs.Words.{response_deeds, runs_left, runs_none, same_end, sent_unless, spare, subst, sym, told_at, true, true≢false, turn_at}
+use Rattle.node_laws.proofs.Words.{unless_cut, unless_off, unless_on, whole_acked, with_desk, with_port, ℕ, ◌&&◌, ◌++◌, ◌+◌, ◌∙◌, ◌∷◌, ◌≡◌, ◌≤◌, ◌⊎◌}
 use Rattle.gate_loopback.specs.Loopback.{posts_back}
-use Rattle.node_laws.proofs.readings.Silent.{reads, host_side, same_own}
-use Rattle.node_laws.proofs.readings.Doing.{Runs, Stands, then, noting_runs, desk_runs, turn_runs, all_stand}
-use Rattle.node_laws.proofs.readings.Replying.{ordered_may, posted_may, learned_if, init_may}
+use Rattle.hcp_packet.specs.declared.MessageKind.TheVariants.{Command as IsCommand, Event as IsEvent}
+use Rattle.link_laws.specs.entries.Entries.{End as Side}
+use Rattle.link_laws.specs.entries.Entries.Entry.{Up as NotedUp}
+use Rattle.shdlc_core.specs.declared.answers.LinkState.TheVariants.{Down}
+use Rattle.node_laws.proofs.bounds.Turns.{answer_plain}
+use Rattle.node_laws.proofs.links.Noticing.{turn-phase}
+use Rattle.node_laws.proofs.telling.Shapes.{rest_all}
+use Rattle.trace_model.specs.declared.entry.Entry.TheVariants as entry
 
--- ## Room
+-- ## What tells nothing of the unanswered command of a host
+
+-- what is read after these entries, where this was read before
+abbrev pub reads : ℕ → List Entry → Option (List ℕ) → Option (List ℕ)
+reads h es waits = fold (awaited_after is_command_message (end_h h) h) waits es
+
+pub order_more : (t es : List Entry) (h : ℕ) → order_in (t ++ es) h ≡ reads h es (order_in t h)
+order_more t es h = fold-append (awaited_after is_command_message (end_h h) h) None t es
+
+reads_append : (h : ℕ) (xs ys : List Entry) (c : Option (List ℕ)) → reads h (xs ++ ys) c ≡ reads h ys (reads h xs c)
+reads_append h xs ys c = fold-append (awaited_after is_command_message (end_h h) h) c xs ys
+
+pub same_own : (h : ℕ) → same_end (end_h h) (end_h h) ≡ true
+same_own h = rw (eq-eqb h h refl) refl
+
+pub host_side : (core : Core) (h : ℕ) → IsHost h → core.node ≡ h → own_side core ≡ Host
+host_side core h host is = let off : eqb core.node 0 ≡ false = ne_eqb core.node 0 (λ z. omega (arith, z, is, host.0)) in rw off refl
+
+-- ### Notes
+
+-- neither the end of a session nor a message that is sent
+abbrev pub IsQuiet : Noted → Type 0
+IsQuiet (NotedDown who cause) = ⊥
+IsQuiet (Sent who n m) = ⊥
+IsQuiet _ = Unit {0}
+
+pub quiet_reads : (h k : ℕ) (notes : List Noted) (c : Option (List ℕ)) → AllByRecursion IsQuiet notes → reads h (entries_for k notes) c ≡ c
+quiet_reads h k [] c all = refl
+quiet_reads h k (NotedDown who cause ∷ notes) c all = absurd all.0
+quiet_reads h k (Sent who n m ∷ notes) c all = absurd all.0
+quiet_reads h k (_ ∷ notes) c all = quiet_reads h k notes c all.1
+
+-- what is told of an input behind the end of a session
+abbrev pub told_rest : Side → ℕ → ℕ → Report → List Noted
+told_rest who n acked r =
+    if_so r.began (NotedUp who n) ++ (if_so r.became_active (Active who) ++ (map (GaveUp who) (option_to_list r.gave_up)
+    ++ (if_so (nat_lt 0 r.acked) (Acked who n acked) ++ map (Got who n) r.got)))
+
+pub rest_quiet : (who : Side) (n acked : ℕ) (r : Report) → AllByRecursion IsQuiet (told_rest who n acked r)
+rest_quiet who n acked r = rest_all IsQuiet who n acked tt tt (λ k. tt) tt (λ m. tt) r
+
+-- what is told of an input reads as nothing but for the end of a session
+pub told_reads : (h : ℕ) (core : Core) (p : Port) (i : LinkInput) (c : Option (List ℕ)) → own_side core ≡ Host → p.desk.host ≡ h
+    → reads h (told_at core p (Some i)) c ≡ cond (is_some (ended_by p.side i)) None c
+told_reads h core p i c side at = rw side (by_option (ended_by p.side i)
+    (λ q. rw q (quiet_reads h p.desk.host rest c quiet))
+    (λ cause q. rw q (ap (λ b. reads h (entries_for p.desk.host rest) (cond b None c)) (ap (λ k. same_end (end_h k) (end_h h)) at ∙ same_own h)
+    ∙ quiet_reads h p.desk.host rest None quiet)))
+  where
+    rest : List Noted
+    rest = told_rest Host p.session (whole_acked (after_input p.side i)) (report p.side i)
+
+    quiet : AllByRecursion IsQuiet rest
+    quiet = rest_quiet Host p.session (whole_acked (after_input p.side i)) (report p.side i)
+
+-- a message that is no command on pipe 01 reads as nothing
+no_order : (a b c : Bool) (x y : Option (List ℕ)) → (b && c) ≡ false → cond (a && b && c) x y ≡ y
+no_order false b c x y e = refl
+no_order true false c x y e = refl
+no_order true true false x y e = refl
+no_order true true true x y e = cc
+
+sent_reads : (h k : ℕ) (who : Side) (n : ℕ) (m : Message) (o : Option Refused) (c : Option (List ℕ))
+    → (eqb m.0 1 && is_command_message m.1) ≡ false
+    → reads h (entries_for k (sent_unless o who n m)) c ≡ c
+sent_reads h k who n m (Some why) c e = refl
+sent_reads h k who n m None c e = no_order (same_end (end_of k who) (end_h h)) (eqb m.0 1) (is_command_message m.1) (Some m.1) c e
+
+-- a command on pipe 01 that isn't refused is what is read
+order_reads : (h : ℕ) (n : ℕ) (order : List ℕ) (c : Option (List ℕ)) → is_command_message order ≡ true
+    → reads h (entries_for h (sent_unless None Host n (1, order))) c ≡ Some order
+order_reads h n order c e = rw (same_own h, e) refl
+
+-- ## A host does the deeds of a message: its unanswered command stays the one that is read
+
+module _ (h : ℕ) (host : IsHost h) (before : List Entry) (now : LinkState) where
+  -- the host runs, its end is in this phase, and what is read is its unanswered command
+  pub record Runs (w : Work) : Type 0 where
+    pub on : w.cut ≡ false
+    pub node : w.core.node ≡ h
+    pub port : Port
+    pub is : w.ports ≡ port ∷ []
+    pub its : IsItsEnd h w.core.command port
+    pub phase : port.side.shdlc.phase ≡ now
+    pub short : AreInitsShort w.core.init
+    pub order : order_in (before ++ w.entries) h ≡ w.core.command
+
+  -- its power is cut, and nothing is read
+  pub record IsOff (w : Work) : Type 0 where
+    pub off : w.cut ≡ true
+    pub node : w.core.node ≡ h
+    pub port : Port
+    pub is : w.ports ≡ port ∷ []
+    pub its : IsItsEnd h w.core.command port
+    pub short : AreInitsShort w.core.init
+    pub order : order_in (before ++ w.entries) h ≡ None
+
+  abbrev pub Stands : Work → Type 0
+  Stands w = Runs w ⊎ IsOff w
+
+  pub stands_keep : (w : Work) → Stands w → KeepsOrder h before w
+  stands_keep w (inl r) = record {
+    node = r.node;
+    port = r.port;
+    ports_are = r.is;
+    its_end = r.its;
+    short = r.short;
+    order = r.order ∙ sym (ap order_of (runs_left w r.on));
+  }
+  stands_keep w (inr r) = record {
+    node = r.node;
+    port = r.port;
+    ports_are = r.is;
+    its_end = r.its;
+    short = r.short;
+    order = r.order ∙ sym (ap order_of (runs_none w r.off));
+  }
+
+  pub keeps_stand : (w : Work) → w.cut ≡ false → (k : KeepsOrder h before w) → k.port.side.shdlc.phase ≡ now → Runs w
+  keeps_stand w on k phase = record {
+    on = on;
+    node = k.node;
+    port = k.port;
+    is = k.ports_are;
+    its = k.its_end;
+    phase = phase;
+    short = k.short;
+    order = k.order ∙ ap order_of (runs_left w on);
+  }
+
+  -- one thing after another, unless the power is cut
+  pub then : (f : Work → Work) (w : Work) → Stands w → (Runs w → Stands (f w)) → Stands (unless_cut f w)
+  then f w (inl r) next = subst Stands (sym (unless_on f w r.on)) (next r)
+  then f w (inr r) next = subst Stands (sym (unless_off f w r.off)) (inr r)
+
+  pub read_more : (w : Work) (es : List Entry) (c d : Option (List ℕ)) → order_in (before ++ w.entries) h ≡ c → reads h es c ≡ d
+      → order_in (before ++ (w.entries ++ es)) h ≡ d
+  read_more w es c d was more =
+      ap (λ l. order_in l h) (sym (append_assoc before w.entries es)) ∙ (order_more (before ++ w.entries) es h ∙ (ap (reads h es) was ∙ more))
+
+  -- it is noted what tells nothing
+  noting_runs : (w : Work) (es : List Entry) → reads h es w.core.command ≡ w.core.command → Runs w → Runs (noting es w)
+  noting_runs w es silent r = record {
+    on = r.on;
+    node = r.node;
+    port = r.port;
+    is = r.is;
+    its = r.its;
+    phase = r.phase;
+    short = r.short;
+    order = read_more w es w.core.command w.core.command r.order silent;
+  }
+
+  -- ### Ends
+
+  changed_its : (b : Bool) (f : Port → Port) (c : Option (List ℕ)) (p : Port) → (IsItsEnd h c p → IsItsEnd h c (f p)) → IsItsEnd h c p
+      → IsItsEnd h c (changed_if b f p)
+  changed_its true f c p one its = one its
+  changed_its false f c p one its = its
+
+  changed_phase : (b : Bool) (f : Port → Port) (p : Port) → ((p : Port) → (f p).side.shdlc.phase ≡ p.side.shdlc.phase)
+      → (changed_if b f p).side.shdlc.phase ≡ p.side.shdlc.phase
+  changed_phase true f p same = same p
+  changed_phase false f p same = refl
+
+  -- the end is changed
+  port_runs : (k : ℕ) (f : Port → Port) (w : Work) → ((p : Port) → IsItsEnd h w.core.command p → IsItsEnd h w.core.command (f p))
+      → ((p : Port) → (f p).side.shdlc.phase ≡ p.side.shdlc.phase) → Runs w
+      → Runs (record w { ports = with_port k f w.ports })
+  port_runs k f w one same r = record {
+    on = r.on;
+    node = r.node;
+    port = changed_if (eqb r.port.desk.host k) f r.port;
+    is = ap (with_port k f) r.is;
+    its = changed_its (eqb r.port.desk.host k) f w.core.command r.port (one r.port) r.its;
+    phase = changed_phase (eqb r.port.desk.host k) f r.port same ∙ r.phase;
+    short = r.short;
+    order = r.order;
+  }
+
+  desk_runs : (k : ℕ) (f : Desk → Desk) (w : Work) → ((d : Desk) → (f d).host ≡ d.host) → ((d : Desk) → (f d).notice ≡ d.notice) → Runs w
+      → Runs (with_desk k f w)
+  desk_runs k f w host_is notice_is r = port_runs k (λ p. record p { desk = f p.desk }) w
+      (λ p its. record { host = host_is p.desk ∙ its.host; no_notice = notice_is p.desk ∙ its.no_notice; up = its.up }) (λ p. refl) r
+
+  turn_its : (t : Turn) (c : Option (List ℕ)) (p : Port) → IsItsEnd h c p → IsItsEnd h c (after_turn t p)
+  turn_its t c p its = record { host = its.host; no_notice = its.no_notice; up = λ some. turn-phase p.side t ∙ its.up some }
+
+  -- what is noted of a turn of its end
+  noted_is : (k : ℕ) (t : Turn) (w : Work) (r : Runs w) (P : List Entry → Type 0) → (eqb r.port.desk.host k ≡ true → P (noted_of w.core t r.port))
+      → P [] → P (option_map_or (noted_of w.core t) (port_at w.ports k) [])
+  noted_is k t w r P here none = subst (λ ps. P (option_map_or (noted_of w.core t) (port_at ps k) [])) (sym r.is) (by_host (cases_Bool
+      (eqb r.port.desk.host k)))
+    where
+      by_host : (eqb r.port.desk.host k ≡ true) ⊎ (eqb r.port.desk.host k ≡ false) → P (option_map_or (noted_of w.core t) (port_at (r.port ∷ []) k) [])
+      by_host (inl e) = rw e (here e)
+      by_host (inr e) = rw e none
+
+  turn_runs : (k : ℕ) (t : Turn) (w : Work) → ((p : Port) → reads h (noted_of w.core t p) w.core.command ≡ w.core.command) → Runs w → Runs (turn_at k t w)
+  turn_runs k t w silent r =
+      noting_runs (record w { ports = with_port k (after_turn t) w.ports }) (option_map_or (noted_of w.core t) (port_at w.ports k) [])
+      (noted_is k t w r (λ es. reads h es w.core.command ≡ w.core.command) (λ e. silent r.port) refl)
+      (port_runs k (after_turn t) w (turn_its t w.core.command) (λ p. turn-phase p.side t) r)
+
+  -- a message that is no command on pipe 01 is given
+  give_runs : (k : ℕ) (m : Message) (w : Work) → (eqb m.0 1 && is_command_message m.1) ≡ false → Runs w → Runs (turn_at k (Give m) w)
+  give_runs k m w other r =
+      turn_runs k (Give m) w (λ p. sent_reads h p.desk.host (own_side w.core) p.session m (give_refusal p.side m) w.core.command other) r
+
+  -- an end that takes a message is up
+  taken_up : (p : Port) (m : Message) → give_refusal p.side m ≡ None → p.side.shdlc.phase ≡ Up
+  taken_up p m fits = by p.side.shdlc.phase refl where
+    by : (s : LinkState) → p.side.shdlc.phase ≡ s → s ≡ Up
+    by Up e = refl
+    by Waiting e = let z : Some NotUp ≡ None = rw e at fits in absurd (cc z)
+    by Down e = let z : Some NotUp ≡ None = rw e at fits in absurd (cc z)
+
+  -- a command is given where it fits
+  own_order : (order : List ℕ) (w : Work) → Fits w.ports order → is_command_message order ≡ true → Runs w → Runs (done h (Orders order) w)
+  own_order order w fits command r = record {
+    on = r.on;
+    node = r.node;
+    port = changed_if (eqb r.port.desk.host h) (after_turn (Give (1, order))) r.port;
+    is = ap (with_port h (after_turn (Give (1, order)))) r.is;
+    its = changed_its (eqb r.port.desk.host h) (after_turn (Give (1, order))) (Some order) r.port (turn_its (Give (1, order)) (Some order) r.port)
+        (record { host = r.its.host; no_notice = r.its.no_notice; up = λ some. taken_up r.port (1, order) (fits r.port r.is) });
+    phase = changed_phase (eqb r.port.desk.host h) (after_turn (Give (1, order))) r.port (λ p. turn-phase p.side (Give (1, order))) ∙ r.phase;
+    short = r.short;
+    order = read_more w (option_map_or (noted_of told (Give (1, order))) (port_at w.ports h) []) w.core.command (Some order) r.order noted;
+  } where
+    told : Core
+    told = record w.core { command = Some order }
+
+    sent : noted_of told (Give (1, order)) r.port ≡ entries_for h (sent_unless None Host r.port.session (1, order))
+    sent =
+        ap (λ o. entries_for r.port.desk.host (sent_unless o (own_side told) r.port.session (1, order))) (fits r.port r.is)
+        ∙ (ap (λ s. entries_for r.port.desk.host (sent_unless None s r.port.session (1, order))) (host_side told h host r.node)
+        ∙ ap (λ k. entries_for k (sent_unless None Host r.port.session (1, order))) r.its.host)
+
+    here : option_map_or (noted_of told (Give (1, order))) (port_at w.ports h) [] ≡ noted_of told (Give (1, order)) r.port
+    here =
+        ap (λ ps. option_map_or (noted_of told (Give (1, order))) (port_at ps h) []) r.is
+        ∙ ap (λ o. option_map_or (noted_of told (Give (1, order))) o []) (cond-true (eqb r.port.desk.host h) (Some r.port) None
+        (eq-eqb r.port.desk.host h r.its.host))
+
+    noted : reads h (option_map_or (noted_of told (Give (1, order))) (port_at w.ports h) []) w.core.command ≡ Some order
+    noted = ap (λ es. reads h es w.core.command) (here ∙ sent) ∙ order_reads h r.port.session order w.core.command command
+
+  order_runs : (k : ℕ) → k ≡ h → (order : List ℕ) (w : Work) → Fits w.ports order → is_command_message order ≡ true → Runs w
+      → Runs (done k (Orders order) w)
+  order_runs k is order w fits command r = subst (λ n. Runs (done n (Orders order) w)) (sym is) (own_order order w fits command r)
+
+  -- a command is committed, or the power is cut
+  commit_stands : (c : Command) (w : Work) → Runs w → Stands (commit c w)
+  commit_stands c w r = by_test (fails_within (length (commit_writes w.core.journal w.core.tables (body_of c))) w.plan)
+      (λ e. rw e (inr record {
+        off = refl;
+        node = r.node;
+        port = r.port;
+        is = r.is;
+        its = r.its;
+        short = r.short;
+        order = read_more (noting (entry.Command w.core.node c ∷ []) w) (entry.Cut w.core.node ∷ []) w.core.command None begun.order
+            (cond-true (eqb w.core.node h) None w.core.command (eq-eqb w.core.node h r.node));
+      }))
+      (λ e. rw e (inl record {
+        on = r.on;
+        node = r.node;
+        port = r.port;
+        is = r.is;
+        its = r.its;
+        phase = r.phase;
+        short = r.short;
+        order = begun.order;
+      })) where
+        begun : Runs (noting (entry.Command w.core.node c ∷ []) w)
+        begun = noting_runs w (entry.Command w.core.node c ∷ []) refl r
+
+  -- ### Deeds
+
+  pub all_stand : (k : ℕ) (F : List ℕ → Type 0) (deeds : List Deed) (w : Work) → ((order : List ℕ) → F order → (k ≡ h) × Fits w.ports order)
+      → MayDo h F deeds → Runs w → Stands (all_done k deeds w)
+  all_stand k F [] w fits may r = inl r
+  all_stand k F (Commits c ∷ deeds) w fits may r = then (all_done k deeds) (commit c w) (commit_stands c w r) (λ s. all_stand k F deeds (commit c w)
+      (subst (λ ps. (order : List ℕ) → F order → (k ≡ h) × Fits ps order) (sym (commit_ports c w)) fits) may s) where
+        commit_ports : (c : Command) (w : Work) → (commit c w).ports ≡ w.ports
+        commit_ports c w = by_test (fails_within (length (commit_writes w.core.journal w.core.tables (body_of c))) w.plan) (λ e. rw e refl) (λ e. rw e refl)
+  all_stand k F (Sends to m ∷ deeds) w fits may r =
+      then (all_done k deeds) (turn_at to (Give m) w) (inl (give_runs to m w may.0 r)) (all_stand k (λ o. ⊥) deeds (turn_at to (Give m) w)
+      (λ o x. absurd x) may.1)
+  all_stand k F (SaysOk ∷ deeds) w fits may r =
+      then (all_done k deeds) (done k SaysOk w) (inl (noting_runs w _ refl r)) (all_stand k F deeds (done k SaysOk w) fits may)
+  all_stand k F (Releases asker ∷ deeds) w fits may r =
+      then (all_done k deeds) (turn_at asker Release w) (inl (turn_runs asker Release w (λ p. refl) r)) (all_stand k (λ o. ⊥) deeds (turn_at asker Release w)
+      (λ o x. absurd x) may)
+  all_stand k F (Drops pid ∷ deeds) w fits may r =
+      then (all_done k deeds) (done k (Drops pid) w) (inl (noting_runs w _ refl r)) (all_stand k F deeds (done k (Drops pid) w) fits may)
+  all_stand k F (SetsErrors errors ∷ deeds) w fits may r =
+      then (all_done k deeds) (done k (SetsErrors errors) w) (inl (desk_runs k (λ d. record d { errors = errors }) w (λ d. refl) (λ d. refl) r))
+      (all_stand k (λ o. ⊥) deeds (done k (SetsErrors errors) w) (λ o x. absurd x) may)
+  all_stand k F (Orders order ∷ deeds) w fits may r =
+      then (all_done k deeds) (done k (Orders order) w) (inl (order_runs k (fits order may.0).0 order w (fits order may.0).1 may.1 r)) (all_stand k
+      (λ o. ⊥) deeds (done k (Orders order) w)
+      (λ o x. absurd x) may.2)
+  all_stand k F (GoesOn i ∷ deeds) w fits may r =
+      then (all_done k deeds) (done k (GoesOn i) w) (inl record {
+        on = r.on;
+        node = r.node;
+        port = r.port;
+        is = r.is;
+        its = r.its;
+        phase = r.phase;
+        short = may.0;
+        order = r.order;
+      }) (all_stand k F deeds (done k (GoesOn i) w) fits may.1)
+  all_stand k F (Ends e ∷ deeds) w fits may r =
+      then (all_done k deeds) (done k (Ends e) w) (inl record {
+        on = r.on;
+        node = r.node;
+        port = r.port;
+        is = r.is;
+        its = r.its;
+        phase = r.phase;
+        short = tt;
+        order = read_more w (e ∷ []) w.core.command w.core.command r.order (may.0 w.core.command);
+      }) (all_stand k F deeds (done k (Ends e) w) fits may.1)
+  all_stand k F (_ ∷ deeds) w fits may r = absurd may
+
+-- ## What a host does with a message that answers none of its commands may be done, and so may what follows the answer to one
+
+module _ (h : ℕ) (F : List ℕ → Type 0) where
+  abbrev May : List Deed → Type 0
+  May deeds = MayDo h F deeds
+
+  either : (b : Bool) (d e : List Deed) → May d → May e → May (cond b d e)
+  either true d e x y = x
+  either false d e x y = y
+
+  -- ### Answers
+
+  accepts_may : (core : Core) (c : Command) → May (accepts (own_view core) c)
+  accepts_may core c = by_test (finds_room core c) (λ q. rw q (refl, tt)) (λ q. rw q (refl, tt))
+
+  -- an answer on another pipe than 01
+  other_may : (to pipe : ℕ) (answer : List ℕ) → eqb pipe 1 ≡ false → May (answers_on to pipe answer)
+  other_may to pipe answer off = (ap (λ b. b && is_command_message answer) off, tt)
+
+  link_may : (to : ℕ) (o : Option ℕ) (answer : List ℕ) → May (link_deeds to 0 (answer, o))
+  link_may to None answer = (refl, tt)
+  link_may to (Some errors) answer = (refl, tt)
+
+  ordered_may : (core : Core) (errors pipe n : ℕ) (body : List ℕ) → May (ordered_deeds (own_view core) errors pipe n body)
+  ordered_may core errors pipe n body = ordered_holds May core errors pipe n body (record {
+    none = tt;
+    refuses = λ r. (answer_plain r [], tt);
+    creates = λ row named welcome. accepts_may core (Create row);
+    deletes = λ pid kept. accepts_may core (Delete pid);
+    clears = λ x host. accepts_may core (Clear x);
+    counts = λ zero. link_may core.node (link_served errors n body).1 (link_served errors n body).0;
+    names = λ off. other_may core.node pipe (identity_served gates n body) off;
+  })
+
+  -- an event that is posted back is no command
+  posted_may : (core : Core) (m : Message) (b : Bool) → is_command_message m.1 ≡ false → May (cond b (Sends core.node m ∷ []) [])
+  posted_may core m b off = either b (Sends core.node m ∷ []) [] (by_test (eqb m.0 1) (λ q. rw q off) (λ q. rw q refl), tt) tt
+
+  -- ### Init
+
+  -- behind what is learned
+  learns_then : (core : Core) (c : Command) (behind : List Deed) → May behind → May (learns (own_view core) c ++ behind)
+  learns_then core c behind may = learns_holds (λ deeds. May (deeds ++ behind)) core may (λ c is room. may) c
+
+  learned_if : (b : Bool) (core : Core) (order value : List ℕ) (behind : List Deed) → May behind
+      → May (cond b (learned (own_view core) order value) [] ++ behind)
+  learned_if b core order value behind may =
+      cond_both b (learned (own_view core) order value) [] (λ deeds. May (deeds ++ behind))
+      (λ _. learned_holds (λ deeds. May (deeds ++ behind)) core may (λ c is room. may) order value) (λ _. may)
+
+-- each command of an init is a command
+orders_commands : (i : Init) → AllByRecursion (λ order. is_command_message order ≡ true) (orders_of i)
+orders_commands i = orders_hold (λ order. is_command_message order ≡ true) i refl refl refl (λ pipe. refl) refl
+
+-- what an init does next may be done, where each of its commands that isn't too long may be given
+module _ (h : ℕ) (core : Core) (code : ℕ) (value : List ℕ) where
+  abbrev OrderFits : (List ℕ → Type 0) → Type 0
+  OrderFits F = (order : List ℕ) → is_command_message order ≡ true → length order ≤ 4096 → F order
+
+  init_may : (F : List ℕ → Type 0) (o : Option Init) → AreInitsShort o → OrderFits F → MayDo h F (init_deeds (own_view core) code value o)
+  init_may F None short fits = tt
+  init_may F (Some i) short fits = init_holds (MayDo h F) core i code value (record {
+    same = ((λ waits. refl), tt);
+    failed = λ code. ((λ waits. refl), tt);
+    made =
+        learns_then h F core (Set core.node 0 1 (record { items = i.identity })) (Ends (InitMade (end_of_node core core.node) (length i.pipes)) ∷ [])
+        ((λ waits. refl), tt);
+    next = λ order is.
+        let commands : is_command_message order ≡ true =
+        AllByRecursion-get (λ x. is_command_message x ≡ true) (orders_of i) (i.answered + 1) order (orders_commands i) is in
+        (short, (fits order commands (AllByRecursion-get (λ x. length x ≤ 4096) (orders_of i) (i.answered + 1) order short is), commands, tt));
+  })
+
+-- ## A host has its turns: its unanswered command stays the one that is read
+
+-- ### Room
 
 -- an order isn't too long
-abbrev pub NotLong : List ℕ → Type 0
+abbrev NotLong : List ℕ → Type 0
 NotLong order = length order ≤ 4096
 
 -- there is room for it at the end of the link with this host
@@ -103,14 +514,14 @@ module _ (h : ℕ) (host : IsHost h) (before : List Entry) (now : LinkState) whe
         its = record { host = r.its.host; no_notice = r.its.no_notice; up = λ some. absurd (true≢false (sym some)) };
         phase = r.phase;
         short = r.short;
-        order = Rattle.node_laws.proofs.readings.Doing.read_more h host before now w (entry.Turn (end_of_node w.core h) m.0 m.1 ∷ [])
+        order = Rattle.node_laws.proofs.readings.Turning.read_more h host before now w (entry.Turn (end_of_node w.core h) m.0 m.1 ∷ [])
             w.core.command None r.order
             (turn_read w m r w.core.command ∙ ap (λ b. cond b None w.core.command) is);
       } in
       desk_runs h host before now h (λ d. record d { holds = false }) (turn_at h FetchMessage v) (λ d. refl) (λ d. refl)
       (turn_runs h host before now h FetchMessage v (λ p. refl) begun)
 
-  -- ## What is done with a message
+  -- ### What is done with a message
 
   -- where each command finds room at its end
   fits_there : (w : Work) (m : Message) (r : Runs_so w) → is_up r.port.side.shdlc.phase ≡ true → (order : List ℕ)
@@ -254,7 +665,7 @@ module _ (h : ℕ) (host : IsHost h) (before : List Entry) (now : LinkState) whe
   pub deeds_stand : (w : Work) (m : Message) → Runs_so w → Handled m w (deeds_of w.core w.ports h m)
   deeds_stand w m r = subst (Handled m w) (sym (deeds_are w m r)) (host_stand w m r)
 
-  -- ## Turns
+  -- ### Turns
 
   pub holds_stand : (k : ℕ) (short : ℕ × ℕ) (w : Work) → Runs_so w → Stands_so (holds_back k short w)
   holds_stand k short w r = inl (by_test (option_map_or (λ (p : Port). p.desk.holds) (port_at w.ports k) false)

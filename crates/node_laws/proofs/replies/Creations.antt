@@ -1,22 +1,242 @@
--- The notices that are read tell of the creations that a controller keeps.
-use Rattle.node_laws.proofs.Words.{About, AllByRecursion, AreDifferent, AreHosts, AreNamed, Bool, Command, Create, Creation, Entry, Forgotten, IfAwaited}
-use Rattle.node_laws.proofs.Words.{IsAbout, IsAwaited, IsCommand, IsKeptNotice, IsNoticeOf, IsReadSo, IsRightAbout, IsRightNotice, IsTrue, KeepsInStep, List}
-use Rattle.node_laws.proofs.Words.{None, Notice, Option, PipeRow, Port, Removed, Some, Waits, Work, [], about_read, answer_of, ap, ap₂, asked_at, asking_in}
-use Rattle.node_laws.proofs.Words.{body_in, by_option, by_test, cond, creation_in, creation_of, creation_read, ends_of, eq-eqb, eqb, eqb-true, false}
-use Rattle.node_laws.proofs.Words.{hosts_of_ends, inl, inr, instruction_in, is_dynamic, is_host, not, notice_in, option_and_then, option_map, option_map_or}
-use Rattle.node_laws.proofs.Words.{pipe_named_in, port_at, refl, same_bytes, subst, sym, true, true≢false, ℕ, ◌&&◌, ◌++◌, ◌∙◌, ◌∷◌, ◌≡◌}
-use Rattle.gate_answers.specs.declared.response.Response.TheVariants as response
+-- A controller gives each end one message at most, its notices tell of its creations, and what is noted of a reply is what its deeds note.
+use Rattle.node_laws.proofs.Words.{About, AllByRecursion, AllReach, Answer, AreDifferent, AreHosts, AreNamed, AreTables, Ask, Asks, Bool, Command, Commit}
+use Rattle.node_laws.proofs.Words.{Commits, Core, Create, Creation, Decision, Deed, Drops, Ends, EndsAreRead, Entry, Err, Forgotten, GiveOnce, GoesOn, Hears}
+use Rattle.node_laws.proofs.Words.{IfAwaited, IsAbout, IsAnswered, IsAwaited, IsCommand, IsKeptNotice, IsNoneOf, IsNoticeOf, IsReadSo, IsResponse, IsRightAbout}
+use Rattle.node_laws.proofs.Words.{IsRightNotice, IsTrue, JoinTwo, KeepsInStep, List, Message, MessageFault, MessageKind, None, Notice, Ok, Option, Orders}
+use Rattle.node_laws.proofs.Words.{PipeRow, Port, Releases, Removed, Result, SaysOk, Sends, SetsErrors, Some, Tells, Waits, Work, [], about_at, about_read}
+use Rattle.node_laws.proofs.Words.{agreed, answer_of, answers_on, ap, ap₂, asked_at, asking_in, asks_for, body_in, by_option, by_test, cases_Bool, commit_deeds}
+use Rattle.node_laws.proofs.Words.{cond, cond_both, controller_deeds, creation_deeds, creation_in, creation_of, creation_read, decided, decision_deeds}
+use Rattle.node_laws.proofs.Words.{deeds_by_relay, end_c, ends_of, entries_of_reply, eq-eqb, eqb, eqb-true, event_deeds, false, finds_room, gate_deeds, gates}
+use Rattle.node_laws.proofs.Words.{goes_through, has, has_link, header_of, hosts_of_ends, hosts_where, identity_served, if_notice, inl, inr, instruction_in}
+use Rattle.node_laws.proofs.Words.{is_command_message, is_dynamic, is_host, is_one_of, is_up, kind_deeds, link_deeds, link_served, map, next_count, not}
+use Rattle.node_laws.proofs.Words.{notice_deeds, notice_in, option_and_then, option_map, option_map_or, own_deeds, own_gate, own_view, pipe_named_in, port_at}
+use Rattle.node_laws.proofs.Words.{refl, relay_deeds, relayed_to, same_bytes, sent_in_session, served_at, session_now, session_of_port, subst, sym, true}
+use Rattle.node_laws.proofs.Words.{true≢false, unless_asking, unrelayed, view_for, view_of, ℕ, ◌&&◌, ◌++◌, ◌||◌, ◌∙◌, ◌∷◌, ◌≡◌, ◌≤◌, ◌⊎◌}
+use Rattle.hcp_packet.specs.declared.MessageKind.TheVariants.{Command as IsCommandKind, Event as IsEvent}
 use Rattle.node_machine.specs.Controller.{about_of}
-use Rattle.node_laws.proofs.telling.Accounts.{at_host}
-use Rattle.node_laws.proofs.creations.Asks.{asked_of, one_of, waits, desks_wait}
+use Rattle.node_laws.proofs.creations.Outcomes.{asked_of, desks_wait, one_of, waits}
+use Rattle.node_laws.proofs.links.Noticing.{UpAt}
+use Rattle.node_laws.proofs.notices.Telling.{AreRight, IsShort, MayTell, Outcome, controller_outcome}
+use Rattle.node_laws.proofs.notices.Telling.Outcome.{IsHeard, Leaves}
 use Rattle.node_laws.proofs.read_steps.Knowing.{notice_is}
-use Rattle.node_laws.proofs.read_steps.Naming.{names_read}
-use Rattle.node_laws.proofs.replies.Ends.{all_found}
-use Rattle.node_laws.proofs.steps.Ports.{at_port}
+use Rattle.node_laws.proofs.read_steps.Reading.{names_read}
+use Rattle.node_laws.proofs.steps.StepWalks.{at_port}
+use Rattle.node_laws.proofs.telling.Accounts.{at_host}
+use Rattle.gate_answers.specs.declared.response.Response.TheVariants as response
+use Rattle.trace_model.specs.declared.entry.Entry.TheVariants as entry
 
--- ## Messages
+-- ## A controller gives each end one message or one block at most as it handles a message, and sends to ends that are up
 
-pub same_message : (a b : List ℕ) → same_bytes a b ≡ true → a ≡ b
+-- what a deed sends itself goes to an end that is up, and it begins and ends no init
+abbrev pub SendsOver : List Port → Deed → Type 0
+SendsOver ports (Sends to m) = has_link ports to ≡ true
+SendsOver ports (Orders message) = ⊥
+SendsOver ports Hears = ⊥
+SendsOver ports (GoesOn i) = ⊥
+SendsOver ports (Ends e) = ⊥
+SendsOver ports _ = Unit {0}
+
+-- hosts are told by notices last, and one message is sent or one host asked before
+abbrev pub FirstSent : Bool → List Deed → Type 0
+FirstSent b [] = Unit {0}
+FirstSent b (Sends to m ∷ deeds) = (b ≡ true) × FirstSent false deeds
+FirstSent b (Asks to message c ∷ deeds) = (b ≡ true) × FirstSent false deeds
+FirstSent b (Tells to message ∷ deeds) = FirstSent false deeds
+FirstSent b (_ ∷ deeds) = FirstSent b deeds
+
+module _ (ports : List Port) (h : ℕ) where
+  abbrev Fair : List Deed → Type 0
+  Fair deeds = FirstSent true deeds × AllByRecursion (SendsOver ports) deeds
+
+  told_first : (b : Bool) (notice : List ℕ) (hosts : List ℕ) → FirstSent b (map (λ y. Tells y notice) hosts)
+  told_first b notice [] = tt
+  told_first b notice (y ∷ hosts) = told_first false notice hosts
+
+  told_over : (notice : List ℕ) (hosts : List ℕ) → AllByRecursion (SendsOver ports) (map (λ y. Tells y notice) hosts)
+  told_over notice [] = tt
+  told_over notice (y ∷ hosts) = (tt, told_over notice hosts)
+
+  commit_fair : has_link ports h ≡ true → (room : Bool) (pipe : ℕ) (c : Command) (answer notice : List ℕ) (hosts : List ℕ)
+      → Fair (commit_deeds room h pipe c answer (map (λ y. Tells y notice) hosts))
+  commit_fair up true pipe c answer notice hosts = ((refl, told_first false notice hosts), (tt, (up, (tt, told_over notice hosts))))
+  commit_fair up false pipe c answer notice hosts = ((refl, tt), (up, tt))
+
+  decision_fair : has_link ports h ≡ true → (core : Core) (pipe : ℕ) (d : Decision) → Fair (decision_deeds (own_view core) h pipe d)
+  decision_fair up core pipe (Answer answer) = ((refl, tt), (up, tt))
+  decision_fair up core pipe (Commit c answer tell notice) = commit_fair up (finds_room core c) pipe c answer.items notice.items (hosts_where (has tell))
+  decision_fair up core pipe (Ask asked notice c answer) = ((refl, tt), (tt, tt))
+
+  link_fair : has_link ports h ≡ true → (pipe : ℕ) (answer : List ℕ × Option ℕ) → Fair (link_deeds h pipe answer)
+  link_fair up pipe answer = by_option answer.1 (λ q. rw q (((refl, tt), (up, tt)))) (λ errors q. rw q (((refl, tt), (tt, (up, tt)))))
+
+  gate_fair : has_link ports h ≡ true → (gate errors pipe instruction : ℕ) (body : List ℕ) → Fair (gate_deeds gate errors h pipe instruction body)
+  gate_fair up gate errors pipe instruction body =
+      cond_both (eqb gate 6) (link_deeds h pipe (link_served errors instruction body)) _ Fair
+      (λ _. link_fair up pipe (link_served errors instruction body))
+      (λ _. cond_both (eqb gate 5) (answers_on h pipe (identity_served gates instruction body))
+      (answers_on h pipe (answer_of response.CommandNotSupported [])) Fair
+      (λ _. ((refl, tt), (up, tt))) (λ _. ((refl, tt), (up, tt))))
+
+  event_fair : has_link ports h ≡ true → (core : Core) (m : Message) → Fair (event_deeds core.tables h m)
+  event_fair up core m = cond_both _ (Sends h m ∷ []) (Drops m.0 ∷ []) Fair (λ _. ((refl, tt), (up, tt))) (λ _. (tt, (tt, tt)))
+
+  unrelayed_fair : (m : Message) → Fair (unrelayed (has_link ports h) h m)
+  unrelayed_fair m = by_test (has_link ports h)
+      (λ up. rw up (cond_both (is_command_message m.1) (answers_on h m.0 (answer_of response.NotConnected [])) (Drops m.0 ∷ []) Fair
+      (λ _. ((refl, tt), (up, tt))) (λ _. (tt, (tt, tt)))))
+      (λ down. rw down (tt, (tt, tt)))
+
+  relay_fair : (m : Message) (other : ℕ) (up : Bool) → has_link ports other ≡ up → Fair (relay_deeds (has_link ports) h m other up)
+  relay_fair m other true up = ((refl, tt), (up, tt))
+  relay_fair m other false down = unrelayed_fair m
+
+  agreed_fair : (flag : Bool) (c : Creation) → has_link ports c.asker ≡ true → Fair (agreed flag c)
+  agreed_fair true c up = ((refl, tt), (tt, (tt, (tt, (up, (tt, tt))))))
+  agreed_fair false c up = ((refl, tt), (tt, (tt, (up, tt))))
+
+  creation_fair : (core : Core) (code : ℕ) (o : Option Creation) → ((c : Creation) → o ≡ Some c → has_link ports c.asker ≡ true)
+      → Fair (creation_deeds (own_view core) code o)
+  creation_fair core code None askers = (tt, (tt, tt))
+  creation_fair core code (Some c) askers = agreed_fair (eqb code 0 && finds_room core c.command) c (askers c refl)
+
+  module _ (core : Core) (askers : (p : Port) (c : Creation) → port_at ports h ≡ Some p → asked_at p ≡ Some c → has_link ports c.asker ≡ true) where
+    served_fair : has_link ports h ≡ true → (pipe instruction : ℕ) (body : List ℕ) (gate : Option ℕ)
+        → Fair (served_at (own_view core) (view_for core.tables ports h) h pipe instruction body gate)
+    served_fair up pipe instruction body None = decision_fair up core pipe (decided core.tables (view_for core.tables ports h) h pipe instruction body)
+    served_fair up pipe instruction body (Some gate) = gate_fair up gate (view_for core.tables ports h).errors pipe instruction body
+
+    asking_fair : has_link ports h ≡ true → (m : Message) (instruction : ℕ) (asks : Bool) → Fair (unless_asking (view_of core ports) h m instruction asks)
+    asking_fair up m instruction true = (tt, (tt, tt))
+    asking_fair up m instruction false =
+        served_fair up m.0 instruction (body_in m.1) (cond (goes_through core.tables h m.0 instruction) (own_gate core.tables h m.0) None)
+
+    response_fair : (code : ℕ) (o : Option Port) → port_at ports h ≡ o → Fair (notice_deeds (own_view core) code (about_at o))
+    response_fair code None here = (tt, (tt, tt))
+    response_fair code (Some p) here = by_option p.desk.notice
+        (λ is. rw is (tt, (tt, tt)))
+        (λ n is. rw is (creation_fair core code (creation_in (Some n)) (λ c q. askers p c here (ap creation_in is ∙ q))))
+
+    notices_fair : (m : Message) (code : ℕ) (b : Bool) → Fair (if_notice (view_of core ports) h m code b)
+    notices_fair m code true = response_fair code (port_at ports h) refl
+    notices_fair m code false = (tt, (tt, tt))
+
+    kind_fair : has_link ports h ≡ true → (m : Message) (header : Result (MessageKind × ℕ) MessageFault) → Fair (kind_deeds (view_of core ports) h m header)
+    kind_fair up m (Ok (IsCommandKind, instruction)) = asking_fair up m instruction (eqb m.0 1 && asks_for ports h)
+    kind_fair up m (Ok (IsEvent, instruction)) = event_fair up core m
+    kind_fair up m (Ok (IsResponse, code)) = notices_fair m code (eqb m.0 1)
+    kind_fair up m (Err fault) = (tt, (tt, tt))
+
+    own_fair : (m : Message) (b : Bool) → has_link ports h ≡ b → Fair (own_deeds (view_of core ports) h m b)
+    own_fair m true up = kind_fair up m (header_of m.1)
+    own_fair m false down = (tt, (tt, tt))
+
+    by_relay_fair : (m : Message) (o : Option ℕ) → Fair (deeds_by_relay (view_of core ports) h m o)
+    by_relay_fair m (Some other) = relay_fair m other (has_link ports other) refl
+    by_relay_fair m None = own_fair m (has_link ports h) refl
+
+    pub controller_sends : (m : Message)
+        → FirstSent true (controller_deeds (view_of core ports) h m) × AllByRecursion (SendsOver ports) (controller_deeds (view_of core ports) h m)
+    controller_sends m = by_relay_fair m (relayed_to core.tables h m)
+
+-- ### One message to each end
+
+none_of : (k : ℕ) (given : List ℕ) → given ≡ [] → IsNoneOf k given
+none_of k [] none = tt
+none_of k (j ∷ given) none = absurd (cc none)
+
+may_apart : (h : ℕ) (deeds : List Deed) (given : List ℕ) (b : Bool) → (b ≡ true → given ≡ []) → (F : ℕ → List ℕ → Type 0)
+    → ((x : ℕ) (n : List ℕ) → F x n → IsNoneOf x given) → ((x : ℕ) → MayTell x (F x) deeds) → FirstSent b deeds → GiveOnce h given deeds
+may_apart h [] given b first F free may sent = tt
+may_apart h (Commits c ∷ deeds) given b first F free may sent = may_apart h deeds given b first F free (λ x. (may x).1) sent
+may_apart h (Sends to m ∷ deeds) given b first F free may sent = (
+  none_of to given (first sent.0),
+  may_apart h deeds (to ∷ given) false (λ z. absurd (true≢false (sym z))) (λ x n. (eqb to x ≡ false) × F x n) (λ x n f. (f.0, free x n f.1))
+      (λ x. (may x).1) sent.1,
+)
+may_apart h (SaysOk ∷ deeds) given b first F free may sent = may_apart h deeds given b first F free may sent
+may_apart h (Asks to message c ∷ deeds) given b first F free may sent = (
+  none_of c.asker given (first sent.0),
+  ((may to).1.else, none_of to given (first sent.0)),
+  may_apart h deeds (to ∷ c.asker ∷ given) false (λ z. absurd (true≢false (sym z))) (λ x n. ⊥) (λ x n f. absurd f) (λ x. (may x).2) sent.1,
+)
+may_apart h (Releases asker ∷ deeds) given b first F free may sent = may_apart h deeds given b first (λ x n. ⊥) (λ x n f. absurd f) may sent
+may_apart h (Tells to message ∷ deeds) given b first F free may sent = (
+  free to message ((may to).0 (eq-eqb to to refl)),
+  may_apart h deeds (to ∷ given) false (λ z. absurd (true≢false (sym z))) (λ x n. (eqb to x ≡ false) × F x n) (λ x n f. (f.0, free x n f.1))
+      (λ x. (may x).2) sent,
+)
+may_apart h (Drops pid ∷ deeds) given b first F free may sent = may_apart h deeds given b first F free may sent
+may_apart h (SetsErrors errors ∷ deeds) given b first F free may sent = may_apart h deeds given b first F free may sent
+may_apart h (_ ∷ deeds) given b first F free may sent = absurd (may 0)
+
+-- what may be told, but for a notice that is answered first
+abbrev MayFrom : ℕ → List Deed → Type 0
+MayFrom x (IsAnswered ∷ deeds) = MayTell x IsShort deeds
+MayFrom x deeds = MayTell x IsShort deeds
+
+may_from : (x : ℕ) (deeds : List Deed) → MayTell x IsShort deeds → MayFrom x deeds
+may_from x [] may = may
+may_from x (IsAnswered ∷ deeds) may = absurd may
+may_from x (_ ∷ deeds) may = may
+
+from_apart : (h : ℕ) (deeds : List Deed) → ((x : ℕ) → MayFrom x deeds) → FirstSent true deeds → GiveOnce h [] deeds
+from_apart h [] may sent = tt
+from_apart h (IsAnswered ∷ deeds) may sent = may_apart h deeds [] true (λ z. refl) (λ x n. IsShort n) (λ x n f. tt) may sent
+from_apart h (Commits c ∷ deeds) may sent = may_apart h (Commits c ∷ deeds) [] true (λ z. refl) (λ x n. IsShort n) (λ x n f. tt) may sent
+from_apart h (Sends to m ∷ deeds) may sent = may_apart h (Sends to m ∷ deeds) [] true (λ z. refl) (λ x n. IsShort n) (λ x n f. tt) may sent
+from_apart h (SaysOk ∷ deeds) may sent = may_apart h (SaysOk ∷ deeds) [] true (λ z. refl) (λ x n. IsShort n) (λ x n f. tt) may sent
+from_apart h (Asks to n c ∷ deeds) may sent = may_apart h (Asks to n c ∷ deeds) [] true (λ z. refl) (λ x n. IsShort n) (λ x n f. tt) may sent
+from_apart h (Releases asker ∷ deeds) may sent = may_apart h (Releases asker ∷ deeds) [] true (λ z. refl) (λ x n. IsShort n) (λ x n f. tt) may sent
+from_apart h (Tells to n ∷ deeds) may sent = may_apart h (Tells to n ∷ deeds) [] true (λ z. refl) (λ x n. IsShort n) (λ x n f. tt) may sent
+from_apart h (Drops pid ∷ deeds) may sent = may_apart h (Drops pid ∷ deeds) [] true (λ z. refl) (λ x n. IsShort n) (λ x n f. tt) may sent
+from_apart h (SetsErrors e ∷ deeds) may sent = may_apart h (SetsErrors e ∷ deeds) [] true (λ z. refl) (λ x n. IsShort n) (λ x n f. tt) may sent
+from_apart h (_ ∷ deeds) may sent = absurd (may 0)
+
+module _ (core : Core) (ports : List Port) (h : ℕ) (sorted : AreTables core.tables) (two : JoinTwo core.tables.rows) (some : 1 ≤ h) (most : h ≤ 7)
+    (right : AreRight ports) (up : (x : ℕ) → UpAt (port_at ports x)) where
+  outcome_from : (x : ℕ) (m : Message) → Outcome x h ports m (controller_deeds (view_of core ports) h m) → MayFrom x (controller_deeds (view_of core ports) h m)
+  outcome_from x m (Leaves none may) = may_from x (controller_deeds (view_of core ports) h m) may
+  outcome_from x m (IsHeard rest e is may) = subst (MayFrom x) (sym e) may
+
+  pub controller_apart : (m : Message) → FirstSent true (controller_deeds (view_of core ports) h m) → GiveOnce h [] (controller_deeds (view_of core ports) h m)
+  controller_apart m sent =
+      from_apart h (controller_deeds (view_of core ports) h m)
+      (λ x. outcome_from x m (controller_outcome x h core ports sorted two some most right (up x) m)) sent
+
+-- ## The ends of a controller, one for each host of its world
+
+-- one that is found has a host among theirs
+pub one_found : (ports : List Port) (k : ℕ) (p : Port) → port_at ports k ≡ Some p → is_one_of (hosts_of_ends ports) k ≡ true
+one_found [] k p found = absurd (cc found)
+one_found (q ∷ ports) k p found = by_test (eqb q.desk.host k)
+    (λ is. ap (λ b. b || is_one_of (hosts_of_ends ports) k) is)
+    (λ off. ap (λ b. b || is_one_of (hosts_of_ends ports) k) off ∙ (one_found ports k p) (rw off at found))
+
+-- this holds of each end, where it holds of each that is found by its host
+pub all_found : (P : Port → Type 0) (ports : List Port) → AreDifferent (hosts_of_ends ports) → ((k : ℕ) (p : Port) → port_at ports k ≡ Some p → P p)
+    → AllByRecursion P ports
+all_found P [] different each = tt
+all_found P (p ∷ ports) different each = (
+  each p.desk.host p (ap (λ b. cond b (Some p) (port_at ports p.desk.host)) (eq-eqb p.desk.host p.desk.host refl)),
+  all_found P ports different.1 (λ k q found. each k q (behind k q found (cases_Bool (eqb p.desk.host k)))),
+) where
+  found_host : (ps : List Port) (k : ℕ) (q : Port) → port_at ps k ≡ Some q → AllByRecursion (λ h. eqb h p.desk.host ≡ false) (hosts_of_ends ps)
+      → eqb k p.desk.host ≡ false
+  found_host [] k q e off = absurd (cc e)
+  found_host (x ∷ ps) k q e off = by_test (eqb x.desk.host k)
+      (λ is. subst (λ n. eqb n p.desk.host ≡ false) (eqb-true x.desk.host k is) off.0)
+      (λ else. found_host ps k q (rw else at e) off.1)
+
+  behind : (k : ℕ) (q : Port) → port_at ports k ≡ Some q → (eqb p.desk.host k ≡ true) ⊎ (eqb p.desk.host k ≡ false) → port_at (p ∷ ports) k ≡ Some q
+  behind k q found (inr off) = ap (λ b. cond b (Some p) (port_at ports k)) off ∙ found
+  behind k q found (inl is) =
+      absurd (true≢false (sym (eq-eqb k p.desk.host (sym (eqb-true p.desk.host k is))) ∙ found_host ports k q found different.0))
+
+-- ## The notices that are read tell of the creations that a controller keeps
+
+-- ### Messages
+
+same_message : (a b : List ℕ) → same_bytes a b ≡ true → a ≡ b
 same_message [] [] e = refl
 same_message (x ∷ a) (y ∷ b) e = by_test (eqb x y)
     (λ is. ap₂ (λ u l. u ∷ l) (eqb-true x y is) (same_message a b (rw is at e)))
@@ -24,7 +244,7 @@ same_message (x ∷ a) (y ∷ b) e = by_test (eqb x y)
 same_message [] (y ∷ b) e = absurd (true≢false (sym e))
 same_message (x ∷ a) [] e = absurd (true≢false (sym e))
 
-pub message_same : (a : List ℕ) → same_bytes a a ≡ true
+message_same : (a : List ℕ) → same_bytes a a ≡ true
 message_same [] = refl
 message_same (x ∷ a) = ap (λ b. cond b (same_bytes a a) false) (eq-eqb x x refl) ∙ message_same a
 
@@ -37,10 +257,10 @@ unfolding row_of
 same_row a b e = ap (λ c. row_of c a) e
 
 -- the notices of one creation say the same
-pub notice_same : (c : Creation) (a b : List ℕ) → IsNoticeOf c a → IsNoticeOf c b → a ≡ b
+notice_same : (c : Creation) (a b : List ℕ) → IsNoticeOf c a → IsNoticeOf c b → a ≡ b
 notice_same c a b x y = x.message_is ∙ (ap (λ r. 18 ∷ ends_of r) (same_row x.row y.row (sym x.command ∙ y.command)) ∙ sym y.message_is)
 
--- ## Lists of creations
+-- ### Lists of creations
 
 -- one of these
 pub record IsIn (c : Creation) (l : List Creation) : Type 0 where
@@ -52,7 +272,7 @@ in_front : (c : Creation) (x l : List Creation) → IsIn c l → IsIn c (x ++ l)
 in_front c [] l i = i
 in_front c (d ∷ x) l i = let more : IsIn c (x ++ l) = in_front c x l i in record { front = d ∷ more.front; back = more.back; is = ap (λ l. d ∷ l) more.is }
 
-pub is_read_of : (r : Option (List ℕ)) (c : Creation) (l : List Creation) → IsIn c l → IsReadSo r l → (m : List ℕ) × (r ≡ Some m) × IsNoticeOf c m
+is_read_of : (r : Option (List ℕ)) (c : Creation) (l : List Creation) → IsIn c l → IsReadSo r l → (m : List ℕ) × (r ≡ Some m) × IsNoticeOf c m
 is_read_of r c l i k = go r i.front (subst (IsReadSo r) i.is k) where
   go : (r : Option (List ℕ)) (front : List Creation) → IsReadSo r (front ++ (c ∷ i.back)) → (m : List ℕ) × (r ≡ Some m) × IsNoticeOf c m
   go None [] k = absurd k
@@ -79,13 +299,13 @@ in_waits x (q ∷ ports) k p c found asked own = by_test (eqb q.desk.host k)
     (λ off. in_front c (one_of x (asked_at q)) (waits x (asked_of ports)) (in_waits x ports k p c (rw off at found) asked own))
 
 -- one waits at an end
-pub record WaitsAtEnd (all : List Port) (c : Creation) : Type 0 where
+record WaitsAtEnd (all : List Port) (c : Creation) : Type 0 where
   pub host : ℕ
   pub port : Port
   pub found : port_at all host ≡ Some port
   pub asked : asked_at port ≡ Some c
 
-pub waits_at_end : (x : ℕ) (all ports : List Port) (c : Creation) (l : List Creation) → AllByRecursion (λ (p : Port). port_at all p.desk.host ≡ Some p) ports
+waits_at_end : (x : ℕ) (all ports : List Port) (c : Creation) (l : List Creation) → AllByRecursion (λ (p : Port). port_at all p.desk.host ≡ Some p) ports
     → waits x (asked_of ports) ≡ c ∷ l → WaitsAtEnd all c
 waits_at_end x all [] c l found e = absurd (cc e)
 waits_at_end x all (p ∷ ports) c l found e = go (asked_at p) refl (waits_at_end x all ports c l found.1) where
@@ -99,7 +319,7 @@ waits_at_end x all (p ∷ ports) c l found e = go (asked_at p) refl (waits_at_en
         now : one_of x (Some d) ++ waits x (asked_of ports) ≡ c ∷ l
         now = sym (ap (λ o. one_of x o ++ waits x (asked_of ports)) q) ∙ e
 
--- ## What a notice is about
+-- ### What a notice is about
 
 -- whether there is a notice about something, and the creation that waits for its answer
 abbrev pub awaited_in : Option About → Option (Option Creation)
@@ -271,3 +491,33 @@ module _ (hosts : List ℕ) (are : AreHosts hosts) (t : List Entry) (w : Work) (
         ap (λ n. awaited_in (about_of n)) f ∙ (sym (read_here k p found n f m e) ∙ sym (ap (λ r. awaited_in (about_read now r)) e))
     go None (Some n) e f kept = absurd kept
     go (Some m) None e f kept = absurd kept
+
+-- ## What is noted of a reply, as it is read, is what its deeds note in a controller whose sessions are read
+
+module _ (t : List Entry) (ports : List Port) (ends : EndsAreRead t ports) (h : ℕ) where
+  abbrev read_session : ℕ → Option ℕ
+  read_session k = session_now t (end_c k) 0
+
+  -- an end that is up has the session that is read
+  same_session : (k : ℕ) → has_link ports k ≡ true → read_session k ≡ session_of_port ports k
+  same_session k up = by_option (port_at ports k)
+      (λ q. absurd (true≢false (sym up ∙ ap (λ o. option_map_or (λ (p : Port). is_up p.side.shdlc.phase) o false) q)))
+      (λ p q. ends.sessions k p q ∙ sym (ap (λ o. option_and_then (λ (p : Port). cond (is_up p.side.shdlc.phase) (Some p.session) None) o) q))
+
+  same_sent : (k : ℕ) (m : Message) → has_link ports k ≡ true → sent_in_session 0 read_session k m ≡ sent_in_session 0 (session_of_port ports) k m
+  same_sent k m up = ap (λ o. option_map_or (λ n. entry.Sent (end_c k) n m.0 m.1 ∷ []) o []) (same_session k up)
+
+  pub same_noted : (count : ℕ) (deeds : List Deed) → AllByRecursion (SendsOver ports) deeds → AllReach ports deeds
+      → entries_of_reply 0 read_session h count deeds ≡ entries_of_reply 0 (session_of_port ports) h count deeds
+  same_noted count [] over reach = refl
+  same_noted count (Commits c ∷ deeds) over reach = ap (λ l. entry.Command 0 c ∷ l) (same_noted (next_count count) deeds over.1 reach.1)
+  same_noted count (Sends to m ∷ deeds) over reach = ap₂ (λ a b. a ++ b) (same_sent to m over.0) (same_noted count deeds over.1 reach.1)
+  same_noted count (SaysOk ∷ deeds) over reach = ap (λ l. entry.AnyOk 0 count ∷ l) (same_noted count deeds over.1 reach.1)
+  same_noted count (Asks to message c ∷ deeds) over reach =
+      ap₂ (λ a b. entry.Ask to message ∷ a ++ b) (same_sent to (1, message) reach.0) (same_noted count deeds over.1 reach.1)
+  same_noted count (Tells to message ∷ deeds) over reach =
+      ap₂ (λ a b. a ++ b) (same_sent to (1, message) reach.0) (same_noted count deeds over.1 reach.1)
+  same_noted count (Drops pid ∷ deeds) over reach = ap (λ l. entry.Dropped (end_c h) pid ∷ l) (same_noted count deeds over.1 reach.1)
+  same_noted count (Orders message ∷ deeds) over reach = absurd over.0
+  same_noted count (Ends e ∷ deeds) over reach = absurd over.0
+  same_noted count (_ ∷ deeds) over reach = same_noted count deeds over.1 reach.1

@@ -1,30 +1,396 @@
--- Whatever happens to a world, whether the first message at an end of the controller is held is what is read.
-use Rattle.node_laws.proofs.Words.{Activates, AllByRecursion, AreNoTurns, Arms, AsksReset, AtEnd, Bool, Boots, Broken, Comes, Controller, Core, Deed, Desk, End}
-use Rattle.node_laws.proofs.Words.{Entry, Give, Gives, Happening, HasEnds, Host, IfItRuns, Inits, IsCut, IsOrderly, Link, LinkInput, List, Loses, Loss, Memory}
-use Rattle.node_laws.proofs.Words.{Message, NextFrame, NoInput, NodeInput, NodeWorld, None, NumberedEnd, Option, Plan, Port, Resets, Running, Site, Some}
-use Rattle.node_laws.proofs.Words.{Starts, Takes, Ticks, TimePasses, Turn, Work, [], activates, after_controller, after_host_step, after_near_tick, aged}
-use Rattle.node_laws.proofs.Words.{aged_entries, all_aged, ap, append-nil, append_assoc, arrival, beginning, begins_with, boot_found, boot_written, boots}
-use Rattle.node_laws.proofs.Words.{by_boot, by_coming, by_controller, by_controller_tick, by_host, by_host_tick, by_loss, by_memory, by_option, by_power}
-use Rattle.node_laws.proofs.Words.{by_running, by_test, comes_at, comes_to, cond, controller_cut, controller_does, controller_ticks, controller_work, count_of}
-use Rattle.node_laws.proofs.Words.{counts, end_c, end_h, ending_entries, ending_of, entries_for, eqb, exchanged, false, find, first_lost, flat_map, fold-append}
-use Rattle.node_laws.proofs.Words.{frame_lost, frames_noted, holds_in, host_cut, host_does, host_tick, host_ticks, host_work, hosts_in, hosts_tick}
-use Rattle.node_laws.proofs.Words.{is_command_message, is_held_at, left_running, link_after_controller, link_to, links_of, loses_power_at, map, memory_at}
-use Rattle.node_laws.proofs.Words.{near_end_in, near_tick, new_desk, noted_by_deed, noted_of, option_map_or, own_side, port_at, port_for, refl, runs_left}
-use Rattle.node_laws.proofs.Words.{runs_none, runs_on, sending, site_at, site_ticked, site_unticked, steps, subst, sym, true, true≢false, turn_entry, wires_for}
-use Rattle.node_laws.proofs.Words.{with_error, with_memory, with_node, with_site, work_of, world_step, world_ticks, ℕ, ◌&&◌, ◌++◌, ◌∙◌, ◌∷◌, ◌≡◌}
-use Rattle.trace_model.specs.declared.entry.Entry.TheVariants as entry
+-- Whether the first message at an end of a node is held is what is read, whatever happens to a world.
+use Rattle.node_laws.proofs.Words.{Activates, AllByRecursion, AllByRecursion-append, AreNoTurns, ArePassed, Arms, AsksReset, AtEnd, Bool, Boots, Broken, Comes}
+use Rattle.node_laws.proofs.Words.{ComesTo, Controller, Core, Cut, Deed, Desk, End, Ends, Entry, Give, Gives, Happening, HasEnds, Host, IfItRuns, Inits, IsCut}
+use Rattle.node_laws.proofs.Words.{IsNoTurn, IsOrderly, IsTurnSo, IsWaitingRead, Link, LinkInput, List, Loses, Loss, Memory, Message, NextFrame, NoInput}
+use Rattle.node_laws.proofs.Words.{NodeInput, NodeWorld, None, Noted, NumberedEnd, Option, Plan, Port, Resets, Restarted, Running, Sends, Site, Some, Starts}
+use Rattle.node_laws.proofs.Words.{Takes, Ticks, TimePasses, Turn, Work, [], activates, after_controller, after_host_step, after_near_tick, after_sessions}
+use Rattle.node_laws.proofs.Words.{aged, aged_entries, all_aged, all_done, ap, append-nil, append_assoc, append_cancel_left, arrival, asked_at, beginning}
+use Rattle.node_laws.proofs.Words.{begins_with, boot_found, boot_written, boots, by_boot, by_coming, by_controller, by_controller_tick, by_host, by_host_tick}
+use Rattle.node_laws.proofs.Words.{by_loss, by_memory, by_option, by_power, by_running, by_test, comes_at, comes_to, comes_to_pass, cond, controller_cut}
+use Rattle.node_laws.proofs.Words.{controller_does, controller_ticks, controller_work, count_of, counts, deeds_of, end_c, end_h, end_of, ending_entries}
+use Rattle.node_laws.proofs.Words.{ending_of, entries_for, entry_of, eqb, exchanged, false, find, first_lost, flat_map, fold-append, forgets, forgotten}
+use Rattle.node_laws.proofs.Words.{frame_lost, frames_noted, has_come, has_come_so, has_freed, has_synced, holds_in, host_cut, host_does, host_tick, host_ticks}
+use Rattle.node_laws.proofs.Words.{host_work, hosts_in, hosts_of_ends, hosts_tick, input_at, is_command_message, is_forgotten, is_held, is_held_at, is_late}
+use Rattle.node_laws.proofs.Words.{is_over, left_running, link_after_controller, link_to, links_of, loses_power_at, map, memory_at, near_end_in, near_tick}
+use Rattle.node_laws.proofs.Words.{new_desk, not, noted_before_pass, noted_by_deed, noted_of, option_map_or, owed_in_step, own_side, passes, port_at, port_for}
+use Rattle.node_laws.proofs.Words.{refl, reset_late, runs_left, runs_none, runs_on, same_end, same_side, sending, site_at, site_ticked, site_unticked, steps}
+use Rattle.node_laws.proofs.Words.{subst, sym, syncs_in, true, true≢false, turn_entry, waiting_after, waiting_at, waits_behind, wires_for, with_error}
+use Rattle.node_laws.proofs.Words.{with_memory, with_node, with_older, with_site, without_notice, work_of, world_step, world_ticks, ℕ, ◌&&◌, ◌++◌, ◌∙◌, ◌∷◌}
+use Rattle.node_laws.proofs.Words.{◌≡◌}
 use Rattle.link_laws.specs.entries.Entries.{End as Side}
-use Rattle.node_laws.proofs.telling.Mute.{AreMute}
-use Rattle.node_laws.proofs.telling.Worlds.{node_is, site_is}
-use Rattle.node_laws.proofs.telling.Events.{sending_mute}
-use Rattle.node_laws.proofs.passes.Turnless.{noted_none}
-use Rattle.node_laws.proofs.views.Worlds.{AreFine, map_fine, orderly_fine}
-use Rattle.node_laws.proofs.passes.Before.{links_none}
-use Rattle.node_laws.proofs.passes.Notes.{deeds_note}
-use Rattle.node_laws.proofs.reply_passes.Sides.{AreNoBoots, AreOnSide, begins_unbooted, far_all, notes_unbooted, quiet_all}
-use Rattle.node_laws.proofs.reply_passes.Holding.{all_sided, ended_read}
+use Rattle.link_laws.specs.entries.Entries.Entry.{Tick}
+use Rattle.node_laws.specs.passes.Passing.ComesTo.{Begins}
+use Rattle.node_laws.proofs.passes.InSteps.{before_entries, before_none, deeds_note_of_notes as deeds_note, links_none, noted_none, steps_are}
+use Rattle.node_laws.proofs.passes.Replying.{SeesAt, deeds_see}
+use Rattle.node_laws.proofs.passes.Passing.{comes_lasts, comes_so, through}
+use Rattle.node_laws.proofs.passes.Waiting.{waiting_read}
+use Rattle.node_laws.proofs.readings.Noting.{IsBeside, Notes, NotesSo, all_do as notes_do, steps_note}
+use Rattle.node_laws.proofs.steps.StepWalks.{come_host, forgets_host, late_host, unless, without_host}
+use Rattle.node_laws.proofs.telling.Events.{node_is, sending_mute, site_is}
+use Rattle.node_laws.proofs.telling.Accounts.{AreMute, IsMute, IsPlain, all_last, all_owed_mute, all_synced_mute, deeds_mute, forgotten_mute, handling}
+use Rattle.node_laws.proofs.telling.Steps.{sessions_side}
+use Rattle.node_laws.proofs.turns.Passing.{map_is}
+use Rattle.node_laws.proofs.views.Events.{AreFine, map_fine, orderly_fine}
+use Rattle.trace_model.specs.declared.entry.Entry.TheVariants as entry
 
--- ## What a node keeps
+-- ## Turns and messages that are held are noted at the node's own ends
+
+-- ### No boots
+
+abbrev pub IsNoBoot : Entry → Type 0
+IsNoBoot (entry.Booted n k) = ⊥
+IsNoBoot _ = Unit {0}
+
+abbrev pub AreNoBoots : List Entry → Type 0
+AreNoBoots es = AllByRecursion IsNoBoot es
+
+note_unbooted : (h : ℕ) (x : Noted) → AreNoBoots (entry_of h x)
+note_unbooted h Tick = tt
+note_unbooted h (Restarted who) = tt
+note_unbooted h (Cut who) = tt
+note_unbooted h _ = (tt, tt)
+
+pub notes_unbooted : (h : ℕ) (xs : List Noted) → AreNoBoots (entries_for h xs)
+notes_unbooted h [] = tt
+notes_unbooted h (x ∷ xs) = AllByRecursion-append IsNoBoot (entry_of h x) (entries_for h xs) (note_unbooted h x) (notes_unbooted h xs)
+
+beside_unbooted : (n : ℕ) (x : Entry) → IsBeside n x → IsNoBoot x
+beside_unbooted n (entry.Booted m k) b = absurd b
+beside_unbooted n x b = tt
+
+plain_unbooted : (x : Entry) → IsPlain x → IsNoBoot x
+plain_unbooted (entry.Booted m k) p = absurd p
+plain_unbooted x p = tt
+
+mute_unbooted : (deeds : List Deed) → AreMute deeds → AllByRecursion (NotesSo IsNoBoot) deeds
+mute_unbooted [] all = tt
+mute_unbooted (d ∷ deeds) all = (one d all.0, mute_unbooted deeds all.1) where
+  one : (d : Deed) → IsMute d → NotesSo IsNoBoot d
+  one (Sends to m) i = tt
+  one (Ends y) m = plain_unbooted y m
+  one _ m = tt
+
+any_ends : (ports : List Port) → AllByRecursion (λ (p : Port). Unit {0}) ports
+any_ends [] = tt
+any_ends (p ∷ ports) = (tt, any_ends ports)
+
+module _ (n : ℕ) (who : Side) where
+  abbrev Any : ℕ → Type 0
+  Any h = Unit {0}
+
+  from_here : (w : Work) → w.core.node ≡ n → own_side w.core ≡ who → AreNoBoots w.entries → Notes IsNoBoot n who Any w
+  from_here w number side none = record { number = number; side = side; ends = any_ends w.ports; so = none }
+
+  pub steps_unbooted : (input : NodeInput) (w : Work) → w.core.node ≡ n → own_side w.core ≡ who → AreNoBoots w.entries → AreNoBoots (steps input w).entries
+  steps_unbooted input w number side none =
+      (steps_note IsNoBoot n who Any (λ h x at own. note_unbooted h x) (λ h pid message at. tt) (beside_unbooted n)
+      (λ core ports h m is. mute_unbooted (deeds_of core ports h m) (deeds_mute core ports h m)) input w (from_here w number side none)).so
+
+  pub begins_unbooted : (h : ℕ) (deeds : List Deed) (w : Work) → AreMute deeds → w.core.node ≡ n → own_side w.core ≡ who → AreNoBoots w.entries
+      → AreNoBoots (begins_with h deeds w).entries
+  begins_unbooted h deeds w mute number side none =
+      (notes_do IsNoBoot n who Any (λ h x at own. note_unbooted h x) (λ h pid message at. tt) (beside_unbooted n)
+      (λ core ports h m is. mute_unbooted (deeds_of core ports h m) (deeds_mute core ports h m)) h deeds w (mute_unbooted deeds mute)
+      (from_here w number side none)).so
+
+pub front_unbooted : (xs ys : List Entry) → AreNoBoots (xs ++ ys) → AreNoBoots xs × AreNoBoots ys
+front_unbooted [] ys a = (tt, a)
+front_unbooted (x ∷ xs) ys a = let rest = front_unbooted xs ys a.1 in ((a.0, rest.0), rest.1)
+
+-- ### Sides
+
+abbrev pub is_host_side : Side → Bool
+is_host_side Controller = false
+is_host_side Host = true
+
+-- a turn, and a message that is held, stand at an end of this side, and no boot is noted
+abbrev pub IsOnSide : Bool → Entry → Type 0
+IsOnSide b (entry.Turn f pid message) = f.at_host ≡ b
+IsOnSide b (entry.Held f need spare) = f.at_host ≡ b
+IsOnSide b (entry.Booted n k) = ⊥
+IsOnSide b _ = Unit {0}
+
+abbrev pub AreOnSide : Bool → List Entry → Type 0
+AreOnSide b es = AllByRecursion (IsOnSide b) es
+
+quiet_one : (b : Bool) (x : Entry) → IsNoTurn x → IsNoBoot x → IsOnSide b x
+quiet_one b (entry.Turn f pid message) none un = absurd (cc none)
+quiet_one b (entry.Held f need spare) none un = absurd (cc none)
+quiet_one b (entry.Booted n k) none un = absurd un
+quiet_one b x none un = tt
+
+quiet_sided : (b : Bool) (es : List Entry) → AreNoTurns es → AreNoBoots es → AreOnSide b es
+quiet_sided b [] none un = tt
+quiet_sided b (x ∷ es) none un = (quiet_one b x none.0 un.0, quiet_sided b es none.1 un.1)
+
+side_of_end : (who : Side) (h : ℕ) → (end_of h who).at_host ≡ is_host_side who
+side_of_end Controller h = refl
+side_of_end Host h = refl
+
+-- what holds of each entry holds of all
+each_all : (P : Entry → Type 0) (es : List Entry) → ((front back : List Entry) (x : Entry) → es ≡ front ++ (x ∷ back) → P x) → AllByRecursion P es
+each_all P [] each = tt
+each_all P (x ∷ es) each = (each [] es x refl, each_all P es (λ front back y e. each (x ∷ front) back y (ap (λ l. x ∷ l) e)))
+
+-- ### A pass
+
+-- a node keeps its side over its turns
+module _ (who : Side) where
+  abbrev IsSide : Work → Type 0
+  IsSide w = own_side w.core ≡ who
+
+  pub side_comes : (w v : Work) → IsSide w → ComesTo w v → IsSide v
+  side_comes w v side c = comes_so IsSide (record {
+    handled = λ v h m messages a on waiting room still.
+        handling IsSide (λ es u s p a. a) (λ k f u host a. a) (λ k t u a. a) (λ x y cut core ports entries a. ap
+        (λ (m : ℕ). cond (eqb m 0) Controller Host) core ∙ a)
+        (λ writes u a. a) h m (deeds_of v.core v.ports h m) v (deeds_mute v.core v.ports h m) a;
+    held = λ v h m messages short a on waiting lacks. by_test (option_map_or (λ (p : Port). p.desk.holds) (port_at v.ports h) false) (λ q. rw q a)
+        (λ q. rw q a);
+    let_go = λ v h a on waiting. by_test (option_map_or (λ (p : Port). is_held p.side) (port_at v.ports h) false) (λ q. rw q a) (λ q. rw q a);
+  }) w side v c
+
+  turn_sided : (w : Work) → IsSide w → (front back : List Entry) (x : Entry) → IsTurnSo (ComesTo w) w front x back → IsNoBoot x
+      → IsOnSide (is_host_side who) x
+  turn_sided w side front back (entry.Turn e pid message) t un =
+      ap (λ (f : End). f.at_host) t.its_end
+      ∙ (ap (λ s. (end_of t.host s).at_host) (side_comes w t.work side t.keeps) ∙ side_of_end who t.host)
+  turn_sided w side front back (entry.Held e need spare) t un =
+      ap (λ (f : End). f.at_host) t.its_end
+      ∙ (ap (λ s. (end_of t.host s).at_host) (side_comes w t.work side t.keeps) ∙ side_of_end who t.host)
+  turn_sided w side front back (entry.Booted n k) t un = absurd un
+  turn_sided w side front back x t un = tt
+
+  pub pass_sided : (w v : Work) (hosts : List ℕ) → IsSide w → (p : ArePassed (ComesTo w) hosts w v) → AreNoBoots p.more → AreOnSide (is_host_side who) p.more
+  pass_sided w v hosts side p un = each_all (IsOnSide (is_host_side who)) p.more (λ front back x e.
+      turn_sided w side front back x (p.each front back x e) ((front_unbooted front (x ∷ back) (subst AreNoBoots e un)).1.0))
+
+-- ### What is read of messages that are held
+
+same_by : (f : End) (k : ℕ) (b : Bool) → f.at_host ≡ b → same_end f (record { link = k; at_host = b }) ≡ eqb f.link k
+same_by f k b q = ap (λ c. eqb f.link k && same_side c b) q ∙ right (eqb f.link k) b where
+  right : (a b : Bool) → (a && same_side b b) ≡ a
+  right true true = refl
+  right true false = refl
+  right false true = refl
+  right false false = refl
+
+other_by : (f : End) (k : ℕ) (b : Bool) → f.at_host ≡ not b → same_end f (record { link = k; at_host = b }) ≡ false
+other_by f k b q = ap (λ c. eqb f.link k && same_side c b) q ∙ right (eqb f.link k) b where
+  right : (a b : Bool) → (a && same_side (not b) b) ≡ false
+  right true true = refl
+  right true false = refl
+  right false true = refl
+  right false false = refl
+
+module _ (k : ℕ) (b : Bool) where
+  abbrev e : End
+  e = record { link = k; at_host = b }
+
+  told_one : (s : List Entry) (x : Entry) (ms : List Message) → IsOnSide b x
+      → holds_in (s ++ x ∷ []) e ≡ (waiting_after k (ms, holds_in s e) x).1
+  told_one s (entry.Turn f pid message) ms on =
+      fold-append _ false s (entry.Turn f pid message ∷ [])
+      ∙ (ap (λ c. cond c false (holds_in s e)) (same_by f k b on) ∙ by_test (eqb f.link k) (λ q. rw q refl) (λ q. rw q refl))
+  told_one s (entry.Held f need spare) ms on =
+      fold-append _ false s (entry.Held f need spare ∷ [])
+      ∙ (ap (λ c. cond c true (holds_in s e)) (same_by f k b on) ∙ by_test (eqb f.link k) (λ q. rw q refl) (λ q. rw q refl))
+  told_one s (entry.Booted n count) ms on = absurd on
+  told_one s x ms on = fold-append _ false s (x ∷ [])
+
+  -- what is noted of turns at this side
+  pub told_all : (s es : List Entry) (ms : List Message) → AreOnSide b es → holds_in (s ++ es) e ≡ (waits_behind k (ms, holds_in s e) es).1
+  told_all s [] ms on = ap (λ l. holds_in l e) (append-nil s)
+  told_all s (x ∷ es) ms on =
+      ap (λ l. holds_in l e) (sym (append_assoc s (x ∷ []) es))
+      ∙ (told_all (s ++ x ∷ []) es (waiting_after k (ms, holds_in s e) x).0 on.1
+      ∙ ap (λ c. (waits_behind k ((waiting_after k (ms, holds_in s e) x).0, c) es).1) (told_one s x ms on.0))
+
+  far_one : (s : List Entry) (x : Entry) → IsOnSide (not b) x → holds_in (s ++ x ∷ []) e ≡ holds_in s e
+  far_one s (entry.Turn f pid message) on =
+      fold-append _ false s (entry.Turn f pid message ∷ []) ∙ ap (λ c. cond c false (holds_in s e)) (other_by f k b on)
+  far_one s (entry.Held f need spare) on =
+      fold-append _ false s (entry.Held f need spare ∷ []) ∙ ap (λ c. cond c true (holds_in s e)) (other_by f k b on)
+  far_one s (entry.Booted n count) on = absurd on
+  far_one s x on = fold-append _ false s (x ∷ [])
+
+  -- what is noted at the other side of links leaves it
+  far_all : (s es : List Entry) → AreOnSide (not b) es → holds_in (s ++ es) e ≡ holds_in s e
+  far_all s [] on = ap (λ l. holds_in l e) (append-nil s)
+  far_all s (x ∷ es) on =
+      ap (λ l. holds_in l e) (sym (append_assoc s (x ∷ []) es)) ∙ (far_all (s ++ x ∷ []) es on.1 ∙ far_one s x on.0)
+
+  -- and so does what tells of no turn
+  quiet_all : (s es : List Entry) → AreNoTurns es → AreNoBoots es → holds_in (s ++ es) e ≡ holds_in s e
+  quiet_all s es none un = far_all s es (quiet_sided (not b) es none un)
+
+-- a node keeps its side until its pass begins
+module _ (who : Side) where
+  all_side : (h : ℕ) (deeds : List Deed) (v : Work) → AreMute deeds → own_side v.core ≡ who → own_side (all_done h deeds v).core ≡ who
+  all_side h deeds v mute a =
+      all_last (λ (x : Work). own_side x.core ≡ who) (λ es u s p a. a) (λ k f u host a. a) (λ k t u a. a)
+      (λ x y cut core ports entries a. ap (λ (m : ℕ). cond (eqb m 0) Controller Host) core ∙ a) (λ writes u a. a) h deeds v mute a
+
+  timed_side : (input : NodeInput) (w : Work) → own_side w.core ≡ who → own_side (has_come_so input w).core ≡ who
+  timed_side (AtEnd h i) w a = a
+  timed_side TimePasses w a = a
+
+  pub begun_side : (input : NodeInput) (w : Work) → own_side w.core ≡ who → own_side (comes_to_pass input w).core ≡ who
+  begun_side input w a =
+      let came : Work = has_come_so input w in
+      let start : Work = record came { core = after_sessions came.core came.ports; ports = map without_notice (map (forgets came.ports) came.ports) } in
+      let freed : own_side (has_freed input w).core ≡ who =
+      all_side 0 (forgotten came.ports) start (forgotten_mute came.ports) (sessions_side came.core came.ports ∙ timed_side input w a) in
+      let synced : own_side (has_synced input w).core ≡ who =
+      all_side 0 (syncs_in input w) (has_freed input w) (all_synced_mute w.core input w.ports) freed in
+      unless (λ (x : Work). own_side x.core ≡ who) (all_done 0 (owed_in_step input w)) (has_synced input w)
+      (λ v b. all_side 0 (owed_in_step input w) v (all_owed_mute (map (forgets came.ports) came.ports)) b) synced
+
+-- ## Whether the first message at an end of a node is held is what is read, as its pass begins and as its step ends
+
+-- ### Ends that stay held
+
+same_held : (f : Port → Port) → ((p : Port) → (f p).desk.host ≡ p.desk.host) → ((p : Port) → (f p).desk.holds ≡ p.desk.holds) → (ports : List Port) (k : ℕ)
+    → is_held_at (map f ports) k ≡ is_held_at ports k
+same_held f host holds ports k =
+    map_is f host ports k (λ o. option_map_or (λ (p : Port). p.desk.holds) o false ≡ is_held_at ports k)
+    (λ q. sym (ap (λ o. option_map_or (λ (p : Port). p.desk.holds) o false) q))
+    (λ p q. holds p ∙ sym (ap (λ o. option_map_or (λ (p : Port). p.desk.holds) o false) q))
+
+come_holds : (p : Port) (o : Option LinkInput) → (has_come p o).desk.holds ≡ p.desk.holds
+come_holds p None = refl
+come_holds p (Some i) = refl
+
+late_holds : (p : Port) → (reset_late p).desk.holds ≡ p.desk.holds
+late_holds p = by_test (is_late p) (λ q. rw q refl) (λ q. rw q refl)
+
+without_holds : (p : Port) → (without_notice p).desk.holds ≡ p.desk.holds
+without_holds p = by_test (is_over p) (λ q. rw q refl) (λ q. rw q refl)
+
+forgets_holds : (ports : List Port) (p : Port) → (forgets ports p).desk.holds ≡ p.desk.holds
+forgets_holds ports p = by_test (is_forgotten ports (asked_at p)) (λ q. rw q refl) (λ q. rw q refl)
+
+-- ### As a pass begins
+
+come_held : (input : NodeInput) (w : Work) (k : ℕ) → is_held_at (has_come_so input w).ports k ≡ is_held_at w.ports k
+come_held (AtEnd h i) w k = same_held (λ p. has_come p (input_at (AtEnd h i) p)) (λ p. come_host p (input_at (AtEnd h i) p))
+    (λ p. come_holds p (input_at (AtEnd h i) p)) w.ports k
+come_held TimePasses w k =
+    let came : List Port = map (λ p. has_come p (input_at TimePasses p)) w.ports in
+    same_held reset_late late_host late_holds (map with_older came) k
+    ∙ (same_held with_older (λ p. refl) (λ p. refl) came k
+    ∙ same_held (λ p. has_come p (input_at TimePasses p)) (λ p. come_host p (input_at TimePasses p)) (λ p. come_holds p (input_at TimePasses p)) w.ports k)
+
+-- what waits as a pass begins is what waited as something had come
+module _ (input : NodeInput) (w : Work) (k : ℕ) where
+  abbrev freed_start : Work
+  freed_start =
+      let came : Work = has_come_so input w in
+      record came {
+        core = after_sessions came.core came.ports;
+        ports = map without_notice (map (forgets came.ports) came.ports);
+      }
+
+  begun_sees : SeesAt k (waiting_at freed_start.ports k) (is_held_at freed_start.ports k) (comes_to_pass input w)
+  begun_sees =
+      let ms : List Message = waiting_at freed_start.ports k in
+      let b : Bool = is_held_at freed_start.ports k in
+      let one : SeesAt k ms b (has_freed input w) = deeds_see k ms b 0 (forgotten (has_come_so input w).ports) freed_start (refl, refl) in
+      let two : SeesAt k ms b (has_synced input w) = deeds_see k ms b 0 (syncs_in input w) (has_freed input w) one in
+      unless (SeesAt k ms b) (all_done 0 (owed_in_step input w)) (has_synced input w) (λ v s. deeds_see k ms b 0 (owed_in_step input w) v s) two
+
+  begun_held : is_held_at (comes_to_pass input w).ports k ≡ is_held_at w.ports k
+  begun_held =
+      let came : Work = has_come_so input w in
+      begun_sees.1
+      ∙ (same_held without_notice without_host without_holds (map (forgets came.ports) came.ports) k
+      ∙ (same_held (forgets came.ports) (forgets_host came.ports) (forgets_holds came.ports) came.ports k ∙ come_held input w k))
+
+-- ### A step
+
+module _ (n : ℕ) (who : Side) (t : List Entry) (input : NodeInput) (w : Work) (number : w.core.node ≡ n) (side : own_side w.core ≡ who)
+    (none : AreNoTurns w.entries) (unbooted : AreNoBoots w.entries) where
+  abbrev begun : Work
+  begun = comes_to_pass input w
+
+  abbrev ended : Work
+  ended = steps input w
+
+  abbrev at_end : ℕ → End
+  at_end k = record { link = k; at_host = is_host_side who }
+
+  -- what is read is what the node keeps
+  abbrev pub HeldAsRead : List Entry → List Port → Type 0
+  HeldAsRead s ports = (k : ℕ) → holds_in s (at_end k) ≡ is_held_at ports k
+
+  abbrev all_unbooted : AreNoBoots ended.entries
+  all_unbooted = steps_unbooted n who input w number side unbooted
+
+  on_is : begun.cut ≡ false → ended ≡ passes begun
+  on_is on = steps_are input w ∙ rw on refl
+
+  off_is : begun.cut ≡ true → ended ≡ begun
+  off_is off = steps_are input w ∙ rw off refl
+
+  walk : begun.cut ≡ false → ArePassed (ComesTo begun) (hosts_of_ends begun.ports) begun (passes begun)
+  walk on = through (ComesTo begun) (comes_lasts begun) (hosts_of_ends begun.ports) begun Begins on
+
+  -- what is noted before the pass tells of no turn, and of no boot
+  begun_unbooted : AreNoBoots begun.entries
+  begun_unbooted = by_test begun.cut
+      (λ off. subst (λ (v : Work). AreNoBoots v.entries) (off_is off) all_unbooted)
+      (λ on. (front_unbooted begun.entries (walk on).more (subst AreNoBoots (ap (λ (v : Work). v.entries) (on_is on) ∙ (walk on).entries) all_unbooted)).0)
+
+  begun_quiet : AreNoTurns begun.entries
+  begun_quiet = subst AreNoTurns (sym (before_entries input w))
+      (AllByRecursion-append IsNoTurn w.entries (noted_before_pass input w) none (before_none input w))
+
+  pub begun_read_at : (k : ℕ) → holds_in t (at_end k) ≡ is_held_at w.ports k → holds_in (t ++ begun.entries) (at_end k) ≡ is_held_at begun.ports k
+  begun_read_at k read = quiet_all k (is_host_side who) t begun.entries begun_quiet begun_unbooted ∙ (read ∙ sym (begun_held input w k))
+
+  pub begun_read : HeldAsRead t w.ports → HeldAsRead (t ++ begun.entries) begun.ports
+  begun_read read k = begun_read_at k (read k)
+
+  more_unbooted : (on : begun.cut ≡ false) → AreNoBoots (walk on).more
+  more_unbooted on =
+      (front_unbooted begun.entries (walk on).more (subst AreNoBoots (ap (λ (v : Work). v.entries) (on_is on) ∙ (walk on).entries) all_unbooted)).1
+
+  more_sided : (on : begun.cut ≡ false) → AreOnSide (is_host_side who) (walk on).more
+  more_sided on = pass_sided who begun (passes begun) (hosts_of_ends begun.ports) (begun_side who input w side) (walk on) (more_unbooted on)
+
+  -- all that is noted in the step of turns stands at this side
+  all_sided : AreOnSide (is_host_side who) ended.entries
+  all_sided = by_test begun.cut
+      (λ off. subst (λ (v : Work). AreOnSide (is_host_side who) v.entries) (sym (off_is off)) first)
+      (λ on. subst (AreOnSide (is_host_side who)) (sym (ap (λ (v : Work). v.entries) (on_is on) ∙ (walk on).entries))
+      (AllByRecursion-append (IsOnSide (is_host_side who)) begun.entries (walk on).more first (more_sided on))) where
+        first : AreOnSide (is_host_side who) begun.entries
+        first = quiet_sided (is_host_side who) begun.entries begun_quiet begun_unbooted
+
+  -- at one end
+  pub ended_read_at : (k : ℕ) → ended.cut ≡ false → holds_in t (at_end k) ≡ is_held_at w.ports k
+      → holds_in (t ++ ended.entries) (at_end k) ≡ is_held_at ended.ports k
+  ended_read_at k still read = by_test begun.cut
+      (λ off. absurd (true≢false (sym off ∙ (sym (ap (λ (v : Work). v.cut) (off_is off)) ∙ still))))
+      (λ on. let v : Work = passes begun in
+      let p : ArePassed (ComesTo begun) (hosts_of_ends begun.ports) begun v = walk on in
+      let a : IsWaitingRead k begun v = waiting_read k begun v (p.keeps (sym (ap (λ (v : Work). v.cut) (on_is on)) ∙ still)) in
+      let same : a.more ≡ p.more = append_cancel_left begun.entries a.more p.more (sym a.entries ∙ p.entries) in
+      let now : List Entry = t ++ begun.entries in
+      let told : holds_in (now ++ p.more) (at_end k) ≡ (waits_behind k (waiting_at begun.ports k, holds_in now (at_end k)) p.more).1 =
+      told_all k (is_host_side who) now p.more (waiting_at begun.ports k) (more_sided on) in
+      ap (λ (u : Work). holds_in (t ++ u.entries) (at_end k)) (on_is on)
+      ∙ (ap (λ l. holds_in l (at_end k)) (ap (λ l. t ++ l) p.entries ∙ sym (append_assoc t begun.entries p.more))
+      ∙ (told ∙ (ap (λ b. (waits_behind k (waiting_at begun.ports k, b) p.more).1) (begun_read_at k read)
+      ∙ (ap (λ l. (waits_behind k (waiting_at begun.ports k, is_held_at begun.ports k) l).1) (sym same)
+      ∙ (sym a.held ∙ ap (λ (u : Work). is_held_at u.ports k) (sym (on_is on))))))))
+
+  ended_read : ended.cut ≡ false → HeldAsRead t w.ports → HeldAsRead (t ++ ended.entries) ended.ports
+  ended_read still read k = ended_read_at k still (read k)
+
+-- ## Whatever happens to a world, whether the first message at an end of the controller is held is what is read
+
+-- ### What a node keeps
 
 abbrev pub is_held_among : List Desk → ℕ → Bool
 is_held_among desks k = option_map_or (λ (d : Desk). d.holds) (find (λ (d : Desk). eqb d.host k) desks) false
@@ -52,19 +418,19 @@ pub new_held : (hosts : List ℕ) (k : ℕ) → is_held_among (map new_desk host
 new_held [] k = refl
 new_held (h ∷ hosts) k = by_test (eqb h k) (λ q. rw q refl) (λ q. rw q (new_held hosts k))
 
--- ## Entries that tell nothing of it
+-- ### Entries that tell nothing of it
 
 -- these leave what is read at the ends of the controller
 abbrev pub Leaves : List Entry → Type 0
 Leaves es = (s : List Entry) (k : ℕ) → holds_in (s ++ es) (end_c k) ≡ holds_in s (end_c k)
 
-pub leaves-append : (xs ys : List Entry) → Leaves xs → Leaves ys → Leaves (xs ++ ys)
+leaves-append : (xs ys : List Entry) → Leaves xs → Leaves ys → Leaves (xs ++ ys)
 leaves-append xs ys a b s k = ap (λ l. holds_in l (end_c k)) (sym (append_assoc s xs ys)) ∙ (b (s ++ xs) k ∙ a s k)
 
 none_leaves : Leaves []
 none_leaves s k = ap (λ l. holds_in l (end_c k)) (append-nil s)
 
-pub quiet_leaves : (es : List Entry) → AreNoTurns es → AreNoBoots es → Leaves es
+quiet_leaves : (es : List Entry) → AreNoTurns es → AreNoBoots es → Leaves es
 quiet_leaves es none un s k = quiet_all k false s es none un
 
 far_leaves : (es : List Entry) → AreOnSide true es → Leaves es
@@ -77,7 +443,7 @@ flat_leaves : {X : Type 0} (f : X → List Entry) → ((x : X) → Leaves (f x))
 flat_leaves f one [] = none_leaves
 flat_leaves f one (x ∷ xs) = leaves-append (f x) (flat_map f xs) (one x) (flat_leaves f one xs)
 
-pub frames_leave : (who : Side) (h : ℕ) (l : Link) (v : Work) → Leaves (frames_noted who h l v)
+frames_leave : (who : Side) (h : ℕ) (l : Link) (v : Work) → Leaves (frames_noted who h l v)
 frames_leave who h l v = by_option (port_at v.ports h) (λ q. rw q none_leaves) (λ p q. rw q (links_leave h (ending_entries who l p.side (ending_of v))))
 
 pub aged_leave : (w : NodeWorld) → Leaves (all_aged w).1
@@ -85,7 +451,7 @@ aged_leave w =
     flat_leaves (λ (s : Site). entries_for s.host (aged_entries Controller s.link.to_controller ++ aged_entries Host s.link.to_host))
     (λ s. links_leave s.host (aged_entries Controller s.link.to_controller ++ aged_entries Host s.link.to_host)) w.sites
 
--- ## Hosts
+-- ### Hosts
 
 pub host_side : (n : ℕ) (core : Core) → core.node ≡ n → eqb n 0 ≡ false → own_side core ≡ Host
 host_side n core number off = ap (λ m. cond (eqb m 0) Controller Host) number ∙ ap (λ b. cond b Controller Host) off
@@ -97,7 +463,7 @@ host_leaves h r plan near_ends es input has off none un =
     far_leaves (steps input (work_of r plan near_ends es)).entries
     (all_sided h Host [] input (work_of r plan near_ends es) has.number (host_side h r.core has.number off) none un)
 
-pub turn_quiet : (core : Core) (x : Turn) (o : Option Port) → AreNoTurns (option_map_or (noted_of core x) o [])
+turn_quiet : (core : Core) (x : Turn) (o : Option Port) → AreNoTurns (option_map_or (noted_of core x) o [])
 turn_quiet core x None = tt
 turn_quiet core x (Some p) = links_none p.desk.host (turn_entry (own_side core) p.session p.side x)
 
@@ -110,12 +476,12 @@ begins_leave h n r plan near_ends deeds number mute none =
     quiet_leaves (begins_with h deeds w).entries (subst AreNoTurns (sym (deeds_note h deeds w)) (noted_none h deeds w none))
     (begins_unbooted n (own_side r.core) h deeds w mute number refl tt)
 
-pub sending_quiet : (h : ℕ) (m : Message) → AllByRecursion (λ (d : Deed). (k : ℕ) (w : Work) → AreNoTurns (noted_by_deed k d w)) (sending h m)
+sending_quiet : (h : ℕ) (m : Message) → AllByRecursion (λ (d : Deed). (k : ℕ) (w : Work) → AreNoTurns (noted_by_deed k d w)) (sending h m)
 sending_quiet h m = by_test (eqb m.0 1 && is_command_message m.1)
     (λ q. rw q ((λ k w. turn_quiet w.core (Give (1, m.1)) (port_at w.ports k)), tt))
     (λ q. rw q ((λ k w. turn_quiet w.core (Give m) (port_at w.ports h)), tt))
 
--- ## Sites
+-- ### Sites
 
 pub site_fine : (h : ℕ) (s : Site) (r : Running) (sites : List Site) → AreFine sites → site_at sites h ≡ Some s → s.node ≡ Some r
     → HasEnds s.host (s.host ∷ []) r × (eqb s.host 0 ≡ false)
@@ -124,7 +490,7 @@ site_fine h s r sites fine here q = (
   site_is (λ (s : Site). (eqb s.host 0) ≡ false) sites h s fine.hosts here,
 )
 
--- ## Events
+-- ### Events
 
 -- a controller that runs keeps what is read
 abbrev pub HoldsRead : List Entry → NodeWorld → Type 0
@@ -168,7 +534,7 @@ module _ (t : List Entry) (w : NodeWorld) (before : HoldsRead t w) where
           ap (λ l. holds_in l (end_c k)) (sym (append_assoc t c.entries frames))
           ∙ (leaves (t ++ c.entries) k ∙ (read ∙ (sym (desks_held c.ports k) ∙ ap (λ (y : Running). is_held_among y.desks k) (sym is))))
 
-  -- ## Something comes
+  -- ### Something comes
 
   module _ (orderly : IsOrderly w) where
     number_of : (r : Running) → w.controller ≡ Some r → r.core.node ≡ 0
@@ -218,7 +584,7 @@ module _ (t : List Entry) (w : NodeWorld) (before : HoldsRead t w) where
   comes_read orderly e comes =
       by_coming (ThenRead t) w e comes nothing (λ i at q. far_does (orderly_fine w orderly) e.link comes i) (λ i at q. near_does orderly e.link comes i)
 
-  -- ## Power and memories
+  -- ### Power and memories
 
   written_same : (n : ℕ) (m : Memory) → (with_memory n m w).controller ≡ w.controller
   written_same n m = by_memory (λ v. v.controller ≡ w.controller) n w m (λ z. refl) (λ z. refl)
@@ -251,7 +617,7 @@ module _ (t : List Entry) (w : NodeWorld) (before : HoldsRead t w) where
         told true z k ∙ (sym (new_held (links_of w n) k) ∙ ap (λ (y : Running). is_held_among y.desks k) is))
         (λ z r q k. told false z k ∙ before r (sym written ∙ q) k)
 
-  -- ## Losses
+  -- ### Losses
 
   counted : (why : Loss) (h : ℕ) (o : Option Running) → o ≡ w.controller → (r : Running) → counts why h o ≡ Some r → (k : ℕ)
       → holds_in t (end_c k) ≡ is_held_among r.desks k
@@ -269,7 +635,7 @@ module _ (t : List Entry) (w : NodeWorld) (before : HoldsRead t w) where
       (λ at r q k.
       links_leave e.link (first_lost Controller why (link_to w.sites e.link).to_controller) t k ∙ counted why e.link w.controller refl r q k)
 
--- ## Time
+-- ### Time
 
 hosts_leave : (sites : List Site) → AllByRecursion (λ (s : Site). (eqb s.host 0) ≡ false) sites
     → AllByRecursion (λ (s : Site). IfItRuns s.host (s.host ∷ []) s.node) sites → Leaves (hosts_tick sites).1
@@ -310,7 +676,7 @@ ticks_read t w before orderly =
     subst (λ l. HoldsRead l (record near.0 { sites = far.0 }))
     (append_assoc (t ++ old.1) near.1 far.1 ∙ append_assoc t old.1 (near.1 ++ far.1)) third
 
--- ## All that happens
+-- ### All that happens
 
 near_fine : (w : NodeWorld) (h : ℕ) (comes : Comes) → AreFine w.sites → AreFine (comes_at w (end_c h) comes).0.sites
 near_fine w h comes fine =

@@ -1,32 +1,280 @@
--- In a history the generation of the controller's memory is one above the commands that were noted, at most.
-use Rattle.node_laws.proofs.Words.{Activates, AllByRecursion, AllKeep, AreHosts, Arms, AsksReset, AtEnd, Bool, Boots, Comes, Controller, Core, End, Entry}
-use Rattle.node_laws.proofs.Words.{FollowsNodes, Gives, Happening, Header, IfRuns, Inits, IsCut, IsFew, IsNodeNumber, IsPlain, IsSentByHost, IsUnformatted}
-use Rattle.node_laws.proofs.Words.{Journal, Line, LinkInput, List, Loses, Loss, Memory, NextFrame, NoInput, NodeHistory, NodeInput, NodeWorld, None}
-use Rattle.node_laws.proofs.Words.{NumberedEnd, Occurrence, Option, Plan, Resets, Running, RunsSo, Side, Site, Some, Starts, State, StillRuns, Takes, Ticks}
-use Rattle.node_laws.proofs.Words.{TimePasses, Work, Write, [], activates, after_controller, after_near_tick, after_planned, after_writes, all_aged, ap}
-use Rattle.node_laws.proofs.Words.{append-nil, append_assoc, arith, arrival, beginning, begins_with, body_of, boot_found, boot_writes, boot_written, boots}
-use Rattle.node_laws.proofs.Words.{by_boot, by_coming, by_controller, by_controller_tick, by_host, by_loss, by_memory, by_power, by_running, cases_Bool}
-use Rattle.node_laws.proofs.Words.{comes_at, comes_to, commit_writes, cond, controller_does, controller_ticks, controller_work, count_of, current, end_c, end_h}
-use Rattle.node_laws.proofs.Words.{entries_for, entries_in, eqb, fails_within, false, flat_map, format_writes, frame_lost, frames_noted, fresh, host_does}
-use Rattle.node_laws.proofs.Words.{hosts_tick, inl, inr, is_opened_gate, journal, last_place, length, link_to, loses_power_at, memory_at, near_end_in}
-use Rattle.node_laws.proofs.Words.{near_tick, new_world, no_journal, node_entries, occurrences_in, option_map_or, refl, replicate, sending, slice_index, steps}
-use Rattle.node_laws.proofs.Words.{subst, sym, true, true≢false, wires_for, work_of, world_behind, world_step, world_ticks, ℕ, ◌&&◌, ◌++◌, ◌+◌, ◌∙◌, ◌∷◌, ◌≡◌}
-use Rattle.node_laws.proofs.Words.{◌≤◌, ◌⊎◌}
-use Rattle.trace_model.specs.declared.entry.Entry.TheVariants as entry
+-- The generation of a journal grows with the commands that are noted, so a controller finds room in its passes while these are few.
+use Rattle.std.specs.Prelude.{◌≢◌}
+use Rattle.node_laws.proofs.Words.{About, Activates, AllByRecursion, AllKeep, AreCausedSo, AreHosts, AreNodeLinesOf, ArePlayable, AreRepliedIn, AreTables, Arms}
+use Rattle.node_laws.proofs.Words.{Asks, AsksReset, AtEnd, BeginsPass, Bool, Boots, Comes, ComesTo, Command, Commits, Controller, Core, Deed, Drops, End, Ends}
+use Rattle.node_laws.proofs.Words.{Entry, FetchMessage, FindsRoom, FollowsNodes, Give, Gives, Happening, HasRoomForAll, HciTables, Header, Hold, IfRuns, Inits}
+use Rattle.node_laws.proofs.Words.{IsCommand, IsCut, IsFew, IsNodeLineOf, IsNodeNumber, IsPlain, IsRecordable, IsSentByHost, IsUnformatted, Journal, Knows}
+use Rattle.node_laws.proofs.Words.{Line, Link, LinkInput, List, Loses, Loss, Memory, Message, MessagesAreRead, NextFrame, NoInput, NodeHistory, NodeInput}
+use Rattle.node_laws.proofs.Words.{NodeWorld, None, NumberedEnd, Occurrence, OnWire, Option, Orders, Plan, Port, Release, Releases, Removed, Resets, Running}
+use Rattle.node_laws.proofs.Words.{RunsSo, Same, SaysOk, Sends, SetAside, Side, Site, Some, Starts, State, StillRuns, Takes, Tells, Ticks, TimePasses, Turn}
+use Rattle.node_laws.proofs.Words.{Verdict, Waits, Work, Write, [], activates, after_controller, after_near_tick, after_planned, after_sessions, after_writes}
+use Rattle.node_laws.proofs.Words.{all_aged, all_come, all_done, all_happen, anyone, ap, append-nil, append_assoc, append_writes, apply, arith, arrival}
+use Rattle.node_laws.proofs.Words.{as_it_ticks, beginning, begins_with, body_of, boot_found, boot_writes, boot_written, boots, by_boot, by_coming}
+use Rattle.node_laws.proofs.Words.{by_controller, by_controller_tick, by_host, by_loss, by_memory, by_option, by_power, by_running, by_test, can_happen}
+use Rattle.node_laws.proofs.Words.{cases_Bool, cases_eq, comes_at, comes_to, comes_to_pass, commands_by_events, commit, commit_writes, committed}
+use Rattle.node_laws.proofs.Words.{compact_writes, cond, controller_begins, controller_does, controller_ticks, controller_work, count_of, current, deeds_of}
+use Rattle.node_laws.proofs.Words.{done, end_c, end_h, end_of_node, entries_for, entries_in, eqb, exchanged, fails_within, false, finds_room, first_verdict}
+use Rattle.node_laws.proofs.Words.{flat_map, forgets, forgotten, format_writes, frame_lost, frames_at, frames_noted, fresh, goes_on, happenings, happens_by}
+use Rattle.node_laws.proofs.Words.{has_come_so, has_freed, has_synced, host_does, hosts_tick, inl, input_of, inr, is_opened_gate, is_over, journal, last_place}
+use Rattle.node_laws.proofs.Words.{length, length-append, length-replicate, line_step, link_to, list_any, loses_power_at, lt-ltb, map, memory_at, near_end_in}
+use Rattle.node_laws.proofs.Words.{near_tick, new_world, no_journal, node_at, node_entries, noted_before_pass, notified, noting, occurrences_in, occurrences_of}
+use Rattle.node_laws.proofs.Words.{opens_gate, option_map_or, owed_in_step, record_fits, refl, refusal_in, replicate, room_writes, sending, site_at}
+use Rattle.node_laws.proofs.Words.{slice_index, snapshot_bodies, state_of, steps, steps_from, subst, sym, syncs_in, tables_told, taken_of, true, true≢false}
+use Rattle.node_laws.proofs.Words.{turn_at, wires_for, with_room, without_notice, work_of, world_behind, world_step, world_ticks, ℕ, ◌&&◌, ◌*◌, ◌++◌, ◌+◌, ◌<◌}
+use Rattle.node_laws.proofs.Words.{◌∙◌, ◌∷◌, ◌≡◌, ◌≤◌, ◌⊎◌}
 use Rattle.journal_laws.proofs.Opening.{format_is_cut, format_state}
-use Rattle.node_laws.proofs.telling.Lasting.{Any, AreCaused, fronts_last, history_caused}
-use Rattle.node_laws.proofs.kept.Doing.{GoesOn_or_lost}
-use Rattle.node_laws.proofs.kept.Plainly.{plain_entries}
-use Rattle.node_laws.proofs.kept.Planned.{planned_cut, planned_whole}
-use Rattle.node_laws.proofs.kept.Standing.{runs_begun}
+use Rattle.node_laws.specs.passes.Passing.ComesTo.{Begins}
+use Rattle.node_laws.specs.reply_passes.Counts.{commands_noted as commits}
+use Rattle.node_laws.proofs.bounds.Begun.{passes_bounded, ticks_bounded}
+use Rattle.node_laws.proofs.bounds.Paying.{front_so}
+use Rattle.node_laws.proofs.cuts.Commits.{IsFilled, Torn, commit_opened, gate_closed, gate_opened, many, parts, record_same, snapshot_ends, torn}
+use Rattle.node_laws.proofs.kept.Reckoned.{can, next_of, planned_cut, planned_whole, room_knows, says_of}
+use Rattle.node_laws.proofs.kept.Doing.{GoesOn_or_lost, plain_entries}
+use Rattle.node_laws.proofs.kept.Events.{runs_begun}
 use Rattle.node_laws.proofs.kept.Stepping.{steps_fine}
 use Rattle.node_laws.proofs.kept.Ticking.{aged_goes}
+use Rattle.node_laws.proofs.links.Worlds.{AreFineSites, IsFineWorld, lines_fine, world_fine}
+use Rattle.node_laws.proofs.passes.InSteps.{before_entries}
+use Rattle.node_laws.proofs.passes.Passing.{comes_so}
+use Rattle.node_laws.proofs.replies.Waiting.{comes_replied, tick_replied}
+use Rattle.node_laws.proofs.reply_passes.Ordered.{WaitsRead, comes_messages, history_waits, tick_messages}
+use Rattle.node_laws.proofs.schedules.Ranges.{IsFewWires, run_few}
+use Rattle.node_laws.proofs.steps.StepWalks.{Lasts, all_last, got_at, handled, holds_of_step_walks as holds, lets, rest_lasts, unless}
+use Rattle.node_laws.proofs.telling.Lasting.{Any, AreCaused, events_of_steps, fronts_last, history_caused}
+use Rattle.node_laws.proofs.telling.Events.{site_is}
 use Rattle.node_laws.proofs.views.Lines.{events_so}
-use Rattle.node_laws.specs.reply_passes.Counts.{commands_noted as commits}
-use Rattle.node_laws.proofs.reply_passes.Growing.{Grows, commits-append, spent, steps_grow}
-use Rattle.node_laws.proofs.reply_passes.Memories.{cut_grows, generation_in, known_generation}
+use Rattle.nv_journal.proofs.Compacting as compacting
+use Rattle.trace_model.specs.declared.entry.Entry.TheVariants as entry
+use Rattle.trace_model.specs.declared.line.Line.TheVariants as line
 
--- ## A step of a node
+-- ## The generation of the journal of a node grows by one at most with each command that is noted
+
+pub commits-append : (s t : List Entry) → commits (s ++ t) ≡ commits s + commits t
+commits-append [] t = omega arith
+commits-append (entry.Command node c ∷ s) t = let rest = commits-append s t in omega (arith, rest)
+commits-append (x ∷ s) t = commits-append s t
+
+-- a commit makes one more generation at most
+commit_grows : (s : State) (t : HciTables) (body : List ℕ) → (committed s t body).generation ≤ s.generation + 1
+commit_grows s t body = by_test (record_fits s body) (λ q. rw q (omega arith)) (λ q. rw q (omega arith))
+
+-- where the power has gone, a generation more may have been written
+abbrev pub spent : Bool → ℕ
+spent b = cond b 1 0
+
+module _ (t : List Entry) where
+  -- the generation is one above the commands that were noted, at most
+  abbrev pub Grows : Work → Type 0
+  Grows w = w.core.journal.generation + spent w.cut ≤ 1 + commits (t ++ w.entries)
+
+  more : (w v : Work) (es : List Entry) → v.core.journal ≡ w.core.journal → v.cut ≡ w.cut → v.entries ≡ w.entries ++ es → Grows w → Grows v
+  more w v es journal cut entries a =
+      let one = commits-append t (w.entries ++ es) in
+      let three = commits-append t w.entries in
+      omega (arith, ap (λ (s : State). s.generation) journal, ap spent cut, ap (λ l. commits (t ++ l)) entries, one, commits-append w.entries es, three, a)
+
+  turns_grow : (h : ℕ) (x : Turn) (w : Work) → Grows w → Grows (turn_at h x w)
+  turns_grow h x w a = more w (turn_at h x w) _ refl refl refl a
+
+  tells_grow : (h : ℕ) (about : About) (message : List ℕ) (w : Work) → Grows w → Grows (notified h about message w)
+  tells_grow h about message w a = turns_grow h (Give (1, message)) w a
+
+  commits_grow : (c : Command) (w : Work) → Grows w → Grows (commit c w)
+  commits_grow c w a = by_test (fails_within (length (commit_writes w.core.journal w.core.tables (body_of c))) w.plan)
+      (λ q. rw q (
+      let one = commits-append t ((w.entries ++ entry.Command w.core.node c ∷ []) ++ entry.Cut w.core.node ∷ []) in
+      let two = commits-append (w.entries ++ entry.Command w.core.node c ∷ []) (entry.Cut w.core.node ∷ []) in
+      let four = commits-append w.entries (entry.Command w.core.node c ∷ []) in
+      omega (arith, a, one, two, three, four)))
+      (λ q. rw q (
+      let four = commits-append w.entries (entry.Command w.core.node c ∷ []) in
+      let grown = commit_grows w.core.journal w.core.tables (body_of c) in
+      omega (arith, a, commits-append t (w.entries ++ entry.Command w.core.node c ∷ []), three, four, grown))) where
+        three : commits (t ++ w.entries) ≡ commits t + commits w.entries
+        three = commits-append t w.entries
+
+  note_grow : (es : List Entry) (w : Work) → Grows w → Grows (noting es w)
+  note_grow es w a = more w (noting es w) es refl refl refl a
+
+  done_grow : (h : ℕ) (d : Deed) (w : Work) → Grows w → Grows (done h d w)
+  done_grow h (Commits c) w a = commits_grow c w a
+  done_grow h (Sends to m) w a = turns_grow to (Give m) w a
+  done_grow h SaysOk w a = note_grow (entry.AnyOk w.core.node (count_of w.core.journal) ∷ []) w a
+  done_grow h (Asks to message c) w a =
+      tells_grow to (Waits c) message (noting (entry.Ask to message ∷ []) (turn_at c.asker SetAside w))
+      (note_grow (entry.Ask to message ∷ []) (turn_at c.asker SetAside w) (turns_grow c.asker SetAside w a))
+  done_grow h (Releases asker) w a = turns_grow asker Release w a
+  done_grow h (Tells to message) w a = tells_grow to Removed message w a
+  done_grow h (Drops pid) w a = note_grow (entry.Dropped (end_of_node w.core h) pid ∷ []) w a
+  done_grow h (Orders message) w a = turns_grow h (Give (1, message)) (record w { core = record w.core { command = Some message } }) a
+  done_grow h (Ends e) w a = note_grow (e ∷ []) (record w { core = record w.core { init = None } }) a
+  done_grow h _ w a = a
+
+  abbrev AnyOfGrowing : Deed → Type 0
+  AnyOfGrowing d = Unit {0}
+
+  abbrev AnyMessage : ℕ → Message → Type 0
+  AnyMessage h m = Unit {0}
+
+  any_deeds : (deeds : List Deed) → AllByRecursion AnyOfGrowing deeds
+  any_deeds [] = tt
+  any_deeds (d ∷ deeds) = (tt, any_deeds deeds)
+
+  grow_lasts : Lasts Grows AnyOfGrowing AnyMessage
+  grow_lasts = record {
+    does = λ h d w may a. done_grow h d w a;
+    turn_told = λ h m w comes a. note_grow (entry.Turn (end_of_node w.core h) m.0 m.1 ∷ []) w a;
+    held_told = λ h need spare w a. note_grow (entry.Held (end_of_node w.core h) need spare ∷ []) w a;
+    fetched = λ h w a. turns_grow h FetchMessage w a;
+    held = λ h flag w a. turns_grow h (Hold flag) w a;
+    marked = λ h flag w a. a;
+    come = λ h w a. anyone (AnyMessage h) (λ m. tt) (got_at h w);
+    causes = λ h m w comes a. any_deeds (deeds_of w.core w.ports h m);
+  }
+
+  all_grow : (h : ℕ) (deeds : List Deed) (w : Work) → Grows w → Grows (all_done h deeds w)
+  all_grow h deeds w a = all_last Grows AnyOfGrowing AnyMessage grow_lasts h deeds w (any_deeds deeds) a
+
+  sessions_journal : (core : Core) (ports : List Port) → (after_sessions core ports).journal ≡ core.journal
+  sessions_journal core ports = by_test (list_any is_over ports) (λ q. rw q refl) (λ q. rw q refl)
+
+  come_grow : (input : NodeInput) (w : Work) → Grows w → Grows (has_come_so input w)
+  come_grow (AtEnd h i) w a = more w (has_come_so (AtEnd h i) w) _ refl refl refl a
+  come_grow TimePasses w a =
+      more (all_come TimePasses w) (has_come_so TimePasses w) _ refl refl refl (more w (all_come TimePasses w) _ refl refl refl a)
+
+  freed_grow : (input : NodeInput) (w : Work) → Grows w
+      → Grows (record (has_come_so input w) {
+        core = after_sessions (has_come_so input w).core (has_come_so input w).ports;
+        ports = map without_notice (map (forgets (has_come_so input w).ports) (has_come_so input w).ports);
+      })
+  freed_grow input w a =
+      let came : Work = has_come_so input w in
+      more came (record came { core = after_sessions came.core came.ports; ports = map without_notice (map (forgets came.ports) came.ports) }) []
+      (sessions_journal came.core came.ports) refl (sym (append-nil came.entries)) (come_grow input w a)
+
+  -- as a pass begins
+  pub begun_grows : (input : NodeInput) (w : Work) → Grows w → Grows (comes_to_pass input w)
+  begun_grows input w a =
+      let came : Work = has_come_so input w in
+      unless Grows (all_done 0 (owed_in_step input w)) (has_synced input w) (λ v b. all_grow 0 (owed_in_step input w) v b)
+      (all_grow 0 (syncs_in input w) (has_freed input w) (all_grow 0 (forgotten came.ports) _ (freed_grow input w a)))
+
+  -- as a step ends
+  steps_grow : (input : NodeInput) (w : Work) → Grows w → Grows (steps input w)
+  steps_grow input w a =
+      let came : Work = has_come_so input w in
+      rest_lasts Grows AnyOfGrowing AnyMessage grow_lasts (forgotten came.ports) (syncs_in input w) (owed_in_step input w)
+      (record came { core = after_sessions came.core came.ports; ports = map without_notice (map (forgets came.ports) came.ports) })
+      (any_deeds (forgotten came.ports)) (any_deeds (syncs_in input w)) (any_deeds (owed_in_step input w)) (freed_grow input w a)
+
+  -- over turns
+  pub comes_grow : (w v : Work) → Grows w → ComesTo w v → Grows v
+  comes_grow w v a c = comes_so Grows (record {
+    handled = λ u h m messages b on waiting room still. handled Grows AnyOfGrowing AnyMessage grow_lasts h m (deeds_of u.core u.ports h m) u tt
+        (any_deeds (deeds_of u.core u.ports h m)) b;
+    held = λ u h m messages short b on waiting lacks. holds Grows grow_lasts.held grow_lasts.marked grow_lasts.held_told h short u b;
+    let_go = λ u h b on waiting. lets Grows grow_lasts.held h u b;
+  }) w a v c
+
+-- where few commands were noted, any command finds room
+pub few_find_room : (t : List Entry) (w : Work) → Grows t w → commits (t ++ w.entries) ≤ 4000000000 → (c : Command) → finds_room w.core c ≡ true
+few_find_room t w a few c = by_test (record_fits w.core.journal (body_of c)) (λ q. rw q refl) (λ q. rw q (lt-ltb w.core.journal.generation 4294967295 low))
+  where
+    low : w.core.journal.generation < 4294967295
+    low = omega (arith, a, few)
+
+-- ## The generation that a memory says grows by one at most where a commit is written to it, whole or cut
+
+-- the generation of the bank in use
+abbrev pub generation_in : List ℕ → ℕ
+generation_in content = (state_of content).generation
+
+same_generation : (c d : List ℕ) → journal d ≡ journal c → generation_in d ≡ generation_in c
+same_generation c d same = ap (λ (j : Journal). j.head.generation) same
+
+known_generation : (content : List ℕ) (s : State) (t : HciTables) → Knows content s t → generation_in content ≡ s.generation
+known_generation content s t k = ap (λ (x : State). x.generation) k.state_is
+
+room_grows : (s : State) (t : HciTables) (body : List ℕ) → (with_room s t body).generation ≤ s.generation + 1
+room_grows s t body = commit_grows s t body
+
+module _ (content : List ℕ) (s : State) (t : HciTables) (c : Command) (k : Knows content s t) (are : AreTables t) (may : IsRecordable t)
+    (command : IsCommand c) (room : FindsRoom s c) (i : ℕ) (fill new : List ℕ) (filled : IsFilled i fill (room_writes s t (body_of c)) content new) where
+  abbrev by_room : Bool → List Write
+  by_room b = cond b [] (compact_writes s (snapshot_bodies t))
+
+  -- a snapshot that is cut
+  snapshot_grows : generation_in new ≤ s.generation + 1
+  snapshot_grows = by_fit (record_fits s (body_of c)) refl filled (cases_Bool (is_opened_gate (slice_index fill 0))) where
+    same : journal new ≡ journal content → generation_in new ≤ s.generation + 1
+    same is = let a = same_generation content new is in let b = known_generation content s t k in omega (arith, a, b)
+
+    whole : new ≡ after_writes (room_writes s t (body_of c)) content → generation_in new ≤ s.generation + 1
+    whole is =
+        let b = known_generation (after_writes (room_writes s t (body_of c)) content) (with_room s t (body_of c)) t
+        (room_knows content s t c k are may command room (record_fits s (body_of c)) refl).0 in
+        omega (arith, ap generation_in is, b, room_grows s t (body_of c))
+
+    by_fit : (b : Bool) → record_fits s (body_of c) ≡ b → IsFilled i fill (by_room b) content new
+        → (is_opened_gate (slice_index fill 0) ≡ true) ⊎ (is_opened_gate (slice_index fill 0) ≡ false) → generation_in new ≤ s.generation + 1
+    by_fit true is filled gate = absurd filled
+    by_fit false is filled (inr closed) =
+        same (gate_closed i fill (compact_writes s (snapshot_bodies t)) content new
+        (compacting.all_or_nothing content (snapshot_bodies t) s (says_of content s t k)
+        (can content s t k are may (next_of content s t c k are may command room is)))
+        (snapshot_ends s (snapshot_bodies t) k.in_use) filled (λ last. closed))
+    by_fit false is filled (inl opened) = by_last (cases_eq (i + 1) (length (compact_writes s (snapshot_bodies t)))) where
+      by_last : (i + 1 ≡ length (compact_writes s (snapshot_bodies t))) ⊎ (i + 1 ≢ length (compact_writes s (snapshot_bodies t)))
+          → generation_in new ≤ s.generation + 1
+      by_last (inl last) =
+          whole (gate_opened i fill (compact_writes s (snapshot_bodies t)) content new (snapshot_ends s (snapshot_bodies t) k.in_use) filled last opened
+          ∙ sym (ap (λ b. after_writes (by_room b) content) is))
+      by_last (inr off) =
+          same (gate_closed i fill (compact_writes s (snapshot_bodies t)) content new
+          (compacting.all_or_nothing content (snapshot_bodies t) s (says_of content s t k)
+          (can content s t k are may (next_of content s t c k are may command room is)))
+          (snapshot_ends s (snapshot_bodies t) k.in_use) filled (λ last. absurd (off last)))
+
+-- a commit that is cut
+module _ (m : Memory) (s : State) (t : HciTables) (c : Command) (k : Knows m.content s t) (are : AreTables t) (may : IsRecordable t)
+    (command : IsCommand c) (room : FindsRoom s c) (fails : fails_within (length (commit_writes s t (body_of c))) m.plan ≡ true) where
+  abbrev first : List Write
+  first = room_writes s t (body_of c)
+
+  abbrev left : List ℕ
+  left = (after_planned (commit_writes s t (body_of c)) m).content
+
+  abbrev cut : Torn m s t c fails
+  cut = torn m s t c fails
+
+  abbrev Parts : Type 0
+  Parts = ((cut.i < length first) × IsFilled cut.i cut.fill first m.content left)
+      ⊎ ((j : ℕ) × (cut.i ≡ length first + j) × IsFilled j cut.fill (append_writes (with_room s t (body_of c)) (body_of c)) (after_writes first m.content) left)
+
+  cut_grows : generation_in left ≤ s.generation + 1
+  cut_grows = by_part (parts m.content s t c k are may command room cut.i cut.fill left cut.filled) where
+    by_part : Parts → generation_in left ≤ s.generation + 1
+    by_part (inl front) = snapshot_grows m.content s t c k are may command room cut.i cut.fill left front.1
+    by_part (inr back) = by_test (opens_gate (length (commit_writes s t (body_of c))) m.plan)
+        (λ opens. let o = cut.opened (length (commit_writes s t (body_of c))) opens in
+        let b = known_generation left (committed s t (body_of c)) (apply t c)
+        (commit_opened m.content s t c k are may command room cut.i cut.fill left cut.filled o.0 o.1) in
+        omega (arith, b, commit_grows s t (body_of c)))
+        (λ opens. let r = room_knows m.content s t c k are may command room (record_fits s (body_of c)) refl in
+        let a = same_generation (after_writes first m.content) left
+        (record_same (after_writes first m.content) (with_room s t (body_of c)) t r.0 c command r.1 back.0 cut.fill left back.2
+        (λ last. cut.closed (length (commit_writes s t (body_of c))) opens (omega (
+          arith,
+          last,
+          back.1,
+          many m.content s t c k are may command room cut.i cut.fill left cut.filled,
+        )))) in
+        omega (arith, a, known_generation (after_writes first m.content) (with_room s t (body_of c)) t r.0, room_grows s t (body_of c)))
+
+-- ## In a history the generation of the controller's memory is one above the commands that were noted, at most
+
+-- ### A step of a node
 
 module _ (n : ℕ) (node : IsNodeNumber n) (hosts : List ℕ) (are : AreHosts hosts) (t : List Entry) (m : Memory) (r : Running)
     (runs : RunsSo n hosts m.content t r)
@@ -65,21 +313,21 @@ module _ (n : ℕ) (node : IsNodeNumber n) (hosts : List ℕ) (are : AreHosts ho
         let b = cut_grows ran.memory u.core.journal u.core.tables lost.command ran.knows ran.sorted ran.recordable lost.lost.may lost.lost.room fails in
         omega (arith, a, b, ap (λ (x : Core). x.journal.generation) (ap (λ (x : Work). x.core) lost.lost.is), ap spent lost.off, grown)
 
--- ## A step of the controller
+-- ### A step of the controller
 
 module _ (hosts : List ℕ) (are : AreHosts hosts) (t : List Entry) (m : Memory) (r : Running) (runs : RunsSo 0 hosts m.content t r)
     (few : generation_in m.content ≤ 1 + commits t) (near_ends : ℕ → NumberedEnd) (es : List Entry) (plain : AllByRecursion IsPlain es) where
-  abbrev pub begun : Work
+  abbrev begun : Work
   begun = work_of r m.plan near_ends es
 
-  pub begins_grown : Grows t begun
+  begins_grown : Grows t begun
   begins_grown = node_begins_grown 0 (inl refl) hosts are t m r runs few near_ends es plain
 
   -- what a step leaves in the memory
-  pub step_grown : (input : NodeInput) → generation_in (after_planned (steps input begun).writes m).content ≤ 1 + commits (t ++ (steps input begun).entries)
+  step_grown : (input : NodeInput) → generation_in (after_planned (steps input begun).writes m).content ≤ 1 + commits (t ++ (steps input begun).entries)
   step_grown input = node_step_grown 0 (inl refl) hosts are t m r runs few near_ends es plain input
 
--- ## A boot
+-- ### A boot
 
 pub boot_grown : (m : Memory) (most : ℕ) → 65536 ≤ length m.content → generation_in m.content ≤ 1 + most
     → generation_in (after_planned (boot_writes m.content) m).content ≤ 1 + most
@@ -115,13 +363,13 @@ boot_grown m most size few = by_bank (current m.content) refl where
         by_gate true = whole
         by_gate false = few
 
--- ## Events
+-- ### Events
 
 -- the memory of the controller behind these entries
 abbrev pub IsGrown : List Entry → NodeWorld → Type 0
 IsGrown t w = generation_in w.memory.content ≤ 1 + commits t
 
-abbrev pub ThenGrown : List Entry → NodeWorld × List Entry → Type 0
+abbrev ThenGrown : List Entry → NodeWorld × List Entry → Type 0
 ThenGrown t p = IsGrown (t ++ p.1) p.0
 
 module _ (hosts : List ℕ) (are : AreHosts hosts) where
@@ -225,7 +473,7 @@ module _ (hosts : List ℕ) (are : AreHosts hosts) where
       subst (λ l. IsGrown l far.0) (append_assoc t near.1 far.1)
       (far_comes (t ++ near.1) near.0 (comes_grown t w before all (end_c h) (Starts power)) h (Starts sync))
 
-  pub event_grown : (t : List Entry) (w : NodeWorld) (c : Happening) → IsGrown t w → AllKeep hosts t w → ThenGrown t (world_step w c)
+  event_grown : (t : List Entry) (w : NodeWorld) (c : Happening) → IsGrown t w → AllKeep hosts t w → ThenGrown t (world_step w c)
   event_grown t w (Boots n) before all = boots_grown t w before all.controller.would.finds.size n
   event_grown t w (IsCut n) before all = loses_grown t w before n w before
   event_grown t w (Gives e m) before all = far_does t w before e.link NoInput (begins_with e.link (sending e.link m))
@@ -237,7 +485,7 @@ module _ (hosts : List ℕ) (are : AreHosts hosts) where
   event_grown t w (Activates h sync power) before all = activates_grown t w before all h sync power
   event_grown t w (Arms n plan) before all = arms_grown t w before n plan
 
--- ## Histories
+-- ### Histories
 
 -- what lasts over each event, where all nodes keep what is read, holds behind any first ones
 pub history_lasts : (P : List Entry → NodeWorld → Type 0) (header : Header) (lines : List Line) (t : NodeHistory) → FollowsNodes header lines t
@@ -259,3 +507,191 @@ history_grown header lines t follows are sent few front back parts =
     blank_grown : IsGrown [] (new_world header.hosts.items)
     blank_grown =
         let a = ap (λ (j : Journal). j.head.generation) (no_journal (replicate 65536 255) (fresh 65536 (omega arith)).closed) in omega (arith, a)
+
+-- ## In a history the controller finds room for any command in the turns of each of its passes, while few commands were noted
+
+module _ (header : Header) (lines : List Line) (t : NodeHistory) (follows : FollowsNodes header lines t) (are : AreHosts header.hosts.items)
+    (front back : List Occurrence) (parts : occurrences_in t ≡ front ++ back) (w : NodeWorld) (is : world_behind (new_world header.hosts.items) front ≡ w)
+    (r : Running) (runs : w.controller ≡ Some r) where
+  abbrev hosts : List ℕ
+  hosts = header.hosts.items
+
+  waits : WaitsRead (entries_in front) w
+  waits = subst (WaitsRead (entries_in front)) is (history_waits header lines t follows are front back parts)
+
+  pub comes_wait : (h : ℕ) (comes : Comes) (i : LinkInput) → input_of (link_to w.sites h) comes ≡ Some i
+      → MessagesAreRead (entries_in front ++ (comes_to_pass (AtEnd h i) (controller_begins w r h comes)).entries)
+      (comes_to_pass (AtEnd h i) (controller_begins w r h comes)).ports
+  comes_wait h comes i input = comes_messages (entries_in front) w waits r runs h comes i input
+
+  pub tick_waits : MessagesAreRead ((entries_in front ++ (all_aged w).1) ++ (comes_to_pass TimePasses (as_it_ticks w r)).entries)
+      (comes_to_pass TimePasses (as_it_ticks w r)).ports
+  tick_waits = tick_messages (entries_in front) w waits r runs
+
+  module _ (sent : AllByRecursion IsSentByHost lines) (few : IsFew (node_entries t)) where
+    keep : AllKeep hosts (entries_in front) w
+    keep = subst (AllKeep hosts (entries_in front)) is (events_so header lines t follows are sent few front back parts).keep
+
+    grown : IsGrown (entries_in front) w
+    grown = subst (IsGrown (entries_in front)) is (history_grown header lines t follows are sent few front back parts)
+
+    -- and as a step begins
+    starts_room : (h : ℕ) (comes : Comes) (i : LinkInput)
+        → commits (entries_in front ++ (comes_to_pass (AtEnd h i) (controller_begins w r h comes)).entries) ≤ 4000000000
+        → HasRoomForAll (controller_begins w r h comes)
+    starts_room h comes i most =
+        let begun : Work = controller_begins w r h comes in
+        let so : RunsSo 0 hosts w.memory.content (entries_in front) r = subst (IfRuns 0 hosts w.memory.content (entries_in front)) runs keep.controller.runs in
+        let first : Grows (entries_in front) begun =
+        begins_grown hosts are (entries_in front) w.memory r so grown (λ k. near_end_in (link_to w.sites k) (comes_to h comes k))
+        (entries_for h (arrival Controller (link_to w.sites h) comes)) (plain_entries h (arrival Controller (link_to w.sites h) comes)) in
+        let whole = ap (λ l. commits (entries_in front ++ l)) (before_entries (AtEnd h i) begun) in
+        let one = commits-append (entries_in front) (begun.entries ++ noted_before_pass (AtEnd h i) begun) in
+        let two = commits-append begun.entries (noted_before_pass (AtEnd h i) begun) in
+        let three = commits-append (entries_in front) begun.entries in
+        few_find_room (entries_in front) begun first (omega (arith, whole, one, two, three, most))
+
+    pub comes_room : (h : ℕ) (comes : Comes) (i : LinkInput) (v : Work) → ComesTo (comes_to_pass (AtEnd h i) (controller_begins w r h comes)) v
+        → commits (entries_in front ++ v.entries) ≤ 4000000000 → HasRoomForAll v
+    comes_room h comes i v reached most =
+        let so : RunsSo 0 hosts w.memory.content (entries_in front) r = subst (IfRuns 0 hosts w.memory.content (entries_in front)) runs keep.controller.runs in
+        let first : Grows (entries_in front) (controller_begins w r h comes) =
+        begins_grown hosts are (entries_in front) w.memory r so grown (λ k. near_end_in (link_to w.sites k) (comes_to h comes k))
+        (entries_for h (arrival Controller (link_to w.sites h) comes)) (plain_entries h (arrival Controller (link_to w.sites h) comes)) in
+        few_find_room (entries_in front) v
+        (comes_grow (entries_in front) (comes_to_pass (AtEnd h i) (controller_begins w r h comes)) v
+        (begun_grows (entries_in front) (AtEnd h i) (controller_begins w r h comes) first) reached) most
+
+    pub tick_room : (v : Work) → ComesTo (comes_to_pass TimePasses (as_it_ticks w r)) v
+        → commits ((entries_in front ++ (all_aged w).1) ++ v.entries) ≤ 4000000000 → HasRoomForAll v
+    tick_room v reached most =
+        let old : AllKeep hosts (entries_in front ++ (all_aged w).1) (all_aged w).0 = (aged_goes hosts are (entries_in front) w keep).keep in
+        let so : RunsSo 0 hosts w.memory.content (entries_in front ++ (all_aged w).1) r =
+        subst (IfRuns 0 hosts w.memory.content (entries_in front ++ (all_aged w).1)) runs old.controller.runs in
+        let now : IsGrown (entries_in front ++ (all_aged w).1) w =
+        (let more = commits-append (entries_in front) (all_aged w).1 in omega (arith, grown, more)) in
+        let first : Grows (entries_in front ++ (all_aged w).1) (as_it_ticks w r) =
+        begins_grown hosts are (entries_in front ++ (all_aged w).1) w.memory r so now (λ h. (link_to (all_aged w).0.sites h).controller) [] tt in
+        few_find_room (entries_in front ++ (all_aged w).1) v
+        (comes_grow (entries_in front ++ (all_aged w).1) (comes_to_pass TimePasses (as_it_ticks w r)) v
+        (begun_grows (entries_in front ++ (all_aged w).1) TimePasses (as_it_ticks w r) first) reached) most
+
+-- ## In a history each pass of the controller begins as is asked of it, so it replies to messages as is read
+
+module _ (header : Header) (lines : List Line) (t : NodeHistory) (follows : FollowsNodes header lines t) (are : AreHosts header.hosts.items)
+    (seven : length header.hosts.items ≤ 7) (sent : AllByRecursion IsSentByHost lines) (few : IsFew (node_entries t))
+    (front back : List Occurrence) (parts : occurrences_in t ≡ front ++ back) (asked : commands_by_events front ≤ 4000000000) (playable : ArePlayable lines)
+    (w : NodeWorld) (is : world_behind (new_world header.hosts.items) front ≡ w) (r : Running) (runs : w.controller ≡ Some r) where
+  caused : AreCausedSo (new_world header.hosts.items) front
+  caused = front_so header lines t follows playable front back parts
+
+  module _ (h : ℕ) (comes : Comes) (i : LinkInput) (input : input_of (link_to w.sites h) comes ≡ Some i) where
+    comes_few : (v : Work) → ComesTo (comes_to_pass (AtEnd h i) (controller_begins w r h comes)) v → commits (entries_in front ++ v.entries) ≤ 4000000000
+    comes_few v reached =
+        let most = passes_bounded header.hosts.items front are seven caused w is r runs h comes i input v reached in omega (arith, most, asked)
+
+    pub comes_roomy : HasRoomForAll (controller_begins w r h comes)
+    comes_roomy =
+        starts_room header lines t follows are front back parts w is r runs sent few h comes i
+        (comes_few (comes_to_pass (AtEnd h i) (controller_begins w r h comes)) Begins)
+
+    pub comes_begins : BeginsPass (entries_in front) (comes_to_pass (AtEnd h i) (controller_begins w r h comes))
+    comes_begins = record {
+      room = λ v reached. comes_room header lines t follows are front back parts w is r runs sent few h comes i v reached (comes_few v reached);
+      messages = comes_wait header lines t follows are front back parts w is r runs h comes i input;
+    }
+
+    pub comes_are_replied : (comes_to_pass (AtEnd h i) (controller_begins w r h comes)).cut ≡ false
+        → AreRepliedIn header.hosts.items (entries_in front) (comes_to_pass (AtEnd h i) (controller_begins w r h comes))
+    comes_are_replied on = comes_replied header lines t follows are playable sent few front back parts w is r runs h comes i input on comes_begins
+
+  -- ### Ticks
+
+  abbrev since : List Entry
+  since = entries_in front ++ (all_aged w).1
+
+  pub tick_begins : BeginsPass since (comes_to_pass TimePasses (as_it_ticks w r))
+  tick_begins = record {
+    room = λ v reached. tick_room header lines t follows are front back parts w is r runs sent few v reached
+        (let most = ticks_bounded header.hosts.items front are seven caused w is r runs v reached in omega (arith, most, asked));
+    messages = tick_waits header lines t follows are front back parts w is r runs;
+  }
+
+  pub ticks_are_replied : (comes_to_pass TimePasses (as_it_ticks w r)).cut ≡ false
+      → AreRepliedIn header.hosts.items since (comes_to_pass TimePasses (as_it_ticks w r))
+  ticks_are_replied on = tick_replied header lines t follows are playable sent few front back parts w is r runs on tick_begins
+
+-- ## A line causes 100 events at most
+
+-- ### Causes
+
+abbrev AreFewWires : List Site → Type 0
+AreFewWires sites = AllByRecursion (λ (s : Site). IsFewWires s.link) sites
+
+fine_few : (sites : List Site) → AreFineSites sites → AreFewWires sites
+fine_few [] a = tt
+fine_few (s ∷ sites) a = (run_few s.link a.0.link.run, fine_few sites a.1)
+
+frames_few : (w : NodeWorld) (e : End) → AreFewWires w.sites → length (frames_at w e) ≤ 64
+frames_few w e few = by_side (link_to w.sites e.link) (by_option (site_at w.sites e.link)
+    (λ here. rw here (record { to_controller = omega arith; to_host = omega arith }))
+    (λ s here. rw here (site_is (λ (x : Site). IsFewWires x.link) w.sites e.link s few here))) e.at_host where
+      by_side : (l : Link) → IsFewWires l → (b : Bool) → length (cond b (exchanged l) l).to_controller ≤ 64
+      by_side l a true = a.to_host
+      by_side l a false = a.to_controller
+
+taken_few : (count : Option ℕ) (wire : List OnWire) → length wire ≤ 64 → taken_of count wire ≤ 64
+taken_few None wire few = few
+taken_few (Some n) wire few = omega (arith, few)
+
+damage_few : (e : End) (v : Option Verdict) → length (happens_by e v) ≤ 100
+damage_few e None = omega arith
+damage_few e (Some Same) = omega arith
+damage_few e (Some _) = omega arith
+
+-- a line causes 100 events at most
+causes_few : (header : Header) (w : NodeWorld) (l : Line) → AreFewWires w.sites → IsNodeLineOf header l → length (happenings w l) ≤ 100
+causes_few header w (line.Deliver e count) few is =
+    let most = taken_few count (frames_at w e) (frames_few w e few) in
+    let long = length-replicate (taken_of count (frames_at w e)) (Takes e) in
+    omega (arith, most, long)
+causes_few header w (line.Damage e places) few is = damage_few e (first_verdict (frames_at w e) places.items)
+causes_few header w (line.Tick None) few is = omega arith
+causes_few header w (line.Tick (Some n)) few is = let long = length-replicate n Ticks in let most = is.1 in omega (arith, long, most)
+causes_few header w _ few is = omega arith
+
+-- ### Events
+
+happen_long : (causes : List Happening) (w : NodeWorld) → length (all_happen w causes).1 ≤ length causes
+happen_long [] w = omega arith
+happen_long (c ∷ causes) w = by_test (can_happen w c) (λ q. rw q (omega (arith, happen_long causes (world_step w c).0))) (λ q. rw q (omega arith))
+
+none_long : (n : ℕ) (o : Option Running) → length (occurrences_of (tables_told n o)) ≤ 100
+none_long n None = omega arith
+none_long n (Some r) = omega arith
+
+on_long : (w : NodeWorld) (l : Line) → length (all_happen w (happenings w l)).1 ≤ 100 → length (occurrences_of (goes_on w l).1) ≤ 100
+on_long w (line.Tables n) a = none_long n (node_at w n)
+on_long w _ a = a
+
+line_long : (header : Header) (w : NodeWorld) (l : Line) → AreFewWires w.sites → IsNodeLineOf header l → length (occurrences_of (line_step w l).1) ≤ 100
+line_long header w l few is = by_option (refusal_in w l)
+    (λ q. rw q (on_long w l (let one = happen_long (happenings w l) w in let two = causes_few header w l few is in omega (arith, one, two))))
+    (λ cause q. rw q (omega arith))
+
+-- as many lines cause 100 events each at most
+lines_long : (header : Header) (lines : List Line) (w : NodeWorld) → IsFineWorld w → AreNodeLinesOf header lines → ArePlayable lines
+    → length (events_of_steps (steps_from w lines)) ≤ 100 * length lines
+lines_long header [] w fine are play = omega arith
+lines_long header (l ∷ lines) w fine are play =
+    let v : NodeWorld = (line_step w l).0 in
+    let rest = lines_long header lines v (lines_fine (l ∷ []) w (play.0, tt) fine) are.1 play.1 in
+    let both = length-append (occurrences_of (line_step w l).1) (events_of_steps (steps_from v lines)) in
+    omega (arith, line_long header w l (fine_few w.sites fine.sites) are.0, rest, both)
+
+-- behind any first events of a history
+pub front_long : (header : Header) (lines : List Line) (t : NodeHistory) → FollowsNodes header lines t → AreNodeLinesOf header lines → ArePlayable lines
+    → (front back : List Occurrence) → occurrences_in t ≡ front ++ back → length front ≤ 100 * length lines
+front_long header lines t follows are play front back parts =
+    let all = lines_long header lines (new_world header.hosts.items) (world_fine header.hosts.items [] tt) are play in
+    omega (arith, all, ap length (ap events_of_steps (sym follows.steps_are) ∙ parts), length-append front back)

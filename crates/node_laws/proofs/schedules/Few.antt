@@ -4,8 +4,8 @@ use Rattle.node_laws.proofs.Words.{arith, book_after, commands_in, cond, false, 
 use Rattle.node_laws.proofs.Words.{occurrences_in, sym, true, with_command, with_found, ℕ, ◌*◌, ◌++◌, ◌+◌, ◌==◌, ◌∷◌, ◌≡◌, ◌≤◌}
 use Rattle.trace_model.specs.declared.entry.Entry.TheVariants as entry
 use Rattle.node_laws.specs.reply_passes.Counts.{commands_noted as commits}
-use Rattle.node_laws.proofs.reply_passes.Growing.{commits-append}
-use Rattle.node_laws.proofs.bounds.Lines.{lines_bounded}
+use Rattle.node_laws.proofs.reply_passes.Roomy.{commits-append}
+use Rattle.node_laws.proofs.bounds.Paying.{lines_bounded}
 
 -- a node has no more commands than were committed
 kept_few : (n : ℕ) (t : List Entry) (b : Book) → length (fold (book_after n) b t).commands ≤ length b.commands + commits t

@@ -1,17 +1,79 @@
--- What may stand in a schedule of a world of nodes is what the laws of such worlds ask for.
-use Rattle.node_laws.proofs.Words.{All, AllByRecursion, AreDifferent, AreHosts, AreInitsShort, AreNodeLinesOf, ArePlayable, Header, IsHost, IsInitOfHost}
-use Rattle.node_laws.proofs.Words.{IsNodeHeader, IsNodeLineOf, IsPlayable, IsSentByHost, Line, List, None, Some, [], all_so, arith, false, init_of, length, map}
-use Rattle.node_laws.proofs.Words.{ne_eqb, refl, sym, ℕ, ◌++◌, ◌+◌, ◌<◌, ◌==◌, ◌∷◌, ◌≡◌, ◌≤◌}
-use Rattle.std.specs.List.Sorted.{IsStrictlySortedBy}
-use Rattle.std.specs.declared.cmp.Ordering.TheVariants.{Less}
-use Rattle.std.specs.Ordering.{nat_cmp}
+-- What may stand in a schedule is what the laws of worlds ask for, and no wire holds more than 64 frames.
+use Rattle.std.proofs.Common.{length-drop}
 use Rattle.std.proofs.lemmas.Cmp.{ranked}
 use Rattle.std.proofs.lemmas.List.Elements.{recursion_from_All}
 use Rattle.std.proofs.lemmas.Map.Keys.{sorted_from_strictly_increasing, sorted_head, sorted_tail}
+use Rattle.std.specs.List.Sorted.{IsStrictlySortedBy}
+use Rattle.std.specs.Ordering.{nat_cmp}
+use Rattle.std.specs.declared.cmp.Ordering.TheVariants.{Less}
+use Rattle.node_laws.proofs.Words.{Activate, All, AllByRecursion, AreDifferent, AreHosts, AreInitsShort, AreNodeLinesOf, ArePlayable, AsksReset, AtController}
+use Rattle.node_laws.proofs.Words.{AtHost, Bool, Comes, Control, CutOff, End, EndEvent, Ending, GoesOut, Header, IsHost, IsInitOfHost, IsNodeHeader}
+use Rattle.node_laws.proofs.Words.{IsNodeLineOf, IsPlayable, IsRun, IsSentByHost, Line, Link, LinkEnd, LinkEvent, LinkInput, List, Lose, NextFrame, NoInput}
+use Rattle.node_laws.proofs.Words.{None, OnWire, Reset, Some, Starts, Step, Stops, Take, Tick, TicksWithout, Turn, [], after_input, after_link_events, aged}
+use Rattle.node_laws.proofs.Words.{aged_wire, all_at_controller, all_so, and_parts, ap, ap₂, arith, by_test, deactivated, ended_by, eqb-true, exchanged, false}
+use Rattle.node_laws.proofs.Words.{finished, fits, frames_out, happens, happens_at_controller, has_input, has_restarted, has_taken, init_of, is_rset, is_some}
+use Rattle.node_laws.proofs.Words.{length, length-append, ltb-false, map, nat_lt, ne_eqb, new_line, put, put_all, refl, same_end, same_end_itself, same_side}
+use Rattle.node_laws.proofs.Words.{silent, started, steps_at_controller, subst, sym, ticks_at_controller, took_with, true, turned, with_ended, ℕ, ◌++◌, ◌+◌}
+use Rattle.node_laws.proofs.Words.{◌<◌, ◌==◌, ◌∷◌, ◌≡◌, ◌≤◌}
+use Rattle.link_laws.specs.messages.Links.LinkEvent.{Ticks}
 use Rattle.trace_model.specs.Lines.{MayFollow}
 use Rattle.trace_model.specs.declared.line.Line.TheVariants as line
 
--- ## Hosts
+-- ## Ends in lists: where none stands more often in one list than in another, the first is no longer
+
+abbrev pub one_at : Bool → ℕ
+one_at true = 1
+one_at false = 0
+
+-- how often an end stands in a list
+abbrev pub count : End → List End → ℕ
+count e [] = 0
+count e (f ∷ fs) = one_at (same_end f e) + count e fs
+
+side_true : (a b : Bool) → same_side a b ≡ true → a ≡ b
+side_true true b e = sym e
+side_true false true e = absurd (cc e)
+side_true false false e = refl
+
+pub ends_same : (e f : End) → same_end e f ≡ true → e ≡ f
+ends_same e f is =
+    let parts = and_parts (e.link == f.link) (same_side e.at_host f.at_host) is in
+    ap₂ (λ (n : ℕ) (b : Bool). let made : End = record { link = n; at_host = b } in made) (eqb-true e.link f.link parts.0)
+    (side_true e.at_host f.at_host parts.1)
+
+-- a list in which an end stands, without it
+record Without (x : End) (ys : List End) : Type 0 where
+  left : List End
+  long : length ys ≡ length left + 1
+  counts : (e : End) → count e ys ≡ one_at (same_end x e) + count e left
+
+take_one : (x : End) (ys : List End) → 1 ≤ count x ys → Without x ys
+take_one x [] some = absurd (omega (arith, some))
+take_one x (y ∷ ys) some = by_test (same_end y x)
+    (λ q. record {
+      left = ys;
+      long = omega arith;
+      counts = λ e. ap (λ (z : End). one_at (same_end z e) + count e ys) (ends_same y x q);
+    })
+    (λ q. let still : 1 ≤ count x ys = (let none : one_at (same_end y x) ≡ 0 = ap one_at q in omega (arith, some, none)) in
+    let r : Without x ys = take_one x ys still in
+    let long = r.long in
+    record {
+      left = y ∷ r.left;
+      long = omega (arith, long);
+      counts = λ e. let rest = r.counts e in omega (arith, rest);
+    })
+
+pub fewer : (xs ys : List End) → ((e : End) → count e xs ≤ count e ys) → length xs ≤ length ys
+fewer [] ys each = omega arith
+fewer (x ∷ xs) ys each =
+    let r : Without x ys = take_one x ys (omega (arith, each x, ap one_at (same_end_itself x))) in
+    let rest = fewer xs r.left (λ e. let most = each e in let is = r.counts e in omega (arith, most, is)) in
+    omega (arith, r.long, rest)
+
+-- ## What may stand in a schedule of a world of nodes is what the laws of such worlds ask for
+
+-- ### Hosts
 
 abbrev IsAbove : ℕ → ℕ → Type 0
 IsAbove x y = nat_cmp x y ≡ Less
@@ -50,7 +112,7 @@ pub hosts_few : (header : Header) → IsNodeHeader header → length header.host
 hosts_few header is =
     few header.hosts.items (recursion_from_All IsHost header.hosts.items is.hosts) (sorted_from_strictly_increasing header.hosts.items is.rising)
 
--- ## Lines
+-- ### Lines
 
 each_line : (P Q : Line → Type 0) → ((l : Line) → P l → Q l) → (lines : List Line) → AllByRecursion P lines → AllByRecursion Q lines
 each_line P Q one lines a = all_so P Q one lines a
@@ -104,3 +166,121 @@ init_line header _ is = tt
 
 pub inits_of_hosts : (header : Header) (lines : List Line) → AreNodeLinesOf header lines → AllByRecursion IsInitOfHost lines
 inits_of_hosts header lines are = each_line (IsNodeLineOf header) IsInitOfHost (init_line header) lines are
+
+-- ## No wire of a link holds more than 64 frames
+
+-- both wires hold 64 frames at most
+pub record IsFewWires (l : Link) : Type 0 where
+  pub to_controller : length l.to_controller ≤ 64
+  pub to_host : length l.to_host ≤ 64
+
+-- ### Frames go out
+
+fits_few : (wire : List OnWire) (x : OnWire) → length wire ≤ 64 → length (fits (wire ++ x ∷ [])) ≤ 64
+fits_few wire x few = by_test (nat_lt 64 (length (wire ++ x ∷ [])))
+    (λ q. rw q (let less = length-drop 1 (wire ++ x ∷ []) in omega (arith, less, (length-append wire (x ∷ [])), few)))
+    (λ q. rw q (let low = ltb-false 64 (length (wire ++ x ∷ [])) q in omega (arith, low)))
+
+put_few : (l : Link) (c : Control) → IsFewWires l → IsFewWires (put l c)
+put_few l c a = by_test (is_rset c)
+    (λ q. rw q (record { to_controller = a.to_controller; to_host = fits_few l.to_host (record { frame = c; age = 0; number = l.resets + 1 }) a.to_host }))
+    (λ q. rw q (record { to_controller = a.to_controller; to_host = fits_few l.to_host (record { frame = c; age = 0; number = 0 }) a.to_host }))
+
+puts_few : (l : Link) (cs : List Control) → IsFewWires l → IsFewWires (put_all l cs)
+puts_few l [] a = a
+puts_few l (c ∷ cs) a = puts_few (put l c) cs (put_few l c a)
+
+-- ### Steps of one end
+
+ended_few : (l : Link) (b : Bool) → IsFewWires l → IsFewWires (with_ended l b)
+ended_few l true a = record { to_controller = a.to_controller; to_host = a.to_host }
+ended_few l false a = a
+
+silent_few : (l : Link) (e : LinkEnd) → IsFewWires (silent l e)
+silent_few l e = record { to_controller = omega arith; to_host = omega arith }
+
+finished_few : (l : Link) (e : LinkEnd) (ending : Ending) → IsFewWires l → IsFewWires (finished l e ending)
+finished_few l e GoesOut a =
+    let p : IsFewWires (put_all l (frames_out e)) = puts_few l (frames_out e) a in record { to_controller = p.to_controller; to_host = p.to_host }
+finished_few l e CutOff a = record { to_controller = omega arith; to_host = omega arith }
+
+input_few : (l : Link) (i : LinkInput) (ts : List Turn) (ending : Ending) → IsFewWires l → IsFewWires (has_input l i ts ending)
+input_few l i ts ending a =
+    let b : Bool = is_some (ended_by l.controller.side i) in
+    finished_few (with_ended l b) (turned (after_input l.controller.side i) ts) ending (ended_few l b a)
+
+taken_few : (l : Link) (x : OnWire) (xs : List OnWire) (ts : List Turn) (ending : Ending) → length xs ≤ 64 → length l.to_host ≤ 64
+    → IsFewWires (has_taken l x xs ts ending)
+taken_few l x xs ts ending near far =
+    let b : Bool = is_some (ended_by l.controller.side (Take x.frame)) in
+    let k : Link = record l { to_controller = xs } in
+    let m : Link = with_ended k b in
+    let fine : IsFewWires m = ended_few k b (record { to_controller = near; to_host = far }) in
+    finished_few (record m { controller = record m.controller { took = took_with l.controller.took x } })
+    (turned (after_input l.controller.side (Take x.frame)) ts) ending (record { to_controller = fine.to_controller; to_host = fine.to_host })
+
+restarted_few : (l : Link) (e : LinkEnd) (ts : List Turn) (ending : Ending) → IsFewWires (has_restarted l e ts ending)
+restarted_few l e ts ending = finished_few (silent l e) (turned e ts) ending (silent_few l e)
+
+step_few : (l : Link) (comes : Comes) (ts : List Turn) (ending : Ending) → IsFewWires l → IsFewWires (steps_at_controller l comes ts ending)
+step_few l NextFrame ts ending a = go l.to_controller a.to_controller where
+  by : List OnWire → Link
+  by [] = l
+  by (x ∷ xs) = has_taken l x xs ts ending
+
+  go : (xs : List OnWire) → length xs ≤ 64 → IsFewWires (by xs)
+  go [] few = a
+  go (x ∷ xs) few = taken_few l x xs ts ending (omega (arith, few)) a.to_host
+step_few l (AsksReset window) ts ending a = input_few l (Reset window) ts ending a
+step_few l (Starts value) ts ending a = restarted_few l (started l.controller.side value) ts ending
+step_few l Stops ts ending a = restarted_few l (deactivated l.controller.side) ts ending
+step_few l NoInput ts ending a = finished_few l (turned l.controller.side ts) ending a
+
+here_few : (l : Link) (e : EndEvent) → IsFewWires l → IsFewWires (happens_at_controller l e)
+here_few l (Step comes ts ending) a = step_few l comes ts ending a
+here_few l (Lose why) a =
+    record { to_controller = omega (arith, length-drop 1 l.to_controller, a.to_controller); to_host = a.to_host }
+
+all_few : (l : Link) (es : List EndEvent) → IsFewWires l → IsFewWires (all_at_controller l es)
+all_few l [] a = a
+all_few l (e ∷ es) a = all_few (happens_at_controller l e) es (here_few l e a)
+
+-- ### Events
+
+swapped_few : (l : Link) → IsFewWires l → IsFewWires (exchanged l)
+swapped_few l a = record { to_controller = a.to_host; to_host = a.to_controller }
+
+aged_wire_few : (wire : List OnWire) → length (aged_wire wire) ≤ length wire
+aged_wire_few [] = omega arith
+aged_wire_few (x ∷ wire) = by_test (nat_lt x.age 4) (λ q. rw q (omega (arith, aged_wire_few wire))) (λ q. rw q (omega (arith, aged_wire_few wire)))
+
+aged_few : (l : Link) → IsFewWires l → IsFewWires (aged l)
+aged_few l a =
+    record { to_controller = omega (arith, aged_wire_few l.to_controller, a.to_controller); to_host = omega (arith, aged_wire_few l.to_host, a.to_host) }
+
+tick_few : (l : Link) (ts : List Turn) (ending : Ending) → IsFewWires l → IsFewWires (ticks_at_controller l ts ending)
+tick_few l ts ending a = input_few l Tick ts ending a
+
+event_few : (l : Link) (e : LinkEvent) → IsFewWires l → IsFewWires (happens l e)
+event_few l (AtController e) a = here_few l e a
+event_few l (AtHost e) a = swapped_few (happens_at_controller (exchanged l) e) (here_few (exchanged l) e (swapped_few l a))
+event_few l (Ticks c events h) a =
+    let near : Link = all_at_controller (ticks_at_controller (aged l) c.turns c.ending) events in
+    let fine : IsFewWires near =
+    all_few (ticks_at_controller (aged l) c.turns c.ending) events (tick_few (aged l) c.turns c.ending (aged_few l a)) in
+    swapped_few (ticks_at_controller (exchanged near) h.turns h.ending) (tick_few (exchanged near) h.turns h.ending (swapped_few near fine))
+event_few l (TicksWithout events h) a =
+    let near : Link = all_at_controller (aged l) events in
+    let fine : IsFewWires near = all_few (aged l) events (aged_few l a) in
+    swapped_few (ticks_at_controller (exchanged near) h.turns h.ending) (tick_few (exchanged near) h.turns h.ending (swapped_few near fine))
+event_few l (Activate power c id h) a =
+    let near : Link = steps_at_controller l (Starts power) c.turns c.ending in
+    swapped_few (steps_at_controller (exchanged near) (Starts id) h.turns h.ending)
+    (step_few (exchanged near) (Starts id) h.turns h.ending (swapped_few near (step_few l (Starts power) c.turns c.ending a)))
+
+pub after_few : (es : List LinkEvent) (l : Link) → IsFewWires l → IsFewWires (after_link_events l es)
+after_few [] l a = a
+after_few (e ∷ es) l a = after_few es (happens l e) (event_few l e a)
+
+pub run_few : (l : Link) → IsRun l → IsFewWires l
+run_few l r = subst IsFewWires r.run.is (after_few r.events new_line (record { to_controller = omega arith; to_host = omega arith }))

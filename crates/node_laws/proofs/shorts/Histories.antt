@@ -1,20 +1,93 @@
--- At the end of each event in which a host made a step and runs on, the first message that is left at its end lacks room.
-use Rattle.node_laws.proofs.Words.{AllByRecursion, AreHosts, ArePlayable, AtEachOccurrence, End, Entry, FollowsNodes, Happening, Header, IsBegunByHost, IsFew}
-use Rattle.node_laws.proofs.Words.{IsHost, IsInitOfHost, IsNodeOf, IsSentByHost, Line, List, NodeHistory, NodeWorld, None, Occurrence, Site, Some, Takes, []}
-use Rattle.node_laws.proofs.Words.{ap, append_assoc, ap₂, arith, by_option, by_test, end_h, entries_in, eqb, false, inl, inr, is_left_short, is_some, list_any}
-use Rattle.node_laws.proofs.Words.{ne_eqb, new_world, node_at, node_entries, occurrences_in, refl, same_number, site_at, subst, sym, true, world_behind}
-use Rattle.node_laws.proofs.Words.{world_step, ℕ, ◌++◌, ◌||◌, ◌∙◌, ◌∷◌, ◌≡◌, ◌≤◌}
-use Rattle.node_laws.proofs.cuts.Worlds.{node_far}
-use Rattle.node_laws.proofs.telling.Lasting.{AreCaused, events_of_steps, lines_caused}
-use Rattle.node_laws.proofs.order.Lines.{IsSo}
+-- Lines let a host take frames that are there, and behind each event the first message that is left at a host lacks room.
+use Rattle.node_laws.proofs.Words.{AllByRecursion, AreHosts, ArePlayable, AtEachOccurrence, AtEnd, End, Ending, Entry, FollowsNodes, GoesOut, Happening, Header}
+use Rattle.node_laws.proofs.Words.{IsBegunByHost, IsFew, IsHost, IsInitOfHost, IsNodeOf, IsSentByHost, Line, Link, LinkInput, List, LostFor, NextFrame}
+use Rattle.node_laws.proofs.Words.{NodeHistory, NodeWorld, None, Occurrence, OnWire, Same, Site, Some, Takes, Ticks, Undetected, Verdict, Work, [], after_host}
+use Rattle.node_laws.proofs.Words.{ap, append_assoc, ap₂, arith, by_coming, by_host, by_option, by_test, end_h, ending_of, entries_in, eqb, exchanged, false}
+use Rattle.node_laws.proofs.Words.{first_verdict, frames_at, happenings, happens_by, host_does, host_work, inl, inr, is_left_short, is_some, length, list_any}
+use Rattle.node_laws.proofs.Words.{lpdu_of, ne_eqb, new_world, node_at, node_entries, occurrences_in, refl, refusal_in, replicate, runs_on, same_number}
+use Rattle.node_laws.proofs.Words.{site_at, steps, steps_at_controller, subst, suc, sym, taken_of, true, true≢false, turns_at, unwrap_or, verdict_on}
+use Rattle.node_laws.proofs.Words.{world_behind, world_step, zero, ℕ, ◌++◌, ◌||◌, ◌∙◌, ◌∷◌, ◌≡◌, ◌≤◌}
+use Rattle.history.specs.Follows.{frames_to}
 use Rattle.node_laws.specs.reply_passes.Counts.{commands_noted as commits}
-use Rattle.node_laws.proofs.worlds.Leaving.{short_off, short_still}
-use Rattle.node_laws.proofs.worlds.Powered.{off_read}
-use Rattle.node_laws.proofs.worlds.Short.{each_steps}
+use Rattle.node_laws.proofs.cuts.Ticking.{node_far, with_here}
 use Rattle.node_laws.proofs.hosts.Events.{E, IsMissing, event_parted, short_so}
 use Rattle.node_laws.proofs.hosts.Histories.{low, so, stands}
-use Rattle.node_laws.proofs.shorts.Calm.{AreCalmAt, runs_calm}
-use Rattle.node_laws.proofs.shorts.Taking.{MayTake, line_takes}
+use Rattle.node_laws.proofs.order.Lines.{IsSo}
+use Rattle.node_laws.proofs.shorts.Left.{AreCalmAt, runs_calm}
+use Rattle.node_laws.proofs.telling.Lasting.{AllMay, AreCaused, events_of_steps, lines_caused, repeated_may}
+use Rattle.node_laws.proofs.telling.Events.{link_is}
+use Rattle.node_laws.proofs.worlds.Short.{each_steps, off_read, short_off, short_still}
+use Rattle.node_laws.proofs.worlds.Due.{step_near, taken_most}
+use Rattle.trace_model.specs.declared.line.Line.TheVariants as line
+
+-- ## Lines let a host take no more frames than stand on its wire
+
+-- a host takes a frame only where one stands on its wire, while it runs
+abbrev pub MayTake : NodeWorld → Happening → Type 0
+MayTake w (Takes e) = e.at_host ≡ true → (s : Site) → site_at w.sites e.link ≡ Some s → is_some s.node ≡ true → frames_at w e ≡ [] → ⊥
+MayTake w _ = Unit {0}
+
+-- so many frames stand on the wire to this host, while it runs
+abbrev Stand : NodeWorld → ℕ → ℕ → Type 0
+Stand w h n = (s : Site) → site_at w.sites h ≡ Some s → is_some s.node ≡ true → n ≤ length s.link.to_host
+
+fewer : (w : NodeWorld) (h n : ℕ) → Stand w h (suc n) → Stand w h n
+fewer w h n many s found on = let some = many s found on in omega (arith, some)
+
+far_stand : (w : NodeWorld) (h : ℕ) (i : LinkInput) (n : ℕ) → Stand w h (suc n) → Stand (host_does w h NextFrame (steps (AtEnd h i))).0 h n
+far_stand w h i n many =
+    by_host (λ p. Stand p.0 h n) w h NextFrame (steps (AtEnd h i)) (fewer w h n many) (λ s r found q.
+    let k : Work = host_work s r NextFrame (steps (AtEnd h i)) in
+    λ x there on.
+    let same : Some (after_host NextFrame k s) ≡ Some x = sym (with_here (after_host NextFrame k) (λ y. refl) w.sites h s found) ∙ there in
+    let one : after_host NextFrame k s ≡ x = cc in
+    subst (λ (y : Site). n ≤ length y.link.to_host) one (by_test k.cut
+    (λ off. let none : runs_on k ≡ None = rw off refl in
+    absurd (true≢false (sym (ap (λ (y : Site). is_some y.node) one ∙ on) ∙ ap is_some none)))
+    (λ still. let out : ending_of k ≡ GoesOut = rw still refl in
+    subst (λ (g : Ending). n ≤ length (steps_at_controller (exchanged s.link) NextFrame (turns_at k s.host) g).to_controller) (sym out)
+    (step_near (exchanged s.link) (turns_at k s.host) n (many s found (ap is_some q))))))
+
+take_stands : (w : NodeWorld) (e : End) (n : ℕ) → e.at_host ≡ true → Stand w e.link (suc n) → Stand (world_step w (Takes e)).0 e.link n
+take_stands w e n far many =
+    by_coming (λ p. Stand p.0 e.link n) w e NextFrame (fewer w e.link n many) (λ i z seen. far_stand w e.link i n many)
+    (λ i z seen. absurd (true≢false (sym far ∙ z)))
+
+frames_far : (w : NodeWorld) (e : End) (s : Site) → e.at_host ≡ true → site_at w.sites e.link ≡ Some s → frames_at w e ≡ s.link.to_host
+frames_far w e s far found =
+    let is : frames_to s.link e ≡ s.link.to_host = rw far refl in ap (λ (l : Link). frames_to l e) (link_is w.sites e.link s found) ∙ is
+
+takes_may : (n : ℕ) (w : NodeWorld) (e : End) → e.at_host ≡ true → Stand w e.link n → AllMay MayTake w (replicate n (Takes e))
+takes_may zero w e far many = tt
+takes_may (suc n) w e far many = (
+  λ at s found on none.
+      absurd (omega (arith, many s found on, ap (λ (xs : List OnWire). length xs) (sym (frames_far w e s far found) ∙ none))),
+  takes_may n (world_step w (Takes e)).0 e far (take_stands w e n far many),
+)
+
+damage_may : (w : NodeWorld) (e : End) (places : List ℕ) (wire : List OnWire) → frames_at w e ≡ wire
+    → AllMay MayTake w (happens_by e (first_verdict wire places))
+damage_may w e places [] here = tt
+damage_may w e places (x ∷ xs) here = by (verdict_on (lpdu_of x.frame) places) where
+  by : (v : Verdict) → AllMay MayTake w (happens_by e (Some v))
+  by Same = ((λ far s found on none. let no : x ∷ xs ≡ [] = sym here ∙ none in cc no), tt)
+  by (LostFor why) = (tt, tt)
+  by (Undetected read) = tt
+
+line_takes : (w : NodeWorld) (l : Line) → IsSentByHost l → refusal_in w l ≡ None → AllMay MayTake w (happenings w l)
+line_takes w (line.Deliver e count) is none = by_test e.at_host
+    (λ far. takes_may (taken_of count (frames_at w e)) w e far
+    (λ s found on. let same = ap (λ (xs : List OnWire). length xs) (frames_far w e s far found) in omega (arith, taken_most count (frames_at w e), same)))
+    (λ near. repeated_may MayTake (Takes e) (λ v far. absurd (true≢false (sym far ∙ near))) (taken_of count (frames_at w e)) w)
+line_takes w (line.Damage e places) is none = damage_may w e places.items (frames_at w e) refl
+line_takes w (line.Tick times) is none = repeated_may MayTake Ticks (λ v. tt) (unwrap_or times 1) w
+line_takes w (line.Busy e) is none = tt
+line_takes w (line.Ready e) is none = tt
+line_takes w (line.Tables n) is none = tt
+line_takes w (line.Settle rounds) is none = tt
+line_takes w _ is none = (tt, tt)
+
+-- ## At the end of each event in which a host made a step and runs on, the first message that is left at its end lacks room
 
 module _ (header : Header) (lines : List Line) (t : NodeHistory) (follows : FollowsNodes header lines t) (are : AreHosts header.hosts.items)
     (playable : ArePlayable lines) (sent : AllByRecursion IsSentByHost lines) (inits : AllByRecursion IsInitOfHost lines)
@@ -78,7 +151,7 @@ module _ (header : Header) (lines : List Line) (t : NodeHistory) (follows : Foll
             by (inl (none, inr (inr is, calm))) = off_short c es is calm
             by (inr a) = short_so hosts past n c es a
 
-      pub host_short : Short o.cause o.entries
+      host_short : Short o.cause o.entries
       host_short =
           subst (Short o.cause) (sym may.0)
           (event_short o.cause may.1 (subst (λ l. commits (entries_in past ++ l) ≤ 4000000000) may.0

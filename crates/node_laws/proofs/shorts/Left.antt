@@ -1,34 +1,256 @@
--- Behind a step of a host that runs on, the first message that is left at its end lacks room, as it is read.
-use Rattle.node_laws.proofs.Words.{AllByRecursion, AreAlong, BeginWithTurn, Bool, ComesTo, End, Entry, ErrorCount, Happening, HciTables, Init, IsBehind, IsHost}
-use Rattle.node_laws.proofs.Words.{List, Message, Moment, NodeInput, Occurrence, Option, Stays, Work, [], all_append, ap, append-nil, append_assoc, ap₂, arith}
-use Rattle.node_laws.proofs.Words.{as_left, by_list, comes_to_pass, cond, end_h, end_of_node, entries_in, errors_in, false, goes_through_ends, hosts_of_ends}
-use Rattle.node_laws.proofs.Words.{init_begun, init_in, inl, inr, is_held_at, is_later, is_left_short, is_some, lack_of, lacking, links_of_turns, no_errors}
-use Rattle.node_laws.proofs.Words.{not, oldest, option_and_then, order_in, own_read, passes, refl, runs_in, steps, subst, sym, tables_in, take_while}
-use Rattle.node_laws.proofs.Words.{take_while-cons, through, true, true≢false, unhandled_in, until, waiting_at, ℕ, ◌++◌, ◌∙◌, ◌∷◌, ◌≡◌, ◌≤◌, ◌⊎◌}
-use Rattle.trace_model.specs.declared.entry.Entry.TheVariants as entry
-use Rattle.node_laws.specs.passes.Passing.ComesTo.{Begins}
-use Rattle.node_laws.proofs.passes.Before.{steps_are}
-use Rattle.node_laws.proofs.passes.Behind.{leaves_behind}
-use Rattle.node_laws.proofs.passes.Passing.{comes_lasts}
-use Rattle.node_laws.proofs.power.Doing.{Fine, Lost, Runs}
-use Rattle.node_laws.proofs.power.Steps.{steps_fine}
-use Rattle.node_laws.proofs.views.Answering.{init_append, reads_init}
-use Rattle.node_laws.proofs.views.Leaving.{IsRead, Leaves, leaves_all, plainly, reads, reads_append}
+-- Behind a step of a host that runs on, the first message that is left at its end lacks room, as it is read, and goes on to lack it.
+use Rattle.node_laws.proofs.Words.{AllByRecursion, AreAlong, AreNotOf, BeginWithTurn, Begins, Book, Bool, ComesTo, Counts, Cut, Emit, End, Entry, ErrorCount}
+use Rattle.node_laws.proofs.Words.{Gets, Happening, HciTables, Init, IsBehind, IsHost, IsSilent, LeavesInit, Link, List, Lost, Message, Moment, NodeInput, None}
+use Rattle.node_laws.proofs.Words.{Noted, Occurrence, Option, Puts, Saying, Some, Stays, Took, Work, [], acked_after, acked_in, all_append, ap, append-nil}
+use Rattle.node_laws.proofs.Words.{append_assoc, ap₂, arith, as_left, book_after, book_in, by_list, by_option, by_test, comes_to_pass, cond, drop, end_h}
+use Rattle.node_laws.proofs.Words.{end_of_node, end_of_number, end_read, ending_entries, ending_of, entries_for, entries_in, eqb, eqb-true, errors_in, false}
+use Rattle.node_laws.proofs.Words.{filter_map, filter_map-append, first_lack, fold, fold-append, frames_noted, goes_through_ends, host_deeds, hosts_of_ends}
+use Rattle.node_laws.proofs.Words.{init_begun, init_in, inl, inr, is_held_at, is_later, is_left_short, is_of_node, is_some, is_up_read, lack_of, lacking}
+use Rattle.node_laws.proofs.Words.{links_of_turns, need_of_all, needs, no_errors, not, oldest, option_and_then, order_in, own_read, passes, port_at, refl}
+use Rattle.node_laws.proofs.Words.{reply, runs_in, said_of, same_end, sent_by, sent_in, session_now, spare_at, spare_read, steps, subst, sym, tables_in}
+use Rattle.node_laws.proofs.Words.{take_while, take_while-cons, through, true, true≢false, unacknowledged_in, unhandled_after, unhandled_in, until, waiting_at}
+use Rattle.node_laws.proofs.Words.{ℕ, ◌++◌, ◌+◌, ◌-◌, ◌∙◌, ◌∷◌, ◌≡◌, ◌≤◌, ◌⊎◌}
+use Rattle.history.specs.Filters.Saying.{Ends, Loses, Sends, Takes}
+use Rattle.link_laws.specs.entries.Entries.{End as Side}
+use Rattle.node_laws.specs.passes.Passing.ComesTo.{Begins as PassBegins}
 use Rattle.node_laws.specs.reply_passes.Counts.{commands_noted as commits}
-use Rattle.node_laws.proofs.reply_passes.Growing.{commits-append}
-use Rattle.node_laws.proofs.reply_passes.Sides.{AreNoBoots}
-use Rattle.node_laws.proofs.worlds.Leaving.{short_lacks, short_none, short_off}
-use Rattle.node_laws.proofs.worlds.Resting.{cut_off}
-use Rattle.node_laws.proofs.hosts.Asides.{comes_none}
-use Rattle.node_laws.proofs.hosts.Knowing.{HostKnows}
-use Rattle.node_laws.proofs.hosts.Passes.{BeginsSo, known, room_at, waits_read}
-use Rattle.node_laws.proofs.hosts.Turns.{errors_behind, lack_is, zero}
-use Rattle.node_laws.proofs.shorts.Calm.{AreCalmAt, init_calm, lack_same, order_calm, runs_calm, session_calm, spare_calm, tables_calm, waits_calm}
+use Rattle.node_laws.proofs.hosts.Knowing.{HostKnows, comes_none}
+use Rattle.node_laws.proofs.hosts.Passes.{BeginsSo, errors_behind, far_reply, known, lack_is, linked_far, room_at, waits_read, zero}
+use Rattle.node_laws.proofs.hosts.Beginning.{not_book, not_init, not_silent}
+use Rattle.node_laws.proofs.kept.Doing.{book_more}
+use Rattle.node_laws.proofs.passes.InSteps.{steps_are}
+use Rattle.node_laws.proofs.passes.Passing.{comes_lasts, leaves_behind}
+use Rattle.node_laws.proofs.power.Steps.{Fine, HasLost, Runs, steps_fine}
+use Rattle.node_laws.proofs.readings.Turning.{order_more}
+use Rattle.node_laws.proofs.replies.Passes.{lack_alike}
+use Rattle.node_laws.proofs.reply_passes.Roomy.{commits-append}
+use Rattle.node_laws.proofs.reply_passes.Held.{AreNoBoots}
+use Rattle.node_laws.proofs.telling.Ticks.{ending_all}
+use Rattle.node_laws.proofs.views.Going.{init_append, reads_init}
+use Rattle.node_laws.proofs.views.Doing.{IsRead, Leaves, leaves_all, plainly, reads, reads_append}
+use Rattle.node_laws.proofs.worlds.Late.{IsFrame}
+use Rattle.node_laws.proofs.worlds.Short.{short_lacks, short_none, short_off}
+use Rattle.node_laws.proofs.worlds.Resting.{cut_off, idle_unhandled, other_end, others_idle}
+use Rattle.trace_model.specs.declared.entry.Entry.TheVariants as entry
 
--- ## Behind a pass
+-- ## Entries that change nothing of what decides a reply of a host: behind them a message there lacks what it lacked before
+
+-- ### Entries that change nothing
+
+module _ (n : ℕ) where
+  -- an entry tells that a message is held or of a frame, or isn't of this host
+  abbrev pub IsCalmAt : Entry → Type 0
+  IsCalmAt (entry.Held f need spare) = Unit {0}
+  IsCalmAt (entry.Emit f lpdu) = Unit {0}
+  IsCalmAt (entry.Took f lpdu) = Unit {0}
+  IsCalmAt (entry.Lost f lpdu cause) = Unit {0}
+  IsCalmAt x = is_of_node n x ≡ false
+
+  abbrev pub AreCalmAt : List Entry → Type 0
+  AreCalmAt es = AllByRecursion IsCalmAt es
+
+  other_calm : (x : Entry) → is_of_node n x ≡ false → IsCalmAt x
+  other_calm (entry.Held f need spare) off = tt
+  other_calm (entry.Emit f lpdu) off = tt
+  other_calm (entry.Took f lpdu) off = tt
+  other_calm (entry.Lost f lpdu cause) off = tt
+  other_calm _ off = off
+
+  pub others_calm : (es : List Entry) → AreNotOf n es → AreCalmAt es
+  others_calm [] a = tt
+  others_calm (x ∷ es) a = (other_calm x a.0, others_calm es a.1)
+
+  -- frames
+  frames_all : (h : ℕ) (notes : List Noted) → AllByRecursion IsFrame notes → AreCalmAt (entries_for h notes)
+  frames_all h [] all = tt
+  frames_all h (Emit who frame ∷ notes) all = (tt, frames_all h notes all.1)
+  frames_all h (Took who frame ∷ notes) all = (tt, frames_all h notes all.1)
+  frames_all h (Lost who frame why ∷ notes) all = (tt, frames_all h notes all.1)
+  frames_all h (Cut who ∷ notes) all = frames_all h notes all.1
+  frames_all h (_ ∷ notes) all = absurd all.0
+
+  pub frames_calm : (who : Side) (h : ℕ) (l : Link) (v : Work) → AreCalmAt (frames_noted who h l v)
+  frames_calm who h l v = by_option (port_at v.ports h)
+      (λ q. rw q tt)
+      (λ p q. rw q (frames_all h (ending_entries who l p.side (ending_of v))
+      (ending_all IsFrame (λ w c. tt) (λ w c. tt) (λ w. tt) who l p.side (ending_of v))))
+
+  -- what is folded over them stays
+  module _ {A : Type 0} (f : A → Entry → A) (stays : (a : A) (x : Entry) → IsCalmAt x → f a x ≡ a) where
+    fold_calm : (a : A) (es : List Entry) → AreCalmAt es → fold f a es ≡ a
+    fold_calm a [] calm = refl
+    fold_calm a (x ∷ es) calm = ap (λ b. fold f b es) (stays a x calm.0) ∙ fold_calm a es calm.1
+
+  abbrev e : End
+  e = end_h n
+
+  -- ### Tables, commands and inits
+
+  book_one : (b : Book) (x : Entry) → IsCalmAt x → book_after n b x ≡ b
+  book_one b (entry.Held f need spare) calm = refl
+  book_one b (entry.Emit f lpdu) calm = refl
+  book_one b (entry.Took f lpdu) calm = refl
+  book_one b (entry.Lost f lpdu cause) calm = refl
+  book_one b x calm = not_book n b x calm
+
+  tables_calm : (t es : List Entry) → AreCalmAt es → tables_in (t ++ es) n ≡ tables_in t n
+  tables_calm t es calm =
+      ap (λ (b : Book). b.tables) (book_more t es n ∙ fold_calm (book_after n) book_one (book_in t n) es calm)
+
+  order_one : (x : Entry) → IsCalmAt x → IsSilent n x
+  order_one (entry.Held f need spare) calm = λ waits. refl
+  order_one (entry.Emit f lpdu) calm = λ waits. refl
+  order_one (entry.Took f lpdu) calm = λ waits. refl
+  order_one (entry.Lost f lpdu cause) calm = λ waits. refl
+  order_one x calm = not_silent n x calm
+
+  order_calm : (t es : List Entry) → AreCalmAt es → order_in (t ++ es) n ≡ order_in t n
+  order_calm t es calm = order_more t es n ∙ fold_calm _ (λ a x c. order_one x c a) (order_in t n) es calm
+
+  init_one : (x : Entry) → IsCalmAt x → LeavesInit n x
+  init_one (entry.Held f need spare) calm = λ i. refl
+  init_one (entry.Emit f lpdu) calm = λ i. refl
+  init_one (entry.Took f lpdu) calm = λ i. refl
+  init_one (entry.Lost f lpdu cause) calm = λ i. refl
+  init_one x calm = not_init n x calm
+
+  init_calm : (es : List Entry) (i : Option Init) → AreCalmAt es → reads_init n es i ≡ i
+  init_calm es i calm = fold_calm _ (λ a x c. init_one x c a) i es calm
+
+  -- ### Power and messages
+
+  runs_one : (s : List Entry) (x : Entry) → IsCalmAt x → runs_in (s ++ x ∷ []) n ≡ runs_in s n
+  runs_one s (entry.Booted m k) calm = fold-append _ false s (entry.Booted m k ∷ []) ∙ ap (λ b. cond b true (runs_in s n)) calm
+  runs_one s (entry.Cut m) calm = fold-append _ false s (entry.Cut m ∷ []) ∙ ap (λ b. cond b false (runs_in s n)) calm
+  runs_one s x calm = fold-append _ false s (x ∷ [])
+
+  pub runs_calm : (s es : List Entry) → AreCalmAt es → runs_in (s ++ es) n ≡ runs_in s n
+  runs_calm s [] calm = ap (λ l. runs_in l n) (append-nil s)
+  runs_calm s (x ∷ es) calm =
+      ap (λ l. runs_in l n) (sym (append_assoc s (x ∷ []) es)) ∙ (runs_calm (s ++ x ∷ []) es calm.1 ∙ runs_one s x calm.0)
+
+  waits_one : (s : List Entry) (x : Entry) → IsCalmAt x → unhandled_in (s ++ x ∷ []) e ≡ unhandled_in s e
+  waits_one s (entry.Held f need spare) calm = fold-append (unhandled_after e) [] s (entry.Held f need spare ∷ [])
+  waits_one s (entry.Emit f lpdu) calm = fold-append (unhandled_after e) [] s (entry.Emit f lpdu ∷ [])
+  waits_one s (entry.Took f lpdu) calm = fold-append (unhandled_after e) [] s (entry.Took f lpdu ∷ [])
+  waits_one s (entry.Lost f lpdu cause) calm = fold-append (unhandled_after e) [] s (entry.Lost f lpdu cause ∷ [])
+  waits_one s x calm = idle_unhandled e s x (others_idle e (x ∷ []) (calm, tt)).0
+
+  waits_calm : (s es : List Entry) → AreCalmAt es → unhandled_in (s ++ es) e ≡ unhandled_in s e
+  waits_calm s [] calm = ap (λ l. unhandled_in l e) (append-nil s)
+  waits_calm s (x ∷ es) calm =
+      ap (λ l. unhandled_in l e) (sym (append_assoc s (x ∷ []) es)) ∙ (waits_calm (s ++ x ∷ []) es calm.1 ∙ waits_one s x calm.0)
+
+  -- ### Sessions, and what isn't acknowledged
+
+  session_one : (t : List Entry) (x : Entry) → IsCalmAt x → session_now (t ++ x ∷ []) e n ≡ session_now t e n
+  session_one t (entry.Up f j) calm = fold-append _ None t (entry.Up f j ∷ []) ∙ ap (λ b. cond b (Some j) (session_now t e n)) (other_end e f calm)
+  session_one t (entry.Down f cause) calm = fold-append _ None t (entry.Down f cause ∷ []) ∙ ap (λ b. cond b None (session_now t e n)) (other_end e f calm)
+  session_one t (entry.Cut m) calm = fold-append _ None t (entry.Cut m ∷ []) ∙ ap (λ b. cond b None (session_now t e n)) calm
+  session_one t x calm = fold-append _ None t (x ∷ [])
+
+  session_calm : (t es : List Entry) → AreCalmAt es → session_now (t ++ es) e n ≡ session_now t e n
+  session_calm t [] calm = ap (λ l. session_now l e n) (append-nil t)
+  session_calm t (x ∷ es) calm =
+      ap (λ l. session_now l e n) (sym (append_assoc t (x ∷ []) es)) ∙ (session_calm (t ++ x ∷ []) es calm.1 ∙ session_one t x calm.0)
+
+  module _ (j : ℕ) where
+    quiet : (b : Bool) (s : Saying) → sent_by j (Some s) ≡ None → sent_by j (cond b (Some s) None) ≡ None
+    quiet true s q = q
+    quiet false s q = refl
+
+    sent_one : (x : Entry) → IsCalmAt x → sent_by j (said_of e x) ≡ None
+    sent_one (entry.Up f k) calm = quiet (same_end f e) (Begins k) refl
+    sent_one (entry.Down f cause) calm = quiet (same_end f e) Ends refl
+    sent_one (entry.Sent f k pid message) calm = ap (λ b. sent_by j (cond b (Some (Sends k (pid, message))) None)) (other_end e f calm)
+    sent_one (entry.Got f k pid message) calm = quiet (same_end f e) (Gets k (pid, message)) refl
+    sent_one (entry.Acked f k count) calm = quiet (same_end f e) (Counts k count) refl
+    sent_one (entry.Emit f lpdu) calm = quiet (same_end f e) (Puts lpdu) refl
+    sent_one (entry.Took f lpdu) calm = quiet (same_end f e) (Takes lpdu) refl
+    sent_one (entry.Lost f lpdu cause) calm = quiet (same_end f e) (Loses lpdu) refl
+    sent_one _ calm = refl
+
+    none_sent : (es : List Entry) → AreCalmAt es → filter_map (λ x. sent_by j (said_of e x)) es ≡ []
+    none_sent [] calm = refl
+    none_sent (x ∷ es) calm = rw (sent_one x calm.0) (none_sent es calm.1)
+
+    sent_calm : (t es : List Entry) → AreCalmAt es → sent_in (t ++ es) e j ≡ sent_in t e j
+    sent_calm t es calm =
+        filter_map-append (λ x. sent_by j (said_of e x)) t es ∙ (ap (λ l. sent_in t e j ++ l) (none_sent es calm) ∙ append-nil (sent_in t e j))
+
+    calm_count : (before : ℕ) (b : Bool) (s : Saying) → acked_after j before (Some s) ≡ before → acked_after j before (cond b (Some s) None) ≡ before
+    calm_count before true s q = q
+    calm_count before false s q = refl
+
+    acked_one : (before : ℕ) (x : Entry) → IsCalmAt x → acked_after j before (said_of e x) ≡ before
+    acked_one before (entry.Up f k) calm = calm_count before (same_end f e) (Begins k) refl
+    acked_one before (entry.Down f cause) calm = calm_count before (same_end f e) Ends refl
+    acked_one before (entry.Sent f k pid message) calm = calm_count before (same_end f e) (Sends k (pid, message)) refl
+    acked_one before (entry.Got f k pid message) calm = calm_count before (same_end f e) (Gets k (pid, message)) refl
+    acked_one before (entry.Acked f k count) calm =
+        ap (λ b. acked_after j before (cond b (Some (Counts k count)) None)) (other_end e f calm)
+    acked_one before (entry.Emit f lpdu) calm = calm_count before (same_end f e) (Puts lpdu) refl
+    acked_one before (entry.Took f lpdu) calm = calm_count before (same_end f e) (Takes lpdu) refl
+    acked_one before (entry.Lost f lpdu cause) calm = calm_count before (same_end f e) (Loses lpdu) refl
+    acked_one before _ calm = refl
+
+    acked_calm : (t es : List Entry) → AreCalmAt es → acked_in (t ++ es) e j ≡ acked_in t e j
+    acked_calm t es calm = fold-append _ 0 t es ∙ fold_calm _ acked_one (acked_in t e j) es calm
+
+  left_calm : (t es : List Entry) → AreCalmAt es → (o : Option ℕ) → unacknowledged_in (t ++ es) e o ≡ unacknowledged_in t e o
+  left_calm t es calm None = refl
+  left_calm t es calm (Some j) = ap₂ (λ c l. drop c l) (acked_calm j t es calm) (sent_calm j t es calm)
+
+  spare_calm : (t es : List Entry) → AreCalmAt es → spare_at (t ++ es) e ≡ spare_at t e
+  spare_calm t es calm =
+      ap (λ l. 128 - (need_of_all l + 0)) (ap (unacknowledged_in (t ++ es) e) (session_calm t es calm) ∙ left_calm t es calm (session_now t e n))
+
+-- ### What a message lacks
+
+-- behind those entries as behind these
+module _ (hosts : List ℕ) (n : ℕ) (off : eqb n 0 ≡ false) (t s : List Entry) (session : session_now s (end_h n) n ≡ session_now t (end_h n) n)
+    (spares : spare_at s (end_h n) ≡ spare_at t (end_h n)) (errors : errors_in s (end_h n) ≡ errors_in t (end_h n)) where
+  at_end : end_of_number n n ≡ end_h n
+  at_end = rw off refl
+
+  up_same : is_up_read s n n ≡ is_up_read t n n
+  up_same = ap is_some (subst (λ z. session_now s z n ≡ session_now t z n) (sym at_end) session)
+
+  errors_same : errors_in s (end_of_number n n) ≡ errors_in t (end_of_number n n)
+  errors_same = subst (λ z. errors_in s z ≡ errors_in t z) (sym at_end) errors
+
+  end_same : end_read s n n ≡ end_read t n n
+  end_same = λ i. record { up = up_same i; errors = errors_same i }
+
+  spares_same : (j : ℕ) → spare_read hosts s n j ≡ spare_read hosts t n j
+  spares_same j =
+      ap (λ b. cond b (spare_at s (end_of_number n j)) 0) (linked_far hosts n off j)
+      ∙ (by_test (eqb n j)
+      (λ z. ap (λ x. cond (eqb n j) x 0)
+      (subst (λ x. spare_at s (end_of_number n x) ≡ spare_at t (end_of_number n x)) (eqb-true n j z)
+      (subst (λ z. spare_at s z ≡ spare_at t z) (sym at_end) spares)))
+      (λ z. ap (λ b. cond b (spare_at s (end_of_number n j)) 0) z ∙ sym (ap (λ b. cond b (spare_at t (end_of_number n j)) 0) z)) ∙ sym
+      (ap (λ b. cond b (spare_at t (end_of_number n j)) 0) (linked_far hosts n off j)))
+
+  lack_same : (m l : Moment) → until m ≡ s → until l ≡ t → own_read m n ≡ own_read l n → (message : Message)
+      → lack_of hosts m (end_h n) message ≡ lack_of hosts l (end_h n) message
+  lack_same m l here there kept message =
+      let one : reply hosts m (end_h n) message ≡ host_deeds (own_read m n) (end_read s n n) message =
+      far_reply hosts n off m message ∙ ap (λ u. host_deeds (own_read m n) (end_read u n n) message) here in
+      let two : reply hosts l (end_h n) message ≡ host_deeds (own_read l n) (end_read t n n) message =
+      far_reply hosts n off l message ∙ ap (λ u. host_deeds (own_read l n) (end_read u n n) message) there in
+      let same : reply hosts m (end_h n) message ≡ reply hosts l (end_h n) message =
+      one ∙ (ap₂ (λ o e. host_deeds o e message) kept end_same ∙ sym two) in
+      ap₂ (λ u d. first_lack (spare_read hosts u n) (needs n d)) here same
+      ∙ (lack_alike (spare_read hosts s n) (spare_read hosts t n) spares_same (needs n (reply hosts l (end_h n) message))
+      ∙ ap (λ u. first_lack (spare_read hosts u n) (needs n (reply hosts l (end_h n) message))) (sym there))
+
+-- ## Behind a step of a host that runs on, the first message that is left at its end lacks room, as it is read
+
+-- ### Behind a pass
 
 -- a pass leaves these messages at the end, the first of which lacks room there, and notes only calm entries since
-pub record LeftAt (n : ℕ) (w : Work) (m : Message) (messages : List Message) : Type 0 where
+record LeftAt (n : ℕ) (w : Work) (m : Message) (messages : List Message) : Type 0 where
   pub work : Work
   pub comes : ComesTo w work
   pub own : List Entry
@@ -39,13 +261,13 @@ pub record LeftAt (n : ℕ) (w : Work) (m : Message) (messages : List Message) :
   pub lacks : is_some (lacking work n m) ≡ true
 
 -- it leaves none
-pub record NoneLeft (n : ℕ) (w : Work) : Type 0 where
+record NoneLeft (n : ℕ) (w : Work) : Type 0 where
   pub work : Work
   pub comes : ComesTo w work
   pub all : (passes w).entries ≡ work.entries
   pub none : waiting_at work.ports n ≡ []
 
-abbrev pub IsLeftAt : ℕ → Work → Type 0
+abbrev IsLeftAt : ℕ → Work → Type 0
 IsLeftAt n w = NoneLeft n w ⊎ ((m : Message) × (messages : List Message) × LeftAt n w m messages)
 
 no_turns : (back : List Entry) → AreAlong [] (links_of_turns back) → BeginWithTurn back → back ≡ []
@@ -62,7 +284,7 @@ module _ (n : ℕ) (w : Work) (is : hosts_of_ends w.ports ≡ n ∷ []) (on : w.
   whole = ap (λ hs. goes_through_ends hs w) (sym is)
 
   abbrev c : IsBehind (ComesTo w) w last [] n []
-  c = leaves_behind (ComesTo w) (comes_lasts w) [] n [] w Begins on tt (ap (λ (u : Work). u.cut) whole ∙ still)
+  c = leaves_behind (ComesTo w) (comes_lasts w) [] n [] w PassBegins on tt (ap (λ (u : Work). u.cut) whole ∙ still)
 
   split : (passes w).entries ≡ c.work.entries ++ c.own
   split =
@@ -75,7 +297,7 @@ module _ (n : ℕ) (w : Work) (is : hosts_of_ends w.ports ≡ n ∷ []) (on : w.
   own_calm true f short = (tt, tt)
   own_calm false f short = ((tt, tt), ((λ x k r. plainly (end_h n) x k r), tt))
 
-  pub left_at : IsLeftAt n w
+  left_at : IsLeftAt n w
   left_at = by_list (waiting_at c.work.ports n)
       (λ q. let own : c.own ≡ [] = subst (Stays c.work last n c.own) q c.stays in
       inl (record { work = c.work; comes = c.keeps; all = split ∙ (ap (λ l. c.work.entries ++ l) own ∙ append-nil c.work.entries); none = q }))
@@ -96,7 +318,7 @@ module _ (n : ℕ) (w : Work) (is : hosts_of_ends w.ports ≡ n ∷ []) (on : w.
         },
       ))
 
--- ## A host leaves its end
+-- ### A host leaves its end
 
 -- a host has no later end
 all_taken : (n : ℕ) (es : List Entry) → take_while (λ x. not (is_later (end_h n) x)) es ≡ es
@@ -212,7 +434,7 @@ module _ (hosts : List ℕ) (n : ℕ) (host : IsHost n) (past : List Occurrence)
               ap (λ s. unhandled_in s (end_h n)) late_is
               ∙ (waits_calm n told es es_calm ∙ (waits_read hosts n host t i w on b unbooted few v l.comes ∙ l.waits))
 
-    pub pass_short : hosts_of_ends w.ports ≡ n ∷ [] → (passes w).cut ≡ false → IsShort (passes w).entries
+    pass_short : hosts_of_ends w.ports ≡ n ∷ [] → (passes w).cut ≡ false → IsShort (passes w).entries
     pass_short is still = by (left_at n w is on still) where
       by : IsLeftAt n w → IsShort (passes w).entries
       by (inl l) = none_short l
@@ -247,7 +469,7 @@ module _ (hosts : List ℕ) (n : ℕ) (host : IsHost n) (past : List Occurrence)
         (pass_short v q b (subst (λ (u : Work). AreNoBoots u.entries) is boots) (subst (λ (u : Work). commits (t ++ u.entries) ≤ 4000000000) is low)
         b.knows.kept.hosts_are (ap (λ (u : Work). u.cut) (sym is) ∙ on))
 
-    gone : Lost n last → runs_in (through past (seen last.entries)) n ≡ false
+    gone : HasLost n last → runs_in (through past (seen last.entries)) n ≡ false
     gone l =
         ap (λ s. runs_in s n) (all_of last.entries)
         ∙ (runs_calm n (t ++ last.entries) rest calm

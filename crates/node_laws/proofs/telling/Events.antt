@@ -1,28 +1,348 @@
--- Each event of a world but a tick tells of each link.
-use Rattle.node_laws.proofs.Words.{Activates, AllByRecursion, AreDifferent, Arms, AsksReset, AtController, AtEnd, AtHost, Bool, Boots, Broken, Comes}
+-- Each event of a world but a tick tells of each link, by the steps of the controller and of hosts.
+use Rattle.node_laws.proofs.Words.{Activates, AllByRecursion, AreDifferent, Arms, AsksReset, AtController, AtEnd, AtHost, Bare, Bool, Boots, Broken, Comes}
 use Rattle.node_laws.proofs.Words.{Controller, CutOff, Deed, Desk, EachGoesSo, End, Entry, Gives, GoesSo, Happening, HasEnds, Host, IfItRuns, Inits, IsCut}
 use Rattle.node_laws.proofs.Words.{IsOrderly, IsUntimed, Link, LinkEvent, LinkInput, List, Lose, Loses, Loss, Memory, Message, NextFrame, NoInput, NodeWorld}
-use Rattle.node_laws.proofs.Words.{None, NumberedEnd, Option, Resets, Running, Site, Some, Starts, Step, Takes, TellOf, Ticks, Work, [], activates}
-use Rattle.node_laws.proofs.Words.{after_controller, after_host, after_host_step, after_link_events, after_planned, ap, append-nil, append_assoc, arrival}
-use Rattle.node_laws.proofs.Words.{beginning, begins_with, boot_found, boot_writes, boot_written, boots, by_boot, by_coming, by_controller, by_host, by_loss}
-use Rattle.node_laws.proofs.Words.{by_memory, by_power, by_running, by_test, changed_if, comes_at, comes_to, cond, controller_does, controller_work, count_of}
-use Rattle.node_laws.proofs.Words.{counts, end_c, end_h, ending_of, entries, entries_for, eqb-true, event_entries, exchanged, false, first_lost, found}
-use Rattle.node_laws.proofs.Words.{frame_lost, happens, host_cut, host_does, host_work, hosts_in, input_of, is_command_message, link_after_controller, link_to}
-use Rattle.node_laws.proofs.Words.{links_of, loses_power_at, map, memory_at, near_end_in, of_link, refl, runs_on, sending, site_at, site_lost, steps, subst}
-use Rattle.node_laws.proofs.Words.{sym, true, turns_at, with_memory, with_node, with_site, work_of, world_step, ℕ, ◌&&◌, ◌++◌, ◌==◌, ◌∙◌, ◌∷◌, ◌≡◌}
-use Rattle.trace_model.specs.declared.entry.Entry.TheVariants as entry
-use Rattle.node_laws.proofs.kept.Sites.{hosts_same, changed_host}
+use Rattle.node_laws.proofs.Words.{None, NumberedEnd, Option, Port, Resets, Running, Site, Some, Standing, StandsOf, Starts, Step, Takes, TellOf, Ticks, Work}
+use Rattle.node_laws.proofs.Words.{[], activates, after_controller, after_host, after_host_step, after_link_events, after_planned, after_power, ap, append-nil}
+use Rattle.node_laws.proofs.Words.{append_assoc, arrival, beginning, begins_with, boot_found, boot_writes, boot_written, boots, by_boot, by_coming}
+use Rattle.node_laws.proofs.Words.{by_controller, by_host, by_loss, by_memory, by_power, by_running, by_test, changed_if, comes_at, comes_to, cond}
+use Rattle.node_laws.proofs.Words.{controller_does, controller_work, count_of, counts, end_c, end_h, ending_of, entries, entries_for, eqb-true, event_entries}
+use Rattle.node_laws.proofs.Words.{exchanged, false, first_lost, flat_map, found, frame_lost, frames_noted, happens, host_cut, host_does, host_work, hosts_in}
+use Rattle.node_laws.proofs.Words.{hosts_of_ends, if◌then◌else◌, input_of, is_command_message, link_after_controller, link_to, links_of, loses_power_at, map}
+use Rattle.node_laws.proofs.Words.{memory_at, ne_eqb, near_end_in, new_link, number_of, of_link, option_map_or, port_at, port_for, refl, runs_on, same_number}
+use Rattle.node_laws.proofs.Words.{sending, site_at, site_lost, standing, step_entries, steps, subst, sym, true, true≢false, turns_at, wires_for, with_memory}
+use Rattle.node_laws.proofs.Words.{with_node, with_site, without_power, work_of, world_step, ℕ, ◌&&◌, ◌++◌, ◌==◌, ◌∙◌, ◌∷◌, ◌≡◌}
 use Rattle.node_laws.specs.telling.Telling.{Tells}
-use Rattle.node_laws.proofs.telling.Mute.{AreMute}
-use Rattle.node_laws.proofs.telling.Accounts.{of-append, of_other}
-use Rattle.node_laws.proofs.telling.Steps.{notes-append}
-use Rattle.node_laws.proofs.telling.Keeping.{Keeps, steps_keep, begins_keep, runs_keep}
-use Rattle.node_laws.proofs.telling.Nodes.{swapped, site_host, link_is, controller_tells, hosts_same as ends_same}
-use Rattle.node_laws.proofs.telling.Worlds.{site_is, node_is, HostDoes, host_does_step, host_does_begin}
 use Rattle.node_laws.proofs.kept.Booting.{new_hosts as new_ends}
-use Rattle.node_laws.proofs.kept.Events.{error_hosts as errors_ends}
+use Rattle.node_laws.proofs.kept.Events.{changed_host, error_hosts as errors_ends, hosts_same}
+use Rattle.node_laws.proofs.telling.Accounts.{AreMute, AreUncut, at_host, of-append, of_other}
+use Rattle.node_laws.proofs.telling.Steps.{Away, Goes, IsStep, Keeps, Opening, away_begun, away_steps, begins_keep, begun, closed, frames_of, notes-append}
+use Rattle.node_laws.proofs.telling.Steps.{only, runs_keep, stepped, steps_keep}
+use Rattle.node_laws.proofs.telling.Shapes.{IsAtEnd, all_frames, begins_powered, comes_stands, entries_uncut, own_frames, shaped_step, step_away, steps_powered}
+use Rattle.node_laws.proofs.telling.Shapes.{twice}
+use Rattle.trace_model.specs.declared.entry.Entry.TheVariants as entry
 
--- ## Events of a link
+-- ## What the steps of a controller and of hosts tell of each link
+
+-- ### Lists
+
+pub swapped : (h k : ℕ) → (h == k) ≡ false → (k == h) ≡ false
+swapped h k q = ne_eqb k h (λ z. true≢false (sym (ap (λ y. h == y) z ∙ same_number h) ∙ q))
+
+pub site_host : (sites : List Site) (h : ℕ) (s : Site) → site_at sites h ≡ Some s → s.host ≡ h
+site_host [] h s q = cc
+site_host (x ∷ sites) h s q = by_test (x.host == h)
+    (λ e. let is : Some x ≡ Some s = rw e at q in
+    let one : s ≡ x = cc in
+    ap (λ (z : Site). z.host) one ∙ eqb-true x.host h e)
+    (λ e. site_host sites h s (rw e at q))
+
+pub link_is : (sites : List Site) (h : ℕ) (s : Site) → site_at sites h ≡ Some s → link_to sites h ≡ s.link
+link_is sites h s q = ap (λ o. option_map_or (λ (x : Site). x.link) o (new_link Bare Bare)) q
+
+-- the ends of a node as a step begins
+abbrev pub ports_for : (ℕ → NumberedEnd) → List Desk → List Port
+ports_for near_ends desks = map (λ (d : Desk). port_for (near_ends d.host) d) desks
+
+pub hosts_same_of_nodes : (near_ends : ℕ → NumberedEnd) (desks : List Desk) → hosts_of_ends (ports_for near_ends desks) ≡ map (λ (d : Desk). d.host) desks
+hosts_same_of_nodes near_ends [] = refl
+hosts_same_of_nodes near_ends (d ∷ desks) = ap (λ xs. d.host ∷ xs) (hosts_same_of_nodes near_ends desks)
+
+-- one of them is on the link with a host
+pub record Stands (near_ends : ℕ → NumberedEnd) (desks : List Desk) (h : ℕ) : Type 0 where
+  pub desk : Desk
+  pub here : port_at (ports_for near_ends desks) h ≡ Some (port_for (near_ends h) desk)
+
+pub stands : (near_ends : ℕ → NumberedEnd) (desks : List Desk) (sites : List Site) (h : ℕ) (s : Site) → map (λ (d : Desk). d.host) desks ≡ hosts_in sites
+    → site_at sites h ≡ Some s → Stands near_ends desks h
+stands near_ends [] [] h s e q = absurd (cc q)
+stands near_ends (d ∷ desks) [] h s e q = absurd (cc q)
+stands near_ends [] (x ∷ sites) h s e q = absurd (cc e)
+stands near_ends (d ∷ desks) (x ∷ sites) h s e q = by_test (x.host == h)
+    (λ f. let found : (d.host == h) ≡ true = ap (λ n. n == h) one ∙ f in
+    record { desk = d; here = rw found (ap (λ n. Some (port_for (near_ends n) d)) (eqb-true d.host h found)) })
+    (λ f. let passed : (d.host == h) ≡ false = ap (λ n. n == h) one ∙ f in
+    let rest : Stands near_ends desks h = stands near_ends desks sites h s others (rw f at q) in
+    record { desk = rest.desk; here = rw passed rest.here })
+  where
+    one : d.host ≡ x.host
+    one = cc
+
+    others : map (λ (d : Desk). d.host) desks ≡ hosts_in sites
+    others = cc
+
+pub is_step : (comes : Comes) (i : LinkInput) → IsStep comes (Some i)
+is_step NextFrame i = tt
+is_step _ i = tt
+
+-- ### The controller
+
+-- what comes to its end of the link with the host h, where this comes to that with the host k
+abbrev input_here : ℕ → LinkInput → ℕ → Option LinkInput
+input_here k i h = if h == k then Some i else None
+
+module _ (w : NodeWorld) (r : Running) (k : ℕ) (comes : Comes) (h : ℕ) (s : Site) (orderly : IsOrderly w) (node : HasEnds 0 (hosts_in w.sites) r)
+    (found : site_at w.sites h ≡ Some s) where
+  link : link_to w.sites h ≡ s.link
+  link = link_is w.sites h s found
+
+  abbrev Start : Work
+  Start = work_of r w.memory.plan (λ j. near_end_in (link_to w.sites j) (comes_to k comes j)) (entries_for k (arrival Controller (link_to w.sites k) comes))
+
+  arrives : of_link h (entries_for k (arrival Controller (link_to w.sites k) comes))
+      ≡ of_link h (entries_for h (arrival Controller s.link (comes_to k comes h)))
+  arrives = by_test (h == k)
+      (λ e. rw e (ap (λ z. of_link h (entries_for z (arrival Controller (link_to w.sites z) comes))) (sym (eqb-true h k e))
+      ∙ ap (λ l. of_link h (entries_for h (arrival Controller l comes))) link))
+      (λ e. rw e (of_other k h (arrival Controller (link_to w.sites k) comes) (swapped h k e)))
+
+  pub opened : Opening h Controller s.link (comes_to k comes h) Start
+  opened =
+      let near_ends : ℕ → NumberedEnd = λ j. near_end_in (link_to w.sites j) (comes_to k comes j) in
+      let one : Stands near_ends r.desks h = stands near_ends r.desks w.sites h s node.ends found in
+      record {
+        side = ap (λ (n : ℕ). if n == 0 then Controller else Host) node.number;
+        port = port_for (near_end_in (link_to w.sites h) (comes_to k comes h)) one.desk;
+        here = one.here;
+        is = ap (λ l. (near_end_in l (comes_to k comes h)).side) link;
+        session = ap (λ l. number_of (near_end_in l (comes_to k comes h))) link;
+        turns = refl;
+        late = refl;
+        told = arrives;
+        different = subst AreDifferent (sym (hosts_same_of_nodes near_ends r.desks ∙ node.ends)) orderly.different;
+      }
+
+  controller_closed : (o : Option LinkInput) (v : Work) → input_of s.link (comes_to k comes h) ≡ o → IsStep (comes_to k comes h) o
+      → Goes h Controller s.link (comes_to k comes h) o v
+      → TellOf h s.link (AtController (Step (comes_to k comes h) (turns_at v h) (ending_of v))) (after_controller w k comes v).1
+  controller_closed o v q c a =
+      of-append h v.entries (flat_map f w.sites)
+      ∙ (ap (λ t. of_link h v.entries ++ t)
+      (only (λ (x : Site). x.host) f h (λ x e. frames_of h x.host Controller (wires_for x.link (comes_to k comes x.host)) v e) w.sites s
+      orderly.different found
+      ∙ ap (λ n. of_link h (frames_noted Controller n (wires_for s.link (comes_to k comes n)) v)) (site_host w.sites h s found))
+      ∙ closed h Controller s.link (comes_to k comes h) o false v q c a)
+    where
+      f : Site → List Entry
+      f x = frames_noted Controller x.host (wires_for x.link (comes_to k comes x.host)) v
+
+  -- what comes to its end of the link
+  pub given : (i : LinkInput) → input_of (link_to w.sites k) comes ≡ Some i → (b : Bool) → (h == k) ≡ b
+      → input_of s.link (cond b comes NoInput) ≡ cond b (Some i) None
+  given i q true e = ap (λ l. input_of l comes) (sym link ∙ ap (link_to w.sites) (eqb-true h k e)) ∙ q
+  given i q false e = refl
+
+  pub is_so : (i : LinkInput) (b : Bool) → IsStep (cond b comes NoInput) (cond b (Some i) None)
+  is_so i true = is_step comes i
+  is_so i false = tt
+
+  pub controller_tells : (i : LinkInput) → input_of (link_to w.sites k) comes ≡ Some i
+      → TellOf h s.link (AtController (Step (comes_to k comes h) (turns_at (controller_work w r k comes (steps (AtEnd k i))) h)
+      (ending_of (controller_work w r k comes (steps (AtEnd k i))))))
+      (after_controller w k comes (controller_work w r k comes (steps (AtEnd k i)))).1
+  controller_tells i q =
+      controller_closed (input_here k i h) (steps (AtEnd k i) Start) (given i q (h == k) refl) (is_so i (h == k))
+      (stepped h Controller s.link (comes_to k comes h) (input_here k i h) k i Start opened (ap (λ n. input_here k i n) here))
+    where
+      here : opened.port.desk.host ≡ h
+      here = eqb-true opened.port.desk.host h (at_host Start.ports h opened.port opened.here)
+
+  -- and how the link stands behind it
+  pub controller_stands : (i : LinkInput) → input_of (link_to w.sites k) comes ≡ Some i
+      → StandsOf h s.link (AtController (Step (comes_to k comes h) (turns_at (controller_work w r k comes (steps (AtEnd k i))) h)
+      (ending_of (controller_work w r k comes (steps (AtEnd k i))))))
+      (after_controller w k comes (controller_work w r k comes (steps (AtEnd k i)))).1
+  controller_stands i q =
+      let v : Work = controller_work w r k comes (steps (AtEnd k i)) in
+      comes_stands h 0 Controller (λ x. refl) v (flat_map (λ x. frames_noted Controller x.host (wires_for x.link (comes_to k comes x.host)) v) w.sites)
+      (steps_powered h 0 (without_power Controller) (λ x. refl) (twice Controller) (AtEnd k i) Start node.number refl
+      (entries_uncut k (arrival Controller (link_to w.sites k) comes)))
+      (all_frames Controller (λ x. wires_for x.link (comes_to k comes x.host)) v w.sites)
+      (comes_to k comes h) (step_entries Controller s.link (comes_to k comes h) (turns_at v h) (ending_of v))
+      (shaped_step Controller s.link (comes_to k comes h) (turns_at v h) (ending_of v) (input_here k i h) (given i q (h == k) refl) (is_so i (h == k)))
+      (controller_tells i q)
+
+-- ### A host
+
+-- the power of a host is that of its own end, and of no other link
+pub own_power : (h : ℕ) → (h == 0) ≡ false → (x : Standing) → after_power h h x ≡ without_power Host x
+own_power h host x = let same = same_number h in rw (host, same) refl
+
+pub other_power : (k h : ℕ) → (k == 0) ≡ false → (k == h) ≡ false → (x : Standing) → after_power h k x ≡ x
+other_power k h host q x = rw (host, q) refl
+
+module _ (s : Site) (r : Running) (comes : Comes) (host : (s.host == 0) ≡ false) (node : HasEnds s.host (s.host ∷ []) r) where
+  abbrev pub HostStart : Work
+  HostStart = work_of r s.memory.plan (λ j. near_end_in (exchanged s.link) comes) (entries_for s.host (arrival Host (exchanged s.link) comes))
+
+  pub host_opened : Opening s.host Host (exchanged s.link) comes HostStart
+  host_opened =
+      let here : site_at (s ∷ []) s.host ≡ Some s = let same : (s.host == s.host) ≡ true = same_number s.host in rw same refl in
+      let near_ends : ℕ → NumberedEnd = λ j. near_end_in (exchanged s.link) comes in
+      let one : Stands near_ends r.desks s.host = stands near_ends r.desks (s ∷ []) s.host s node.ends here in
+      record {
+        side = ap (λ (n : ℕ). if n == 0 then Controller else Host) node.number ∙ ap (λ (b : Bool). if b then Controller else Host) host;
+        port = port_for (near_end_in (exchanged s.link) comes) one.desk;
+        here = one.here;
+        is = refl;
+        session = refl;
+        turns = refl;
+        late = refl;
+        told = refl;
+        different = subst AreDifferent (sym (hosts_same_of_nodes near_ends r.desks ∙ node.ends)) (tt, tt);
+      }
+
+  host_closed : (o : Option LinkInput) (v : Work) → input_of (exchanged s.link) comes ≡ o → IsStep comes o
+      → Goes s.host Host (exchanged s.link) comes o v
+      → TellOf s.host s.link (AtHost (Step comes (turns_at v s.host) (ending_of v)))
+      (v.entries ++ frames_noted Host s.host (wires_for (exchanged s.link) comes) v)
+  host_closed o v q c a =
+      of-append s.host v.entries (frames_noted Host s.host (wires_for (exchanged s.link) comes) v) ∙ closed s.host Host (exchanged s.link) comes o false v q c a
+
+  -- and nothing is told of any other link
+  pub host_away : (h : ℕ) → (s.host == h) ≡ false → Away h HostStart
+  host_away h q =
+      record { none = none r.desks node.ends; told = of_other s.host h (arrival Host (exchanged s.link) comes) q }
+    where
+      none : (desks : List Desk) → map (λ (d : Desk). d.host) desks ≡ s.host ∷ []
+          → port_at (ports_for (λ j. near_end_in (exchanged s.link) comes) desks) h ≡ None
+      none [] e = refl
+      none (d ∷ []) e =
+          let one : d.host ≡ s.host = cc in
+          let passed : (d.host == h) ≡ false = ap (λ n. n == h) one ∙ q in
+          rw passed refl
+      none (d ∷ x ∷ desks) e = absurd (cc e)
+
+  away_closed : (h : ℕ) (v : Work) → (s.host == h) ≡ false → Away h v
+      → of_link h (v.entries ++ frames_noted Host s.host (wires_for (exchanged s.link) comes) v) ≡ []
+  away_closed h v q a =
+      of-append h v.entries (frames_noted Host s.host (wires_for (exchanged s.link) comes) v)
+      ∙ (ap (λ t. t ++ of_link h (frames_noted Host s.host (wires_for (exchanged s.link) comes) v)) a.told
+      ∙ frames_of h s.host Host (wires_for (exchanged s.link) comes) v q)
+
+  abbrev noted_by : Work → List Entry
+  noted_by v = v.entries ++ frames_noted Host s.host (wires_for (exchanged s.link) comes) v
+
+  -- what is told of a host's step
+  record HostTells (v : Work) : Type 0 where
+    pub own : TellOf s.host s.link (AtHost (Step comes (turns_at v s.host) (ending_of v))) (noted_by v)
+    pub others : (h : ℕ) → (s.host == h) ≡ false → of_link h (noted_by v) ≡ []
+    pub stands : StandsOf s.host s.link (AtHost (Step comes (turns_at v s.host) (ending_of v))) (noted_by v)
+    pub leaves : (h : ℕ) → (s.host == h) ≡ false → (x : Standing) → standing h x (noted_by v) ≡ x
+
+  -- how links stand behind what a host does
+  start_uncut : AreUncut HostStart.entries
+  start_uncut = entries_uncut s.host (arrival Host (exchanged s.link) comes)
+
+  host_stands : (o : Option LinkInput) (v : Work) → input_of (exchanged s.link) comes ≡ o → IsStep comes o
+      → IsAtEnd s.host s.host Host (own_power s.host host) v
+      → TellOf s.host s.link (AtHost (Step comes (turns_at v s.host) (ending_of v))) (noted_by v)
+      → StandsOf s.host s.link (AtHost (Step comes (turns_at v s.host) (ending_of v))) (noted_by v)
+  host_stands o v q c a told =
+      comes_stands s.host s.host Host (own_power s.host host) v (frames_noted Host s.host (wires_for (exchanged s.link) comes) v) a
+      (own_frames Host s.host (wires_for (exchanged s.link) comes) v) comes (step_entries Host (exchanged s.link) comes (turns_at v s.host) (ending_of v))
+      (shaped_step Host (exchanged s.link) comes (turns_at v s.host) (ending_of v) o q c) told
+
+  host_steps : (i : LinkInput) → input_of (exchanged s.link) comes ≡ Some i → HostTells (host_work s r comes (steps (AtEnd s.host i)))
+  host_steps i q =
+      let here : host_opened.port.desk.host ≡ s.host = eqb-true host_opened.port.desk.host s.host
+      (at_host HostStart.ports s.host host_opened.port host_opened.here) in
+      let same : input_here s.host i s.host ≡ Some i = ap (λ b. cond b (Some i) None) (same_number s.host) in
+      let v : Work = steps (AtEnd s.host i) HostStart in
+      let own : TellOf s.host s.link (AtHost (Step comes (turns_at v s.host) (ending_of v))) (noted_by v) = host_closed (Some i) v q (is_step comes i)
+      (stepped s.host Host (exchanged s.link) comes (Some i) s.host i HostStart host_opened (ap (λ n. input_here s.host i n) here ∙ same)) in
+      let others : (h : ℕ) → (s.host == h) ≡ false → of_link h (noted_by v) ≡ [] = λ h z.
+      away_closed h v z (away_steps h s.host i HostStart (host_away h z)) in
+      let out = own_frames Host s.host (wires_for (exchanged s.link) comes) v in
+      record {
+        own = own;
+        others = others;
+        stands = host_stands (Some i) v q (is_step comes i)
+            (steps_powered s.host s.host (without_power Host) (own_power s.host host) (twice Host) (AtEnd s.host i) HostStart node.number refl start_uncut) own;
+        leaves = λ h z. step_away h s.host (other_power s.host h host z) v _
+            (steps_powered h s.host (λ x. x) (other_power s.host h host z) (λ x. refl) (AtEnd s.host i) HostStart node.number refl start_uncut) out.0
+            (others h z);
+      }
+
+-- a host does these things of itself
+host_begins : (s : Site) (r : Running) (host : (s.host == 0) ≡ false) (node : HasEnds s.host (s.host ∷ []) r) (deeds : List Deed) → AreMute deeds
+    → HostTells s r NoInput host node (host_work s r NoInput (begins_with s.host deeds))
+host_begins s r host node deeds m =
+    let start : Work = HostStart s r NoInput host node in
+    let v : Work = begins_with s.host deeds start in
+    let own : TellOf s.host s.link (AtHost (Step NoInput (turns_at v s.host) (ending_of v))) (noted_by s r NoInput host node v) =
+    host_closed s r NoInput host node None v refl tt
+    (begun s.host Host (exchanged s.link) NoInput None s.host deeds start m (host_opened s r NoInput host node) refl) in
+    let others : (h : ℕ) → (s.host == h) ≡ false → of_link h (noted_by s r NoInput host node v) ≡ [] = λ h z.
+    away_closed s r NoInput host node h v z (away_begun h s.host deeds start m (host_away s r NoInput host node h z)) in
+    let out = own_frames Host s.host (wires_for (exchanged s.link) NoInput) v in
+    record {
+      own = own;
+      others = others;
+      stands = host_stands s r NoInput host node None v refl tt
+          (begins_powered s.host s.host (without_power Host) (own_power s.host host) (twice Host) s.host deeds start m node.number refl tt) own;
+      leaves = λ h z. step_away h s.host (other_power s.host h host z) v _
+          (begins_powered h s.host (λ x. x) (other_power s.host h host z) (λ x. refl) s.host deeds start m node.number refl tt) out.0 (others h z);
+    }
+
+-- ## What the events of a world tell of each link
+
+-- the site with a number is one of them
+pub site_is : (P : Site → Type 0) (sites : List Site) (h : ℕ) (s : Site) → AllByRecursion P sites → site_at sites h ≡ Some s → P s
+site_is P [] h s a q = absurd (cc q)
+site_is P (x ∷ sites) h s a q = by_test (x.host == h)
+    (λ e. let is : Some x ≡ Some s = rw e at q in
+    let one : x ≡ s = cc in
+    subst P one a.0)
+    (λ e. site_is P sites h s a.1 (rw e at q))
+
+pub node_is : (n : ℕ) (hosts : List ℕ) (o : Option Running) (r : Running) → IfItRuns n hosts o → o ≡ Some r → HasEnds n hosts r
+node_is n hosts None r a q = absurd (cc q)
+node_is n hosts (Some x) r a q = let one : x ≡ r = cc in let P : Running → Type 0 = λ z. HasEnds n hosts z in subst P one a
+
+-- what a host notes is told of its own link as it does this, and of no other one
+pub record HostDoes (w : NodeWorld) (k : ℕ) (comes : Comes) (f : Work → Work) (s : Site) (r : Running) : Type 0 where
+  pub own : TellOf k s.link (AtHost (Step comes (turns_at (host_work s r comes f) s.host) (ending_of (host_work s r comes f)))) (host_does w k comes f).1
+  pub others : (h : ℕ) → (k == h) ≡ false → of_link h (host_does w k comes f).1 ≡ []
+  pub stands : StandsOf k s.link (AtHost (Step comes (turns_at (host_work s r comes f) s.host) (ending_of (host_work s r comes f)))) (host_does w k comes f).1
+  pub leaves : (h : ℕ) → (k == h) ≡ false → (x : Standing) → standing h x (host_does w k comes f).1 ≡ x
+
+module _ (w : NodeWorld) (s : Site) (r : Running) (k : ℕ) (orderly : IsOrderly w) (found : site_at w.sites k ≡ Some s) (runs : s.node ≡ Some r) where
+  number : s.host ≡ k
+  number = site_host w.sites k s found
+
+  host : (s.host == 0) ≡ false
+  host = site_is (λ (x : Site). (x.host == 0) ≡ false) w.sites k s orderly.hosts found
+
+  node : HasEnds s.host (s.host ∷ []) r
+  node = node_is s.host (s.host ∷ []) s.node r (site_is (λ (x : Site). IfItRuns x.host (x.host ∷ []) x.node) w.sites k s orderly.nodes found) runs
+
+  does : (comes : Comes) (f : Work → Work) → HostTells s r comes host node (host_work s r comes f) → HostDoes w k comes f s r
+  does comes f a =
+      let v : Work = host_work s r comes f in
+      let noted : ℕ → List Entry = λ n. v.entries ++ frames_noted Host n (wires_for (exchanged s.link) comes) v in
+      let is : (host_does w k comes f).1 ≡ noted k = rw (found, runs) refl in
+      record {
+        own = ap (of_link k) is ∙ subst (λ (n : ℕ). TellOf n s.link (AtHost (Step comes (turns_at v s.host) (ending_of v))) (noted n)) number a.own;
+        others = λ h z. ap (of_link h) is ∙ (ap (λ n. of_link h (noted n)) (sym number) ∙ a.others h (ap (λ n. n == h) number ∙ z));
+        stands = let S : ℕ → Type 0 = λ n. StandsOf n s.link (AtHost (Step comes (turns_at v s.host) (ending_of v))) (noted n) in
+            λ x. ap (standing k x) is ∙ subst S number a.stands x;
+        leaves = λ h z x. ap (standing h x) is ∙ (ap (λ n. standing h x (noted n)) (sym number) ∙ a.leaves h (ap (λ n. n == h) number ∙ z) x);
+      }
+
+  pub host_does_step : (comes : Comes) (i : LinkInput) → input_of (exchanged s.link) comes ≡ Some i → HostDoes w k comes (steps (AtEnd k i)) s r
+  host_does_step comes i q =
+      let P : ℕ → Type 0 = λ n. HostTells s r comes host node (host_work s r comes (steps (AtEnd n i))) in
+      does comes (steps (AtEnd k i)) (subst P number (host_steps s r comes host node i q))
+
+  pub host_does_begin : (deeds : List Deed) → AreMute deeds → HostDoes w k NoInput (begins_with k deeds) s r
+  host_does_begin deeds m =
+      let P : ℕ → Type 0 = λ n. HostTells s r NoInput host node (host_work s r NoInput (begins_with n deeds)) in
+      does NoInput (begins_with k deeds) (subst P number (host_begins s r host node deeds m))
+
+-- ## Each event of a world but a tick tells of each link
+
+-- ### Events of a link
 
 tells_nothing : (h : ℕ) (l : Link) (t : List Entry) → of_link h t ≡ [] → Tells h l l t
 tells_nothing h l t q = record { events = []; is = refl; told = q }
@@ -55,7 +375,7 @@ tells_then h l m n t u a b =
           ∙ notes-append h (entries l a.events) (entries (after_link_events l a.events) b.events))));
     }
 
--- ## Worlds
+-- ### Worlds
 
 pub goes_not : (w : NodeWorld) (t : List Entry) → ((h : ℕ) → of_link h t ≡ []) → IsOrderly w → EachGoesSo w w t
 goes_not w t q a =
@@ -111,7 +431,7 @@ module _ (w : NodeWorld) (memory : Memory) (controller : Option Running) (f : Si
         nodes = nodes_map nodes w.sites a.nodes;
       }
 
-  pub goes_map : (t : List Entry) → IsOrderly w → IfItRuns 0 (hosts_in w.sites) controller
+  goes_map : (t : List Entry) → IsOrderly w → IfItRuns 0 (hosts_in w.sites) controller
       → ((s : Site) → IfItRuns s.host (s.host ∷ []) s.node → IfItRuns s.host (s.host ∷ []) (f s).node)
       → ((h : ℕ) (s : Site) → site_at w.sites h ≡ Some s → Tells h s.link (f s).link t)
       → EachGoesSo w (record { memory = memory; controller = controller; sites = map f w.sites }) t
@@ -123,7 +443,7 @@ module _ (w : NodeWorld) (memory : Memory) (controller : Option Running) (f : Si
 
 module _ (w : NodeWorld) (memory : Memory) (controller : Option Running) (k : ℕ) (g : Site → Site) (t : List Entry)
     (keeps : (s : Site) → (g s).host ≡ s.host) where
-  pub goes_site : IsOrderly w → IfItRuns 0 (hosts_in w.sites) controller
+  goes_site : IsOrderly w → IfItRuns 0 (hosts_in w.sites) controller
       → ((s : Site) → s.host ≡ k → IfItRuns s.host (s.host ∷ []) s.node → IfItRuns s.host (s.host ∷ []) (g s).node)
       → ((s : Site) → site_at w.sites k ≡ Some s → Tells k s.link (g s).link t)
       → ((h : ℕ) → (k == h) ≡ false → of_link h t ≡ [])
@@ -143,9 +463,9 @@ module _ (w : NodeWorld) (memory : Memory) (controller : Option Running) (k : �
       here h s found false q =
           tells_nothing h s.link t (others h (swapped h k (ap (λ n. n == k) (sym (site_host w.sites h s found)) ∙ q)))
 
--- ## Steps of nodes
+-- ### Steps of nodes
 
-pub controller_goes : (w : NodeWorld) (k : ℕ) (comes : Comes) (i : LinkInput) → IsOrderly w → input_of (link_to w.sites k) comes ≡ Some i
+controller_goes : (w : NodeWorld) (k : ℕ) (comes : Comes) (i : LinkInput) → IsOrderly w → input_of (link_to w.sites k) comes ≡ Some i
     → EachGoesSo w (controller_does w k comes (steps (AtEnd k i))).0 (controller_does w k comes (steps (AtEnd k i))).1
 controller_goes w k comes i a q =
     by_controller (λ p. EachGoesSo w p.0 p.1) w k comes (steps (AtEnd k i)) (goes_not w [] (λ h. refl) a)
@@ -156,7 +476,7 @@ controller_goes w k comes i a q =
     let near_ends : ℕ → NumberedEnd = λ j. near_end_in (link_to w.sites j) (comes_to k comes j) in
     let kept : Keeps 0 (hosts_in w.sites) v =
     steps_keep 0 (hosts_in w.sites) k i (work_of r w.memory.plan near_ends (entries_for k (arrival Controller (link_to w.sites k) comes)))
-    (record { number = n.number; ends = ends_same near_ends r.desks ∙ n.ends }) in
+    (record { number = n.number; ends = hosts_same_of_nodes near_ends r.desks ∙ n.ends }) in
     goes_map w (after_planned v.writes w.memory) (runs_on v) (link_after_controller k comes v) (λ s. refl) t a (runs_keep 0 (hosts_in w.sites) v kept)
     (λ s node. node)
     (λ h s found.
@@ -168,7 +488,7 @@ controller_goes w k comes i a q =
 module _ (w : NodeWorld) (k : ℕ) (comes : Comes) (f : Work → Work) (a : IsOrderly w)
     (keeps : (v : Work) → Keeps k (k ∷ []) v → Keeps k (k ∷ []) (f v))
     (does : (s : Site) (r : Running) → site_at w.sites k ≡ Some s → s.node ≡ Some r → HostDoes w k comes f s r) where
-  pub host_goes : EachGoesSo w (host_does w k comes f).0 (host_does w k comes f).1
+  host_goes : EachGoesSo w (host_does w k comes f).0 (host_does w k comes f).1
   host_goes =
       by_host (λ p. EachGoesSo w p.0 p.1) w k comes f (goes_not w [] (λ h. refl) a)
       (λ s r found q.
@@ -181,7 +501,7 @@ module _ (w : NodeWorld) (k : ℕ) (comes : Comes) (f : Work → Work) (a : IsOr
       node_is s.host (s.host ∷ []) s.node r (site_is (λ (x : Site). IfItRuns x.host (x.host ∷ []) x.node) w.sites k s a.nodes found) q in
       let here : HasEnds k (k ∷ []) r = subst (λ (n : ℕ). HasEnds n (n ∷ []) r) number node in
       let near_ends : ℕ → NumberedEnd = λ j. near_end_in (exchanged s.link) comes in
-      let kept : Keeps k (k ∷ []) v = keeps _ (record { number = here.number; ends = ends_same near_ends r.desks ∙ here.ends }) in
+      let kept : Keeps k (k ∷ []) v = keeps _ (record { number = here.number; ends = hosts_same_of_nodes near_ends r.desks ∙ here.ends }) in
       let T : List Entry → Type 0 = λ z. TellOf k s.link (AtHost (Step comes (turns_at v s.host) (ending_of v))) z in
       goes_site w w.memory w.controller k (after_host comes v) t (λ x. refl) a a.controller
       (λ x e n. subst (λ (n : ℕ). IfItRuns n (n ∷ []) (runs_on v)) (sym e) (runs_keep k (k ∷ []) v kept))
@@ -209,7 +529,7 @@ begins_goes w k deeds m a =
 pub sending_mute : (h : ℕ) (m : Message) → AreMute (sending h m)
 sending_mute h m = by_test (m.0 == 1 && is_command_message m.1) (λ q. rw q (tt, tt)) (λ q. rw q (tt, tt))
 
--- ## Power and memories
+-- ### Power and memories
 
 lost_goes_nothing : (w : NodeWorld) (k : ℕ) (g : Site → Site) (t : List Entry) → ((s : Site) → (g s).host ≡ s.host)
     → ((s : Site) → s.host ≡ k → IfItRuns s.host (s.host ∷ []) s.node → IfItRuns s.host (s.host ∷ []) (g s).node)
@@ -258,7 +578,7 @@ node_goes n r w t number ends q a =
     links : Bool → List ℕ
     links b = cond b (map (λ (s : Site). s.host) w.sites) (n ∷ [])
 
-pub boots_goes : (w : NodeWorld) (n : ℕ) → IsOrderly w → EachGoesSo w (boots w n).0 (boots w n).1
+boots_goes : (w : NodeWorld) (n : ℕ) → IsOrderly w → EachGoesSo w (boots w n).0 (boots w n).1
 boots_goes w n a =
     by_boot (λ p. EachGoesSo w p.0 p.1) w n
     (goes_then w written (loses_power_at n written) [] (entry.Cut n ∷ []) kept (power_goes n written kept.orderly))
@@ -281,14 +601,14 @@ boots_goes w n a =
     links : links_of w n ≡ links_of written n
     links = by_memory (λ v. links_of w n ≡ links_of v n) n w m (λ z. refl) (λ z. rw z refl)
 
--- ## Losses
+-- ### Losses
 
 counts_runs : (n : ℕ) (hosts : List ℕ) (why : Loss) (h : ℕ) (o : Option Running) → IfItRuns n hosts o → IfItRuns n hosts (counts why h o)
 counts_runs n hosts (Broken fault) h None a = tt
 counts_runs n hosts (Broken fault) h (Some r) a = record { number = a.number; ends = errors_ends h r.desks ∙ a.ends }
 counts_runs n hosts _ h o a = a
 
-pub lost_goes : (w : NodeWorld) (e : End) (why : Loss) → IsOrderly w → EachGoesSo w (frame_lost w e why).0 (frame_lost w e why).1
+lost_goes : (w : NodeWorld) (e : End) (why : Loss) → IsOrderly w → EachGoesSo w (frame_lost w e why).0 (frame_lost w e why).1
 lost_goes w e why a =
     by_loss (λ p. EachGoesSo w p.0 p.1) w e why
     (λ q.
@@ -312,7 +632,7 @@ lost_goes w e why a =
     loses s t b q told =
         let P : Bool → Type 0 = λ c. Tells e.link s.link (happens s.link (event c)) t in subst P (sym q) (tells_one e.link s.link (event b) t told)
 
--- ## Events
+-- ### Events
 
 activates_goes : (w : NodeWorld) (h sync power : ℕ) → IsOrderly w → EachGoesSo w (activates w h sync power).0 (activates w h sync power).1
 activates_goes w h sync power a =

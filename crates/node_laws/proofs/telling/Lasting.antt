@@ -1,13 +1,22 @@
--- What lasts over each event of a world of nodes, with the entries noted so far, lasts over all events of a schedule.
-use Rattle.node_laws.proofs.Words.{AllByRecursion, End, Entry, FollowsNodes, Happening, Header, Line, LineStep, List, Loses, Loss, LostFor, MayBoot}
-use Rattle.node_laws.proofs.Words.{NodeHistory, NodeWorld, None, Occurrence, Option, Running, Same, Some, Takes, Ticks, Undetected, Verdict, [], all_happen, ap}
-use Rattle.node_laws.proofs.Words.{append-nil, append_assoc, by_option, by_test, can_happen, entries_in, first_verdict, flat_map, flat_map-append, frames_at}
-use Rattle.node_laws.proofs.Words.{goes_on, happenings, happens_by, is_some, line_step, new_world, node_at, occurrences_in, occurrences_of, refl, refusal_in}
-use Rattle.node_laws.proofs.Words.{replicate, steps_from, subst, suc, sym, tables_told, taken_of, unwrap_or, world_after, world_behind, world_step, zero, ℕ}
-use Rattle.node_laws.proofs.Words.{◌++◌, ◌∙◌, ◌∷◌, ◌≡◌}
+-- What lasts over each event lasts over schedules and histories: worlds stay orderly, and histories without ticks tell of each link.
+use Rattle.node_laws.proofs.Words.{Activates, AllByRecursion, AreDifferent, Arms, Boots, EachGoesSo, End, Entry, FollowsNodes, Gives, Happening, HasEnds}
+use Rattle.node_laws.proofs.Words.{Header, IfItRuns, Inits, IsCut, IsOrderly, IsUntimed, Line, LineStep, List, Loses, Loss, LostFor, MayBoot, NodeHistory}
+use Rattle.node_laws.proofs.Words.{NodeWorld, None, NumberedEnd, Occurrence, Option, Resets, Running, Same, Site, Some, Takes, Ticks, Undetected, Verdict, Work}
+use Rattle.node_laws.proofs.Words.{[], after_planned, all_aged, all_happen, ap, append-nil, append_assoc, by_controller_tick, by_host_tick, by_option, by_test}
+use Rattle.node_laws.proofs.Words.{can_happen, controller_ticks, entries_in, false, first_verdict, flat_map, flat_map-append, frames_at, goes_on, happenings}
+use Rattle.node_laws.proofs.Words.{happens_by, host_tick, host_ticks, hosts_in, hosts_tick, is_some, line_step, link_to, map, near_tick, new_site, new_world}
+use Rattle.node_laws.proofs.Words.{node_at, occurrences_in, occurrences_of, refl, refusal_in, replicate, runs_on, site_ticked, site_unticked, steps_from, subst}
+use Rattle.node_laws.proofs.Words.{suc, sym, tables_told, taken_of, unwrap_or, work_of, world_after, world_behind, world_step, world_ticks, zero, ℕ, ◌++◌, ◌==◌}
+use Rattle.node_laws.proofs.Words.{◌∙◌, ◌∷◌, ◌≡◌}
+use Rattle.node_machine.specs.world.Lines.{if_true}
+use Rattle.node_laws.specs.telling.Telling.{AreUntimed, IsUntimedLine}
+use Rattle.node_laws.proofs.telling.Events.{goes_not, goes_then, hosts_same_of_nodes as hosts_same, orderly_map, untimed_goes}
+use Rattle.node_laws.proofs.telling.Steps.{Keeps, runs_keep, tick_keeps}
+use Rattle.node_laws.proofs.telling.WorldTicks.{aged_orderly, tick_host}
 use Rattle.trace_model.specs.declared.entry.NoCause.TheVariants as cause
 use Rattle.trace_model.specs.declared.line.Line.TheVariants as line
-use Rattle.node_machine.specs.world.Lines.{if_true}
+
+-- ## What lasts over each event of a world of nodes, with the entries noted so far, lasts over all events of a schedule
 
 -- events that may happen one after another
 abbrev pub AllMay : (NodeWorld → Happening → Type 0) → NodeWorld → List Happening → Type 0
@@ -66,7 +75,7 @@ events_of_steps steps = flat_map (λ (s : LineStep). occurrences_of s.outcome) s
 abbrev pub entries_of_steps : List LineStep → List Entry
 entries_of_steps steps = entries_in (events_of_steps steps)
 
--- ## The worlds behind events
+-- ### The worlds behind events
 
 behind-append : (xs ys : List Occurrence) (w : NodeWorld) → world_behind w (xs ++ ys) ≡ world_behind (world_behind w xs) ys
 behind-append [] ys w = refl
@@ -101,7 +110,7 @@ behind_lines (l ∷ lines) w =
     behind-append (occurrences_of (line_step w l).1) (events_of_steps (steps_from v lines)) w
     ∙ (ap (λ x. world_behind x (events_of_steps (steps_from v lines))) (behind_line w l) ∙ behind_lines lines v)
 
--- ## Causes
+-- ### Causes
 
 -- each of these events notes what its cause makes of the world before it, and may happen there
 abbrev pub AreCaused : (NodeWorld → Happening → Type 0) → NodeWorld → List Occurrence → Type 0
@@ -130,7 +139,7 @@ module _ (May : NodeWorld → Happening → Type 0) (Is : Line → Type 0)
       caused-append (occurrences_of (line_step w l).1) (events_of_steps (steps_from v lines)) w (line_caused w l are.0)
       (subst (λ x. AreCaused May x (events_of_steps (steps_from v lines))) (sym (behind_line w l)) (lines_caused lines v are.1))
 
--- ## What lasts
+-- ### What lasts
 
 -- an event of a world
 abbrev pub occurs : NodeWorld → Happening → Occurrence
@@ -143,7 +152,7 @@ module _ (Holds : List Occurrence → NodeWorld → Type 0) (May : NodeWorld →
   nothing : (os : List Occurrence) (w : NodeWorld) → Holds os w → Holds (os ++ []) w
   nothing os w all = subst (λ l. Holds l w) (sym (append-nil os)) all
 
-  -- ## Events
+  -- ### Events
 
   -- it holds before each of these events, and behind all of them
   abbrev pub EachHolds : List Occurrence → NodeWorld → List Occurrence → Type 0
@@ -177,14 +186,14 @@ module _ (Holds : List Occurrence → NodeWorld → Type 0) (May : NodeWorld →
             (λ z. subst (λ x. EachHolds x (world_behind v xs) ys) (sym same) (later (subst (λ x. Holds x (world_behind v xs)) same z))),
       )
 
-  -- ## Lines
+  -- ### Lines
 
   line_holds : (os : List Occurrence) (w : NodeWorld) (l : Line) → Holds os w → Is l → EachHolds os w (occurrences_of (line_step w l).1)
   line_holds os w l all is = by_option (refusal_in w l)
       (λ e. rw e (subst (EachHolds os w) (sym (caused_is w l)) (all_happen_hold (happenings w l) os w all (line_may w l is e))))
       (λ cause e. rw e all)
 
-  -- ## Schedules
+  -- ### Schedules
 
   pub lines_each : (lines : List Line) (os : List Occurrence) (w : NodeWorld) → Holds os w → AllByRecursion Is lines
       → EachHolds os w (events_of_steps (steps_from w lines))
@@ -254,7 +263,7 @@ pub behind_push : (os : List Occurrence) (o : Occurrence) (w : NodeWorld) → wo
 behind_push [] o w = refl
 behind_push (x ∷ os) o w = behind_push os o (world_step w x.cause).0
 
-pub entries_one : (xs : List Occurrence) (o : Occurrence) → entries_in (xs ++ o ∷ []) ≡ entries_in xs ++ o.entries
+entries_one : (xs : List Occurrence) (o : Occurrence) → entries_in (xs ++ o ∷ []) ≡ entries_in xs ++ o.entries
 entries_one xs o = flat_map-append (λ (o : Occurrence). o.entries) xs (o ∷ []) ∙ ap (λ l. entries_in xs ++ l) (append-nil o.entries)
 
 -- what lasts over each event while something else is kept holds behind any first events
@@ -275,3 +284,153 @@ module _ (P K : List Entry → NodeWorld → Type 0)
       (subst (λ v. AreCaused Any v (front ++ back)) (sym (behind_push done o first)) caused.2)
       (subst (P (entries_in (done ++ o ∷ []))) (sym (behind_push done o first))
       (subst (λ l. P l (world_step w o.cause).0) (sym (entries_one done o)) next)))
+
+-- ## Whatever lines are played, a world of nodes is orderly
+
+-- ### Ticks
+
+tick_node : (x : Site) → IfItRuns x.host (x.host ∷ []) x.node → IfItRuns x.host (x.host ∷ []) (host_ticks x).0.node
+tick_node x a =
+    by_host_tick (λ p. IfItRuns x.host (x.host ∷ []) p.0.node) x (λ q. a)
+    (λ n q.
+    let b : HasEnds x.host (x.host ∷ []) n = subst (IfItRuns x.host (x.host ∷ [])) q a in
+    let near_ends : ℕ → NumberedEnd = λ j. x.link.host in
+    let first : Keeps x.host (x.host ∷ []) (work_of n x.memory.plan near_ends []) = record {
+      number = b.number;
+      ends = hosts_same near_ends n.desks ∙ b.ends;
+    } in
+    runs_keep x.host (x.host ∷ []) (host_tick x n) (tick_keeps x.host (x.host ∷ []) (work_of n x.memory.plan near_ends []) first))
+
+pub hosts_ticked : (sites : List Site) → hosts_in (hosts_tick sites).0 ≡ hosts_in sites
+hosts_ticked [] = refl
+hosts_ticked (x ∷ sites) = ap (λ n. n ∷ hosts_in (hosts_tick sites).0) (tick_host x) ∙ ap (λ ns. x.host ∷ ns) (hosts_ticked sites)
+
+numbers_ticked : (sites : List Site) → AllByRecursion (λ (x : Site). (x.host == 0) ≡ false) sites
+    → AllByRecursion (λ (x : Site). (x.host == 0) ≡ false) (hosts_tick sites).0
+numbers_ticked [] a = tt
+numbers_ticked (x ∷ sites) a = (ap (λ n. n == 0) (tick_host x) ∙ a.0, numbers_ticked sites a.1)
+
+nodes_ticked : (sites : List Site) → AllByRecursion (λ (x : Site). IfItRuns x.host (x.host ∷ []) x.node) sites
+    → AllByRecursion (λ (x : Site). IfItRuns x.host (x.host ∷ []) x.node) (hosts_tick sites).0
+nodes_ticked [] a = tt
+nodes_ticked (x ∷ sites) a =
+    (subst (λ (n : ℕ). IfItRuns n (n ∷ []) (host_ticks x).0.node) (sym (tick_host x)) (tick_node x a.0), nodes_ticked sites a.1)
+
+ticks_orderly : (w : NodeWorld) → IsOrderly w → IsOrderly (world_ticks w).0
+ticks_orderly w a =
+    record {
+      different = subst AreDifferent (sym same) near.different;
+      hosts = numbers_ticked (controller_ticks old).0.sites near.hosts;
+      controller = let P : List ℕ → Type 0 = λ hs. IfItRuns 0 hs (controller_ticks old).0.controller in subst P (sym same) near.controller;
+      nodes = nodes_ticked (controller_ticks old).0.sites near.nodes;
+    }
+  where
+    old : NodeWorld
+    old = (all_aged w).0
+
+    near : IsOrderly (controller_ticks old).0
+    near =
+        by_controller_tick (λ p. IsOrderly p.0) old
+        (λ q. orderly_map old old.memory old.controller site_unticked (λ x. refl) (aged_orderly w a) (aged_orderly w a).controller (λ x m. m))
+        (λ r q.
+        let n : HasEnds 0 (hosts_in old.sites) r = subst (IfItRuns 0 (hosts_in old.sites)) q (aged_orderly w a).controller in
+        let near_ends : ℕ → NumberedEnd = λ j. (link_to old.sites j).controller in
+        let begun : Work = work_of r old.memory.plan near_ends [] in
+        let first : Keeps 0 (hosts_in old.sites) begun = record { number = n.number; ends = hosts_same near_ends r.desks ∙ n.ends } in
+        orderly_map old (after_planned (near_tick old r).writes old.memory) (runs_on (near_tick old r)) (site_ticked (near_tick old r)) (λ x. refl)
+        (aged_orderly w a) (runs_keep 0 (hosts_in old.sites) (near_tick old r) (tick_keeps 0 (hosts_in old.sites) begun first)) (λ x m. m))
+
+    same : hosts_in (hosts_tick (controller_ticks old).0.sites).0 ≡ hosts_in (controller_ticks old).0.sites
+    same = hosts_ticked (controller_ticks old).0.sites
+
+-- ### Events
+
+pub step_orderly : (w : NodeWorld) (c : Happening) → IsOrderly w → IsOrderly (world_step w c).0
+step_orderly w Ticks a = ticks_orderly w a
+step_orderly w (Boots n) a = (untimed_goes w (Boots n) tt a).orderly
+step_orderly w (IsCut n) a = (untimed_goes w (IsCut n) tt a).orderly
+step_orderly w (Gives e m) a = (untimed_goes w (Gives e m) tt a).orderly
+step_orderly w (Inits e identity pipes) a = (untimed_goes w (Inits e identity pipes) tt a).orderly
+step_orderly w (Takes e) a = (untimed_goes w (Takes e) tt a).orderly
+step_orderly w (Loses e why) a = (untimed_goes w (Loses e why) tt a).orderly
+step_orderly w (Resets e window) a = (untimed_goes w (Resets e window) tt a).orderly
+step_orderly w (Activates h sync power) a = (untimed_goes w (Activates h sync power) tt a).orderly
+step_orderly w (Arms n plan) a = (untimed_goes w (Arms n plan) tt a).orderly
+
+-- ### The beginning
+
+pub new_orderly : (hosts : List ℕ) → AreDifferent hosts → AllByRecursion (λ h. (h == 0) ≡ false) hosts → IsOrderly (new_world hosts)
+new_orderly hosts d a =
+    record { different = subst AreDifferent (sym (same hosts)) d; hosts = numbers hosts a; controller = tt; nodes = nodes hosts }
+  where
+    same : (hosts : List ℕ) → hosts_in (map (new_site (replicate 65536 255)) hosts) ≡ hosts
+    same [] = refl
+    same (h ∷ hosts) = ap (λ ns. h ∷ ns) (same hosts)
+
+    numbers : (hosts : List ℕ) → AllByRecursion (λ h. (h == 0) ≡ false) hosts
+        → AllByRecursion (λ (s : Site). (s.host == 0) ≡ false) (map (new_site (replicate 65536 255)) hosts)
+    numbers [] b = tt
+    numbers (h ∷ hosts) b = (b.0, numbers hosts b.1)
+
+    nodes : (hosts : List ℕ) → AllByRecursion (λ (s : Site). IfItRuns s.host (s.host ∷ []) s.node) (map (new_site (replicate 65536 255)) hosts)
+    nodes [] = tt
+    nodes (h ∷ hosts) = (tt, nodes hosts)
+
+pub worlds_are_orderly : (hosts : List ℕ) (lines : List Line) → AreDifferent hosts → AllByRecursion (λ h. (h == 0) ≡ false) hosts
+    → IsOrderly (world_after (new_world hosts) lines)
+worlds_are_orderly hosts lines d a =
+    lines_last (λ t w. IsOrderly w) Any AnyLine (λ t w c is may. step_orderly w c is) (λ w l is none. all_any w (happenings w l)) lines [] (new_world hosts)
+    (new_orderly hosts d a) (all_lines lines)
+
+-- ### Each event
+
+-- what each event of an orderly world notes is so
+module _ (P : List Entry → Type 0) (event : (w : NodeWorld) (c : Happening) → IsOrderly w → P (world_step w c).1) where
+  each_event : (past later : List Occurrence) (o : Occurrence) (w : NodeWorld) → IsOrderly w → AreCaused Any w (past ++ (o ∷ later)) → P o.entries
+  each_event [] later o w a caused = subst P (sym caused.0) (event w o.cause a)
+  each_event (x ∷ past) later o w a caused = each_event past later o (world_step w x.cause).0 (step_orderly w x.cause a) caused.2
+
+  pub history_event : (header : Header) (lines : List Line) (t : NodeHistory) → FollowsNodes header lines t → AreDifferent header.hosts.items
+      → AllByRecursion (λ h. (h == 0) ≡ false) header.hosts.items → (past later : List Occurrence) (o : Occurrence)
+      → occurrences_in t ≡ past ++ (o ∷ later) → P o.entries
+  history_event header lines t follows different numbers past later o is =
+      each_event past later o (new_world header.hosts.items) (new_orderly header.hosts.items different numbers)
+      (subst (AreCaused Any (new_world header.hosts.items)) is (history_caused header lines t follows))
+
+-- ## What a history without ticks tells of each link
+
+-- no time passes in any world
+abbrev MayBeUntimed : NodeWorld → Happening → Type 0
+MayBeUntimed w c = IsUntimed c
+
+all_untimed : (causes : List Happening) (w : NodeWorld) → AllByRecursion IsUntimed causes → AllMay MayBeUntimed w causes
+all_untimed [] w u = tt
+all_untimed (c ∷ causes) w u = (u.0, all_untimed causes (world_step w c).0 u.1)
+
+repeated : (n : ℕ) (c : Happening) → IsUntimed c → AllByRecursion IsUntimed (replicate n c)
+repeated zero c u = tt
+repeated (suc n) c u = (u, repeated n c u)
+
+damaged : (e : End) (v : Option Verdict) → AllByRecursion IsUntimed (happens_by e v)
+damaged e None = tt
+damaged e (Some Same) = (tt, tt)
+damaged e (Some (LostFor why)) = (tt, tt)
+damaged e (Some (Undetected read)) = tt
+
+line_untimed : (w : NodeWorld) (l : Line) → IsUntimedLine l → refusal_in w l ≡ None → AllMay MayBeUntimed w (happenings w l)
+line_untimed w (line.Tick times) u q = absurd u
+line_untimed w (line.Deliver e count) u q =
+    all_untimed (happenings w (line.Deliver e count)) w (repeated (taken_of count (frames_at w e)) (Takes e) tt)
+line_untimed w (line.Damage e places) u q =
+    all_untimed (happenings w (line.Damage e places)) w (damaged e (first_verdict (frames_at w e) places.items))
+line_untimed w (line.Busy e) u q = tt
+line_untimed w (line.Ready e) u q = tt
+line_untimed w (line.Tables n) u q = tt
+line_untimed w (line.Settle n) u q = tt
+line_untimed w _ u q = (tt, tt)
+
+pub lines_go : (lines : List Line) (w : NodeWorld) → AreUntimed lines → IsOrderly w → EachGoesSo w (world_after w lines) (entries_of_steps (steps_from w lines))
+lines_go lines w u a =
+    lines_last (λ t v. EachGoesSo w v t) MayBeUntimed IsUntimedLine
+    (λ t v c so untimed. goes_then w v (world_step v c).0 t (world_step v c).1 so (untimed_goes v c untimed so.orderly)) line_untimed lines [] w
+    (goes_not w [] (λ h. refl) a) u

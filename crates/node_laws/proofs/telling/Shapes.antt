@@ -1,21 +1,275 @@
--- What the law of one link notes of a step ends with a cut exactly where the step does, and tells of no other one. So how the link
--- stands by that law is read off the step of a node.
-use Rattle.node_laws.proofs.Words.{AsksReset, Bool, Comes, Control, Controller, Cut, CutOff, Ending, Entry, Give, GoesOut, HasTick, Host, Link, LinkEnd}
-use Rattle.node_laws.proofs.Words.{LinkInput, List, Loss, Message, NextFrame, NoInput, Node, None, Noted, NumberedEnd, OnWire, Option, Refused, Report, Reset}
-use Rattle.node_laws.proofs.Words.{Restarted, Site, Some, Standing, Start, Starts, Stop, Stops, Take, TooMany, Took, Turn, Work, [], after_input, after_power}
-use Rattle.node_laws.proofs.Words.{aged_entries, ap, append-nil, append_assoc, by_option, by_test, cond, ended_by, ending_entries, ending_of, entries_for}
-use Rattle.node_laws.proofs.Words.{entry_of, false, far, first_lost, flat_map, fold-append, frames_noted, frames_out, give_refusal, input_entries, input_of}
-use Rattle.node_laws.proofs.Words.{is_some, law_noted, left_after, length, nat_lt, number_of, of_link, port_at, pushed_out, put, puts_entries, refl, report}
-use Rattle.node_laws.proofs.Words.{rest_entries, sent_unless, silent, standing, standing_by_law, stands_noted, stands_told, step_entries, sym, tick_entries}
-use Rattle.node_laws.proofs.Words.{told, told_of, took_with, true, turn, turn_entries, turn_entry, turned, whole_acked, wire_with, with_ended, without_power, ℕ}
-use Rattle.node_laws.proofs.Words.{◌++◌, ◌∙◌, ◌∷◌, ◌≡◌}
+-- How a link stands as it is read off a step of a node, also where the node loses its power.
+use Rattle.node_laws.proofs.Words.{Acked, Active, AllByRecursion, AsksReset, AtEnd, Bool, Cause, Comes, Control, Controller, Core, Cut, CutOff, Deed, Desk}
+use Rattle.node_laws.proofs.Words.{Down, End, Ending, Entry, GaveUp, Give, GoesOut, Got, HasTick, Host, Link, LinkEnd, LinkInput, List, Loss, Message}
+use Rattle.node_laws.proofs.Words.{NextFrame, NoInput, Node, NodeInput, None, Noted, NumberedEnd, OnWire, Option, Port, Refused, Report, Reset, Restarted}
+use Rattle.node_laws.proofs.Words.{Saying, Site, Some, Standing, Start, Starts, Stop, Stops, Take, TimePasses, TooMany, Took, Turn, Work, Write, []}
+use Rattle.node_laws.proofs.Words.{after_input, after_power, after_sessions, aged_entries, all_append, all_come, all_owed, ap, append-nil, append_assoc}
+use Rattle.node_laws.proofs.Words.{begins_with, by_option, by_test, cond, end_of, ended_by, ending_entries, ending_of, entries_for, entry_of, false, far}
+use Rattle.node_laws.proofs.Words.{first_lost, flat_map, fold, fold-append, forgets, forgotten, frames_noted, frames_out, give_refusal, if_so, input_at}
+use Rattle.node_laws.proofs.Words.{input_entries, input_of, is_late, is_of, is_some, law_noted, left_after, length, loses_power, map, nat_lt, noted_of, noting}
+use Rattle.node_laws.proofs.Words.{number_of, of_link, option_map_or, option_to_list, own_side, port_at, pushed_out, put, puts_entries, refl, report}
+use Rattle.node_laws.proofs.Words.{rest_entries, said, said_far, said_near, sent_unless, silent, standing, standing_by_law, stands_noted, stands_said}
+use Rattle.node_laws.proofs.Words.{stands_told, step_entries, steps, sym, synced, tells_of, tick_entries, times_out, told, told_at, told_late, told_of}
+use Rattle.node_laws.proofs.Words.{took_with, true, turn, turn_at, turn_entries, turn_entry, turned, whole_acked, wire_with, with_desk, with_ended, with_older}
+use Rattle.node_laws.proofs.Words.{without_notice, without_power, ℕ, ◌++◌, ◌==◌, ◌∙◌, ◌∷◌, ◌≡◌}
+use Rattle.history.specs.Filters.Saying.{Sends}
 use Rattle.link_laws.specs.entries.Entries.{End as Side}
-use Rattle.node_laws.proofs.telling.Reported.{told_all}
-use Rattle.node_laws.proofs.telling.Walks.{AreUncut}
-use Rattle.node_laws.proofs.telling.Powers.{standing_said, uncut_said, said_of_link, AreClear, clear_said, uncut_flat, entries_uncut, Powered, IsClear}
-use Rattle.node_laws.proofs.telling.Parts.{IsStep}
+use Rattle.link_laws.specs.entries.Entries.Entry.{Tick, Up}
+use Rattle.node_laws.proofs.steps.StepWalks.{sessions_node}
+use Rattle.node_laws.proofs.telling.Accounts.{AreMute, AreSilent, AreUncut, IsUncut, all_last, all_owed_mute, all_synced_mute, forgotten_mute, rest_lasts}
+use Rattle.node_laws.proofs.telling.Steps.{IsStep}
+use Rattle.trace_model.specs.declared.entry.Entry.TheVariants as entry
 
--- ## Clear notes
+-- ## How a link stands as it is read off a step of a node: what its end has and both wires, also where the node loses its power
+
+-- ### Entries that tell of no power
+
+-- how a link stands behind entries, as far as they say something of it
+abbrev pub standing_said : ℕ → Standing → List Entry → Standing
+standing_said h x t = fold (stands_told h) x t
+
+one_uncut : (h : ℕ) (x : Standing) (e : Entry) → IsUncut e → stands_noted h x e ≡ stands_told h x e
+one_uncut h x (entry.Cut n) u = absurd u
+one_uncut h x e u = refl
+
+uncut_said : (h : ℕ) (t : List Entry) → AreUncut t → (x : Standing) → standing h x t ≡ standing_said h x t
+uncut_said h [] u x = refl
+uncut_said h (e ∷ t) u x = ap (λ y. standing h y t) (one_uncut h x e u.0) ∙ uncut_said h t u.1 (stands_told h x e)
+
+-- what is said of other links says nothing of this one
+pub other_said : (h : ℕ) (x : Standing) (o : Option (End × Saying)) → is_of h o ≡ false → stands_said h x o ≡ x
+other_said h x None q = refl
+other_said h x (Some (e, s)) q = rw q refl
+
+other_told : (h : ℕ) (x : Standing) (e : Entry) → tells_of h e ≡ false → stands_told h x e ≡ x
+other_told h x (entry.Active e) q = rw q refl
+other_told h x (entry.GaveUp e tries) q = rw q refl
+other_told h x e q = other_said h x (said e) q
+
+said_of_link : (h : ℕ) (t : List Entry) (x : Standing) → standing_said h x t ≡ standing_said h x (of_link h t)
+said_of_link h [] x = refl
+said_of_link h (e ∷ t) x = by_test (tells_of h e)
+    (λ q. rw q (said_of_link h t (stands_told h x e)))
+    (λ q. rw q (ap (λ y. standing_said h y t) (other_told h x e q) ∙ said_of_link h t x))
+
+-- ### What the law of one link notes
+
+-- no power is cut, and no activation begins or ends
+abbrev pub IsClear : Noted → Type 0
+IsClear (Cut who) = ⊥
+IsClear (Restarted who) = ⊥
+IsClear _ = Unit {0}
+
+abbrev pub AreClear : List Noted → Type 0
+AreClear notes = AllByRecursion IsClear notes
+
+one_clear : (h : ℕ) (x : Standing) (n : Noted) → IsClear n → law_noted h x n ≡ standing_said h x (entry_of h n)
+one_clear h x (Cut who) c = absurd c
+one_clear h x n c = refl
+
+clear_said : (h : ℕ) (notes : List Noted) → AreClear notes → (x : Standing) → standing_by_law h x notes ≡ standing_said h x (entries_for h notes)
+clear_said h [] c x = refl
+clear_said h (n ∷ notes) c x =
+    ap (λ y. standing_by_law h y notes) (one_clear h x n c.0)
+    ∙ (clear_said h notes c.1 (standing_said h x (entry_of h n))
+    ∙ sym (fold-append (stands_told h) x (entry_of h n) (entries_for h notes)))
+
+pub uncut_flat : {X : Type 0} (f : X → List Entry) → ((x : X) → AreUncut (f x)) → (xs : List X) → AreUncut (flat_map f xs)
+uncut_flat f one [] = tt
+uncut_flat f one (x ∷ xs) = all_append IsUncut (f x) (flat_map f xs) (one x) (uncut_flat f one xs)
+
+entry_uncut : (h : ℕ) (n : Noted) → AreUncut (entry_of h n)
+entry_uncut h Tick = tt
+entry_uncut h (Restarted w) = tt
+entry_uncut h (Cut w) = tt
+entry_uncut h _ = (tt, tt)
+
+pub entries_uncut : (h : ℕ) (notes : List Noted) → AreUncut (entries_for h notes)
+entries_uncut h notes = uncut_flat (entry_of h) (entry_uncut h) notes
+
+-- where no power is cut, what is told of a link tells how it stands
+pub clear_stands : (h : ℕ) (t : List Entry) (notes : List Noted) → AreUncut t → AreClear notes → of_link h t ≡ of_link h (entries_for h notes)
+    → (x : Standing) → standing h x t ≡ standing_by_law h x notes
+clear_stands h t notes u c told x =
+    uncut_said h t u x
+    ∙ (said_of_link h t x
+    ∙ (ap (standing_said h x) told ∙ (sym (said_of_link h (entries_for h notes) x) ∙ sym (clear_said h notes c x))))
+
+-- what tells nothing of it leaves it
+pub away_stands : (h : ℕ) (t : List Entry) → AreUncut t → of_link h t ≡ [] → (x : Standing) → standing h x t ≡ x
+away_stands h t u none x = uncut_said h t u x ∙ (said_of_link h t x ∙ ap (standing_said h x) none)
+
+-- ### A step of a node
+
+-- these entries tell nothing of how a link stands
+abbrev IsNeutral : ℕ → List Entry → Type 0
+IsNeutral h t = (x : Standing) → (standing h x t ≡ x) × (standing_said h x t ≡ x)
+
+silent_said : (h : ℕ) (t : List Entry) → AreSilent t → (x : Standing) → standing_said h x t ≡ x
+silent_said h [] s x = refl
+silent_said h (e ∷ t) s x = ap (λ y. standing_said h y t) (other_told h x e (s.0 h)) ∙ silent_said h t s.1 x
+
+silent_neutral : (h : ℕ) (t : List Entry) → AreSilent t → AreUncut t → IsNeutral h t
+silent_neutral h t s u x = (uncut_said h t u x ∙ silent_said h t s x, silent_said h t s x)
+
+-- a message that is sent changes neither sessions nor wires
+sends_same : (b c : Bool) (n : ℕ) (m : Message) (x : Standing) → cond b (cond c (said_far (Sends n m) x) (said_near (Sends n m) x)) x ≡ x
+sends_same true true n m x = refl
+sends_same true false n m x = refl
+sends_same false c n m x = refl
+
+sent_neutral : (h k n : ℕ) (who : Side) (m : Message) (o : Option Refused) → IsNeutral h (entries_for k (sent_unless o who n m))
+sent_neutral h k n who m None x =
+    let e : End = end_of k who in
+    (sends_same (e.link == h) e.at_host n m x, sends_same (e.link == h) e.at_host n m x)
+sent_neutral h k n who m (Some why) x = (refl, refl)
+
+turn_neutral : (h : ℕ) (core : Core) (t : Turn) (p : Port) → IsNeutral h (noted_of core t p)
+turn_neutral h core (Give m) p x = sent_neutral h p.desk.host p.session (own_side core) m (give_refusal p.side m) x
+turn_neutral h core _ p x = (refl, refl)
+
+at_neutral : (h : ℕ) (core : Core) (t : Turn) (o : Option Port) → IsNeutral h (option_map_or (noted_of core t) o [])
+at_neutral h core t None x = (refl, refl)
+at_neutral h core t (Some p) x = turn_neutral h core t p x
+
+-- where the loss of power of the node n changes how the link with this host stands so
+module _ (h n : ℕ) (off : Standing → Standing) (powers : (x : Standing) → after_power h n x ≡ off x) (twice : (x : Standing) → off (off x) ≡ off x) where
+  -- how it stands is what is said of it, or the power of the node was cut behind that
+  pub record Powered (w : Work) : Type 0 where
+    pub node : w.core.node ≡ n
+    pub stands : (x : Standing) → standing h x w.entries ≡ cond w.cut (off (standing_said h x w.entries)) (standing_said h x w.entries)
+
+  more : (es : List Entry) (w v : Work) → IsNeutral h es → v.core.node ≡ w.core.node → v.cut ≡ w.cut → v.entries ≡ w.entries ++ es → Powered w → Powered v
+  more es w v z node cut entries a =
+      let same : (x : Standing) → standing_said h x v.entries ≡ standing_said h x w.entries = λ x.
+      ap (standing_said h x) entries ∙ (fold-append (stands_told h) x w.entries es ∙ (z (standing_said h x w.entries)).1) in
+      record {
+        node = node ∙ a.node;
+        stands = λ x.
+            ap (standing h x) entries ∙ (fold-append (stands_noted h) x w.entries es
+            ∙ ((z (standing h x w.entries)).0
+            ∙ (a.stands x
+            ∙ (ap (λ y. cond w.cut (off y) y) (sym (same x)) ∙ ap (λ b. cond b (off (standing_said h x v.entries)) (standing_said h x v.entries)) (sym cut)))));
+      }
+
+  note : (es : List Entry) (w : Work) → AreSilent es → AreUncut es → Powered w → Powered (noting es w)
+  note es w s u a = more es w (noting es w) (silent_neutral h es s u) refl refl refl a
+
+  desk : (k : ℕ) (f : Desk → Desk) (w : Work) → ((d : Desk) → (f d).host ≡ d.host) → Powered w → Powered (with_desk k f w)
+  desk k f w keeps a = record { node = a.node; stands = a.stands }
+
+  turns : (k : ℕ) (t : Turn) (w : Work) → Powered w → Powered (turn_at k t w)
+  turns k t w a =
+      more (option_map_or (noted_of w.core t) (port_at w.ports k) []) w (turn_at k t w) (at_neutral h w.core t (port_at w.ports k)) refl refl refl a
+
+  beside : (w v : Work) → v.cut ≡ w.cut → v.core.node ≡ w.core.node → v.ports ≡ w.ports → v.entries ≡ w.entries → Powered w → Powered v
+  beside w v cut node ports entries a =
+      record {
+        node = node ∙ a.node;
+        stands = λ x.
+            ap (standing h x) entries
+            ∙ (a.stands x
+            ∙ (ap (λ t. cond w.cut (off (standing_said h x t)) (standing_said h x t)) (sym entries)
+            ∙ ap (λ b. cond b (off (standing_said h x v.entries)) (standing_said h x v.entries)) (sym cut)));
+      }
+
+  loses : (writes : List Write) (w : Work) → Powered w → Powered (loses_power writes w)
+  loses writes w a =
+      record {
+        node = a.node;
+        stands = λ x.
+            fold-append (stands_noted h) x w.entries (entry.Cut w.core.node ∷ [])
+            ∙ (ap (λ m. after_power h m (standing h x w.entries)) a.node
+            ∙ (powers (standing h x w.entries)
+            ∙ (ap off (a.stands x)
+            ∙ (gone w.cut (standing_said h x w.entries)
+            ∙ ap off (sym (fold-append (stands_told h) x w.entries (entry.Cut w.core.node ∷ [])))))));
+      }
+    where
+      gone : (b : Bool) (y : Standing) → off (cond b (off y) y) ≡ off y
+      gone true y = twice y
+      gone false y = refl
+
+  -- a node as a step begins
+  fresh : (w : Work) → w.core.node ≡ n → w.cut ≡ false → AreUncut w.entries → Powered w
+  fresh w node cut uncut =
+      record {
+        node = node;
+        stands = λ x.
+            uncut_said h w.entries uncut x
+            ∙ sym (ap (λ b. cond b (off (standing_said h x w.entries)) (standing_said h x w.entries)) cut);
+      }
+
+  pub begins_powered : (k : ℕ) (deeds : List Deed) (w : Work) → AreMute deeds → w.core.node ≡ n → w.cut ≡ false → AreUncut w.entries
+      → Powered (begins_with k deeds w)
+  begins_powered k deeds w m node cut uncut = all_last Powered note desk turns beside loses k deeds w m (fresh w node cut uncut)
+
+  -- ### What comes first
+
+  told_uncut : (core : Core) (p : Port) (o : Option LinkInput) → AreUncut (told_at core p o)
+  told_uncut core p None = tt
+  told_uncut core p (Some i) =
+      entries_uncut p.desk.host (told (own_side core) p.session (report p.side i) (whole_acked (after_input p.side i)))
+
+  late_uncut : (core : Core) (p : Port) → AreUncut (told_late core p)
+  late_uncut core p = by_test (is_late p) (λ q. rw q (told_uncut core p (Some (Reset None)))) (λ q. rw q tt)
+
+  pub came_uncut : (input : NodeInput) (w : Work) → AreUncut w.entries → AreUncut (times_out input (all_come input w)).entries
+  came_uncut (AtEnd k i) w u =
+      all_append IsUncut w.entries _ u (uncut_flat (λ p. told_at w.core p (input_at (AtEnd k i) p)) (λ p. told_uncut w.core p (input_at (AtEnd k i) p)) w.ports)
+  came_uncut TimePasses w u =
+      all_append IsUncut _ _
+      (all_append IsUncut w.entries _ u (uncut_flat (λ p. told_at w.core p (input_at TimePasses p)) (λ p. told_uncut w.core p (input_at TimePasses p)) w.ports))
+      (uncut_flat (told_late w.core) (late_uncut w.core) (map with_older (all_come TimePasses w).ports))
+
+  came_cut : (input : NodeInput) (w : Work) → (times_out input (all_come input w)).cut ≡ w.cut
+  came_cut (AtEnd k i) w = refl
+  came_cut TimePasses w = refl
+
+  came_core : (input : NodeInput) (w : Work) → (times_out input (all_come input w)).core ≡ w.core
+  came_core (AtEnd k i) w = refl
+  came_core TimePasses w = refl
+
+  pub steps_powered : (input : NodeInput) (w : Work) → w.core.node ≡ n → w.cut ≡ false → AreUncut w.entries → Powered (steps input w)
+  steps_powered input w node cut uncut =
+      let v : Work = times_out input (all_come input w) in
+      let left : List Port = map (forgets v.ports) v.ports in
+      let start : Work = record v { core = after_sessions v.core v.ports; ports = map without_notice left } in
+      let number : start.core.node ≡ n = sessions_node v.core v.ports ∙ (ap (λ (c : Core). c.node) (came_core input w) ∙ node) in
+      rest_lasts Powered note desk turns beside loses (forgotten v.ports) (flat_map (synced w.core input) w.ports) (all_owed left) start
+      (forgotten_mute v.ports) (all_synced_mute w.core input w.ports) (all_owed_mute left)
+      (fresh start number (came_cut input w ∙ cut) (came_uncut input w uncut))
+
+-- ## Where a fact holds of each kind of note, it holds of all that is told of an input that comes to an end
+
+module _ (P : Noted → Type 0) (who : Side) (n acked : ℕ) (up : P (Up who n)) (active : P (Active who)) (gave_up : (tries : ℕ) → P (GaveUp who tries))
+    (some_acked : P (Acked who n acked)) (got : (m : Message) → P (Got who n m)) where
+  so : (b : Bool) (x : Noted) → P x → AllByRecursion P (if_so b x)
+  so true x a = (a, tt)
+  so false x a = tt
+
+  each : {X : Type 0} (f : X → Noted) → ((x : X) → P (f x)) → (xs : List X) → AllByRecursion P (map f xs)
+  each f one [] = tt
+  each f one (x ∷ xs) = (one x, each f one xs)
+
+  -- behind the end of a session
+  pub rest_all : (r : Report)
+      → AllByRecursion P (if_so r.began (Up who n) ++ (if_so r.became_active (Active who) ++ (map (GaveUp who) (option_to_list r.gave_up)
+      ++ (if_so (nat_lt 0 r.acked) (Acked who n acked) ++ map (Got who n) r.got))))
+  rest_all r =
+      all_append P (if_so r.began (Up who n)) _ (so r.began (Up who n) up)
+      (all_append P (if_so r.became_active (Active who)) _ (so r.became_active (Active who) active)
+      (all_append P (map (GaveUp who) (option_to_list r.gave_up)) _ (each (GaveUp who) gave_up (option_to_list r.gave_up))
+      (all_append P (if_so (nat_lt 0 r.acked) (Acked who n acked)) _ (so (nat_lt 0 r.acked) (Acked who n acked) some_acked) (each (Got who n) got r.got))))
+
+  pub told_all : ((cause : Cause) → P (Down who cause)) → (r : Report) → AllByRecursion P (told who n r acked)
+  told_all down r =
+      all_append P (map (Down who) (option_to_list r.ended)) _ (each (Down who) down (option_to_list r.ended)) (rest_all r)
+
+-- ## What the law of one link notes of a step ends with a cut exactly where the step does, and tells of no other one
+-- So how the link stands by that law is read off the step of a node.
+
+-- ### Clear notes
 
 pub clear-append : (xs ys : List Noted) → AreClear xs → AreClear ys → AreClear (xs ++ ys)
 clear-append [] ys a b = b
@@ -57,7 +311,7 @@ pub clear_aged : (who : Side) (xs : List OnWire) → AreClear (aged_entries who 
 clear_aged who [] = tt
 clear_aged who (x ∷ xs) = by_test (nat_lt x.age 4) (λ q. rw q (clear_aged who xs)) (λ q. rw q (tt, clear_aged who xs))
 
--- ## Steps
+-- ### Steps
 
 -- the last note of a step
 abbrev pub last_of : Side → Ending → List Noted
@@ -170,7 +424,7 @@ opened_stands h who comes notes rest q x = ap (standing_by_law h x) q ∙ by com
     by NextFrame = refl
     by _ = refl
 
--- ## Nodes
+-- ### Nodes
 
 -- how a link stands behind notes that end so
 law_last : (h : ℕ) (who : Side) (ending : Ending) (notes : List Noted) (s : IsShaped who ending notes) (x : Standing)
@@ -258,7 +512,7 @@ step_away h n powers w frames a uncut none x =
     same true y = refl
     same false y = refl
 
--- ## Frames
+-- ### Frames
 
 pub frames_uncut : (who : Side) (h : ℕ) (l : Link) (w : Work) → AreUncut (frames_noted who h l w)
 frames_uncut who h l w = by_option (port_at w.ports h) (λ q. rw q tt) (λ p q. rw q (entries_uncut h (ending_entries who l p.side (ending_of w))))

@@ -1,21 +1,199 @@
--- What a node notes of a link in its tick.
-use Rattle.node_laws.proofs.Words.{AreDifferent, AsksReset, Bool, Core, Entry, Link, LinkEnd, LinkInput, List, NoInput, None, Notice, Option, Port, Reset, Some}
-use Rattle.node_laws.proofs.Words.{Tick, TimePasses, Up, Work, [], after_input, after_sessions, all_come, all_owed, ap, append-nil, by_option, by_test}
-use Rattle.node_laws.proofs.Words.{ended_by, entries_for, eqb-true, false, flat_map, forgets, forgotten, has_come, is_due, is_late, is_open, is_some, map}
-use Rattle.node_laws.proofs.Words.{nat_le, number_of, of_link, own_side, port_at, refl, report, reset_late, steps, subst, sym, synced, times_out, told, told_at}
-use Rattle.node_laws.proofs.Words.{told_late, told_of, true, turn_entries, turned, whole_acked, with_older, without_notice, ℕ, ◌&&◌, ◌++◌, ◌+◌, ◌==◌, ◌∙◌, ◌∷◌}
-use Rattle.node_laws.proofs.Words.{◌≡◌}
+-- What a node notes of a link in its tick, of frames that come, go out, are lost and grow old, and of a reset there.
+use Rattle.node_laws.proofs.Words.{Acked, ActOut, Active, AllByRecursion, AreDifferent, Asked, AsksReset, Bool, Cause, Comes, Control, Core, Cut, CutOff, Down}
+use Rattle.node_laws.proofs.Words.{Emit, EndState, Ending, Entry, GaveUp, GoesOut, Link, LinkEnd, LinkInput, List, Loss, Lost, NextFrame, NoAnswer, NoInput}
+use Rattle.node_laws.proofs.Words.{None, Noted, Notice, OnWire, Option, Port, Reset, Some, Tick, TimePasses, Timed, TooMany, TooOld, Took, Up, Waiting, Work}
+use Rattle.node_laws.proofs.Words.{[], act_event, act_out, after_input, after_sessions, aged_entries, all_append, all_come, all_owed, ap, append-nil, arith}
+use Rattle.node_laws.proofs.Words.{arrival, by_list, by_option, by_test, cond, ended_by, ending_entries, entries_for, eqb-true, false, far, first_lost}
+use Rattle.node_laws.proofs.Words.{flat_map, forgets, forgotten, frames_out, has_come, if_so, in_front, is_due, is_late, is_open, is_some, length, map, nat_le}
+use Rattle.node_laws.proofs.Words.{nat_lt, no_act_out, no_session, nothing_ticked, number_of, of_link, option_to_list, own_side, port_at, pushed_out, put}
+use Rattle.node_laws.proofs.Words.{put_entries, puts_entries, refl, report, reset_late, runs_timer, steps, subst, sym, synced, tick_answer, ticked, timed}
+use Rattle.node_laws.proofs.Words.{times_out, told, told_at, told_late, told_of, true, turn_entries, turned, whole_acked, whole_among, wire_with, with_older}
+use Rattle.node_laws.proofs.Words.{without_notice, ℕ, ◌&&◌, ◌++◌, ◌+◌, ◌-◌, ◌==◌, ◌∙◌, ◌∷◌, ◌≡◌}
 use Rattle.link_laws.specs.entries.Entries.{End as Side}
-use Rattle.node_laws.proofs.kept.Plainly.{hosts_map}
-use Rattle.node_laws.proofs.telling.Mute.{forgotten_mute, all_owed_mute, all_synced_mute}
-use Rattle.node_laws.proofs.telling.Walks.{rest}
-use Rattle.node_laws.proofs.telling.Accounts.{of-append, of_other, at_host, SameEnd, note, desk, turns, beside}
-use Rattle.node_laws.proofs.telling.Away.{Away, at_map, none_map, away_note, away_desk, away_turns, away_beside}
-use Rattle.node_laws.proofs.telling.Late.{IsLasting, reset_same, tick_told, reset_told}
-use Rattle.node_laws.proofs.telling.Steps.{only, Opening, Goes, GoesLate, before, without_same, forgets_same, sessions_side}
-use Rattle.node_laws.proofs.steps.Ports.{forgets_host, late_host, without_host}
+use Rattle.link_laws.specs.entries.Entries.Entry.{Up as IsUpNow}
+use Rattle.link_laws.specs.machine.Machine.{gave_up_by}
+use Rattle.shdlc_core.specs.Machine.Timed.{Over, Runs, Spent}
+use Rattle.shdlc_core.specs.declared.answers.Due.TheVariants.{Rset as Rset_due}
+use Rattle.shdlc_core.specs.declared.answers.Ticked.{Ticked}
+use Rattle.node_laws.proofs.kept.Doing.{hosts_map}
+use Rattle.node_laws.proofs.steps.StepWalks.{forgets_host, late_host, without_host}
+use Rattle.node_laws.proofs.telling.Accounts.{SameEnd, all_owed_mute, all_synced_mute, at_host, beside, desk, forgotten_mute, note, of-append, of_other, rest}
+use Rattle.node_laws.proofs.telling.Accounts.{turns}
+use Rattle.node_laws.proofs.telling.Steps.{Away, Goes, GoesLate, Opening, at_map, away_beside, away_desk, away_note, away_turns, before, forgets_same, none_map}
+use Rattle.node_laws.proofs.telling.Steps.{only, sessions_side, without_same}
 
--- ## Notices
+-- ## What holds of all that is noted of frames and of power holds as frames come, go out, are lost and grow old
+
+module _ (P : Noted → Type 0) where
+  abbrev All : List Noted → Type 0
+  All notes = AllByRecursion P notes
+
+  pub lost_all : ((who : Side) (c : Control) (why : Loss) → P (Lost who c why)) → (who : Side) (why : Loss) (xs : List OnWire) → All (first_lost who why xs)
+  lost_all lost who why [] = tt
+  lost_all lost who why (x ∷ xs) = (lost who x.frame why, tt)
+
+  module _ (took : (who : Side) (c : Control) → P (Took who c)) where
+    pub arrival_all : (who : Side) (l : Link) (comes : Comes) → All (arrival who l comes)
+    arrival_all who l NextFrame = by_list l.to_controller (λ q. rw q tt) (λ x xs q. rw q (took who x.frame, tt))
+    arrival_all who l _ = tt
+
+  module _ (old : (who : Side) (c : Control) → P (Lost who c TooOld)) where
+    aged_all : (who : Side) (xs : List OnWire) → All (aged_entries who xs)
+    aged_all who [] = tt
+    aged_all who (x ∷ xs) = by_test (nat_lt x.age 4) (λ q. rw q (aged_all who xs)) (λ q. rw q (old who x.frame, aged_all who xs))
+
+    -- on both wires of a link
+    pub wires_all : (one other : Side) (xs ys : List OnWire) → All (aged_entries one xs ++ aged_entries other ys)
+    wires_all one other xs ys = all_append P (aged_entries one xs) (aged_entries other ys) (aged_all one xs) (aged_all other ys)
+
+  module _ (emit : (who : Side) (c : Control) → P (Emit who c)) (full : (who : Side) (c : Control) → P (Lost who c TooMany))
+      (cut : (who : Side) → P (Cut who)) where
+    pushed_all : (who : Side) (wire : List OnWire) → All (pushed_out who wire)
+    pushed_all who wire = go (nat_lt 64 (length wire)) wire where
+      go : (b : Bool) (xs : List OnWire) → All (cond b (first_lost who TooMany xs) [])
+      go true [] = tt
+      go true (x ∷ xs) = (full who x.frame, tt)
+      go false xs = tt
+
+    puts_all : (who : Side) (l : Link) (cs : List Control) → All (puts_entries who l cs)
+    puts_all who l [] = tt
+    puts_all who l (c ∷ cs) =
+        all_append P (put_entries who l c) (puts_entries who (put l c) cs) (emit who c, pushed_all (far who) (wire_with l c)) (puts_all who (put l c) cs)
+
+    pub ending_all : (who : Side) (l : Link) (e : LinkEnd) (ending : Ending) → All (ending_entries who l e ending)
+    ending_all who l e GoesOut = puts_all who l (frames_out e)
+    ending_all who l e CutOff = (cut who, tt)
+
+-- ## An end that is up and has a tick in which its session goes on, and is reset then
+-- What that does and tells is what a reset in place of the tick does and tells.
+
+-- an end that is active and up, and whose session doesn't end by the next tick
+pub record IsLasting (e : LinkEnd) : Type 0 where
+  pub active : is_open e.role ≡ true
+  pub up : e.shdlc.phase ≡ Up
+  pub goes_on : is_some (ended_by e Tick) ≡ false
+
+-- what a tick leaves of an end that is up
+record IsLeft (s t : EndState) : Type 0 where
+  phase : t.phase ≡ Up
+  window : t.own_window ≡ s.own_window
+  ready : t.ready ≡ s.ready
+  acked : t.session.acked ≡ s.session.acked
+
+none_given_up : (s : EndState) → s.phase ≡ Up → (tick_answer s).gave_up ≡ None
+none_given_up s up = ap (λ (z : Ticked). z.gave_up) answer ∙ go (runs_timer s.session) (timed s)
+  where
+    by : Timed → Ticked
+    by Spent = record nothing_ticked { ended = Some NoAnswer }
+    by Runs = nothing_ticked
+    by Over = nothing_ticked
+
+    answer : tick_answer s ≡ cond (runs_timer s.session) (by (timed s)) nothing_ticked
+    answer = rw up refl
+
+    go : (b : Bool) (t : Timed) → (cond b (by t) nothing_ticked).gave_up ≡ None
+    go true Runs = refl
+    go true _ = refl
+    go false t = refl
+
+left_of_late : (s : EndState) → s.phase ≡ Up → is_some (tick_answer s).ended ≡ false → IsLeft s (ticked s)
+left_of_late s up lasts = go (runs_timer s.session) (timed s) refl refl
+  where
+    go : (b : Bool) (t : Timed) → runs_timer s.session ≡ b → timed s ≡ t → IsLeft s (ticked s)
+    go false t q r = rw (up, q) (record { phase = refl; window = refl; ready = refl; acked = refl })
+    go true Runs q r = rw (up, q, r) (record { phase = refl; window = refl; ready = refl; acked = refl })
+    go true Over q r = rw (up, q, r) (record { phase = refl; window = refl; ready = refl; acked = refl })
+    go true Spent q r = let z : true ≡ false = rw (up, q, r) at lasts in absurd (cc z)
+
+-- the end of a link that was up and waits after a reset with its own window
+abbrev waits_so : LinkEnd → ℕ → Bool → LinkEnd
+waits_so e w ready = record e {
+  shdlc = record {
+    phase = Waiting;
+    own_window = w;
+    ready = ready;
+    due = Rset_due ∷ [];
+    timer = 0;
+    tries = 1;
+    peer_window = 4;
+    session = no_session;
+  };
+  sent = [];
+  acts = map in_front e.acts;
+}
+
+reset_is : (e : LinkEnd) → is_open e.role ≡ true → e.shdlc.phase ≡ Up → after_input e (Reset None) ≡ waits_so e e.shdlc.own_window e.shdlc.ready
+reset_is e on up = rw (on, up) refl
+
+minus_self : (n : ℕ) → n - n ≡ 0
+minus_self n = omega arith
+
+none_left : (n : ℕ) → 0 - n ≡ 0
+none_left n = omega arith
+
+-- the session of an end that is up ends by a reset, and no more is told
+reset_tells : (who : Side) (n : ℕ) (e : LinkEnd) → is_open e.role ≡ true → e.shdlc.phase ≡ Up
+    → told who n (report e (Reset None)) (whole_acked (after_input e (Reset None))) ≡ Down who Asked ∷ []
+reset_tells who n e on up =
+    let so : Option Cause → ℕ → List Noted = λ ended acked.
+    map (Down who) (option_to_list ended) ++ (if_so (nat_lt 0 acked) (Acked who n (whole_acked (after_input e (Reset None)))) ++ []) in
+    let ended : ended_by e (Reset None) ≡ Some Asked = rw (on, up) refl in
+    ap (λ c. so c (whole_acked (after_input e (Reset None)) - whole_acked e)) ended
+    ∙ ap (so (Some Asked)) (ap (λ z. whole_acked z - whole_acked e) (reset_is e on up) ∙ none_left (whole_acked e))
+
+module _ (e : LinkEnd) (a : IsLasting e) where
+  answer : is_some (tick_answer e.shdlc).ended ≡ false
+  answer = let on = a.active in rw on at a.goes_on
+
+  is_left : IsLeft e.shdlc (ticked e.shdlc)
+  is_left = left_of_late e.shdlc a.up answer
+
+  tick_is : after_input e Tick ≡ record e { shdlc = ticked e.shdlc }
+  tick_is = let on = a.active in let lasts = answer in rw (on, lasts) refl
+
+  pub reset_same : after_input (after_input e Tick) (Reset None) ≡ after_input e (Reset None)
+  reset_same =
+      let f : LinkEnd = record e { shdlc = ticked e.shdlc } in
+      ap (λ z. after_input z (Reset None)) tick_is
+      ∙ (reset_is f a.active is_left.phase
+      ∙ (ap (λ w. waits_so e w (ticked e.shdlc).ready) is_left.window
+      ∙ (ap (λ r. waits_so e e.shdlc.own_window r) is_left.ready ∙ sym (reset_is e a.active a.up))))
+
+  -- ### What is told
+
+  none_of : (o : Option Cause) → is_some o ≡ false → o ≡ None
+  none_of None q = refl
+  none_of (Some c) q = cc
+
+  acked_is : whole_acked (after_input e Tick) ≡ whole_acked e
+  acked_is = ap whole_acked tick_is ∙ ap (λ n. whole_among e.sent n) is_left.acked
+
+  -- of the tick nothing is told
+  tick_told : (who : Side) (n : ℕ) → told who n (report e Tick) (whole_acked (after_input e Tick)) ≡ []
+  tick_told who n =
+      let so : Option Cause → ActOut → Option ℕ → ℕ → List Noted = λ ended out tries acked.
+      map (Down who) (option_to_list ended) ++ (if_so false (IsUpNow who n) ++ (if_so out.became_active (Active who)
+      ++ (map (GaveUp who) (option_to_list tries) ++ (if_so (nat_lt 0 acked) (Acked who n (whole_acked (after_input e Tick))) ++ [])))) in
+      let out : ActOut = act_out e.role (act_event e Tick) in
+      let event : act_event e Tick ≡ None = let on = a.active in rw on refl in
+      let tries : gave_up_by e Tick ≡ None = let on = a.active in rw on (none_given_up e.shdlc a.up) in
+      ap (λ c. so c out (gave_up_by e Tick) (whole_acked (after_input e Tick) - whole_acked e)) (none_of (ended_by e Tick) a.goes_on)
+      ∙ (ap (λ o. so None (act_out e.role o) (gave_up_by e Tick) (whole_acked (after_input e Tick) - whole_acked e)) event
+      ∙ (ap (λ t. so None no_act_out t (whole_acked (after_input e Tick) - whole_acked e)) tries
+      ∙ ap (so None no_act_out None) (ap (λ k. k - whole_acked e) acked_is ∙ minus_self (whole_acked e))))
+
+  -- and of the reset behind it what is told of a reset in its place
+  reset_told : (who : Side) (n : ℕ)
+      → told who n (report (after_input e Tick) (Reset None)) (whole_acked (after_input (after_input e Tick) (Reset None)))
+      ≡ told who n (report e (Reset None)) (whole_acked (after_input e (Reset None)))
+  reset_told who n =
+      let f : LinkEnd = record e { shdlc = ticked e.shdlc } in
+      ap (λ z. told who n (report z (Reset None)) (whole_acked (after_input z (Reset None)))) tick_is
+      ∙ (reset_tells who n f a.active is_left.phase ∙ sym (reset_tells who n e a.active a.up))
+
+-- ## What a node notes of a link in its tick
+
+-- ### Notices
 
 -- an end after its tick
 abbrev pub older : Port → Port
@@ -63,7 +241,7 @@ told_other h core i p q = of_other p.desk.host h (told (own_side core) p.session
 late_other : (h : ℕ) (core : Core) (p : Port) → (p.desk.host == h) ≡ false → of_link h (told_late core p) ≡ []
 late_other h core p q = by_test (is_late p) (λ is. rw is (told_other h core (Reset None) p q)) (λ is. rw is refl)
 
--- ## A tick of a node
+-- ### A tick of a node
 
 -- where the notice of an end is late, it is active and up
 abbrev pub IfLate : Bool → LinkEnd → Type 0
@@ -72,9 +250,9 @@ IfLate false e = Unit {0}
 
 module _ (h : ℕ) (who : Side) (l : Link) where
   -- the end had its tick, or was reset in its place
-  abbrev pub Ticked : Bool → Work → Type 0
-  Ticked true w = GoesLate h who l (AsksReset None) (Some (Reset None)) true w
-  Ticked false w = Goes h who l NoInput (Some Tick) w
+  abbrev pub TickedOfTicks : Bool → Work → Type 0
+  TickedOfTicks true w = GoesLate h who l (AsksReset None) (Some (Reset None)) true w
+  TickedOfTicks false w = Goes h who l NoInput (Some Tick) w
 
   module _ (w : Work) (a : Opening h who l NoInput w) (ports : List Port) where
     abbrev p : Port
@@ -149,7 +327,7 @@ module _ (h : ℕ) (who : Side) (l : Link) where
     begins_with_turns e t =
         sym (append-nil t) ∙ ap (λ ts. t ++ of_link h (entries_for h (turn_entries who (number_of l.controller) e ts))) (sym turns_are)
 
-    pub in_time : is_late (older p) ≡ false → Ticked false begun
+    pub in_time : is_late (older p) ≡ false → TickedOfTicks false begun
     in_time q =
         let same : SameEnd (older p) come = reset_same_end (older p) q in
         let e : LinkEnd = after_input l.controller.side Tick in
@@ -166,7 +344,7 @@ module _ (h : ℕ) (who : Side) (l : Link) where
           told = noted_all ∙ (ap (λ z. t ++ of_link h z) none ∙ (append-nil t ∙ begins_with_turns e t));
         }
 
-    pub too_late : is_late (older p) ≡ true → IfLate true l.controller.side → Ticked true begun
+    pub too_late : is_late (older p) ≡ true → IfLate true l.controller.side → TickedOfTicks true begun
     too_late q up =
         let late : IsLate p = late_parts p q in
         let side : LinkEnd = l.controller.side in
@@ -197,9 +375,9 @@ module _ (h : ℕ) (who : Side) (l : Link) where
           told = noted_all ∙ (ap (λ z. z ++ of_link h (told_late w.core (older p))) first ∙ (second ∙ begins_with_turns e t));
         }
 
-  pub ticked : (b : Bool) (w : Work) (a : Opening h who l NoInput w) → is_late (older a.port) ≡ b → IfLate b l.controller.side
-      → Ticked b (steps TimePasses w)
-  ticked b w a q up = go b q up
+  pub ticked_of_ticks : (b : Bool) (w : Work) (a : Opening h who l NoInput w) → is_late (older a.port) ≡ b → IfLate b l.controller.side
+      → TickedOfTicks b (steps TimePasses w)
+  ticked_of_ticks b w a q up = go b q up
     where
       v : Work
       v = times_out TimePasses (all_come TimePasses w)
@@ -213,21 +391,21 @@ module _ (h : ℕ) (who : Side) (l : Link) where
       start : Work
       start = record v { core = after_sessions v.core v.ports; ports = map without_notice left_now }
 
-      go : (b : Bool) → is_late (older a.port) ≡ b → IfLate b l.controller.side → Ticked b (steps TimePasses w)
+      go : (b : Bool) → is_late (older a.port) ≡ b → IfLate b l.controller.side → TickedOfTicks b (steps TimePasses w)
       go false q up =
           let e : LinkEnd = after_input l.controller.side Tick in
           let t : List Entry = before h who l NoInput (Some Tick) in
-          rest (Ticked false) (note h who n e t false) (desk h who n e t false) (turns h who n e t false) (beside h who n e t false) (forgotten v.ports)
+          rest (TickedOfTicks false) (note h who n e t false) (desk h who n e t false) (turns h who n e t false) (beside h who n e t false) (forgotten v.ports)
           (flat_map (synced w.core TimePasses) w.ports) (all_owed left_now) start
           (forgotten_mute v.ports) (all_synced_mute w.core TimePasses w.ports) (all_owed_mute left_now) (in_time w a v.ports q)
       go true q up =
           let e : LinkEnd = after_input l.controller.side (Reset None) in
           let t : List Entry = before h who l (AsksReset None) (Some (Reset None)) in
-          rest (Ticked true) (note h who n e t true) (desk h who n e t true) (turns h who n e t true) (beside h who n e t true) (forgotten v.ports)
+          rest (TickedOfTicks true) (note h who n e t true) (desk h who n e t true) (turns h who n e t true) (beside h who n e t true) (forgotten v.ports)
           (flat_map (synced w.core TimePasses) w.ports) (all_owed left_now) start
           (forgotten_mute v.ports) (all_synced_mute w.core TimePasses w.ports) (all_owed_mute left_now) (too_late w a v.ports q up)
 
--- ## A node that has no end on the link
+-- ### A node that has no end on the link
 
 module _ (h : ℕ) where
   silent : (core : Core) (f : Port → List Entry) → ((p : Port) → (p.desk.host == h) ≡ false → of_link h (f p) ≡ []) → (ports : List Port)

@@ -13,19 +13,13 @@ use Rattle.node_laws.proofs.Words.{with_ended, without_power, work_of, world_tic
 use Rattle.link_laws.specs.messages.Links.LinkEvent.{Ticks}
 use Rattle.link_laws.specs.entries.Entries.{End as Side}
 use Rattle.node_laws.specs.telling.Telling.{Tells}
-use Rattle.node_laws.proofs.telling.Walks.{AreUncut}
-use Rattle.node_laws.proofs.telling.Powers.{clear_stands, entries_uncut, steps_powered, uncut_flat}
-use Rattle.node_laws.proofs.telling.Shapes.{IsShaped, IsStepShaped, clear-append, clear_aged, shaped_step, shaped_tick, step_away, step_stands, twice}
-use Rattle.node_laws.proofs.telling.Shapes.{own_frames}
-use Rattle.node_laws.proofs.telling.Shapes.{all_frames}
-use Rattle.node_laws.proofs.telling.Accounts.{of-append, of_other}
-use Rattle.node_laws.proofs.telling.Away.{Away}
-use Rattle.node_laws.proofs.telling.Parts.{tick_is}
-use Rattle.node_laws.proofs.telling.Steps.{Opening, closed, frames_of, in_parts, notes-append, only}
-use Rattle.node_laws.proofs.telling.Nodes.{Stands, host_away, host_opened, hosts_same, link_is, other_power, own_power, ports_for, site_host, stands}
-use Rattle.node_laws.proofs.telling.Worlds.{site_is}
-use Rattle.node_laws.proofs.telling.Events.{orderly_map, site_map, tells_one}
-use Rattle.node_laws.proofs.telling.Ticks.{IfLate, Ticked, away_tick, late_parts, not_late, older, ticked}
+use Rattle.node_laws.proofs.telling.Accounts.{AreUncut, of-append, of_other}
+use Rattle.node_laws.proofs.telling.Shapes.{IsShaped, IsStepShaped, all_frames, clear-append, clear_aged, clear_stands, entries_uncut, own_frames, shaped_step}
+use Rattle.node_laws.proofs.telling.Shapes.{shaped_tick, step_away, step_stands, steps_powered, twice, uncut_flat}
+use Rattle.node_laws.proofs.telling.Steps.{Away, Opening, closed, frames_of, in_parts, notes-append, only, tick_is}
+use Rattle.node_laws.proofs.telling.Events.{Stands, host_away, host_opened, hosts_same_of_nodes as hosts_same, link_is, orderly_map, other_power, own_power}
+use Rattle.node_laws.proofs.telling.Events.{ports_for, site_host, site_is, site_map, stands, tells_one}
+use Rattle.node_laws.proofs.telling.Ticks.{IfLate, TickedOfTicks as Ticked, away_tick, late_parts, not_late, older, ticked_of_ticks as ticked}
 
 pub young_ports : (near_ends : ℕ → NumberedEnd) (desks : List Desk) (h : ℕ) (p : Port) → AllByRecursion (λ (d : Desk). is_due d ≡ false) desks
     → port_at (ports_for near_ends desks) h ≡ Some p → is_due p.desk ≡ false

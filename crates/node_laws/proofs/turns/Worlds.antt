@@ -1,34 +1,35 @@
--- What waits at each end of a world over whatever happens there.
-use Rattle.node_laws.proofs.Words.{Activates, AllByRecursion, AreDifferent, Arms, AsksReset, AtController, AtEnd, AtHost, Bool, Boots, Comes, Controller}
-use Rattle.node_laws.proofs.Words.{CutOff, Deed, End, Entry, Gives, GoesOut, Happening, HasEnds, Host, IfItRuns, Inits, IsCut, IsOrderly, Link, LinkInput, List}
-use Rattle.node_laws.proofs.Words.{Lose, Loses, Loss, MayBoot, Memory, Message, NextFrame, NoInput, NodeWorld, None, NumberedEnd, OnWire, Option, Resets}
-use Rattle.node_laws.proofs.Words.{Running, Site, Some, Starts, Step, Takes, Ticks, Work, [], activates, after_host, after_host_step, after_planned, aged}
-use Rattle.node_laws.proofs.Words.{aged_entries, all_aged, ap, beginning, begins_with, boot_found, boot_writes, boot_written, boots, by_boot, by_coming}
-use Rattle.node_laws.proofs.Words.{by_controller, by_controller_tick, by_counts, by_host, by_host_tick, by_loss, by_memory, by_option, by_power, by_test}
-use Rattle.node_laws.proofs.Words.{comes_at, cond, controller_does, controller_ticks, count_of, counts, end_c, end_h, entries_for, eq-eqb, eqb-true, exchanged}
-use Rattle.node_laws.proofs.Words.{false, first_lost, frame_lost, frames_noted, happens, host_cut, host_does, host_ticks, host_work, hosts_in, hosts_tick}
-use Rattle.node_laws.proofs.Words.{input_of, is_some, link_to, loses_power_at, map, memory_at, node_at, node_number, refl, same_end, sending, site_at}
-use Rattle.node_laws.proofs.Words.{site_lost, site_unticked, steps, subst, sym, tick_host, ticks_at_controller, true, true≢false, wires_for, with_memory}
-use Rattle.node_laws.proofs.Words.{with_node, with_site, world_step, world_ticks, ℕ, ◌&&◌, ◌++◌, ◌==◌, ◌∙◌, ◌∷◌, ◌≡◌}
+-- What waits at each end of a world over whatever happens there and behind any lines; messages have their turns in order.
 use Rattle.std.proofs.Math.Bool.{and-false}
-use Rattle.trace_model.specs.declared.entry.Entry.TheVariants as entry
+use Rattle.node_laws.proofs.Words.{Activates, AllByRecursion, AreDifferent, AreInTurn, Arms, AsksReset, AtController, AtEnd, AtHost, Bool, Boots, Comes}
+use Rattle.node_laws.proofs.Words.{Controller, CutOff, Deed, End, Entry, FollowsNodes, Gives, GoesOut, Happening, HasEnds, Header, Host, IfItRuns, Inits, IsCut}
+use Rattle.node_laws.proofs.Words.{IsOrderly, Line, Link, LinkInput, List, Lose, Loses, Loss, MayBoot, Memory, Message, NextFrame, NoInput, NodeHistory}
+use Rattle.node_laws.proofs.Words.{NodeWorld, None, NumberedEnd, OnWire, Option, Resets, Running, Site, Some, Starts, Step, Takes, Ticks, Work, [], activates}
+use Rattle.node_laws.proofs.Words.{after_host, after_host_step, after_planned, aged, aged_entries, all_aged, ap, beginning, begins_with, boot_found}
+use Rattle.node_laws.proofs.Words.{boot_writes, boot_written, boots, by_boot, by_coming, by_controller, by_controller_tick, by_counts, by_host, by_host_tick}
+use Rattle.node_laws.proofs.Words.{by_loss, by_memory, by_option, by_power, by_test, comes_at, cond, controller_does, controller_ticks, count_of, counts, end_c}
+use Rattle.node_laws.proofs.Words.{end_h, entries_for, eq-eqb, eqb-true, exchanged, false, first_lost, frame_lost, frames_noted, happens, host_cut, host_does}
+use Rattle.node_laws.proofs.Words.{host_ticks, host_work, hosts_in, hosts_tick, input_of, is_some, link_to, loses_power_at, map, memory_at, new_site, new_world}
+use Rattle.node_laws.proofs.Words.{node_at, node_entries, node_number, refl, replicate, same_end, sending, site_at, site_lost, site_unticked, steps, subst, sym}
+use Rattle.node_laws.proofs.Words.{tick_host, ticks_at_controller, true, true≢false, wires_for, with_memory, with_node, with_site, world_after, world_step}
+use Rattle.node_laws.proofs.Words.{world_ticks, ℕ, ◌&&◌, ◌++◌, ◌==◌, ◌∙◌, ◌∷◌, ◌≡◌}
 use Rattle.link_laws.specs.entries.Entries.{End as Side}
-use Rattle.node_laws.proofs.kept.Sites.{with_site_twice}
-use Rattle.node_laws.proofs.links.Ends.{here_host}
-use Rattle.node_laws.proofs.telling.Mute.{AreMute}
-use Rattle.node_laws.proofs.telling.Nodes.{link_is, site_host}
-use Rattle.node_laws.proofs.telling.Worlds.{node_is, site_is}
-use Rattle.node_laws.proofs.telling.Events.{comes_goes, sending_mute}
+use Rattle.node_laws.specs.turns.Turns.{AreLeft}
+use Rattle.node_laws.proofs.kept.Events.{with_site_twice}
+use Rattle.node_laws.proofs.links.Sites.{here_host}
+use Rattle.node_laws.proofs.telling.Events.{comes_goes, link_is, node_is, sending_mute, site_host, site_is}
+use Rattle.node_laws.proofs.telling.Lasting.{AnyLine, all_lines, boots_may, entries_of_steps, lines_last, new_orderly, step_orderly}
+use Rattle.node_laws.proofs.telling.Accounts.{AreMute}
 use Rattle.node_laws.proofs.telling.WorldTicks.{aged_orderly, near_orderly, tick_host as site_ticked}
-use Rattle.node_laws.proofs.turns.Queues.Doing.{Clears, Nothing}
-use Rattle.node_laws.proofs.turns.Queues.{Becomes, Goes, doing, goes-append}
-use Rattle.node_laws.proofs.turns.Ends.{ticks_got}
-use Rattle.node_laws.proofs.turns.Coming.{notes_still}
-use Rattle.node_laws.proofs.turns.Works.{AllMove, ByPower, FarWaits, Leaves, NearWaits, Waits, aged_none, end_at, leaves-append, lost_none, move_then}
-use Rattle.node_laws.proofs.turns.Works.{OwnMoves, SiteGoes, at_site, flat_leaves, sites_is, still_leaves}
-use Rattle.node_laws.proofs.turns.Nodes.{controller_steps, controller_ticked, host_begins, host_steps, host_ticked}
+use Rattle.node_laws.proofs.turns.Passing.{Becomes, Front, Goes, all_left, doing, front_goes, goes-append, notes_still, ticks_got}
+use Rattle.node_laws.proofs.turns.Nodes.{AllMove, ByPower, FarWaits, Leaves, Moves, NearWaits, OwnMoves, SiteGoes, Waits, aged_none, at_site, controller_steps}
+use Rattle.node_laws.proofs.turns.Nodes.{controller_ticked, end_at, flat_leaves, host_begins, host_steps, host_ticked, leaves-append, lost_none, move_then}
+use Rattle.node_laws.proofs.turns.Nodes.{sites_is, still_leaves}
+use Rattle.node_laws.proofs.turns.Passing.Doing.{Clears, Nothing}
+use Rattle.trace_model.specs.declared.entry.Entry.TheVariants as entry
 
--- ## Worlds that stay
+-- ## What waits at each end of a world over whatever happens there
+
+-- ### Worlds that stay
 
 -- all ends are as they were
 waits_same : (w v : NodeWorld) → is_some v.controller ≡ is_some w.controller → v.sites ≡ w.sites → (b : Bool) (h : ℕ) (q : List Message) → Waits w b h q
@@ -41,11 +42,11 @@ waits_same w v power sites false h q x =
     by None y = tt
     by (Some s) y = subst (λ b. ByPower b q s.link.controller.side.got) (sym power) y
 
-pub all_stay : (w v : NodeWorld) (t : List Entry) → is_some v.controller ≡ is_some w.controller → v.sites ≡ w.sites → ((e : End) → Leaves e t) → AllMove w v t
+all_stay : (w v : NodeWorld) (t : List Entry) → is_some v.controller ≡ is_some w.controller → v.sites ≡ w.sites → ((e : End) → Leaves e t) → AllMove w v t
 all_stay w v t power sites quiet b h q x =
     record { left = q; goes = quiet (end_at b h) q; waits = waits_same w v power sites b h q x }
 
-pub nothing_moves : (w : NodeWorld) → AllMove w w []
+nothing_moves : (w : NodeWorld) → AllMove w w []
 nothing_moves w = all_stay w w [] refl refl (λ e q. refl)
 
 -- a host that stays but for its memory, its wires and what it keeps
@@ -81,9 +82,9 @@ all_sites w memory c g t host node far near quiet false h q x = record {
   waits = sites_is g host w.sites h (NearWaits c q) (λ z. tt) (λ s z. near q s (subst (NearWaits w.controller q) z x));
 }
 
--- ## Steps of nodes
+-- ### Steps of nodes
 
-pub controller_moves_so : (w : NodeWorld) (k : ℕ) (comes : Comes) (i : LinkInput) → IsOrderly w → input_of (link_to w.sites k) comes ≡ Some i
+controller_moves_so : (w : NodeWorld) (k : ℕ) (comes : Comes) (i : LinkInput) → IsOrderly w → input_of (link_to w.sites k) comes ≡ Some i
     → AllMove w (controller_does w k comes (steps (AtEnd k i))).0 (controller_does w k comes (steps (AtEnd k i))).1
 controller_moves_so w k comes i a q =
     by_controller (λ p. AllMove w p.0 p.1) w k comes (steps (AtEnd k i)) (nothing_moves w)
@@ -94,7 +95,7 @@ module _ (w : NodeWorld) (k : ℕ) (comes : Comes) (f : Work → Work) (a : IsOr
     (does : (s : Site) (r : Running) → site_at w.sites k ≡ Some s → s.host ≡ k → s.node ≡ Some r → HasEnds s.host (s.host ∷ []) r
     → (s.host == 0) ≡ false → SiteGoes s (after_host comes (host_work s r comes f) s)
     ((host_work s r comes f).entries ++ frames_noted Host k (wires_for (exchanged s.link) comes) (host_work s r comes f))) where
-  pub host_moves : AllMove w (host_does w k comes f).0 (host_does w k comes f).1
+  host_moves : AllMove w (host_does w k comes f).0 (host_does w k comes f).1
   host_moves =
       by_host (λ p. AllMove w p.0 p.1) w k comes f (nothing_moves w)
       (λ s r here z.
@@ -131,7 +132,7 @@ activates_move w h sync power a =
     move_then w near.0 far.0 near.1 far.1 (comes_move w (end_c h) (Starts power) a)
     (comes_move near.0 (end_h h) (Starts sync) (comes_goes w (end_c h) (Starts power) a).orderly)
 
--- ## Power and memories
+-- ### Power and memories
 
 cut_quiet : (n : ℕ) (e : End) → Leaves e (entry.Cut n ∷ [])
 cut_quiet n e = still_leaves e (entry.Cut n ∷ []) (refl, tt)
@@ -156,7 +157,7 @@ memory_moves n m w =
     (λ z. at_site w w.controller n (λ s. record s { memory = m }) [] refl (λ s. refl)
     (λ s here. stays s (record s { memory = m }) [] refl refl refl (λ e q. refl)) (λ none. nothing_moves w))
 
--- ## Boots
+-- ### Boots
 
 clears : (e : End) (n count : ℕ) (q : List Message) → (n == node_number e) ≡ true → Goes e q (entry.Booted n count ∷ []) []
 clears e n count q on =
@@ -246,7 +247,7 @@ boots_move w n a off =
     later : Memory
     later = after_planned (boot_writes (memory_at w n).content) (memory_at w n)
 
--- ## Losses
+-- ### Losses
 
 pub counts_power : (why : Loss) (h : ℕ) (o : Option Running) → is_some (counts why h o) ≡ is_some o
 counts_power why h o = by_counts (λ (x : Option Running). is_some x ≡ is_some o) why h o refl (λ r q. ap (λ (x : Option Running). is_some x) (sym q))
@@ -280,7 +281,7 @@ lost_moves w e why =
     quiet : (who : Side) (xs : List OnWire) (x : End) → Leaves x (entries_for e.link (first_lost who why xs))
     quiet who xs x = still_leaves x _ (notes_still x e.link (first_lost who why xs) (lost_none who why xs))
 
--- ## Ticks
+-- ### Ticks
 
 old_moves : (w : NodeWorld) → AllMove w (all_aged w).0 (all_aged w).1
 old_moves w =
@@ -290,7 +291,7 @@ old_moves w =
     (aged_none Controller Host s.link.to_controller s.link.to_host))) w.sites)
 
 -- a world after the controller's tick, whose hosts are still as they must be
-pub record NearTick (w : NodeWorld) (p : NodeWorld × List Entry) : Type 0 where
+record NearTick (w : NodeWorld) (p : NodeWorld × List Entry) : Type 0 where
   pub moves : AllMove w p.0 p.1
   pub different : AreDifferent (hosts_in p.0.sites)
   pub hosts : AllByRecursion (λ (s : Site). (s.host == 0) ≡ false) p.0.sites
@@ -320,7 +321,7 @@ site_ticks x host a =
     (λ n z. host_ticked x n x.host refl z (subst (IfItRuns x.host (x.host ∷ [])) z a) host)
 
 -- what waits at the end of a host as all hosts have had their ticks
-pub record HostsMove (h : ℕ) (p : List Site × List Entry) (q : List Message) : Type 0 where
+record HostsMove (h : ℕ) (p : List Site × List Entry) (q : List Message) : Type 0 where
   pub left : List Message
   pub goes : Goes (end_h h) q p.1 left
   pub waits : FarWaits left (site_at p.0 h)
@@ -407,7 +408,7 @@ ticks_move w a =
     move_then w old.0 (record near.0 { sites = far.0 }) old.1 (near.1 ++ far.1) (old_moves w)
     (move_then old.0 near.0 (record near.0 { sites = far.0 }) near.1 far.1 first.moves (hosts_move near.0 first.different first.hosts first.nodes))
 
--- ## Events
+-- ### Events
 
 pub events_move : (w : NodeWorld) (c : Happening) → IsOrderly w → MayBoot w c → AllMove w (world_step w c).0 (world_step w c).1
 events_move w (Boots n) a may = boots_move w n a may
@@ -420,3 +421,91 @@ events_move w Ticks a may = ticks_move w a
 events_move w (Resets e window) a may = comes_move w e (AsksReset window) a
 events_move w (Activates h sync power) a may = activates_move w h sync power a
 events_move w (Arms n plan) a may = memory_moves n (record (memory_at w n) { plan = Some plan }) w
+
+-- ## What waits at each end of a world behind any lines of a schedule, and that messages have their turns in order
+
+-- ### Schedules
+
+-- what waits at an end by what was noted so far
+pub record Waiting (t : List Entry) (w : NodeWorld) (b : Bool) (h : ℕ) : Type 0 where
+  pub messages : List Message
+  pub goes : Goes (end_at b h) [] t messages
+  pub waits : Waits w b h messages
+
+-- so it is at all ends of an orderly world
+pub record AllWait (t : List Entry) (w : NodeWorld) : Type 0 where
+  pub orderly : IsOrderly w
+  pub waiting : (b : Bool) (h : ℕ) → Waiting t w b h
+
+waiting_lasts : (t : List Entry) (w : NodeWorld) (c : Happening) → AllWait t w → MayBoot w c → AllWait (t ++ (world_step w c).1) (world_step w c).0
+waiting_lasts t w c a may =
+    record {
+      orderly = step_orderly w c a.orderly;
+      waiting = λ b h.
+          let before : Waiting t w b h = a.waiting b h in
+          let one : Moves b h (world_step w c).0 (world_step w c).1 before.messages =
+          events_move w c a.orderly may b h before.messages before.waits in
+          record {
+            messages = one.left;
+            goes = goes-append (end_at b h) t (world_step w c).1 [] before.messages one.left before.goes one.goes;
+            waits = one.waits;
+          };
+    }
+
+-- the ends of a link are new
+record IsNew (s : Site) : Type 0 where
+  off : s.node ≡ None
+  near : s.link.controller.side.got ≡ []
+  far : s.link.host.side.got ≡ []
+
+are_new : (content : List ℕ) (hosts : List ℕ) → AllByRecursion IsNew (map (new_site content) hosts)
+are_new content [] = tt
+are_new content (h ∷ hosts) = (record { off = refl; near = refl; far = refl }, are_new content hosts)
+
+pub none_wait : (hosts : List ℕ) (b : Bool) (h : ℕ) → Waits (new_world hosts) b h []
+none_wait hosts true h = by_option (site_at (new_world hosts).sites h)
+    (λ q. rw q tt)
+    (λ s q. rw q (let new : IsNew s = site_is IsNew (new_world hosts).sites h s (are_new (replicate 65536 255) hosts) q in
+    subst (λ (o : Option Running). ByPower (is_some o) [] s.link.host.side.got) (sym new.off) new.far))
+none_wait hosts false h = by_option (site_at (new_world hosts).sites h)
+    (λ q. rw q tt)
+    (λ s q. rw q (site_is IsNew (new_world hosts).sites h s (are_new (replicate 65536 255) hosts) q).near)
+
+module _ (header : Header) (lines : List Line) (t : NodeHistory) (follows : FollowsNodes header lines t) (different : AreDifferent header.hosts.items)
+    (numbers : AllByRecursion (λ h. (h == 0) ≡ false) header.hosts.items) where
+  abbrev last : NodeWorld
+  last = world_after (new_world header.hosts.items) lines
+
+  all_wait : AllWait (node_entries t) last
+  all_wait =
+      let hosts : List ℕ = header.hosts.items in
+      subst (λ l. AllWait l last) (ap entries_of_steps (sym follows.steps_are))
+      (lines_last AllWait MayBoot AnyLine waiting_lasts boots_may lines [] (new_world hosts)
+      (record {
+        orderly = new_orderly hosts different numbers;
+        waiting = λ b h. record { messages = []; goes = refl; waits = none_wait hosts b h };
+      }) (all_lines lines))
+
+  pub in_turn : AreInTurn (node_entries t)
+  in_turn front back e q =
+      let all : Waiting (node_entries t) last e.at_host e.link = all_wait.waiting e.at_host e.link in
+      let begun : Front e [] front = front_goes e front back [] all.messages (subst (λ l. Goes e [] l all.messages) q all.goes) in
+      (begun.left, all_left e front [] [] begun.left refl begun.goes)
+
+  pub left_at_host : (h : ℕ) (s : Site) (r : Running) → site_at last.sites h ≡ Some s → s.node ≡ Some r
+      → AreLeft (end_h h) (node_entries t) s.link.host.side.got
+  left_at_host h s r here runs =
+      let all : Waiting (node_entries t) last true h = all_wait.waiting true h in
+      let power : ByPower (is_some s.node) all.messages s.link.host.side.got = subst (FarWaits all.messages) here all.waits in
+      let is : all.messages ≡ s.link.host.side.got =
+      subst (λ (o : Option Running). ByPower (is_some o) all.messages s.link.host.side.got) runs power in
+      subst (AreLeft (end_h h) (node_entries t)) is (sym (all_left (end_h h) (node_entries t) [] [] all.messages refl all.goes))
+
+  pub left_at_controller : (h : ℕ) (s : Site) (r : Running) → site_at last.sites h ≡ Some s → last.controller ≡ Some r
+      → AreLeft (end_c h) (node_entries t) s.link.controller.side.got
+  left_at_controller h s r here runs =
+      let all : Waiting (node_entries t) last false h = all_wait.waiting false h in
+      let power : ByPower (is_some last.controller) all.messages s.link.controller.side.got = subst (NearWaits last.controller all.messages) here all.waits in
+      let is : all.messages ≡ s.link.controller.side.got =
+      subst (λ (o : Option Running). ByPower (is_some o) all.messages s.link.controller.side.got) runs power in
+      subst (AreLeft (end_c h) (node_entries t)) is (sym (all_left (end_c h) (node_entries t) [] [] all.messages refl all.goes))

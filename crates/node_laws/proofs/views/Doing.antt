@@ -1,17 +1,377 @@
--- A node does deeds that don't set REC_ERROR of its end: what is read of it stays what the node keeps.
-use Rattle.node_laws.proofs.Words.{About, AllByRecursion, Asks, Book, Bool, Command, Commits, Controller, Core, Deed, Desk, Drops, End, Ends, Entry, ErrorCount}
-use Rattle.node_laws.proofs.Words.{Give, GoesOn, Hears, Hold, Host, InitFailed, InitMade, InitSame, IsAnswered, List, None, Option, Orders, Port, Release}
-use Rattle.node_laws.proofs.Words.{Releases, Removed, SaysOk, Sends, SetAside, SetsErrors, Some, Tells, Turn, Waits, Work, Write, [], after_turn, all_done}
-use Rattle.node_laws.proofs.Words.{and-true, ap, apply, body_of, by_cut, by_option, by_test, cases_Bool, changed_if, changed_same, commit, commit_writes, cond}
-use Rattle.node_laws.proofs.Words.{count_of, done, end_of, end_of_node, eqb, eqb-true, errors_after, fails_within, false, give_refusal, holds_back}
-use Rattle.node_laws.proofs.Words.{hosts_of_ends, inl, inr, is_held, length, lets_go, map, node_of, noted_of, notified, noting, option_map_or, own_side}
-use Rattle.node_laws.proofs.Words.{port_at, refl, same_end, subst, sym, true, true≢false, turn_at, turn_entry, unless_cut, with_command, with_desk, with_port}
-use Rattle.node_laws.proofs.Words.{ℕ, ◌++◌, ◌∙◌, ◌∷◌, ◌≡◌, ◌⊎◌}
-use Rattle.trace_model.specs.declared.entry.Entry.TheVariants as entry
+-- Which deeds set REC_ERROR of an end and which leave it, so that what is read of it stays what the node keeps.
+use Rattle.node_laws.proofs.Words.{About, AllByRecursion, AllByRecursion-append, Answer, Ask, Asks, Book, Bool, Broken, Command, Commit, Commits, Controller}
+use Rattle.node_laws.proofs.Words.{Core, Cut, Decision, Deed, Desk, Drops, End, Ends, Entry, Err, ErrorCount, Give, GoesOn, HciTables, Hears, Hold, Host}
+use Rattle.node_laws.proofs.Words.{InitFailed, InitMade, InitSame, IsAnswered, IsResponse, LinkView, List, Lost, Message, MessageFault, MessageKind, None}
+use Rattle.node_laws.proofs.Words.{Noted, OfDecision, OfHost, Ok, OnDemand, Option, Orders, Plain, Port, Release, Releases, Removed, Restarted, Result, SaysOk}
+use Rattle.node_laws.proofs.Words.{Sends, Sent, SetAside, SetsErrors, Some, Tells, TooMany, TooOld, Turn, Unread, Up, Waits, Work, Write, [], after_turn}
+use Rattle.node_laws.proofs.Words.{all_done, all_of_controller, all_of_host, all_so, and-true, answer_of, answers, anyone, ap, apply, asks_for, body_in}
+use Rattle.node_laws.proofs.Words.{body_of, book_after, by_cut, by_option, by_test, cases_Bool, changed_if, changed_same, command_deeds, commit, commit_writes}
+use Rattle.node_laws.proofs.Words.{cond, cond_both, controller_deeds, count_in, count_of, decided, decision_deeds, deeds_by_relay, done, end_of, end_of_node}
+use Rattle.node_laws.proofs.Words.{end_view, entries_for, entry_of, eqb, eqb-true, errors_after, errors_set_by, fails_within, false, far_end, first_of, fold}
+use Rattle.node_laws.proofs.Words.{fold-append, give_refusal, goes_through, has, has_link, header_of, holds_back, host_deeds, hosts_of_ends, hosts_where, inl}
+use Rattle.node_laws.proofs.Words.{inr, is_any_ok, is_held, is_opened, is_up, kind_deeds, leads_to_link_gate, length, lets_go, link_deeds, link_served, lost_as}
+use Rattle.node_laws.proofs.Words.{lpdu_of, map, min, node_of, not, noted_of, notified, noting, option_map_or, ordered_deeds, own_deeds, own_gate, own_side}
+use Rattle.node_laws.proofs.Words.{own_view, port_at, refl, relayed_to, same_end, served_at, subst, sym, tests_to_get, tests_to_set_errors, true, true≢false}
+use Rattle.node_laws.proofs.Words.{turn_at, turn_entry, unless_asking, unless_cut, unwrap_or, value_in, view_for, view_of, was_refused, with_command, with_desk}
+use Rattle.node_laws.proofs.Words.{with_port, ℕ, ◌&&◌, ◌++◌, ◌+◌, ◌||◌, ◌∙◌, ◌∷◌, ◌≡◌, ◌⊎◌}
+use Rattle.hcp_packet.specs.declared.MessageKind.TheVariants.{Command as IsCommand, Event as IsEvent}
 use Rattle.link_laws.specs.entries.Entries.{End as Side}
-use Rattle.node_laws.proofs.views.Leaving.{reads, reads_append, IsRead, IsStill, still_all, notes_still, IsUndamaged, plainly, beside_leaves}
-use Rattle.node_laws.proofs.views.Setting.{IsUnset, AreUnset, IsInitEnd}
-use Rattle.node_laws.proofs.kept.Plainly.{hosts_map}
+use Rattle.link_laws.specs.entries.Entries.Entry.{Tick}
+use Rattle.trace_model.specs.declared.entry.LostCause.{LostCause}
+use Rattle.node_laws.proofs.kept.Doing.{hosts_map}
+use Rattle.node_laws.proofs.readings.Noticed.{up_is}
+use Rattle.node_laws.proofs.readings.Noting.{IsBeside}
+use Rattle.gate_answers.specs.declared.response.Response.TheVariants as response
+use Rattle.trace_model.specs.declared.entry.Entry.TheVariants as entry
+
+-- ## What leaves REC_ERROR of an end as it is
+
+-- what is read after these entries, where this was read before
+abbrev pub reads : End → List Entry → ErrorCount → ErrorCount
+reads e es x = fold (errors_after e) x es
+
+pub reads_append : (e : End) (xs ys : List Entry) (x : ErrorCount) → reads e (xs ++ ys) x ≡ reads e ys (reads e xs x)
+reads_append e xs ys x = fold-append (errors_after e) x xs ys
+
+-- no command that sets it waits for its answer, and it is this
+pub record IsRead (x : ErrorCount) (errors : ℕ) : Type 0 where
+  pub sets : x.sets ≡ None
+  pub is : x.errors ≡ errors
+
+-- an entry leaves it
+abbrev pub Leaves : End → Entry → Type 0
+Leaves e y = (x : ErrorCount) (n : ℕ) → IsRead x n → IsRead (errors_after e x y) n
+
+-- and tells nothing of the controller's tables
+abbrev pub IsStill : End → Entry → Type 0
+IsStill e y = (x : ErrorCount) (n : ℕ) → IsRead x n → IsRead (errors_after e x y) n × ((errors_after e x y).book ≡ x.book)
+
+pub leaves_all : (e : End) (es : List Entry) (x : ErrorCount) (n : ℕ) → AllByRecursion (Leaves e) es → IsRead x n → IsRead (reads e es x) n
+leaves_all e [] x n all r = r
+leaves_all e (y ∷ es) x n all r = leaves_all e es (errors_after e x y) n all.1 (all.0 x n r)
+
+pub still_all : (e : End) (es : List Entry) (x : ErrorCount) (n : ℕ) → AllByRecursion (IsStill e) es → IsRead x n
+    → IsRead (reads e es x) n × ((reads e es x).book ≡ x.book)
+still_all e [] x n all r = (r, refl)
+still_all e (y ∷ es) x n all r =
+    let one = all.0 x n r in
+    let rest = still_all e es (errors_after e x y) n all.1 one.0 in
+    (rest.0, rest.1 ∙ one.1)
+
+pub still_leaves : (e : End) (es : List Entry) → AllByRecursion (IsStill e) es → AllByRecursion (Leaves e) es
+still_leaves e es all = all_so (IsStill e) (Leaves e) (λ y b. (λ x n r. (b x n r).0)) es all
+
+-- ### Each entry
+
+sent_still : (e f : End) (k pid : ℕ) (message : List ℕ) → IsStill e (entry.Sent f k pid message)
+sent_still e f k pid message x n r = (
+  record {
+    sets = refl;
+    is = cond_both (same_end f e && is_any_ok message) (unwrap_or x.sets x.errors) x.errors (λ z. z ≡ n)
+        (λ _. ap (λ o. unwrap_or o x.errors) r.sets ∙ r.is) (λ _. r.is);
+  },
+  refl,
+)
+
+off_left : (a b : Bool) (x y : Option ℕ) → a ≡ false → cond (a && b) x y ≡ y
+off_left a b x y q = rw q refl
+
+pub turn_leaves : (e f : End) (pid : ℕ) (message : List ℕ) → same_end f e ≡ false → IsStill e (entry.Turn f pid message)
+turn_leaves e f pid message off x n r = (
+  record {
+    sets = off_left (same_end f e) (leads_to_link_gate x.book.tables e pid) (errors_set_by message) None off;
+    is = r.is;
+  },
+  refl,
+)
+
+not_counted : (a b : Bool) (x y n : ℕ) → b ≡ false → y ≡ n → cond (a && b) x y ≡ n
+not_counted true b x y n q r = rw q r
+not_counted false b x y n q r = r
+
+lost_leaves : (e f : End) (lpdu : List ℕ) (cause : LostCause) → was_refused cause ≡ false → IsStill e (entry.Lost f lpdu cause)
+lost_leaves e f lpdu cause off x n r = (
+  record {
+    sets = refl;
+    is = not_counted (same_end f e) (was_refused cause) (min 65535 (x.errors + 1)) x.errors n off r.is;
+  },
+  refl,
+)
+
+-- a frame isn't lost as it was damaged
+abbrev pub IsUndamaged : Noted → Type 0
+IsUndamaged (Lost who frame (Broken fault)) = ⊥
+IsUndamaged _ = Unit {0}
+
+pub plainly : (e : End) (x : ErrorCount) (n : ℕ) → IsRead x n → IsRead (record x { sets = None }) n
+plainly e x n r = record { sets = refl; is = r.is }
+
+pub note_still : (e : End) (h : ℕ) (x : Noted) → IsUndamaged x → AllByRecursion (IsStill e) (entry_of h x)
+note_still e h (Sent who k m) un = (sent_still e (end_of h who) k m.0 m.1, tt)
+note_still e h (Lost who frame OnDemand) un = (lost_leaves e (end_of h who) (lpdu_of frame) (lost_as OnDemand) refl, tt)
+note_still e h (Lost who frame (Broken fault)) un = absurd un
+note_still e h (Lost who frame Unread) un = (lost_leaves e (end_of h who) (lpdu_of frame) (lost_as Unread) refl, tt)
+note_still e h (Lost who frame TooOld) un = (lost_leaves e (end_of h who) (lpdu_of frame) (lost_as TooOld) refl, tt)
+note_still e h (Lost who frame TooMany) un = (lost_leaves e (end_of h who) (lpdu_of frame) (lost_as TooMany) refl, tt)
+note_still e h Tick un = tt
+note_still e h (Restarted who) un = tt
+note_still e h (Cut who) un = tt
+note_still e h _ un = ((λ x n r. (plainly e x n r, refl)), tt)
+
+pub notes_still : (e : End) (h : ℕ) (xs : List Noted) → AllByRecursion IsUndamaged xs → AllByRecursion (IsStill e) (entries_for h xs)
+notes_still e h [] all = tt
+notes_still e h (x ∷ xs) all = AllByRecursion-append (IsStill e) (entry_of h x) (entries_for h xs) (note_still e h x all.0) (notes_still e h xs all.1)
+
+-- what a node notes beside its links leaves it
+pub beside_leaves : (e : End) (k : ℕ) (y : Entry) → IsBeside k y → Leaves e y
+beside_leaves e k (entry.Held f need spare) b = λ x n r. plainly e x n r
+beside_leaves e k (entry.Ask host message) b = λ x n r. plainly e x n r
+beside_leaves e k (entry.Dropped f pid) b = λ x n r. plainly e x n r
+beside_leaves e k (entry.Command node command) b = λ x n r. record { sets = refl; is = r.is }
+beside_leaves e k (entry.AnyOk node count) b = λ x n r. plainly e x n r
+beside_leaves e k (entry.Cut node) b = λ x n r. plainly e x n r
+beside_leaves e k y b = absurd b
+
+-- ### What is read of the controller
+
+book_of : (e : End) (x : ErrorCount) (y : Entry) → (errors_after e x y).book ≡ book_after 0 x.book y
+book_of e x (entry.Head header) = refl
+book_of e x _ = refl
+
+-- it is what is read of it without REC_ERROR
+pub book_reads : (e : End) (es : List Entry) (x : ErrorCount) → (reads e es x).book ≡ fold (book_after 0) x.book es
+book_reads e [] x = refl
+book_reads e (y ∷ es) x = book_reads e es (errors_after e x y) ∙ ap (λ b. fold (book_after 0) b es) (book_of e x y)
+
+-- ## Which deeds of a message set REC_ERROR
+-- Those of a command that sets it, at its turn on a pipe to the link management gate, which is answered by ANY_OK next. Where such a
+-- command isn't carried out, it is answered otherwise, or dropped.
+
+-- an init ends so
+abbrev pub IsInitEnd : Entry → Type 0
+IsInitEnd (InitSame e) = Unit {0}
+IsInitEnd (InitMade e count) = Unit {0}
+IsInitEnd (InitFailed e code) = Unit {0}
+IsInitEnd _ = ⊥
+
+-- a deed doesn't set it
+abbrev pub IsUnset : Deed → Type 0
+IsUnset (SetsErrors errors) = ⊥
+IsUnset (Ends x) = IsInitEnd x
+IsUnset _ = Unit {0}
+
+abbrev pub AreUnset : List Deed → Type 0
+AreUnset deeds = AllByRecursion IsUnset deeds
+
+-- ### The link management gate
+
+-- what a command sets there doesn't depend on what REC_ERROR is
+set_same : (errors instruction : ℕ) (body : List ℕ) → (link_served errors instruction body).1 ≡ (link_served 0 instruction body).1
+set_same errors instruction body = by_test (eqb instruction 1) (λ p. rw p refl)
+    (λ p. by_test (eqb instruction 2)
+    (λ q. rw (p, q) (by_option (first_of (tests_to_get 6 body)) (λ q. rw q refl) (λ r q. rw q refl)))
+    (λ q. rw (p, q) refl))
+
+-- where it sets it, it is ANY_SET_PARAMETER, and it is answered by ANY_OK
+set_is : (errors instruction : ℕ) (body : List ℕ) (v : ℕ) → (link_served 0 instruction body).1 ≡ Some v
+    → (link_served errors instruction body ≡ (answer_of response.Ok [], Some v)) × (eqb instruction 1 ≡ true)
+set_is errors instruction body v s = by_test (eqb instruction 1)
+    (λ p. by_option (first_of (tests_to_set_errors body))
+    (λ z. let is : Some (count_in (value_in body)) ≡ Some v = rw (p, z) at s in
+    (rw (p, z) (ap (λ o. (answer_of response.Ok [], o)) is), p))
+    (λ r z. let none : None ≡ Some v = rw (p, z) at s in absurd (cc none)))
+    (λ p. by_test (eqb instruction 2)
+    (λ q. by_option (first_of (tests_to_get 6 body))
+    (λ z. let none : None ≡ Some v = rw (p, q, z) at s in absurd (cc none))
+    (λ r z. let none : None ≡ Some v = rw (p, q, z) at s in absurd (cc none)))
+    (λ q. let none : None ≡ Some v = rw (p, q) at s in absurd (cc none)))
+
+-- what a message sets by its header
+abbrev set_by_header : List ℕ → Result (MessageKind × ℕ) MessageFault → Option ℕ
+set_by_header message (Ok (IsCommand, instruction)) = (link_served 0 instruction (body_in message)).1
+set_by_header message _ = None
+
+set_by_is : (message : List ℕ) → errors_set_by message ≡ set_by_header message (header_of message)
+set_by_is message = by (header_of message) refl where
+  by : (x : Result (MessageKind × ℕ) MessageFault) → header_of message ≡ x → errors_set_by message ≡ set_by_header message (header_of message)
+  by (Ok (IsCommand, instruction)) q = rw q refl
+  by (Ok (IsEvent, instruction)) q = rw q refl
+  by (Ok (IsResponse, code)) q = rw q refl
+  by (Err fault) q = rw q refl
+
+-- the pipe leads to the link management gate
+abbrev pub is_link_gate : Option ℕ → Bool
+is_link_gate gate = option_map_or (λ g. eqb g 6) gate false
+
+-- the command sets nothing, or its pipe leads elsewhere
+abbrev pub SetsNone : Bool → Option ℕ → Type 0
+SetsNone here sets = cond here sets None ≡ None
+
+-- a command that sets nothing doesn't set this value
+sets_nothing : (errors n value : ℕ) (m : Message) → header_of m.1 ≡ Ok (IsCommand, n) → errors_set_by m.1 ≡ None
+    → (link_served errors n (body_in m.1)).1 ≡ Some value → ⊥
+sets_nothing errors n value m command none is =
+    let none_here : (link_served 0 n (body_in m.1)).1 ≡ None = sym (set_by_is m.1 ∙ ap (set_by_header m.1) command) ∙ none in
+    let both : Some value ≡ None = sym is ∙ (set_same errors n (body_in m.1) ∙ none_here) in
+    cc both
+
+-- ### Other messages
+
+plain : Plain IsUnset
+plain = record { sends = λ to x. tt; says_ok = tt; releases = λ asker. tt; is_answered = tt; drops = λ pid. tt }
+
+own : (core : Core) → OfHost IsUnset core
+own core = record { commits = λ c. tt; hears = tt; goes_on = λ i. tt; orders = λ i k order is. tt; same = tt; made = λ count. tt; failed = λ code. tt }
+
+decision_unset : (h : ℕ) (d : Decision) → OfDecision IsUnset h d
+decision_unset h (Answer answer) = tt
+decision_unset h (Commit c answer tell notice) = (tt, anyone (λ y. IsUnset (Tells y notice.items)) (λ y. tt) (hosts_where (has tell)))
+decision_unset h (Ask asked notice c answer) = tt
+
+pub controller_unset : (core : Core) (ports : List Port) (h : ℕ) (m : Message)
+    → SetsNone (is_link_gate (own_gate core.tables h m.0)) (errors_set_by m.1) → AreUnset (controller_deeds (view_of core ports) h m)
+controller_unset core ports h m none =
+    all_of_controller IsUnset plain core ports h m
+    (λ n. decision_unset h (decided core.tables (view_for core.tables ports h) h m.0 n (body_in m.1))) (λ p c here asked. tt)
+    (λ errors n value command gate is.
+    sets_nothing errors n value m command (subst (λ b. SetsNone b (errors_set_by m.1)) (ap is_link_gate gate) none) is)
+
+pub host_unset : (core : Core) (p : Port) (m : Message) → SetsNone (eqb m.0 0) (errors_set_by m.1) → AreUnset (host_deeds (own_view core) (end_view p) m)
+host_unset core p m none =
+    all_of_host IsUnset core plain (own core) p m
+    (λ n value command zero is. sets_nothing p.desk.errors n value m command (subst (λ b. SetsNone b (errors_set_by m.1)) zero none) is)
+
+-- ### Commands that set it
+
+-- a header that sets something is a command's
+record SetsBy (message : List ℕ) (v : ℕ) : Type 0 where
+  pub instruction : ℕ
+  pub header : header_of message ≡ Ok (IsCommand, instruction)
+  pub sets : (link_served 0 instruction (body_in message)).1 ≡ Some v
+
+sets_by : (message : List ℕ) (v : ℕ) → errors_set_by message ≡ Some v → SetsBy message v
+sets_by message v e = by (header_of message) refl where
+  by : (x : Result (MessageKind × ℕ) MessageFault) → header_of message ≡ x → SetsBy message v
+  by (Ok (IsCommand, instruction)) q = record { instruction = instruction; header = q; sets = sym (set_by_is message ∙ ap (set_by_header message) q) ∙ e }
+  by (Ok (IsEvent, instruction)) q = let none : None ≡ Some v = sym (set_by_is message ∙ ap (set_by_header message) q) ∙ e in absurd (cc none)
+  by (Ok (IsResponse, code)) q = let none : None ≡ Some v = sym (set_by_is message ∙ ap (set_by_header message) q) ∙ e in absurd (cc none)
+  by (Err fault) q = let none : None ≡ Some v = sym (set_by_is message ∙ ap (set_by_header message) q) ∙ e in absurd (cc none)
+
+-- the end of the link with this host is up
+pub record IsUpAt (ports : List Port) (h : ℕ) : Type 0 where
+  pub port : Port
+  pub here : port_at ports h ≡ Some port
+  pub up : port.side.shdlc.phase ≡ Up
+
+-- what is done with a command that sets it to v: it is set and answered by ANY_OK, it is answered otherwise, or it is dropped
+pub data SetDeeds (ports : List Port) (h pid v : ℕ) (deeds : List Deed) : Type 0 where
+  IsSet : IsUpAt ports h → deeds ≡ SetsErrors v ∷ Sends h (pid, answer_of response.Ok []) ∷ [] → SetDeeds ports h pid v deeds
+  IsRefused : IsUpAt ports h → deeds ≡ Sends h (pid, answer_of response.PipeNotOpened []) ∷ [] → SetDeeds ports h pid v deeds
+  IsDropped : deeds ≡ Drops pid ∷ [] → SetDeeds ports h pid v deeds
+
+link_up : (ports : List Port) (h : ℕ) → has_link ports h ≡ true → IsUpAt ports h
+link_up ports h up = by_option (port_at ports h)
+    (λ q. let no : false ≡ true = rw q at up in absurd (true≢false (sym no)))
+    (λ p q. record { port = p; here = q; up = up_is p.side.shdlc.phase (let z = up in rw q at z) })
+
+set_deeds : (h pid errors instruction v : ℕ) (body : List ℕ) → (link_served 0 instruction body).1 ≡ Some v
+    → link_deeds h pid (link_served errors instruction body) ≡ SetsErrors v ∷ Sends h (pid, answer_of response.Ok []) ∷ []
+set_deeds h pid errors instruction v body sets = ap (link_deeds h pid) (set_is errors instruction body v sets).0
+
+abbrev both_of : ℕ → ℕ → Option (ℕ × ℕ)
+both_of host gate = Some (host, gate)
+
+-- the gate that a pipe leads to, by its far end
+gate_far : (t : HciTables) (h pid : ℕ) → is_link_gate (own_gate t h pid) ≡ true → far_end t h pid ≡ both_of 0 6
+gate_far t h pid is = by (far_end t h pid) refl where
+  by : (o : Option (ℕ × ℕ)) → far_end t h pid ≡ o → o ≡ both_of 0 6
+  by None q = let no : false ≡ true = rw q at is in absurd (true≢false (sym no))
+  by (Some (host, gate)) q = ends (eqb host 0) (eqb gate 0) refl refl where
+    ends : (a b : Bool) → eqb host 0 ≡ a → eqb gate 0 ≡ b → both_of host gate ≡ both_of 0 6
+    ends false b x y = let no : false ≡ true = rw (q, x) at is in absurd (true≢false (sym no))
+    ends true true x y = let no : false ≡ true = rw (q, x, y) at is in absurd (true≢false (sym no))
+    ends true false x y =
+        let six : eqb gate 6 ≡ true = rw (q, x, y) at is in
+        ap (λ a. both_of a gate) (eqb-true host 0 x) ∙ ap (both_of 0) (eqb-true gate 6 six)
+
+pub controller_sets : (core : Core) (ports : List Port) (h : ℕ) (m : Message) (v : ℕ) → is_link_gate (own_gate core.tables h m.0) ≡ true
+    → errors_set_by m.1 ≡ Some v → SetDeeds ports h m.0 v (controller_deeds (view_of core ports) h m)
+controller_sets core ports h m v leads sets =
+    subst (SetDeeds ports h m.0 v) (sym not_relayed) (by_link (has_link ports h) refl) where
+      s : SetsBy m.1 v
+      s = sets_by m.1 v sets
+
+      far : far_end core.tables h m.0 ≡ both_of 0 6
+      far = gate_far core.tables h m.0 leads
+
+      gate_is : own_gate core.tables h m.0 ≡ Some 6
+      gate_is = rw far refl
+
+      relayed_none : relayed_to core.tables h m ≡ None
+      relayed_none = rw far (cond_both _ None None (λ o. o ≡ None) (λ _. refl) (λ _. refl))
+
+      not_relayed : controller_deeds (view_of core ports) h m ≡ own_deeds (view_of core ports) h m (has_link ports h)
+      not_relayed = ap (deeds_by_relay (view_of core ports) h m) relayed_none
+
+      other_pipe : eqb m.0 1 ≡ false
+      other_pipe = by_test (eqb m.0 1)
+          (λ q. rw q (let one : m.0 ≡ 1 = eqb-true m.0 1 q in
+          let no : far_end core.tables h 1 ≡ both_of 0 6 = subst (λ n. far_end core.tables h n ≡ both_of 0 6) one far in absurd (cc no)))
+          (λ q. rw q refl)
+
+      kind_is : kind_deeds (view_of core ports) h m (header_of m.1) ≡ command_deeds (view_of core ports) h m.0 s.instruction (body_in m.1)
+      kind_is = ap (kind_deeds (view_of core ports) h m) s.header
+          ∙ ap (λ b. unless_asking (view_of core ports) h m s.instruction (b && asks_for ports h)) other_pipe
+
+      one_is : s.instruction ≡ 1
+      one_is = eqb-true s.instruction 1 (set_is 0 s.instruction (body_in m.1) v s.sets).1
+
+      view : LinkView
+      view = view_for core.tables ports h
+
+      through_is : goes_through core.tables h m.0 s.instruction ≡ is_opened core.tables h m.0
+      through_is = ap (λ n. is_opened core.tables h m.0 && not (eqb n 3 || eqb n 4)) one_is ∙ and-true (is_opened core.tables h m.0)
+
+      command_is : (b : Bool) → is_opened core.tables h m.0 ≡ b
+          → command_deeds (view_of core ports) h m.0 s.instruction (body_in m.1)
+          ≡ served_at (own_view core) view h m.0 s.instruction (body_in m.1) (cond b (Some 6) None)
+      command_is b q =
+          ap (λ c. served_at (own_view core) view h m.0 s.instruction (body_in m.1) (cond c (own_gate core.tables h m.0) None)) (through_is ∙ q)
+          ∙ ap (λ o. served_at (own_view core) view h m.0 s.instruction (body_in m.1) (cond b o None)) gate_is
+
+      refused : is_opened core.tables h m.0 ≡ false → decided core.tables view h m.0 s.instruction (body_in m.1) ≡ answers response.PipeNotOpened []
+      refused q = ap (λ n. decided core.tables view h m.0 n (body_in m.1)) one_is ∙ rw (far, q) refl
+
+      by_opened : (b : Bool) → is_opened core.tables h m.0 ≡ b → IsUpAt ports h
+          → SetDeeds ports h m.0 v (command_deeds (view_of core ports) h m.0 s.instruction (body_in m.1))
+      by_opened true q up = IsSet up (command_is true q ∙ set_deeds h m.0 view.errors s.instruction v (body_in m.1) s.sets)
+      by_opened false q up = IsRefused up (command_is false q ∙ ap (decision_deeds (own_view core) h m.0) (refused q))
+
+      by_link : (b : Bool) → has_link ports h ≡ b → SetDeeds ports h m.0 v (own_deeds (view_of core ports) h m b)
+      by_link false q = IsDropped refl
+      by_link true q = subst (SetDeeds ports h m.0 v) (sym kind_is) (by_opened (is_opened core.tables h m.0) refl (link_up ports h q))
+
+pub host_sets : (core : Core) (ports : List Port) (p : Port) (m : Message) (v : ℕ) → port_at ports core.node ≡ Some p → eqb m.0 0 ≡ true
+    → errors_set_by m.1 ≡ Some v → SetDeeds ports core.node m.0 v (host_deeds (own_view core) (end_view p) m)
+host_sets core ports p m v here zero sets = by_test (is_up p.side.shdlc.phase)
+    (λ q. let shown : host_deeds (own_view core) (end_view p) m
+    ≡ ordered_deeds (own_view core) p.desk.errors m.0 s.instruction (body_in m.1) = rw (q, s.header) refl in
+    IsSet (record { port = p; here = here; up = up_is p.side.shdlc.phase q })
+    (shown ∙ (ordered_is ∙ set_deeds core.node m.0 p.desk.errors s.instruction v (body_in m.1) s.sets)))
+    (λ q. IsDropped (rw q refl)) where
+      s : SetsBy m.1 v
+      s = sets_by m.1 v sets
+
+      zero_is : m.0 ≡ 0
+      zero_is = eqb-true m.0 0 zero
+
+      ordered_is : ordered_deeds (own_view core) p.desk.errors m.0 s.instruction (body_in m.1)
+          ≡ link_deeds core.node m.0 (link_served p.desk.errors s.instruction (body_in m.1))
+      ordered_is =
+          ap (λ n. ordered_deeds (own_view core) p.desk.errors n s.instruction (body_in m.1)) zero_is
+          ∙ ap (λ n. link_deeds core.node n (link_served p.desk.errors s.instruction (body_in m.1))) (sym zero_is)
+
+-- ## A node does deeds that don't set REC_ERROR of its end: what is read of it stays what the node keeps
 
 -- the side of its link that an end is on
 abbrev pub side_of : End → Side
@@ -30,11 +390,11 @@ map_has e n f one [] all = tt
 map_has e n f one (p ∷ ports) all = (one p all.0, map_has e n f one ports all.1)
 
 -- a turn is noted, if it is, as a message that was sent
-pub turn_undamaged : (who : Side) (t : Turn) (p : Port) → AllByRecursion IsUndamaged (turn_entry who p.session p.side t)
+turn_undamaged : (who : Side) (t : Turn) (p : Port) → AllByRecursion IsUndamaged (turn_entry who p.session p.side t)
 turn_undamaged who (Give m) p = by_option (give_refusal p.side m) (λ q. rw q (tt, tt)) (λ why q. rw q tt)
 turn_undamaged who _ p = tt
 
-pub turn_still : (e : End) (core : Core) (t : Turn) (o : Option Port) → AllByRecursion (IsStill e) (option_map_or (noted_of core t) o [])
+turn_still : (e : End) (core : Core) (t : Turn) (o : Option Port) → AllByRecursion (IsStill e) (option_map_or (noted_of core t) o [])
 turn_still e core t None = tt
 turn_still e core t (Some p) = notes_still e p.desk.host (turn_entry (own_side core) p.session p.side t) (turn_undamaged (own_side core) t p)
 
@@ -156,7 +516,7 @@ module _ (e : End) (hosts : List ℕ) (x0 : ErrorCount) where
       tables = λ on near. ap (λ t. apply t c) (r.tables on near) ∙ sym (ap (λ (b : Book). b.tables) (told near));
     })
 
-  -- ## Deeds
+  -- ### Deeds
 
   -- a deed for a message of the host k sets it at another end, if at all
   abbrev pub IsFine : ℕ → Deed → Type 0
@@ -218,7 +578,7 @@ module _ (e : End) (hosts : List ℕ) (x0 : ErrorCount) where
   all_do k [] w q r = r
   all_do k (d ∷ deeds) w q r = unless (all_done k deeds) (done k d w) (λ on s. all_do k deeds (done k d w) q.1 s) (does k d w q.0 r)
 
-  -- ## Messages that are held
+  -- ### Messages that are held
 
   pub holds : (k : ℕ) (short : ℕ × ℕ) (w : Work) → Right w → Right (holds_back k short w)
   holds k short w r = by_test (option_map_or (λ (p : Port). p.desk.holds) (port_at w.ports k) false)

@@ -1,21 +1,213 @@
--- A step of a host: the init that runs there stays what is read.
-use Rattle.node_laws.proofs.Words.{AllByRecursion, Asks, Bool, Cause, Commits, Core, Deed, Desk, Drops, Ends, Entry, FetchMessage, Give, GoesOn, Hears, Hold}
-use Rattle.node_laws.proofs.Words.{Host, Init, IsAnswered, IsHost, LinkInput, LinkState, List, Message, None, Noted, Option, Orders, Port, Refused, Release}
-use Rattle.node_laws.proofs.Words.{Releases, SaysOk, Sends, Sent, SetsErrors, Some, Tells, Turn, Up, Work, Write, [], after_input, after_turn, all_done, ap}
-use Rattle.node_laws.proofs.Words.{body_of, by_cut, by_option, by_test, cases_Bool, changed_if, changed_same, commit, commit_writes, cond, cond-true, count_of}
-use Rattle.node_laws.proofs.Words.{deeds_of, done, end_h, end_of, end_of_node, end_view, ended_by, entries_for, eq-eqb, eqb, eqb-true, fails_within, false}
-use Rattle.node_laws.proofs.Words.{give_refusal, goes_through_ends, handles, have_turns, holds_back, host_deeds, init_after, inl, inr, is_held, is_response}
-use Rattle.node_laws.proofs.Words.{is_some, keeps, lack, length, lets_go, loses_power, map, needs, noted_of, noting, option_map, option_map_or, option_to_list}
-use Rattle.node_laws.proofs.Words.{own_side, own_view, passes, port_at, refl, report, same_end, sent_unless, subst, sym, told_at, true, true≢false, turn_at}
-use Rattle.node_laws.proofs.Words.{unless_cut, whole_acked, with_desk, with_port, with_response, ℕ, ◌&&◌, ◌++◌, ◌∙◌, ◌∷◌, ◌≡◌, ◌⊎◌}
-use Rattle.trace_model.specs.declared.entry.Entry.TheVariants as entry
+-- A host has its turns and its steps, and begins something: the init that runs there stays what is read, and so it does in steps of others.
+use Rattle.node_laws.proofs.Words.{Acked, Active, AllByRecursion, Asks, Bool, Cause, Command, Commits, Controller, Core, Cut, Deed, Desk, Down as NotedDown}
+use Rattle.node_laws.proofs.Words.{Drops, Ends, Entry, Err, FetchMessage, GaveUp, Give, GoesOn, Got, HasEnds, Hears, Hold, Host, Init, InitMade, IsAnswered}
+use Rattle.node_laws.proofs.Words.{IsComing, IsFresh, IsHost, IsOutside, IsResponse, LeavesInit, LinkInput, LinkState, List, Message, MessageFault, MessageKind}
+use Rattle.node_laws.proofs.Words.{NodeInput, None, Noted, NumberedEnd, Ok, Option, Orders, Plain, Plan, Port, Refused, Release, Releases, Restarted, Result}
+use Rattle.node_laws.proofs.Words.{Running, SaysOk, Sends, Sent, Set, SetsErrors, Some, Tells, Turn, Up, Waiting, Work, Write, [], after_input, after_sessions}
+use Rattle.node_laws.proofs.Words.{after_turn, all_done, all_synced_hold, and-true, ap, append-nil, beginning, begins_with, body_in, body_of, by_cut, by_option}
+use Rattle.node_laws.proofs.Words.{by_test, cases_Bool, changed_if, changed_same, comes_to_pass, commit, commit_writes, cond, cond-true, cond_both, count_of}
+use Rattle.node_laws.proofs.Words.{deeds_of, done, end_h, end_of, end_of_node, end_view, ended_by, entries_for, entry_of, eq-eqb, eqb, eqb-true, fails_within}
+use Rattle.node_laws.proofs.Words.{false, flat_map, fold, fold-append, gate_of_pipe, give_refusal, goes_through_ends, handles, has, has_come, have_turns}
+use Rattle.node_laws.proofs.Words.{header_of, holds_back, host_deeds, init_after, init_deeds, init_holds, init_of, init_of_running, inl, input_at, inr}
+use Rattle.node_laws.proofs.Words.{is_command_message, is_gate, is_held, is_response, is_some, is_up, keeps, lack, learned, learned_holds, learns, learns_holds}
+use Rattle.node_laws.proofs.Words.{length, lets_go, loses_power, map, needs, noted_of, noting, option_map, option_map_or, option_to_list, ordered_deeds}
+use Rattle.node_laws.proofs.Words.{own_side, own_view, passes, port_at, refl, report, response_deeds, runs_left, runs_none, runs_on, same_end, sending}
+use Rattle.node_laws.proofs.Words.{sent_unless, steps, subst, sym, synced, told_at, true, true≢false, turn_at, unless_cut, whole_acked, with_desk, with_port}
+use Rattle.node_laws.proofs.Words.{with_response, work_of, ℕ, ◌&&◌, ◌++◌, ◌∙◌, ◌∷◌, ◌≡◌, ◌⊎◌}
+use Rattle.gate_loopback.specs.Loopback.{posts_back}
+use Rattle.hcp_packet.specs.declared.MessageKind.TheVariants.{Command as IsCommand, Event as IsEvent}
 use Rattle.link_laws.specs.entries.Entries.{End as Side}
-use Rattle.link_laws.specs.entries.Entries.Entry.{Down as IsDown}
-use Rattle.node_laws.proofs.links.Noticing.{turn-phase}
-use Rattle.node_laws.proofs.readings.Silent.{IsQuiet, host_side, told_rest, rest_quiet, same_own}
-use Rattle.node_laws.proofs.views.Answering.{reads_init, init_append, MayGo, answered_by, host_go}
+use Rattle.link_laws.specs.entries.Entries.Entry.{Down as IsDown, Tick, Up as NotedUp}
+use Rattle.node_machine.proofs.Walks.{all_ordered}
+use Rattle.shdlc_core.specs.declared.answers.LinkState.TheVariants.{Down}
+use Rattle.node_laws.specs.views.Inits.{KeepsInit}
+use Rattle.node_laws.proofs.links.Noticing.{outside, stays_up, turn-phase}
+use Rattle.node_laws.proofs.readings.Noting.{IsBeside, IsOwnNote, Notes, NotesSo, all_do, behind, behind_is, came_is, controller_notes, host_notes, on_is}
+use Rattle.node_laws.proofs.readings.Noting.{over_is, steps_note}
+use Rattle.node_laws.proofs.readings.Turning.{IsQuiet, host_side, rest_quiet, same_own, told_rest}
+use Rattle.node_laws.proofs.telling.Events.{ports_for}
+use Rattle.trace_model.specs.declared.entry.Entry.TheVariants as entry
 
--- ## What is noted of an end
+-- ## A host has its turns, in which an init goes on or ends: what is read of it stays what the host keeps
+
+-- what is read behind these entries, where this was read before
+abbrev pub reads_init : ℕ → List Entry → Option Init → Option Init
+reads_init h es i = fold (init_after h) i es
+
+pub init_append : (h : ℕ) (xs ys : List Entry) (i : Option Init) → reads_init h (xs ++ ys) i ≡ reads_init h ys (reads_init h xs i)
+init_append h xs ys i = fold-append (init_after h) i xs ys
+
+-- ### Deeds of a host
+
+-- a deed that neither gives nor hears a command of the host, nor tells of its init
+abbrev IsNeutral : Deed → Type 0
+IsNeutral (Orders message) = ⊥
+IsNeutral Hears = ⊥
+IsNeutral (GoesOn i) = ⊥
+IsNeutral (Ends y) = ⊥
+IsNeutral (Asks to message c) = ⊥
+IsNeutral (Tells to message) = ⊥
+IsNeutral _ = Unit {0}
+
+abbrev AreNeutral : List Deed → Type 0
+AreNeutral deeds = AllByRecursion IsNeutral deeds
+
+plain : Plain IsNeutral
+plain = record { sends = λ to x. tt; says_ok = tt; releases = λ asker. tt; is_answered = tt; drops = λ pid. tt }
+
+ordered_neutral : (core : Core) (errors pipe n : ℕ) (body : List ℕ) → AreNeutral (ordered_deeds (own_view core) errors pipe n body)
+ordered_neutral core errors pipe n body = all_ordered IsNeutral core plain (λ c. tt) errors pipe n body (λ zero value is. tt)
+
+learns_neutral : (core : Core) (c : Command) → AreNeutral (learns (own_view core) c)
+learns_neutral core c = learns_holds AreNeutral core tt (λ c may room. (tt, tt)) c
+
+learned_neutral : (core : Core) (order value : List ℕ) → AreNeutral (learned (own_view core) order value)
+learned_neutral core order value = learned_holds AreNeutral core tt (λ c may room. (tt, tt)) order value
+
+module _ (h : ℕ) (now : LinkState) where
+  -- Deeds that may follow where y is read of the init, and the host keeps this command and this init: behind them what is read is what
+  -- is kept, and where an init runs a command waits and the end is up.
+  abbrev pub MayGo : Option Init → Option (List ℕ) → Option Init → List Deed → Type 0
+  MayGo y command init [] = (y ≡ init) × (is_some init ≡ true → (is_some command ≡ true) × (now ≡ Up))
+  MayGo y command init (Orders order ∷ deeds) = MayGo y (Some order) init deeds
+  MayGo y command init (Hears ∷ deeds) = MayGo y None init deeds
+  MayGo y command init (GoesOn i ∷ deeds) = MayGo y command (Some i) deeds
+  MayGo y command init (Ends x ∷ deeds) = MayGo (init_after h y x) command None deeds
+  MayGo y command init (Asks to message c ∷ deeds) = ⊥
+  MayGo y command init (Tells to message ∷ deeds) = ⊥
+  MayGo y command init (_ ∷ deeds) = MayGo y command init deeds
+
+  neutral_go : (y : Option Init) (command : Option (List ℕ)) (init : Option Init) (deeds more : List Deed) → AreNeutral deeds → MayGo y command init more
+      → MayGo y command init (deeds ++ more)
+  neutral_go y command init [] more all go = go
+  neutral_go y command init (Asks to message c ∷ deeds) more all go = absurd all.0
+  neutral_go y command init (Tells to message ∷ deeds) more all go = absurd all.0
+  neutral_go y command init (Orders order ∷ deeds) more all go = absurd all.0
+  neutral_go y command init (Hears ∷ deeds) more all go = absurd all.0
+  neutral_go y command init (GoesOn i ∷ deeds) more all go = absurd all.0
+  neutral_go y command init (Ends x ∷ deeds) more all go = absurd all.0
+  neutral_go y command init (_ ∷ deeds) more all go = neutral_go y command init deeds more all.1 go
+
+  neutral_stays : (y : Option Init) (command : Option (List ℕ)) (init : Option Init) (deeds : List Deed) → y ≡ init
+      → (is_some init ≡ true → (is_some command ≡ true) × (now ≡ Up)) → AreNeutral deeds → MayGo y command init deeds
+  neutral_stays y command init deeds is waits all = subst (MayGo y command init) (append-nil deeds) (neutral_go y command init deeds [] all (is, waits))
+
+  module _ (core : Core) (number : core.node ≡ h) (side : own_side core ≡ Host) where
+    ends_own : same_end (end_of_node core core.node) (end_h h) ≡ true
+    ends_own = ap (λ s. same_end (end_of core.node s) (end_h h)) side ∙ (ap (λ n. same_end (end_h n) (end_h h)) number ∙ same_own h)
+
+    over : (y : Option Init) → cond (same_end (end_of_node core core.node) (end_h h)) None y ≡ None
+    over y = ap (λ b. cond b None y) ends_own
+
+    ended : (y : Option Init) (command : Option (List ℕ)) → y ≡ None → MayGo y command None []
+    ended y command is = (is, λ some. absurd (true≢false (sym some)))
+
+    -- a response came to a command of an init, and one more is read as answered
+    init_go : (code : ℕ) (value : List ℕ) (init : Option Init) → now ≡ Up
+        → MayGo (option_map with_response init) None init (init_deeds (own_view core) code value init)
+    init_go code value None up = ended None None refl
+    init_go code value (Some i) up = init_holds (MayGo (Some (with_response i)) None (Some i)) core i code value (record {
+      same = ended _ None (over (Some (with_response i)));
+      failed = λ code. ended _ None (over (Some (with_response i)));
+      made =
+          neutral_go (Some (with_response i)) None (Some i) (learns (own_view core) (Set core.node 0 1 (record { items = i.identity })))
+          (Ends (InitMade (end_of_node core core.node) (length i.pipes)) ∷ []) (learns_neutral core (Set core.node 0 1 (record { items = i.identity })))
+          (ended _ None (over (Some (with_response i))));
+      next = λ order is. (refl, λ some. (refl, up));
+    })
+
+    none_of : (o : Option Init) → (is_some o ≡ true → ⊥) → o ≡ None
+    none_of None e = refl
+    none_of (Some i) e = absurd (e refl)
+
+    response_go : (code : ℕ) (value : List ℕ) → now ≡ Up → (is_some core.init ≡ true → is_some core.command ≡ true)
+        → MayGo (option_map with_response core.init) core.command core.init (response_deeds (own_view core) code value)
+    response_go code value up waits = by_option core.command
+        (λ q. rw q (rw (none_is q) (ended None None refl)))
+        (λ order q. rw q (neutral_go (option_map with_response core.init) None core.init (cond (eqb code 0) (learned (own_view core) order value) [])
+        (init_deeds (own_view core) code value core.init)
+        (cond_both (eqb code 0) (learned (own_view core) order value) [] AreNeutral (λ _. learned_neutral core order value) (λ _. tt))
+        (init_go code value core.init up))) where
+          none_is : core.command ≡ None → core.init ≡ None
+          none_is q = none_of core.init (λ some. true≢false (sym (waits some) ∙ ap is_some q))
+
+    -- what is read of the init behind the turn of a message
+    abbrev answered_by : Message → Option Init → Option Init
+    answered_by m y = cond (eqb m.0 1 && is_response m.1) (option_map with_response y) y
+
+    neutral_all : (y : Option Init) (deeds : List Deed) → y ≡ core.init → (is_some core.init ≡ true → (is_some core.command ≡ true) × (now ≡ Up))
+        → AreNeutral deeds
+        → MayGo y core.command core.init deeds
+    neutral_all y deeds is waits all = subst (MayGo y core.command core.init) (append-nil deeds) (neutral_go y core.command core.init deeds [] all (is, waits))
+
+    not_answered : (m : Message) (y : Option Init) → is_response m.1 ≡ false → answered_by m y ≡ y
+    not_answered m y other = ap (λ b. cond b (option_map with_response y) y) (off (eqb m.0 1) (is_response m.1) other) where
+      off : (a b : Bool) → b ≡ false → (a && b) ≡ false
+      off true b q = q
+      off false b q = refl
+
+    -- what a host does with a message
+    host_go : (p : Port) (m : Message) → p.side.shdlc.phase ≡ now → (is_some core.init ≡ true → (is_some core.command ≡ true) × (now ≡ Up))
+        → MayGo (answered_by m core.init) core.command core.init (host_deeds (own_view core) (end_view p) m)
+    host_go p m phase waits = go (is_up p.side.shdlc.phase) (header_of m.1) refl refl where
+      Fine : List Deed → Type 0
+      Fine deeds = MayGo (answered_by m core.init) core.command core.init deeds
+
+      up_of : (s : LinkState) → is_up s ≡ true → s ≡ Up
+      up_of Up e = refl
+      up_of Waiting e = absurd (true≢false (sym e))
+      up_of Down e = absurd (true≢false (sym e))
+
+      up_is : (s : LinkState) → s ≡ Up → is_up s ≡ true
+      up_is s e = rw e refl
+
+      none_there : is_up p.side.shdlc.phase ≡ false → core.init ≡ None
+      none_there q = none_of core.init (λ some. true≢false (sym (up_is p.side.shdlc.phase (phase ∙ (waits some).1)) ∙ q))
+
+      same_none : (i : Option Init) → i ≡ None → answered_by m i ≡ i
+      same_none i e = subst (λ i. answered_by m i ≡ i) (sym e) (cond_both (eqb m.0 1 && is_response m.1) None None (λ (o : Option Init). o ≡ None) (λ _. refl)
+          (λ _. refl))
+
+      go : (b : Bool) (x : Result (MessageKind × ℕ) MessageFault) → is_up p.side.shdlc.phase ≡ b → header_of m.1 ≡ x
+          → Fine (host_deeds (own_view core) (end_view p) m)
+      go false x q z = rw q (neutral_all (answered_by m core.init) (Drops m.0 ∷ []) (same_none core.init (none_there q)) waits (tt, tt))
+      go true (Ok (IsCommand, n)) q z =
+          let other : is_response m.1 ≡ false = rw z refl in
+          let shown : host_deeds (own_view core) (end_view p) m ≡ ordered_deeds (own_view core) p.desk.errors m.0 n (body_in m.1) = rw (q, z) refl in
+          subst Fine (sym shown)
+          (neutral_all (answered_by m core.init) (ordered_deeds (own_view core) p.desk.errors m.0 n (body_in m.1)) (not_answered m core.init other) waits
+          (ordered_neutral core p.desk.errors m.0 n (body_in m.1)))
+      go true (Ok (IsEvent, n)) q z = by (is_gate 4 (gate_of_pipe (own_view core) m.0) && posts_back m.1) refl where
+        other : is_response m.1 ≡ false
+        other = rw z refl
+
+        shown : (b : Bool) → (is_gate 4 (gate_of_pipe (own_view core) m.0) && posts_back m.1) ≡ b
+            → host_deeds (own_view core) (end_view p) m ≡ cond b (Sends core.node m ∷ []) []
+        shown b e = rw (q, z) (ap (λ c. cond c (Sends core.node m ∷ []) []) e)
+
+        by : (b : Bool) → (is_gate 4 (gate_of_pipe (own_view core) m.0) && posts_back m.1) ≡ b → Fine (host_deeds (own_view core) (end_view p) m)
+        by b e = subst Fine (sym (shown b e)) (neutral_all (answered_by m core.init) (cond b (Sends core.node m ∷ []) []) (not_answered m core.init other) waits
+            (cond_both b (Sends core.node m ∷ []) [] AreNeutral (λ _. (tt, tt)) (λ _. tt)))
+      go true (Err fault) q z =
+          let other : is_response m.1 ≡ false = rw z refl in
+          let shown : host_deeds (own_view core) (end_view p) m ≡ [] = rw (q, z) refl in
+          subst Fine (sym shown) (neutral_all (answered_by m core.init) [] (not_answered m core.init other) waits tt)
+      go true (Ok (IsResponse, n)) q z = subst Fine (sym shown) (by_pipe (cases_Bool (eqb m.0 1))) where
+        shown : host_deeds (own_view core) (end_view p) m ≡ cond (eqb m.0 1) (response_deeds (own_view core) n (body_in m.1)) []
+        shown = rw (q, z) refl
+
+        by_pipe : (eqb m.0 1 ≡ true) ⊎ (eqb m.0 1 ≡ false) → Fine (cond (eqb m.0 1) (response_deeds (own_view core) n (body_in m.1)) [])
+        by_pipe (inl one) =
+            subst (λ b. MayGo (cond (b && is_response m.1) (option_map with_response core.init) core.init) core.command core.init (cond b
+            (response_deeds (own_view core) n (body_in m.1)) [])) (sym one)
+            (rw z (response_go n (body_in m.1) (sym phase ∙ up_of p.side.shdlc.phase q) (λ some. (waits some).0)))
+        by_pipe (inr off) =
+            subst (λ b. MayGo (cond (b && is_response m.1) (option_map with_response core.init) core.init) core.command core.init (cond b
+            (response_deeds (own_view core) n (body_in m.1)) [])) (sym off) (neutral_all core.init [] refl waits tt)
+
+-- ## A step of a host: the init that runs there stays what is read
+
+-- ### What is noted of an end
 
 pub quiet_init : (h k : ℕ) (notes : List Noted) (y : Option Init) → AllByRecursion IsQuiet notes → reads_init h (entries_for k notes) y ≡ y
 quiet_init h k [] y all = refl
@@ -23,7 +215,7 @@ quiet_init h k (IsDown who cause ∷ notes) y all = absurd all.0
 quiet_init h k (Sent who n m ∷ notes) y all = absurd all.0
 quiet_init h k (_ ∷ notes) y all = quiet_init h k notes y all.1
 
-pub told_init : (h : ℕ) (core : Core) (p : Port) (i : LinkInput) (y : Option Init) → own_side core ≡ Host → p.desk.host ≡ h
+told_init : (h : ℕ) (core : Core) (p : Port) (i : LinkInput) (y : Option Init) → own_side core ≡ Host → p.desk.host ≡ h
     → reads_init h (told_at core p (Some i)) y ≡ cond (is_some (ended_by p.side i)) None y
 told_init h core p i y side at = rw side (go (ended_by p.side i)) where
   rest : List Noted
@@ -109,10 +301,10 @@ module _ (h : ℕ) (host : IsHost h) (i0 : Option Init) where
     then_on : (f : Work → Work) (w : Work) → w.cut ≡ false → Stands now (f w) → Stands now (unless_cut f w)
     then_on f w on s = by_cut (Stands now) f w (λ q. absurd (true≢false (sym q ∙ on))) (λ q. s)
 
-    pub then : (f : Work → Work) (w : Work) → (w.cut ≡ false → Stands now w → Stands now (f w)) → Stands now w → Stands now (unless_cut f w)
+    then : (f : Work → Work) (w : Work) → (w.cut ≡ false → Stands now w → Stands now (f w)) → Stands now w → Stands now (unless_cut f w)
     then f w one s = by_cut (Stands now) f w (λ q. s) (λ q. one q s)
 
-    -- ## Deeds
+    -- ### Deeds
 
     pub all_go : (k : ℕ) (deeds : List Deed) (w : Work) (y : Option Init) → w.cut ≡ false → Base now w → reads_init h w.entries i0 ≡ y
         → MayGo h now y w.core.command w.core.init deeds → Stands now (all_done k deeds w)
@@ -178,7 +370,7 @@ module _ (h : ℕ) (host : IsHost h) (i0 : Option Init) where
         (all_go k deeds (done k (Ends x) w) (init_after h y x) on (same_base w (done k (Ends x) w) refl refl b)
         (init_append h w.entries (x ∷ []) i0 ∙ ap (λ z. init_after h z x) was) may)
 
-    -- ## Turns
+    -- ### Turns
 
     side_of_host : (w : Work) → Base now w → own_side w.core ≡ Host
     side_of_host w b = host_side w.core h host b.number
@@ -276,5 +468,258 @@ module _ (h : ℕ) (host : IsHost h) (i0 : Option Init) where
               (have (option_map_or (λ (p : Port). p.side.got) (port_at w.ports h) []) w on s)
           by (inr q) = subst (λ ms. Stands now (have_turns k ms w)) (sym (none_is q)) (lets k w s)
 
-    pub passes_stand : (w : Work) → w.cut ≡ false → Stands now w → Stands now (passes w)
+    passes_stand : (w : Work) → w.cut ≡ false → Stands now w → Stands now (passes w)
     passes_stand w on s = goes (map (λ (p : Port). p.desk.host) w.ports) w on s
+
+-- ## Something comes to a host, or it begins something: the init that runs there stays what is read
+
+module _ (h : ℕ) (host : IsHost h) (i0 : Option Init) where
+  -- what came to the end of a host
+  record HasCome (now : LinkState) (w : Work) (q : Port) (more : List Entry) : Type 0 where
+    at : q.desk.host ≡ h
+    quiet : q.desk.notice ≡ None
+    late : q.late ≡ false
+    told : (y : Option Init) → reads_init h more y ≡ cond q.ended None y
+    up : now ≡ Up → q.ended ≡ false → q.side.shdlc.phase ≡ Up
+
+  came_so : (now : LinkState) (w : Work) (p : Port) (o : Option LinkInput) → ((i : LinkInput) → o ≡ Some i → IsComing i) → w.core.node ≡ h → p.desk.host ≡ h
+      → p.desk.notice ≡ None → p.side.shdlc.phase ≡ now → IsFresh p → HasCome now w (has_come p o) (told_at w.core p o)
+  came_so now w p None coming node at quiet phase fresh = record {
+    at = at;
+    quiet = quiet;
+    late = fresh.1;
+    told = λ y. sym (ap (λ b. cond b None y) fresh.0);
+    up = λ is ended. phase ∙ is;
+  }
+  came_so now w p (Some i) coming node at quiet phase fresh = record {
+    at = at;
+    quiet = quiet;
+    late = fresh.1;
+    told = λ y. told_init h w.core p i y (host_side w.core h host node) at;
+    up = λ is ended. stays_up p.side i (coming i refl) (phase ∙ is) ended;
+  }
+
+  -- the host behind what came
+  begun_stands : (now : LinkState) (w : Work) (q : Port) (more : List Entry) → w.cut ≡ false → Stands h host i0 now w → HasCome now w q more
+      → Stands h host i0 q.side.shdlc.phase (record w { core = after_sessions w.core (q ∷ []); ports = q ∷ []; entries = w.entries ++ more })
+  begun_stands now w q more on s came = by_end (cases_Bool q.ended) where
+    Fine : Core → Type 0
+    Fine core = Stands h host i0 q.side.shdlc.phase (record w { core = core; ports = q ∷ []; entries = w.entries ++ more })
+
+    read : reads_init h (w.entries ++ more) i0 ≡ cond q.ended None w.core.init
+    read = init_append h w.entries more i0 ∙ (came.told (reads_init h w.entries i0) ∙ ap (λ y. cond q.ended None y) (s.on on).0)
+
+    base : (core : Core) → core.node ≡ h → Base h host i0 q.side.shdlc.phase (record w { core = core; ports = q ∷ []; entries = w.entries ++ more })
+    base core number = record { number = number; port = q; is = refl; at = came.at; quiet = came.quiet; phase = refl }
+
+    by_end : (q.ended ≡ true) ⊎ (q.ended ≡ false) → Fine (after_sessions w.core (q ∷ []))
+    by_end (inl e) = subst Fine (sym (over_is w.core q e)) (record {
+      base = base (record w.core { command = None; init = None }) s.base.number;
+      on = λ z. (read ∙ ap (λ b. cond b None w.core.init) e, λ some. absurd (true≢false (sym some)));
+      off = λ z. absurd (true≢false (sym z ∙ on));
+    })
+    by_end (inr e) = subst Fine (sym (on_is w.core q came.late e)) (record {
+      base = base w.core s.base.number;
+      on = λ z. (read ∙ ap (λ b. cond b None w.core.init) e, λ some. (((s.on on).1 some).0, came.up ((s.on on).1 some).1 e));
+      off = λ z. absurd (true≢false (sym z ∙ on));
+    })
+
+  -- and what it does then, before its turns
+  rest_stands : (now : LinkState) (syncs : List Deed) (v : Work) → AreNeutral syncs → v.cut ≡ false → Stands h host i0 now v
+      → Stands h host i0 now (unless_cut (all_done 0 []) (all_done 0 syncs v))
+  rest_stands now syncs v neutral on s =
+      let kept : Stands h host i0 now (all_done 0 syncs v) = all_go h host i0 now 0 syncs v v.core.init on s.base (s.on on).0
+      (neutral_stays h now v.core.init v.core.command v.core.init syncs refl (s.on on).1 neutral) in
+      then h host i0 now (all_done 0 []) (all_done 0 syncs v) (λ still z. z) kept
+
+  behind_stands : (now : LinkState) (syncs : List Deed) (w : Work) (q : Port) (more : List Entry) → AreNeutral syncs → w.cut ≡ false
+      → Stands h host i0 now w → HasCome now w q more
+      → Stands h host i0 q.side.shdlc.phase (behind syncs (record w { ports = q ∷ []; entries = w.entries ++ more }))
+  behind_stands now syncs w q more neutral on s came =
+      let begun : Work = record w { core = after_sessions w.core (q ∷ []); ports = q ∷ []; entries = w.entries ++ more } in
+      subst (Stands h host i0 q.side.shdlc.phase) (sym (behind_is syncs w q more came.quiet))
+      (rest_stands q.side.shdlc.phase syncs begun neutral on (begun_stands now w q more on s came))
+
+  -- as its pass begins
+  pub ready_stand : (now : LinkState) (input : NodeInput) (w : Work) → IsOutside input → w.cut ≡ false → (s : Stands h host i0 now w) → IsFresh s.base.port
+      → Stands h host i0 (has_come s.base.port (input_at input s.base.port)).side.shdlc.phase (comes_to_pass input w)
+  ready_stand now input w out on s fresh =
+      subst (λ v. Stands h host i0 q.side.shdlc.phase (comes_to_pass input v)) (sym w_is)
+      (subst (λ u. Stands h host i0 q.side.shdlc.phase (behind syncs u)) (sym (came_is input w p came.quiet))
+      (behind_stands now syncs w q more neutral on s came)) where
+        p : Port
+        p = s.base.port
+
+        v : Work
+        v = record w { ports = p ∷ [] }
+
+        w_is : w ≡ v
+        w_is = ap (λ ps. record w { ports = ps }) s.base.is
+
+        q : Port
+        q = has_come p (input_at input p)
+
+        more : List Entry
+        more = told_at w.core p (input_at input p)
+
+        came : HasCome now w q more
+        came = came_so now w p (input_at input p) (outside input out p) s.base.number s.base.at s.base.quiet s.base.phase fresh
+
+        syncs : List Deed
+        syncs = flat_map (synced w.core input) (p ∷ [])
+
+        neutral : AreNeutral syncs
+        neutral = all_synced_hold IsNeutral (λ host id. tt) w.core input (p ∷ [])
+
+  pub steps_stand : (now : LinkState) (input : NodeInput) (w : Work) → IsOutside input → w.cut ≡ false → (s : Stands h host i0 now w) → IsFresh s.base.port
+      → Stands h host i0 (has_come s.base.port (input_at input s.base.port)).side.shdlc.phase (steps input w)
+  steps_stand now input w out on s fresh =
+      let later : LinkState = (has_come s.base.port (input_at input s.base.port)).side.shdlc.phase in
+      then h host i0 later passes (comes_to_pass input w) (λ still z. passes_stand h host i0 later (comes_to_pass input w) still z)
+      (ready_stand now input w out on s fresh)
+
+  -- ### What a host keeps
+
+  keeps_stand : (w : Work) → w.cut ≡ false → (k : KeepsInit h i0 w) → Stands h host i0 k.port.side.shdlc.phase w
+  keeps_stand w on k = record {
+    base = record { number = k.node; port = k.port; is = k.ports_are; at = k.host; quiet = k.no_notice; phase = refl };
+    on = λ e. (k.read ∙ ap init_of_running (runs_left w e), k.waits e);
+    off = λ e. absurd (true≢false (sym e ∙ on));
+  }
+
+  stands_keep : (now : LinkState) (w : Work) → Stands h host i0 now w → KeepsInit h i0 w
+  stands_keep now w s = record {
+    node = s.base.number;
+    port = s.base.port;
+    ports_are = s.base.is;
+    host = s.base.at;
+    no_notice = s.base.quiet;
+    waits = λ e some. (((s.on e).1 some).0, s.base.phase ∙ ((s.on e).1 some).1);
+    read = by (cases_Bool w.cut);
+  } where
+    by : (w.cut ≡ true) ⊎ (w.cut ≡ false) → reads_init h w.entries i0 ≡ init_of_running (runs_on w)
+    by (inl e) = s.off e ∙ sym (ap init_of_running (runs_none w e))
+    by (inr e) = (s.on e).0 ∙ sym (ap init_of_running (runs_left w e))
+
+pub steps_keep : (h : ℕ) (begun : Option Init) (input : NodeInput) (w : Work) → IsHost h → IsOutside input → KeepsInit h begun w → w.cut ≡ false
+    → AllByRecursion IsFresh w.ports → KeepsInit h begun (steps input w)
+steps_keep h begun input w host out k on fresh =
+    let s : Stands h host begun k.port.side.shdlc.phase w = keeps_stand h host begun w on k in
+    let all : AllByRecursion IsFresh (s.base.port ∷ []) = subst (AllByRecursion IsFresh) s.base.is fresh in
+    stands_keep h host begun (has_come s.base.port (input_at input s.base.port)).side.shdlc.phase (steps input w)
+    (steps_stand h host begun k.port.side.shdlc.phase input w out on s all.0)
+
+pub sends_keep : (h : ℕ) (begun : Option Init) (m : Message) (w : Work) → IsHost h → KeepsInit h begun w → w.cut ≡ false
+    → KeepsInit h begun (begins_with h (sending h m) w)
+sends_keep h begun m w host k on =
+    let now : LinkState = k.port.side.shdlc.phase in
+    let s : Stands h host begun now w = keeps_stand h host begun w on k in
+    stands_keep h host begun now (begins_with h (sending h m) w) (all_go h host begun now h (sending h m) w w.core.init on s.base (s.on on).0
+    (cond_both (eqb m.0 1 && is_command_message m.1) (Orders m.1 ∷ []) (Sends h m ∷ []) (MayGo h now w.core.init w.core.command w.core.init)
+    (λ _. (refl, λ some. (refl, ((s.on on).1 some).1))) (λ _. (refl, (s.on on).1))))
+
+pub begins_keep : (h : ℕ) (begun : Option Init) (identity : List ℕ) (pipes : List (List ℕ)) (w : Work) → IsHost h → (k : KeepsInit h begun w) → w.cut ≡ false
+    → w.entries ≡ [] → k.port.side.shdlc.phase ≡ Up → KeepsInit h (Some (init_of identity pipes)) (begins_with h (beginning identity pipes) w)
+begins_keep h begun identity pipes w host k on none up =
+    let i : Option Init = Some (init_of identity pipes) in
+    let now : LinkState = k.port.side.shdlc.phase in
+    stands_keep h host i now (begins_with h (beginning identity pipes) w) (all_go h host i now h (beginning identity pipes) w i on (record {
+      number = k.node;
+      port = k.port;
+      is = k.ports_are;
+      at = k.host;
+      quiet = k.no_notice;
+      phase = refl;
+    }) (ap (λ es. reads_init h es i) none) (refl, λ some. (refl, up)))
+
+-- ## What other nodes note tells nothing of the init that runs at a host
+
+-- ### Entries
+
+off_cond : (b : Bool) (x y : Option Init) → b ≡ false → cond b x y ≡ y
+off_cond b x y e = rw e refl
+
+off_both : (a b : Bool) (x y : Option Init) → a ≡ false → cond (a && b) x y ≡ y
+off_both a b x y e = rw e refl
+
+pub quiet_leaves : (h k : ℕ) (notes : List Noted) → AllByRecursion IsQuiet notes → AllByRecursion (LeavesInit h) (entries_for k notes)
+quiet_leaves h k [] all = tt
+quiet_leaves h k (NotedDown who cause ∷ notes) all = absurd all.0
+quiet_leaves h k (Sent who n m ∷ notes) all = absurd all.0
+quiet_leaves h k (Tick ∷ notes) all = quiet_leaves h k notes all.1
+quiet_leaves h k (Restarted who ∷ notes) all = quiet_leaves h k notes all.1
+quiet_leaves h k (Cut who ∷ notes) all = quiet_leaves h k notes all.1
+quiet_leaves h k (_ ∷ notes) all = ((λ y. refl), quiet_leaves h k notes all.1)
+
+-- ### Another node
+
+module _ (h n : ℕ) (other : eqb n h ≡ false) (who : Side) (is_side : cond (eqb n 0) Controller Host ≡ who) where
+  abbrev pub IsOff : ℕ → Type 0
+  IsOff k = same_end (end_of k who) (end_h h) ≡ false
+
+  note_leaves : (k : ℕ) (x : Noted) → IsOff k → IsOwnNote who x → AllByRecursion (LeavesInit h) (entry_of k x)
+  note_leaves k (NotedUp side m) off own = ((λ y. refl), tt)
+  note_leaves k (NotedDown side cause) off own =
+      ((λ y. off_cond (same_end (end_of k side) (end_h h)) None y (ap (λ s. same_end (end_of k s) (end_h h)) own ∙ off)), tt)
+  note_leaves k (Active side) off own = ((λ y. refl), tt)
+  note_leaves k (GaveUp side tries) off own = ((λ y. refl), tt)
+  note_leaves k (Acked side m count) off own = ((λ y. refl), tt)
+  note_leaves k (Got side m message) off own = ((λ y. refl), tt)
+  note_leaves k (Sent side m message) off own = ((λ y. refl), tt)
+  note_leaves k x off own = absurd own
+
+  turned_leaves : (k pid : ℕ) (message : List ℕ) → IsOff k → LeavesInit h (entry.Turn (end_of k who) pid message)
+  turned_leaves k pid message off = λ y. off_both (same_end (end_of k who) (end_h h)) _ (option_map with_response y) y off
+
+  beside_leaves : (x : Entry) → IsBeside n x → LeavesInit h x
+  beside_leaves (entry.Held f need spare) b = λ y. refl
+  beside_leaves (entry.Ask host message) b = λ y. refl
+  beside_leaves (entry.Dropped f pid) b = λ y. refl
+  beside_leaves (entry.Command node command) b = λ y. refl
+  beside_leaves (entry.AnyOk node count) b = λ y. refl
+  beside_leaves (entry.Cut node) b = λ y. off_cond (eqb node h) None y (ap (λ m. eqb m h) b ∙ other)
+  beside_leaves x b = absurd b
+
+  deeds_leave : (core : Core) (ports : List Port) (k : ℕ) (m : Message) → core.node ≡ n → AllByRecursion (NotesSo (LeavesInit h)) (deeds_of core ports k m)
+  deeds_leave core ports k m number = by_test (eqb core.node 0)
+      (λ q. rw q (controller_notes (LeavesInit h) core ports k m))
+      (λ q. rw q (one q (port_at ports k))) where
+        own_off : eqb core.node 0 ≡ false → same_end (end_of_node core core.node) (end_h h) ≡ false
+        own_off q = ap (λ b. same_end (end_of core.node (cond b Controller Host)) (end_h h)) q
+            ∙ (and-true (eqb core.node h) ∙ (ap (λ m. eqb m h) number ∙ other))
+
+        one : eqb core.node 0 ≡ false → (o : Option Port)
+            → AllByRecursion (NotesSo (LeavesInit h)) (option_map_or (λ e. host_deeds (own_view core) e m) (option_map end_view o) [])
+        one q None = tt
+        one q (Some p) = host_notes (LeavesInit h) core (λ y. off_cond (same_end (end_of_node core core.node) (end_h h)) None y (own_off q))
+            (λ count y. off_cond (same_end (end_of_node core core.node) (end_h h)) None y (own_off q))
+            (λ code y. off_cond (same_end (end_of_node core core.node) (end_h h)) None y (own_off q)) p m
+
+  ends_off : (near_ends : ℕ → NumberedEnd) (desks : List Desk) → AllByRecursion IsOff (map (λ (d : Desk). d.host) desks)
+      → AllByRecursion (λ (p : Port). IsOff p.desk.host) (ports_for near_ends desks)
+  ends_off near_ends [] all = tt
+  ends_off near_ends (d ∷ desks) all = (all.0, ends_off near_ends desks all.1)
+
+  begun_notes : (hosts : List ℕ) (r : Running) (plan : Option Plan) (near_ends : ℕ → NumberedEnd) (es : List Entry) → HasEnds n hosts r
+      → AllByRecursion IsOff hosts
+      → AllByRecursion (LeavesInit h) es
+      → Notes (LeavesInit h) n who IsOff (work_of r plan near_ends es)
+  begun_notes hosts r plan near_ends es has off so = record {
+    number = has.number;
+    side = ap (λ k. cond (eqb k 0) Controller Host) has.number ∙ is_side;
+    ends = ends_off near_ends r.desks (subst (AllByRecursion IsOff) (sym has.ends) off);
+    so = so;
+  }
+
+  pub others_step : (hosts : List ℕ) (r : Running) (plan : Option Plan) (near_ends : ℕ → NumberedEnd) (es : List Entry) (input : NodeInput) → HasEnds n hosts r
+      → AllByRecursion IsOff hosts → AllByRecursion (LeavesInit h) es → AllByRecursion (LeavesInit h) (steps input (work_of r plan near_ends es)).entries
+  others_step hosts r plan near_ends es input has off so =
+      (steps_note (LeavesInit h) n who IsOff note_leaves turned_leaves beside_leaves deeds_leave input (work_of r plan near_ends es)
+      (begun_notes hosts r plan near_ends es has off so)).so
+
+  pub others_begin : (hosts : List ℕ) (r : Running) (plan : Option Plan) (near_ends : ℕ → NumberedEnd) (k : ℕ) (deeds : List Deed) → HasEnds n hosts r
+      → AllByRecursion IsOff hosts → AllByRecursion (NotesSo (LeavesInit h)) deeds
+      → AllByRecursion (LeavesInit h) (begins_with k deeds (work_of r plan near_ends [])).entries
+  others_begin hosts r plan near_ends k deeds has off notes =
+      (all_do (LeavesInit h) n who IsOff note_leaves turned_leaves beside_leaves deeds_leave k deeds (work_of r plan near_ends []) notes
+      (begun_notes hosts r plan near_ends [] has off tt)).so

@@ -1,22 +1,114 @@
--- A node of a world does something: REC_ERROR of its ends stays what is read, and that of others is left.
-use Rattle.node_laws.proofs.Words.{AllByRecursion, AllByRecursion-append, Bool, Comes, Control, Controller, Core, CutOff, Deed, Desk, End, Ending, Ends, Entry}
-use Rattle.node_laws.proofs.Words.{ErrorCount, GoesOut, HasEnds, Host, Link, LinkEnd, List, Message, NextFrame, NodeInput, None, Noted, NumberedEnd, OnWire}
-use Rattle.node_laws.proofs.Words.{Option, Plan, Port, Running, Sends, Some, TooMany, Work, [], aged_entries, ap, arrival, begins_with, by_list, by_option}
-use Rattle.node_laws.proofs.Words.{by_test, cond, end_of, ending_entries, ending_of, entries_for, entry_of, eqb, false, far, first_lost, frames_noted}
-use Rattle.node_laws.proofs.Words.{frames_out, length, map, nat_lt, node_of, own_side, port_at, pushed_out, put, put_entries, puts_entries, refl, runs_on}
-use Rattle.node_laws.proofs.Words.{same_end, steps, subst, sym, true, wire_with, work_of, ℕ, ◌++◌, ◌∙◌, ◌∷◌, ◌≡◌}
-use Rattle.trace_model.specs.declared.entry.Entry.TheVariants as entry
+-- A node of a world has a step: REC_ERROR of its ends stays what is read, and what others keep is left.
+use Rattle.node_laws.proofs.Words.{Acked, Active, AllByRecursion, AllByRecursion-append, AtEnd, Bool, Comes, Control, Controller, Core, CutOff, Deed, Desk}
+use Rattle.node_laws.proofs.Words.{Down, End, Ending, Ends, Entry, ErrorCount, GaveUp, GoesOut, Got, HasEnds, Host, Link, LinkEnd, LinkInput, List, Message}
+use Rattle.node_laws.proofs.Words.{NextFrame, NodeInput, None, Noted, NumberedEnd, OnWire, Option, Plan, Port, Reset, Running, Sends, Sent, Some, TimePasses}
+use Rattle.node_laws.proofs.Words.{TooMany, Work, [], after_input, after_sessions, aged_entries, all_come, all_done, all_flat, all_owed, all_owed_hold, all_so}
+use Rattle.node_laws.proofs.Words.{all_synced_hold, ap, arrival, begins_with, by_list, by_option, by_test, cond, cond_both, end_of, ending_entries, ending_of}
+use Rattle.node_laws.proofs.Words.{entries_for, entry_of, eqb, false, far, first_lost, flat_map, forgets, forgotten, forgotten_hold, frames_noted, frames_out}
+use Rattle.node_laws.proofs.Words.{has_come, input_at, is_late, length, map, nat_lt, node_of, own_side, passes, port_at, pushed_out, put, put_entries}
+use Rattle.node_laws.proofs.Words.{puts_entries, refl, report, reset_late, runs_on, same_end, steps, subst, sym, synced, times_out, told, told_at, told_late}
+use Rattle.node_laws.proofs.Words.{true, unless_cut, whole_acked, wire_with, with_older, without_notice, work_of, ℕ, ◌++◌, ◌∙◌, ◌∷◌, ◌≡◌}
 use Rattle.link_laws.specs.entries.Entries.{End as Side}
-use Rattle.node_laws.proofs.telling.Mute.{IsPlain, IsMute, AreMute, deeds_mute}
-use Rattle.node_laws.proofs.telling.Nodes.{hosts_same, ports_for}
-use Rattle.node_laws.proofs.readings.Noting.{IsOwnNote, NotesSo, Notes, all_do as notes_do, steps_note}
-use Rattle.node_laws.proofs.views.Leaving.{reads, reads_append, Leaves, leaves_all, IsStill, still_all, still_leaves, IsUndamaged, note_still, notes_still}
-use Rattle.node_laws.proofs.views.Leaving.{turn_leaves, beside_leaves, plainly}
-use Rattle.node_laws.proofs.views.Setting.{AreUnset}
-use Rattle.node_laws.proofs.views.Doing.{side_of, HasErrors, Right, unset_fine, all_do}
-use Rattle.node_laws.proofs.views.Stepping.{all_undamaged, steps_right}
+use Rattle.link_laws.specs.entries.Entries.Entry.{Up}
+use Rattle.node_laws.proofs.notices.Steps.{sessions_tables}
+use Rattle.node_laws.proofs.readings.Noting.{IsOwnNote, Notes, NotesSo, all_do as notes_do, all_notes, steps_note}
+use Rattle.node_laws.proofs.steps.StepWalks.{come_host, forgets_host, late_host, sessions_node, without_host}
+use Rattle.node_laws.proofs.telling.Accounts.{AreMute, IsMute, IsPlain, deeds_mute}
+use Rattle.node_laws.proofs.telling.Events.{hosts_same_of_nodes as hosts_same, ports_for}
+use Rattle.node_laws.proofs.views.Doing.{AreUnset, HasErrors, IsStill, IsUndamaged, IsUnset, Leaves, Right, all_do, beside_leaves, leaves_all, maps, note}
+use Rattle.node_laws.proofs.views.Doing.{note_still, notes_still, plainly, reads, reads_append, side_of, still_all, still_leaves, turn_leaves, unless}
+use Rattle.node_laws.proofs.views.Doing.{unset_fine, with_core}
+use Rattle.node_laws.proofs.views.Turning.{passes_right}
+use Rattle.trace_model.specs.declared.entry.Entry.TheVariants as entry
 
--- ## Frames
+-- ## A step of a node: what is read of REC_ERROR of its end stays what it keeps
+
+own_undamaged : (who : Side) (x : Noted) → IsOwnNote who x → IsUndamaged x
+own_undamaged who (Up side n) is = tt
+own_undamaged who (Down side cause) is = tt
+own_undamaged who (Active side) is = tt
+own_undamaged who (GaveUp side tries) is = tt
+own_undamaged who (Acked side n count) is = tt
+own_undamaged who (Got side n m) is = tt
+own_undamaged who (Sent side n m) is = tt
+own_undamaged who x is = absurd is
+
+all_undamaged : (who : Side) (xs : List Noted) → AllByRecursion (IsOwnNote who) xs → AllByRecursion IsUndamaged xs
+all_undamaged who xs all = all_so (IsOwnNote who) IsUndamaged (own_undamaged who) xs all
+
+come_still : (e : End) (core : Core) (p : Port) (o : Option LinkInput) → AllByRecursion (IsStill e) (told_at core p o)
+come_still e core p None = tt
+come_still e core p (Some i) =
+    notes_still e p.desk.host (told (own_side core) p.session (report p.side i) (whole_acked (after_input p.side i)))
+    (all_undamaged (own_side core) (told (own_side core) p.session (report p.side i) (whole_acked (after_input p.side i)))
+    (all_notes (own_side core) p.session (whole_acked (after_input p.side i)) (report p.side i)))
+
+late_still : (e : End) (core : Core) (p : Port) → AllByRecursion (IsStill e) (told_late core p)
+late_still e core p = cond_both (is_late p) (told_at core p (Some (Reset None))) [] (AllByRecursion (IsStill e)) (λ _. come_still e core p (Some
+    (Reset None))) (λ _. tt)
+
+-- ### What is owed
+
+-- ### Steps
+
+come_errors : (p : Port) (o : Option LinkInput) → (has_come p o).desk.errors ≡ p.desk.errors
+come_errors p None = refl
+come_errors p (Some i) = refl
+
+late_errors : (p : Port) → (reset_late p).desk.errors ≡ p.desk.errors
+late_errors p = cond_both (is_late p) (record p { side = after_input p.side (Reset None); late = true }) p (λ q. q.desk.errors ≡ p.desk.errors)
+    (λ _. refl) (λ _. refl)
+
+pub forgets_errors : (ports : List Port) (p : Port) → (forgets ports p).desk.errors ≡ p.desk.errors
+forgets_errors ports p = cond_both _ _ p (λ (q : Port). q.desk.errors ≡ p.desk.errors) (λ _. refl) (λ _. refl)
+
+pub without_errors : (p : Port) → (without_notice p).desk.errors ≡ p.desk.errors
+without_errors p = cond_both _ _ p (λ (q : Port). q.desk.errors ≡ p.desk.errors) (λ _. refl) (λ _. refl)
+
+module _ (e : End) (hosts : List ℕ) (x0 : ErrorCount) (single : e.at_host ≡ true → hosts ≡ e.link ∷ []) where
+  abbrev So : Work → Type 0
+  So w = Right e hosts x0 w
+
+  pub came_right : (input : NodeInput) (w : Work) → So w → So (all_come input w)
+  came_right input w r =
+      note e hosts x0 (flat_map (λ p. told_at w.core p (input_at input p)) w.ports) (record w { ports = map (λ p. has_come p (input_at input p)) w.ports })
+      (all_flat (IsStill e) (λ p. told_at w.core p (input_at input p)) (λ p. come_still e w.core p (input_at input p)) w.ports)
+      (maps e hosts x0 (λ p. has_come p (input_at input p)) w (λ p. come_host p (input_at input p)) (λ p. come_errors p (input_at input p)) r)
+
+  pub timed_right : (input : NodeInput) (w : Work) → So w → So (times_out input w)
+  timed_right (AtEnd h i) w r = r
+  timed_right TimePasses w r =
+      let v : Work = record w { ports = map with_older w.ports } in
+      let s : So v = maps e hosts x0 with_older w (λ p. refl) (λ p. refl) r in
+      note e hosts x0 (flat_map (told_late v.core) v.ports) (record v { ports = map reset_late v.ports })
+      (all_flat (IsStill e) (told_late v.core) (late_still e v.core) v.ports) (maps e hosts x0 reset_late v late_host late_errors s)
+
+  steps_right : (input : NodeInput) (w : Work) → So w → So (steps input w)
+  steps_right input w r =
+      let came : Work = times_out input (all_come input w) in
+      let s : So came = timed_right input (all_come input w) (came_right input w r) in
+      let left : List Port = map (forgets came.ports) came.ports in
+      let begun : Work = record came { core = after_sessions came.core came.ports; ports = map without_notice left } in
+      let first : So begun =
+      with_core e hosts x0 (record came { ports = map without_notice left }) (after_sessions came.core came.ports) (sessions_node came.core came.ports)
+      (sessions_tables came.core came.ports)
+      (maps e hosts x0 without_notice (record came { ports = left }) without_host without_errors (maps e hosts x0 (forgets came.ports) came
+      (forgets_host came.ports) (forgets_errors came.ports) s)) in
+      let freed : List Deed = forgotten came.ports in
+      let syncs : List Deed = flat_map (synced w.core input) w.ports in
+      let owing : List Deed = all_owed left in
+      let one : So (all_done 0 syncs (all_done 0 freed begun)) =
+      all_do e hosts x0 0 syncs (all_done 0 freed begun) (unset_fine e hosts x0 0 syncs (all_synced_hold IsUnset (λ host id. tt) w.core input w.ports))
+      (all_do e hosts x0 0 freed begun (unset_fine e hosts x0 0 freed (forgotten_hold IsUnset (λ asker. tt) came.ports)) first) in
+      let owed_all : AreUnset owing = all_owed_hold IsUnset (λ asker. tt) (λ to r. tt) left in
+      unless e hosts x0 passes (unless_cut (all_done 0 owing) (all_done 0 syncs (all_done 0 freed begun)))
+      (λ on z. passes_right e hosts x0 single (unless_cut (all_done 0 owing) (all_done 0 syncs (all_done 0 freed begun))) on z)
+      (unless e hosts x0 (all_done 0 owing) (all_done 0 syncs (all_done 0 freed begun)) (λ on z. all_do e hosts x0 0 owing (all_done 0 syncs
+      (all_done 0 freed begun)) (unset_fine e hosts x0 0 owing owed_all) z) one)
+
+-- ## A node of a world does something: REC_ERROR of its ends stays what is read, and that of others is left
+
+-- ### Frames
 
 pushed_undamaged : (who : Side) (wire : List OnWire) → AllByRecursion IsUndamaged (pushed_out who wire)
 pushed_undamaged who wire = go (nat_lt 64 (length wire)) wire where
@@ -57,7 +149,7 @@ aged_still e h l = notes_still e h (aged_entries Controller l.to_controller ++ a
     (AllByRecursion-append IsUndamaged (aged_entries Controller l.to_controller) (aged_entries Host l.to_host) (aged_undamaged Controller l.to_controller)
     (aged_undamaged Host l.to_host))
 
--- ## What a node keeps
+-- ### What a node keeps
 
 -- a node that runs keeps what is read of REC_ERROR of its end
 pub record KeepsErrors (e : End) (r : Running) (x : ErrorCount) : Type 0 where
@@ -83,7 +175,7 @@ leaves_kept e (Some r) x es all k =
     let after = leaves_all e es x x.errors all (record { sets = k.sets; is = refl }) in
     record { sets = after.sets; desks = same_desks e x.errors (reads e es x).errors r.desks (sym after.is) k.desks }
 
--- ## The node of the end
+-- ### The node of the end
 
 module _ (e : End) (real : e.at_host ≡ true → eqb e.link 0 ≡ false) (hosts : List ℕ) (single : e.at_host ≡ true → hosts ≡ e.link ∷ []) where
   side_is : (core : Core) → core.node ≡ node_of e → own_side core ≡ side_of e
@@ -144,7 +236,7 @@ module _ (e : End) (real : e.at_host ≡ true → eqb e.link 0 ≡ false) (hosts
       (all_do e hosts x h deeds (work_of r plan near_ends []) (unset_fine e hosts x h deeds unset) (begun_right x r plan near_ends [] has tt known
       keeps))))
 
--- ## Other nodes
+-- ### Other nodes
 
 plain_leaves : (e : End) (y : Entry) → IsPlain y → Leaves e y
 plain_leaves e (entry.Held f need spare) p = λ x n r. plainly e x n r

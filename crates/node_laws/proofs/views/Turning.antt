@@ -8,14 +8,13 @@ use Rattle.node_laws.proofs.Words.{option_map_or, own_gate, own_side, own_view, 
 use Rattle.node_laws.proofs.Words.{true≢false, turn_at, unwrap_or, view_of, with_desk, with_port, ℕ, ◌&&◌, ◌++◌, ◌∙◌, ◌∷◌, ◌≡◌, ◌⊎◌}
 use Rattle.trace_model.specs.declared.entry.Entry.TheVariants as entry
 use Rattle.gate_answers.specs.declared.response.Response.TheVariants as response
-use Rattle.node_laws.proofs.telling.Away.{at_map}
+use Rattle.node_laws.proofs.telling.Steps.{at_map}
 use Rattle.node_laws.proofs.links.Noticing.{at_host}
 use Rattle.node_laws.proofs.readings.Turning.{lack_parts}
-use Rattle.node_laws.proofs.views.Leaving.{reads, reads_append, IsRead}
-use Rattle.node_laws.proofs.views.Setting.{is_link_gate, controller_unset, host_unset, controller_sets, host_sets, SetDeeds, IsUpAt}
-use Rattle.node_laws.proofs.views.Setting.SetDeeds.{IsSet, IsRefused, IsDropped}
-use Rattle.node_laws.proofs.views.Doing.{side_of, own_is, HasErrors, map_has, Right, desks, turns, unless, IsFine, unset_fine, all_do, holds, lets}
-use Rattle.node_laws.proofs.kept.Plainly.{hosts_map, fetch_none}
+use Rattle.node_laws.proofs.views.Doing.{HasErrors, IsFine, IsRead, IsUpAt, Right, SetDeeds, all_do, controller_sets, controller_unset, desks, holds, host_sets}
+use Rattle.node_laws.proofs.views.Doing.{host_unset, is_link_gate, lets, map_has, own_is, reads, reads_append, side_of, turns, unless, unset_fine}
+use Rattle.node_laws.proofs.views.Doing.SetDeeds.{IsDropped, IsRefused, IsSet}
+use Rattle.node_laws.proofs.kept.Doing.{fetch_none, hosts_map}
 
 -- ## Messages that are sent
 

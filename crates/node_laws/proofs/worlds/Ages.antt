@@ -1,26 +1,141 @@
--- As a controller handles messages the ages of its notices are the ticks since they were sent.
-use Rattle.node_laws.proofs.Words.{About, AllByRecursion, Asks, Bool, Commits, Controller, Core, Deed, Desk, Drops, Ends, Entry, FetchMessage, Give, GoesToFree}
-use Rattle.node_laws.proofs.Words.{Host, IsAnswered, IsHost, IsKeptNotice, List, Message, None, Notice, Option, Orders, Port, Refused, Release, Releases}
-use Rattle.node_laws.proofs.Words.{SaysOk, Sends, SetAside, SetsErrors, Some, Tells, Turn, Work, [], after_turn, all_done, ap, ap₂, arith, awaited_after}
-use Rattle.node_laws.proofs.Words.{by_option, by_test, changed_if, cond, controller_deeds, done, end_c, end_of, entries_for, eqb, eqb-true, false, give_refusal}
-use Rattle.node_laws.proofs.Words.{goes_in, handles, has_notice, is_notice, is_some, list_any, map, noted_by_deed, noted_of, notice_in, option_and_then}
-use Rattle.node_laws.proofs.Words.{option_map, option_map_or, or-false, or-true, or_parts, own_side, port_at, refl, same_end, same_side, sent_unless, subst}
-use Rattle.node_laws.proofs.Words.{sym, takes_up, true, true≢false, turn_at, view_of, with_desk, with_port, ℕ, ◌&&◌, ◌++◌, ◌||◌, ◌∙◌, ◌∷◌, ◌≡◌, ◌≤◌}
-use Rattle.trace_model.specs.declared.entry.Entry.TheVariants as entry
+-- Why sessions end, and the ages of a controller's notices, which are read over its steps.
+use Rattle.node_laws.proofs.Words.{About, ActEvent, ActTake, ActTick, AllByRecursion, Asked, Asks, AtEnd, Bool, ByAct, Chain, Commits, Control, Controller}
+use Rattle.node_laws.proofs.Words.{Core, Creation, Deed, Desk, Drops, EndState, EndedBy, Ends, Entry, FetchMessage, Give, GoesToFree, Hold, Host, IsAnswered}
+use Rattle.node_laws.proofs.Words.{IsDown, IsHost, IsKeptNotice, IsUpNow, IsWaitingNow, LastsOverTurns, LinkEnd, LinkInput, LinkState, List, Message, NoAnswer}
+use Rattle.node_laws.proofs.Words.{NodeInput, None, Noted, Notice, Option, Orders, Port, Refused, Release, Releases, Report, Reset, SaysOk, Sends, SetAside}
+use Rattle.node_laws.proofs.Words.{SetsErrors, Some, Start, Take, Tells, Tick, TimePasses, Timed, Turn, Work, [], act_answer, after_input, after_sessions}
+use Rattle.node_laws.proofs.Words.{after_turn, all_come, all_done, all_owed_hold, all_synced_hold, ap, ap₂, arith, asked_at, awaited_after, by_option, by_test}
+use Rattle.node_laws.proofs.Words.{changed_if, comes_to_pass, cond, cond_both, controller_deeds, deeds_of, done, end_c, end_of, end_of_node, ended_by}
+use Rattle.node_laws.proofs.Words.{ended_by_act, ended_by_reset, entries_for, eq-eqb, eqb, eqb-true, false, flat_map, forgets, forgotten, forgotten_hold}
+use Rattle.node_laws.proofs.Words.{give_refusal, goes_in, handles, has_come, has_come_so, has_freed, has_notice, has_synced, holds_back, hosts_of_ends, if_up}
+use Rattle.node_laws.proofs.Words.{inl, input_at, inr, is_faulty, is_forgotten, is_late, is_notice, is_open, is_over, is_own_reset, is_some, is_up, lack}
+use Rattle.node_laws.proofs.Words.{list_any, map, nat_le, needs, not, noted_by_deed, noted_of, nothing_ticked, notice_in, noting, option_and_then, option_map}
+use Rattle.node_laws.proofs.Words.{option_map_or, or-false, or-true, or_parts, owed_in_step, own_side, passes, port_at, refl, report, reset_late, reset_refusal}
+use Rattle.node_laws.proofs.Words.{runs_timer, same_end, same_side, sent_unless, steps, subst, sym, synced, syncs_in, take_answer, taken, takes_up, tick_answer}
+use Rattle.node_laws.proofs.Words.{timed, told, told_at, told_late, told_of_coming, told_of_late, true, true≢false, turn_at, unless_cut, view_of, waiting_at}
+use Rattle.node_laws.proofs.Words.{whole_acked, with_desk, with_older, with_port, without_notice, ℕ, ◌&&◌, ◌++◌, ◌+◌, ◌||◌, ◌∙◌, ◌∷◌, ◌≡◌, ◌≤◌}
 use Rattle.link_laws.specs.entries.Entries.{End as Side}
-use Rattle.node_laws.proofs.steps.StepWalks.{all_do}
-use Rattle.node_laws.proofs.links.Noticing.{at_all, at_host}
-use Rattle.node_laws.proofs.notices.Reading.{reads, read_more}
-use Rattle.node_laws.proofs.notices.Own.{IsFar}
-use Rattle.node_laws.proofs.notices.Far.{AreFar, not_near}
-use Rattle.node_laws.proofs.notices.Freeing.{controller_free}
-use Rattle.node_laws.proofs.notices.Telling.{MayTell, noticed, Outcome, controller_outcome}
-use Rattle.node_laws.proofs.notices.Telling.Outcome.{Leaves, IsHeard}
-use Rattle.node_laws.proofs.notices.Doing.{IsOn, commit_ports, else_same}
-use Rattle.node_laws.proofs.notices.Turning.{kept_none}
-use Rattle.node_laws.proofs.passes.Notes.{deed_notes}
-use Rattle.node_laws.proofs.passes.Passing.{takes_entries}
+use Rattle.shdlc_core.specs.Machine.{nothing_taken}
+use Rattle.shdlc_core.specs.Machine.Timed.{Over, Runs, Spent}
+use Rattle.swp_base.specs.declared.link_terms.Cause.TheVariants.{Peer}
 use Rattle.node_laws.specs.answers.Unasked.{notifies}
+use Rattle.node_laws.proofs.links.Noticing.{at_all, at_host}
+use Rattle.node_laws.proofs.notices.Telling.{MayTell, Outcome, answer_other, controller_free, controller_outcome, noticed}
+use Rattle.node_laws.proofs.notices.Turning.{AreHostEnds, IsOn, Stands, all_stand, commit_ports, else_same, handled_stand, holds_stand, kept_none, lets_stand}
+use Rattle.node_laws.proofs.notices.Turning.{read_more, reads, then}
+use Rattle.node_laws.proofs.notices.Near.{AreFar, IsFar, not_near, quiet_far}
+use Rattle.node_laws.proofs.notices.Steps.{HasCome, TellNoNotices, begun, frees, no_notices_flat, no_notices_may, owed_all, synced_no_notices}
+use Rattle.node_laws.proofs.notices.Telling.Outcome.{IsHeard, Leaves}
+use Rattle.node_laws.proofs.passes.InSteps.{come_entries, deed_notes, steps_are}
+use Rattle.node_laws.proofs.passes.Passing.{takes_entries, through}
+use Rattle.node_laws.proofs.readings.Turning.{rest_quiet, told_rest}
+use Rattle.node_laws.proofs.steps.StepWalks.{all_do, at_port, forgets_host, holds_of_step_walks as holds, lets, unless, without_host}
+use Rattle.swp_base.specs.declared.control_frames.Control.TheVariants as control
+use Rattle.trace_model.specs.declared.entry.Entry.TheVariants as entry
+
+-- ## Why sessions end: by a reset of the end itself only as that is asked for
+
+-- it is a reset on demand
+abbrev pub asked : Option EndedBy → Bool
+asked o = option_map_or is_own_reset o false
+
+-- it is none
+abbrev pub otherwise : EndedBy → Bool
+otherwise cause = not (is_own_reset cause)
+
+pub up_asked : (s : EndState) (cause : EndedBy) → is_own_reset cause ≡ false → asked (if_up s cause) ≡ false
+up_asked s cause other = go s.phase refl where
+  go : (p : LinkState) → s.phase ≡ p → asked (if_up s cause) ≡ false
+  go IsUpNow q = rw q other
+  go IsWaitingNow q = rw q refl
+  go IsDown q = rw q refl
+
+take_asked : (s : EndState) (c : Control) → asked (take_answer s c).ended ≡ false
+take_asked s c = go s.phase refl c where
+  go : (p : LinkState) → s.phase ≡ p → (c : Control) → asked (take_answer s c).ended ≡ false
+  go IsUpNow q (control.I ns nr info) = rw q refl
+  go IsUpNow q (control.S kind nr) = rw q refl
+  go IsUpNow q (control.Rset window caps) =
+      rw q (cond_both (eqb window 0) nothing_taken (record nothing_taken { ended = Some Peer; began = true }) (λ r. asked r.ended ≡ false) (λ _. refl)
+      (λ _. refl))
+  go IsUpNow q _ = rw q refl
+  go IsDown q (control.Rset window caps) =
+      rw q (cond_both (eqb window 0) nothing_taken (record nothing_taken { began = true }) (λ r. asked r.ended ≡ false) (λ _. refl) (λ _. refl))
+  go IsDown q _ = rw q refl
+  go IsWaitingNow q (control.Ua) = rw q refl
+  go IsWaitingNow q _ = rw q refl
+
+pub tick_asked : (s : EndState) → asked (tick_answer s).ended ≡ false
+tick_asked s = go s.phase refl where
+  up : (z : Timed) → timed s ≡ z → s.phase ≡ IsUpNow → asked (tick_answer s).ended ≡ false
+  up Runs z q = rw (q, z) (cond_both (runs_timer s.session) nothing_ticked nothing_ticked (λ r. asked r.ended ≡ false) (λ _. refl) (λ _. refl))
+  up Over z q = rw (q, z) (cond_both (runs_timer s.session) nothing_ticked nothing_ticked (λ r. asked r.ended ≡ false) (λ _. refl) (λ _. refl))
+  up Spent z q =
+      rw (q, z) (cond_both (runs_timer s.session) (record nothing_ticked { ended = Some NoAnswer }) nothing_ticked (λ r. asked r.ended ≡ false)
+      (λ _. refl) (λ _. refl))
+
+  waits : (z : Timed) → timed s ≡ z → s.phase ≡ IsWaitingNow → asked (tick_answer s).ended ≡ false
+  waits Runs z q = rw (q, z) refl
+  waits _ z q = rw (q, z) refl
+
+  go : (p : LinkState) → s.phase ≡ p → asked (tick_answer s).ended ≡ false
+  go IsUpNow q = up (timed s) refl q
+  go IsWaitingNow q = waits (timed s) refl q
+  go IsDown q = rw q refl
+
+pub act_asked : (s : LinkEnd) (event : ActEvent) → asked (ended_by_act s event) ≡ false
+act_asked s event =
+    cond_both (act_answer s.role event).ended_link (if_up s.shdlc ByAct) None (λ o. asked o ≡ false) (λ _. up_asked s.shdlc ByAct refl) (λ _. refl)
+
+heard_asked : (s : LinkEnd) (c : Control)
+    → asked (cond (is_open s.role) (cond (is_faulty (taken s.shdlc c).session) (Some Chain) (take_answer s.shdlc c).ended) None) ≡ false
+heard_asked s c =
+    cond_both (is_open s.role) (cond (is_faulty (taken s.shdlc c).session) (Some Chain) (take_answer s.shdlc c).ended) None (λ o. asked o ≡ false)
+    (λ _. cond_both (is_faulty (taken s.shdlc c).session) (Some Chain) (take_answer s.shdlc c).ended (λ o. asked o ≡ false) (λ _. refl)
+    (λ _. take_asked s.shdlc c))
+    (λ _. refl)
+
+pub frame_asked : (s : LinkEnd) (c : Control) → asked (ended_by s (Take c)) ≡ false
+frame_asked s (control.Act act again) = act_asked s (ActTake act again)
+frame_asked s control.Clt = refl
+frame_asked s (control.I ns nr info) = heard_asked s (control.I ns nr info)
+frame_asked s (control.S kind nr) = heard_asked s (control.S kind nr)
+frame_asked s (control.Rset window caps) = heard_asked s (control.Rset window caps)
+frame_asked s control.Ua = heard_asked s control.Ua
+
+pub start_asked : (s : LinkEnd) (value : ℕ) → asked (ended_by s (Start value)) ≡ false
+start_asked s value = up_asked s.shdlc ByAct refl
+
+pub ticked_asked : (s : LinkEnd) → asked (ended_by s Tick) ≡ false
+ticked_asked s =
+    cond_both (is_open s.role) (tick_answer s.shdlc).ended (ended_by_act s ActTick) (λ o. asked o ≡ false) (λ _. tick_asked s.shdlc) (λ _. act_asked s ActTick)
+
+-- where it isn't such a reset it is another cause
+pub other_is : (o : Option EndedBy) → asked o ≡ false → option_map_or otherwise o false ≡ is_some o
+other_is None q = refl
+other_is (Some cause) q = ap not q
+
+-- a reset that isn't refused ends the session where the end is up
+pub reset_asked : (s : LinkEnd) (window : Option ℕ) → reset_refusal s ≡ None → asked (ended_by s (Reset window)) ≡ is_up s.shdlc.phase
+reset_asked s window free = ap (λ o. asked (ended_by_reset s o)) free ∙ go s.shdlc.phase refl where
+  go : (p : LinkState) → s.shdlc.phase ≡ p → asked (if_up s.shdlc Asked) ≡ is_up s.shdlc.phase
+  go IsUpNow q = rw q refl
+  go _ q = rw q refl
+
+-- a reset ends it for no other cause
+pub reset_only : (s : LinkEnd) (window : Option ℕ) → asked (ended_by s (Reset window)) ≡ is_some (ended_by s (Reset window))
+reset_only s window = by_option (reset_refusal s) (λ q. rw q (by s.shdlc.phase refl)) (λ why q. rw q refl) where
+  by : (p : LinkState) → s.shdlc.phase ≡ p → asked (if_up s.shdlc Asked) ≡ is_some (if_up s.shdlc Asked)
+  by IsUpNow q = rw q refl
+  by _ q = rw q refl
+
+pub reset_other : (s : LinkEnd) (window : Option ℕ) → option_map_or otherwise (ended_by s (Reset window)) false ≡ false
+reset_other s window = by_option (reset_refusal s) (λ q. rw q (by s.shdlc.phase refl)) (λ why q. rw q refl) where
+  by : (p : LinkState) → s.shdlc.phase ≡ p → option_map_or otherwise (if_up s.shdlc Asked) false ≡ false
+  by IsUpNow q = rw q refl
+  by _ q = rw q refl
+
+-- ## As a controller handles messages the ages of its notices are the ticks since they were sent
 
 module _ (x : ℕ) where
   -- a notice to the host x is sent among these
@@ -65,7 +180,7 @@ module _ (x : ℕ) where
   none_reads (e ∷ es) q =
       let parts = or_parts (notifies x e) (notified es) q in ap (reads x es) (one_reads e parts.0) ∙ none_reads es parts.1
 
-  -- ## What deeds note
+  -- ### What deeds note
 
   sent_other : (h n : ℕ) (m : Message) (side : Side) (o : Option Refused) → (eqb m.0 1 && is_notice m.1) ≡ false
       → notified (entries_for h (sent_unless o side n m)) ≡ false
@@ -93,7 +208,7 @@ module _ (x : ℕ) where
       (λ p z. rw z (sent_else p.desk.host p.session m (own_side core) (give_refusal p.side m) (ap (λ n. eqb n x) (at_host ports to p z) ∙ q)))
 
   -- it notifies another host, or none
-  abbrev pub IsElse : Deed → Type 0
+  abbrev IsElse : Deed → Type 0
   IsElse (Sends to m) = (eqb m.0 1 && is_notice m.1) ≡ false
   IsElse (Asks to message c) = eqb to x ≡ false
   IsElse (Tells to message) = eqb to x ≡ false
@@ -110,13 +225,13 @@ module _ (x : ℕ) where
   else_notes h (Ends e) w a = absurd a
   else_notes h _ w a = refl
 
-  -- ## What they keep
+  -- ### What they keep
 
   changed : {X : Type 0} (f : Port → X) (b : Bool) (g : Port → Port) (p : Port) → f (g p) ≡ f p → f (changed_if b g p) ≡ f p
   changed {X} f true g p q = q
   changed {X} f false g p q = refl
 
-  pub noticed_map : (f : Port → Port) → ((q : Port) → (f q).desk.host ≡ q.desk.host) → ((q : Port) → (f q).desk.notice ≡ q.desk.notice)
+  noticed_map : (f : Port → Port) → ((q : Port) → (f q).desk.host ≡ q.desk.host) → ((q : Port) → (f q).desk.notice ≡ q.desk.notice)
       → (ports : List Port) → noticed (map f ports) x ≡ noticed ports x
   noticed_map f host notice ports = ap (λ o. option_and_then (λ (p : Port). p.desk.notice) o) (at_all ports x f host) ∙ by_option (port_at ports x)
       (λ q. rw q refl)
@@ -128,10 +243,10 @@ module _ (x : ℕ) where
       noticed_map (λ p. changed_if (eqb p.desk.host k) g p) (λ q. changed (λ (p : Port). p.desk.host) (eqb q.desk.host k) g q (host q))
       (λ q. changed (λ (p : Port). p.desk.notice) (eqb q.desk.host k) g q (notice q)) ports
 
-  pub turn_noticed : (k : ℕ) (t : Turn) (w : Work) → noticed (turn_at k t w).ports x ≡ noticed w.ports x
+  turn_noticed : (k : ℕ) (t : Turn) (w : Work) → noticed (turn_at k t w).ports x ≡ noticed w.ports x
   turn_noticed k t w = noticed_with k (after_turn t) (λ q. refl) (λ q. refl) w.ports
 
-  pub desk_noticed : (k : ℕ) (f : Desk → Desk) (w : Work) → ((d : Desk) → (f d).host ≡ d.host) → ((d : Desk) → (f d).notice ≡ d.notice)
+  desk_noticed : (k : ℕ) (f : Desk → Desk) (w : Work) → ((d : Desk) → (f d).host ≡ d.host) → ((d : Desk) → (f d).notice ≡ d.notice)
       → noticed (with_desk k f w).ports x ≡ noticed w.ports x
   desk_noticed k f w host notice = noticed_with k (λ (p : Port). record p { desk = f p.desk }) (λ q. host q.desk) (λ q. notice q.desk) w.ports
 
@@ -140,7 +255,7 @@ module _ (x : ℕ) where
     abbrev pub Each : Work → Type 0
     Each w = (n : Notice) → noticed w.ports x ≡ Some n → P n
 
-    pub each_same : (w v : Work) → noticed v.ports x ≡ noticed w.ports x → Each w → Each v
+    each_same : (w v : Work) → noticed v.ports x ≡ noticed w.ports x → Each w → Each v
     each_same w v same a n q = a n (sym same ∙ q)
 
     each_set : (k : ℕ) (o : Option Notice) (w : Work) → ((n : Notice) → o ≡ Some n → P n) → Each w → Each (with_desk k (λ d. record d { notice = o }) w)
@@ -168,7 +283,7 @@ module _ (x : ℕ) where
         (each_same w (turn_at to (Give (1, message)) w) (turn_noticed to (Give (1, message)) w) a)
 
     -- over all deeds, where it holds of new ones
-    pub each_done : ((n : Notice) → n.age ≡ 0 → P n) → (h : ℕ) (d : Deed) (w : Work) → Each w → Each (done h d w)
+    each_done : ((n : Notice) → n.age ≡ 0 → P n) → (h : ℕ) (d : Deed) (w : Work) → Each w → Each (done h d w)
     each_done new h (Commits c) w a = each_same w (done h (Commits c) w) (ap (λ ps. noticed ps x) (commit_ports x [] c w)) a
     each_done new h (Sends to m) w a = each_same w (done h (Sends to m) w) (turn_noticed to (Give m) w) a
     each_done new h (Asks to message c) w a =
@@ -193,7 +308,7 @@ module _ (x : ℕ) where
         (turn_at to (Give (1, message)) w).ports (λ q. refl) off) ∙ turn_noticed to (Give (1, message)) w
 
     -- over those that notify others
-    pub else_done : (h : ℕ) (d : Deed) (w : Work) → IsElse d → Each w → Each (done h d w)
+    else_done : (h : ℕ) (d : Deed) (w : Work) → IsElse d → Each w → Each (done h d w)
     else_done h (Commits c) w may a = each_same w (done h (Commits c) w) (ap (λ ps. noticed ps x) (commit_ports x [] c w)) a
     else_done h (Sends to m) w may a = each_same w (done h (Sends to m) w) (turn_noticed to (Give m) w) a
     else_done h (Asks to message c) w may a =
@@ -210,7 +325,7 @@ module _ (x : ℕ) where
     else_done h (Ends e) w may a = absurd may
     else_done h _ w may a = a
 
-  -- ## A message
+  -- ### A message
 
   -- the age that is read: none since a notice was sent, and this before
   abbrev pub AgeIs : ℕ → Bool → Notice → Type 0
@@ -242,7 +357,7 @@ module _ (x : ℕ) where
   free_else F ports (_ ∷ deeds) has may free = absurd may
 
   -- deeds that notify others leave the ages that are read
-  pub else_ages : (base : ℕ) (h : ℕ) (deeds : List Deed) (w : Work) → AllByRecursion IsElse deeds → AgesIn base w → AgesIn base (all_done h deeds w)
+  else_ages : (base : ℕ) (h : ℕ) (deeds : List Deed) (w : Work) → AllByRecursion IsElse deeds → AgesIn base w → AgesIn base (all_done h deeds w)
   else_ages base h deeds w may a =
       all_do (AgesIn base) IsElse one h deeds w may a where
         one : (h : ℕ) (d : Deed) (w : Work) → IsElse d → AgesIn base w → AgesIn base (done h d w)
@@ -263,26 +378,26 @@ module _ (x : ℕ) where
     abbrev after : Work
     after = handles k m deeds w
 
-    abbrev begun : Work
-    begun = takes_up k m w
+    abbrev begun_of_ages : Work
+    begun_of_ages = takes_up k m w
 
-    begun_noticed : noticed begun.ports x ≡ noticed w.ports x
+    begun_noticed : noticed begun_of_ages.ports x ≡ noticed w.ports x
     begun_noticed =
         desk_noticed k (λ d. record d { holds = false }) (turn_at k FetchMessage (Rattle.node_machine.specs.Carrying.noting
         (entry.Turn (Rattle.node_machine.specs.Carrying.end_of_node w.core k) m.0 m.1 ∷ []) w)) (λ d. refl) (λ d. refl)
         ∙ turn_noticed k FetchMessage (Rattle.node_machine.specs.Carrying.noting
         (entry.Turn (Rattle.node_machine.specs.Carrying.end_of_node w.core k) m.0 m.1 ∷ []) w)
 
-    begun_notified : notified begun.entries ≡ notified w.entries
+    begun_notified : notified begun_of_ages.entries ≡ notified w.entries
     begun_notified = ap notified (takes_entries k m w) ∙ still_notified w.entries _ refl
 
-    begun_ages : AgesIn base begun
+    begun_ages : AgesIn base begun_of_ages
     begun_ages =
-        subst (λ b. Each (AgeIs base b) begun) (sym begun_notified) (each_same (AgeIs base (notified w.entries)) w begun begun_noticed old)
+        subst (λ b. Each (AgeIs base b) begun_of_ages) (sym begun_notified) (each_same (AgeIs base (notified w.entries)) w begun_of_ages begun_noticed old)
 
     -- a notice that was there stays, or is answered
     some_ages : (n : Notice) → noticed w.ports x ≡ Some n → AgesIn base after
-    some_ages n q = else_ages base k deeds begun
+    some_ages n q = else_ages base k deeds begun_of_ages
         (by deeds free (controller_outcome x k w.core w.ports a.sorted a.two host.0 host.1 a.right a.up m)) begun_ages where
           free : AllByRecursion (GoesToFree w.ports) deeds
           free = controller_free w.core w.ports k m
@@ -298,12 +413,13 @@ module _ (x : ℕ) where
     none_ages b q n there = (zero ∙ sym (ap (λ c. cond c 0 base) sent), subst (λ i. i ≤ 99) (sym zero) (omega arith)) where
       zero : n.age ≡ 0
       zero =
-          all_do (Each (λ n. n.age ≡ 0)) (λ d. Unit {0}) (λ h d v may z. each_done (λ n. n.age ≡ 0) (λ n z. z) h d v z) k deeds begun
+          all_do (Each (λ n. n.age ≡ 0)) (λ d. Unit {0}) (λ h d v may z. each_done (λ n. n.age ≡ 0) (λ n z. z) h d v z) k deeds begun_of_ages
           (Rattle.node_machine.proofs.Walks.anyone (λ d. Unit {0}) (λ d. tt) deeds)
           (λ n z. let none : None ≡ Some n = sym (begun_noticed ∙ q) ∙ z in absurd (cc none)) n there
 
       more : List Entry
-      more = entry.Turn (Rattle.node_machine.specs.Carrying.end_of_node w.core k) m.0 m.1 ∷ Rattle.node_laws.specs.passes.Noting.noted_by_deeds k deeds begun
+      more = entry.Turn (Rattle.node_machine.specs.Carrying.end_of_node w.core k) m.0 m.1 ∷ Rattle.node_laws.specs.passes.Noting.noted_by_deeds k deeds
+          begun_of_ages
 
       entries : after.entries ≡ w.entries ++ more
       entries = Rattle.node_laws.proofs.passes.Passing.handles_entries k m deeds w
@@ -317,5 +433,249 @@ module _ (x : ℕ) where
           absurd (subst (λ o. IsKeptNotice o (Some n)) read (subst (IsKeptNotice (notice_in (t ++ after.entries) x)) there b.kept)))) ∙ or-true
           (notified w.entries)))
 
-    pub handled_ages : IsOn x t after → AgesIn base after
+    handled_ages : IsOn x t after → AgesIn base after
     handled_ages b = by_option (noticed w.ports x) (λ q. none_ages b q) (λ n q. some_ages n q)
+
+-- ## Over a step of a controller the ages of its notices are read
+
+-- ### A pass
+
+module _ (x : ℕ) (t : List Entry) (base : ℕ) where
+  -- more is noted, but no notice to x is sent, and that to x stays
+  ages_same : (w v : Work) (es : List Entry) → noticed v.ports x ≡ noticed w.ports x → v.entries ≡ w.entries ++ es → notified x es ≡ false
+      → AgesIn x base w → AgesIn x base v
+  ages_same w v es same entries none a =
+      subst (λ b. Each x (AgeIs x base b) v) (sym (ap (notified x) entries ∙ still_notified x w.entries es none))
+      (each_same x (AgeIs x base (notified x w.entries)) w v same a)
+
+  abbrev G : Work → Type 0
+  G v = IsOn x t v × AgesIn x base v
+
+  held_ages : (h : ℕ) (flag : Bool) (w : Work) → AgesIn x base w → AgesIn x base (turn_at h (Hold flag) w)
+  held_ages h flag w a =
+      ages_same w (turn_at h (Hold flag) w) (option_map_or (noted_of w.core (Hold flag)) (port_at w.ports h) []) (turn_noticed x h (Hold flag) w) refl
+      (by_option (port_at w.ports h) (λ q. rw q refl) (λ p q. rw q refl)) a
+
+  holds_ages : (h : ℕ) (short : ℕ × ℕ) (w : Work) → AgesIn x base w → AgesIn x base (holds_back h short w)
+  holds_ages h short w a =
+      holds (AgesIn x base) held_ages
+      (λ h flag w a. each_same x (AgeIs x base (notified x w.entries)) w (with_desk h (λ d. record d { holds = flag }) w)
+      (desk_noticed x h (λ d. record d { holds = flag }) w (λ d. refl) (λ d. refl)) a)
+      (λ h need spare w a. ages_same w (noting (entry.Held (end_of_node w.core h) need spare ∷ []) w) (entry.Held (end_of_node w.core h) need spare ∷ [])
+      refl refl refl a) h short w a
+
+  waiting_host : (ports : List Port) (h : ℕ) (m : Message) (messages : List Message) → AreHostEnds ports → waiting_at ports h ≡ m ∷ messages → IsHost h
+  waiting_host ports h m messages hosts q = by_option (port_at ports h)
+      (λ z. let none : [] ≡ m ∷ messages = rw z at q in absurd (cc none))
+      (λ p z. subst IsHost (at_host ports h p z) (at_port (λ (u : Port). IsHost u.desk.host) ports h p hosts z))
+
+  on_of : (v : Work) → Stands x t v → v.cut ≡ false → IsOn x t v
+  on_of v (inl a) on = a
+  on_of v (inr a) on = absurd (true≢false (sym a.off ∙ on))
+
+  lasts : LastsOverTurns G
+  lasts = record {
+    handled = λ w h m messages a on waits room still.
+        let host : IsHost h = waiting_host w.ports h m messages a.0.hosts waits in
+        let deeds : List Deed = controller_deeds (view_of w.core w.ports) h m in
+        let are : deeds_of w.core w.ports h m ≡ deeds = (let zero : eqb w.core.node 0 ≡ true = eq-eqb w.core.node 0 a.0.node in rw zero refl) in
+        subst (λ ds. (handles h m ds w).cut ≡ false → G (handles h m ds w)) (sym are)
+        (λ on.
+        let b : IsOn x t (handles h m deeds w) = on_of (handles h m deeds w) (handled_stand x t h m w host a.0 (ap (λ ds. lack w.ports (needs h ds))
+        (sym are) ∙ room)) on in
+        (b, handled_ages x t base h m w host a.0 a.1 b)) still;
+    held = λ w h m messages short a on waits lacks. (holds_stand x t h short w a.0, holds_ages h short w a.1);
+    let_go = λ w h a on waits. (lets_stand x t h w a.0, lets (AgesIn x base) held_ages h w a.1);
+  }
+
+  pass_ages : (w : Work) → w.cut ≡ false → IsOn x t w → AgesIn x base w → (passes w).cut ≡ false → AgesIn x base (passes w)
+  pass_ages w on a ages still = ((through G lasts (hosts_of_ends w.ports) w (a, ages) on).keeps still).1
+
+-- ### Before a pass
+
+module _ (x : ℕ) where
+  told_mute : (h : ℕ) (who : Side) (n acked : ℕ) (r : Report) → notified x (entries_for h (told who n r acked)) ≡ false
+  told_mute h who n acked r = by_option r.ended (λ q. rw q quiet) (λ cause q. rw q quiet) where
+    rest : List Noted
+    rest = told_rest who n acked r
+
+    quiet : notified x (entries_for h rest) ≡ false
+    quiet = far_notifies x (entries_for h rest) (quiet_far h rest (rest_quiet who n acked r))
+
+  at_mute : (core : Core) (p : Port) (o : Option LinkInput) → notified x (told_at core p o) ≡ false
+  at_mute core p None = refl
+  at_mute core p (Some i) = told_mute p.desk.host (own_side core) p.session (whole_acked (after_input p.side i)) (report p.side i)
+
+  late_mute : (core : Core) (p : Port) → notified x (told_late core p) ≡ false
+  late_mute core p = by_test (is_late p) (λ q. rw q (at_mute core p (Some (Reset None)))) (λ q. rw q refl)
+
+  flat_mute : (f : Port → List Entry) → ((p : Port) → notified x (f p) ≡ false) → (ports : List Port) → notified x (flat_map f ports) ≡ false
+  flat_mute f one [] = refl
+  flat_mute f one (p ∷ ports) = more_notified x (f p) (flat_map f ports) ∙ ap₂ (λ a b. a || b) (one p) (flat_mute f one ports)
+
+  coming_mute : (input : NodeInput) (w : Work) → notified x (told_of_coming input w) ≡ false
+  coming_mute input w =
+      more_notified x (flat_map (λ p. told_at w.core p (input_at input p)) w.ports) (told_of_late input (all_come input w))
+      ∙ ap₂ (λ a b. a || b) (flat_mute (λ p. told_at w.core p (input_at input p)) (λ p. at_mute w.core p (input_at input p)) w.ports) (late input) where
+        late : (input : NodeInput) → notified x (told_of_late input (all_come input w)) ≡ false
+        late (AtEnd h i) = refl
+        late TimePasses = flat_mute (told_late w.core) (late_mute w.core) (map with_older (all_come TimePasses w).ports)
+
+  -- a notice that stays at an end
+  record Stayed (q : Port) (n : Notice) : Type 0 where
+    was : Notice
+    here : q.desk.notice ≡ Some was
+    age : n.age ≡ was.age
+    off : is_over q ≡ false
+
+  stayed : (ports : List Port) (q : Port) (n : Notice) → (without_notice (forgets ports q)).desk.notice ≡ Some n → Stayed q n
+  stayed ports q n is = by_test (is_forgotten ports (asked_at q))
+      (λ z. by_notice (rw z at parts.0) q.desk.notice refl (rw z at parts.1))
+      (λ z. record { was = n; here = rw z at parts.1; age = refl; off = rw z at parts.0 }) where
+        parts : (is_over (forgets ports q) ≡ false) × ((forgets ports q).desk.notice ≡ Some n)
+        parts = by_test (is_over (forgets ports q)) (λ y. let none : None ≡ Some n = rw y at is in absurd (cc none)) (λ y. (y, rw y at is))
+
+        forgot : Option Notice → Option Notice
+        forgot o = option_map_or (λ (n : Notice). Some (record n { about = Rattle.node_machine.specs.Parts.About.Forgotten })) o None
+
+        by_notice : is_over q ≡ false → (o : Option Notice) → q.desk.notice ≡ o → forgot o ≡ Some n → Stayed q n
+        by_notice off None z y = absurd (cc y)
+        by_notice off (Some m) z y =
+            let same : record m { about = Rattle.node_machine.specs.Parts.About.Forgotten } ≡ n = cc in
+            record { was = m; here = z; age = sym (ap (λ (k : Notice). k.age) same); off = off }
+
+  -- how old it was, and is as the turns begin
+  abbrev pub grown : NodeInput → ℕ → ℕ
+  grown (AtEnd h i) age = age
+  grown TimePasses age = age + 1
+
+  -- an end as something has come to it, and late notices have reset its link
+  abbrev came : NodeInput → Port → Port
+  came (AtEnd h i) p = has_come p (input_at (AtEnd h i) p)
+  came TimePasses p = reset_late (with_older (has_come p (Some Tick)))
+
+  come_host : (p : Port) (o : Option LinkInput) → (has_come p o).desk ≡ p.desk
+  come_host p None = refl
+  come_host p (Some i) = refl
+
+  reset_desk : (p : Port) → (reset_late p).desk ≡ p.desk
+  reset_desk p = by_test (is_late p) (λ z. rw z refl) (λ z. rw z refl)
+
+  came_is : (input : NodeInput) (w : Work) → port_at (has_come_so input w).ports x ≡ option_map (came input) (port_at w.ports x)
+  came_is (AtEnd h i) w = at_all w.ports x (λ p. has_come p (input_at (AtEnd h i) p)) (λ q. ap (λ
+      (d : Rattle.node_machine.specs.Parts.Desk). d.host) (come_host q (input_at (AtEnd h i) q)))
+  came_is TimePasses w =
+      at_all (map with_older (map (λ p. has_come p (Some Tick)) w.ports)) x reset_late (λ q. ap (λ
+      (d : Rattle.node_machine.specs.Parts.Desk). d.host) (reset_desk q))
+      ∙ (ap (option_map reset_late) (at_all (map (λ p. has_come p (Some Tick)) w.ports) x with_older (λ q. refl)
+      ∙ ap (option_map with_older) (at_all w.ports x (λ p. has_come p (Some Tick)) (λ q. refl))) ∙ by_option (port_at w.ports x)
+      (λ q. rw q refl)
+      (λ p q. rw q refl))
+
+  young : (n : ℕ) → nat_le 100 n ≡ false → n ≤ 99
+  young n q = grind (arith, q)
+
+  -- a notice is as old as is read while it stays
+  came_age : (input : NodeInput) (p : Port) (age0 : ℕ) (n : Notice) → ((m : Notice) → p.desk.notice ≡ Some m → (m.age ≡ age0) × (m.age ≤ 99))
+      → Stayed (came input p) n → (n.age ≡ grown input age0) × (n.age ≤ 99)
+  came_age (AtEnd h i) p age0 n old s =
+      let m = old s.was (ap (λ (d : Rattle.node_machine.specs.Parts.Desk). d.notice) (sym (come_host p (input_at (AtEnd h i) p))) ∙ s.here) in
+      (s.age ∙ m.0, subst (λ k. k ≤ 99) (sym s.age) m.1)
+  came_age TimePasses p age0 n old s = by_option p.desk.notice
+      (λ z. let none : None ≡ Some s.was = rw z at here in absurd (cc none))
+      (λ m z. let is : Some (Rattle.node_machine.specs.Node.older_notice m) ≡ Some s.was = rw z at here in
+      let same : Rattle.node_machine.specs.Node.older_notice m ≡ s.was = cc in
+      let less : nat_le 100 s.was.age ≡ false = ap (λ o. option_map_or (λ (n : Notice). nat_le 100 n.age) o false) (sym here) ∙ low in (
+        (s.age ∙ sym (ap (λ (k : Notice). k.age) same)) ∙ ap (λ k. k + 1) (old m z).0,
+        subst (λ k. k ≤ 99) (sym s.age) (young s.was.age less),
+      )) where
+        y : Port
+        y = with_older (has_come p (Some Tick))
+
+        here : y.desk.notice ≡ Some s.was
+        here = ap (λ (d : Rattle.node_machine.specs.Parts.Desk). d.notice) (sym (reset_desk y)) ∙ s.here
+
+        fresh : (is_late y ≡ false) × (y.ended ≡ false)
+        fresh = by_test (is_late y)
+            (λ z. let late : is_over (reset_late y) ≡ true = rw z (or-true y.ended) in absurd (true≢false (sym late ∙ s.off)))
+            (λ z. let same : reset_late y ≡ y = rw z refl in
+            (z, (or_parts y.ended y.late (ap is_over (sym same) ∙ s.off)).0))
+
+        and_not : (a b : Bool) → (a && not b) ≡ false → b ≡ false → a ≡ false
+        and_not true true q z = absurd (true≢false z)
+        and_not true false q z = q
+        and_not false b q z = refl
+
+        low : option_map_or (λ (n : Notice). nat_le 100 n.age) y.desk.notice false ≡ false
+        low = and_not (option_map_or (λ (n : Notice). nat_le 100 n.age) y.desk.notice false) y.ended fresh.0 fresh.1
+
+  -- as a step begins to do what it owes
+  module _ (input : NodeInput) (w : Work) (age0 : ℕ) (quiet : notified x w.entries ≡ false) (old : Each x (λ n. (n.age ≡ age0) × (n.age ≤ 99)) w) where
+    abbrev v : Work
+    v = has_come_so input w
+
+    abbrev u : Work
+    u = record v { core = after_sessions v.core v.ports; ports = map without_notice (map (forgets v.ports) v.ports) }
+
+    is : noticed u.ports x
+        ≡ option_and_then (λ (p : Port). p.desk.notice) (option_map without_notice (option_map (forgets v.ports) (option_map (came input) (port_at w.ports x))))
+    is =
+        ap (λ o. option_and_then (λ (p : Port). p.desk.notice) o)
+        (at_all (map (forgets v.ports) v.ports) x without_notice without_host
+        ∙ ap (option_map without_notice) (at_all v.ports x (forgets v.ports) (forgets_host v.ports) ∙ ap (option_map (forgets v.ports)) (came_is input w)))
+
+    ages : (n : Notice) → noticed u.ports x ≡ Some n → (n.age ≡ grown input age0) × (n.age ≤ 99)
+    ages n q = go (port_at w.ports x) refl (sym is ∙ q) where
+      go : (o : Option Port) → port_at w.ports x ≡ o
+          → option_and_then (λ (p : Port). p.desk.notice) (option_map without_notice (option_map (forgets v.ports) (option_map (came input) o))) ≡ Some n
+          → (n.age ≡ grown input age0) × (n.age ≤ 99)
+      go None z y = absurd (cc y)
+      go (Some p) z y =
+          came_age input p age0 n (λ m e. old m (ap (λ o. option_and_then (λ (p : Port). p.desk.notice) o) z ∙ e)) (stayed v.ports (came input p) n y)
+
+    none : notified x u.entries ≡ false
+    none = ap (notified x) (come_entries input w) ∙ (still_notified x w.entries (told_of_coming input w) (coming_mute input w) ∙ quiet)
+
+    begins_ages : AgesIn x (grown input age0) u
+    begins_ages = λ n q. let a = ages n q in (a.0 ∙ sym (ap (λ b. cond b 0 (grown input age0)) none), a.1)
+
+    before_ages : AgesIn x (grown input age0) (comes_to_pass input w)
+    before_ages =
+        unless (AgesIn x (grown input age0)) (all_done 0 (owed_in_step input w)) (has_synced input w)
+        (λ k a. else_ages x (grown input age0) 0 (owed_in_step input w) k
+        (all_owed_hold (IsElse x) (λ asker. tt) (λ to r. answer_other r []) (map (forgets v.ports) v.ports)) a)
+        (else_ages x (grown input age0) 0 (syncs_in input w) (has_freed input w) (all_synced_hold (IsElse x) (λ host id. tt) w.core input w.ports)
+        (else_ages x (grown input age0) 0 (forgotten v.ports) u (forgotten_hold (IsElse x) (λ asker. tt) v.ports) begins_ages))
+
+  -- ### A step
+
+  module _ (t : List Entry) (input : NodeInput) (w : Work) (a : IsOn x t w) (c : HasCome x t w a (has_come_so input w)) (age0 : ℕ)
+      (quiet : notified x w.entries ≡ false) (old : Each x (λ n. (n.age ≡ age0) × (n.age ≤ 99)) w) where
+    syncs_none : TellNoNotices (syncs_in input w)
+    syncs_none =
+        no_notices_flat (synced w.core input) (λ (p : Port). IsHost p.desk.host) (λ p host. synced_no_notices w.core input p host) w.ports a.hosts
+
+    stands : Stands x t (comes_to_pass input w)
+    stands =
+        let come : Work = has_come_so input w in
+        let left : List Port = map (forgets come.ports) come.ports in
+        then x t (all_done 0 (owed_in_step input w)) (has_synced input w)
+        (all_stand x t 0 (λ n. ⊥) (syncs_in input w) (has_freed input w) (λ n f. absurd f) (no_notices_may x (λ n. ⊥) (syncs_in input w) syncs_none)
+        (frees x t w a (Rattle.std.specs.List.filter (λ (c : Creation). Rattle.node_machine.specs.Node.is_over_at come.ports c.asker)
+        (Rattle.std.specs.List.filter_map asked_at come.ports)) (u input w age0 quiet old) (begun x t w a come c)))
+        (λ d. all_stand x t 0 (λ n. ⊥) (owed_in_step input w) (has_synced input w) (λ n f. absurd f)
+        (no_notices_may x (λ n. ⊥) (owed_in_step input w) (owed_all x t w a left)) d)
+
+    -- behind a step in which it keeps its power
+    pub step_ages : (steps input w).cut ≡ false → AgesIn x (grown input age0) (steps input w)
+    step_ages on = subst (AgesIn x (grown input age0)) (sym (steps_are input w)) (by_test (comes_to_pass input w).cut
+        (λ z. let is : unless_cut passes k ≡ k = rw z refl in subst (AgesIn x (grown input age0)) (sym is) before)
+        (λ z. let is : unless_cut passes k ≡ passes k = rw z refl in
+        subst (AgesIn x (grown input age0)) (sym is)
+        (pass_ages x t (grown input age0) k z (on_of x t (grown input age0) k stands z) before
+        (ap (λ (y : Work). y.cut) (sym is) ∙ (ap (λ (z : Work). z.cut) (sym (steps_are input w)) ∙ on))))) where
+          k : Work
+          k = comes_to_pass input w
+
+          before : AgesIn x (grown input age0) k
+          before = before_ages input w age0 quiet old

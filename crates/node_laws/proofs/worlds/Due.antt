@@ -1,49 +1,331 @@
--- Before its first turn in an event a host answers exactly what is due: the message of a line, or the first command of an init.
-use Rattle.node_laws.proofs.Words.{Activates, AllByRecursion, AnswersSo, AreHosts, ArePlayable, AreSessionsRead, AreTaken, Arms, AsksReset, AtEachOccurrence}
-use Rattle.node_laws.proofs.Words.{Bool, Boots, CountsCommands, Deed, End, Entry, FollowsNodes, Gives, Happening, HasEnds, Header, Host, Inits, IsBegunByHost}
-use Rattle.node_laws.proofs.Words.{IsCut, IsDueAt, IsFew, IsOrderly, IsReplyNoted, IsSentByHost, IsTrue, Line, Link, LinkEnd, LinkState, List, Loses, Message}
-use Rattle.node_laws.proofs.Words.{NextFrame, NoInput, NodeHistory, NodeWorld, None, NumberedEnd, Occurrence, Option, Orders, Port, Resets, Running, Sends}
-use Rattle.node_laws.proofs.Words.{Site, Some, Takes, TakesMessage, Ticks, Up, Work, [], all_done, all_so, and_parts, ap, append-nil, before_turn, beginning}
-use Rattle.node_laws.proofs.Words.{begins_with, begun_at, by_option, by_test, cond, count_of, due, end_h, end_of_number, entries_in, entries_of_reply, eqb}
-use Rattle.node_laws.proofs.Words.{eqb-true, exchanged, false, filter, first_cause, first_verdict, frames_at, frames_noted, give_refusal, happenings, host_does}
-use Rattle.node_laws.proofs.Words.{host_work, if_not_sent, if_off, if_waiting, is_answer_of, is_command_message, is_cut_of, is_down, is_turn_of, is_up, link_to}
-use Rattle.node_laws.proofs.Words.{list_any, near_end_in, new_world, node_at, node_entries, node_of, noted_by_deeds, noted_of_deeds, number_now, number_of}
-use Rattle.node_laws.proofs.Words.{occurrences_in, option_and_then, option_map_or, refl, refusal_in, same_number, sending, sent_in_session, session_now}
-use Rattle.node_laws.proofs.Words.{session_of_port, site_at, steps_from, subst, sym, taken_of, to_command, true, unwrap_or, wires_for, world_behind, world_step}
-use Rattle.node_laws.proofs.Words.{ℕ, ◌&&◌, ◌++◌, ◌==◌, ◌∙◌, ◌∷◌, ◌≡◌}
-use Rattle.trace_model.specs.declared.entry.Entry.TheVariants as entry
-use Rattle.trace_model.specs.declared.line.Line.TheVariants as line
-use Rattle.node_laws.proofs.kept.Lines.{first_none, off_none}
-use Rattle.node_laws.proofs.telling.Lasting.{AllMay, AreCaused, damaged_may, events_of_steps, lines_caused, repeated_may}
-use Rattle.node_laws.proofs.telling.Nodes.{Stands, link_is, site_host, stands}
+-- Over histories sessions end by resets exactly where those are due, and before its first turn a host answers exactly what is due.
+use Rattle.node_laws.proofs.Words.{Activates, AllByRecursion, AnswersSo, AreDifferent, AreHosts, ArePlayable, AreReset, AreSessionsRead, AreTaken, Arms}
+use Rattle.node_laws.proofs.Words.{AsksReset, AtEachOccurrence, AtEnd, Bool, Boots, Contains, Control, CountsCommands, Deed, Desk, End, Entry, FollowsNodes}
+use Rattle.node_laws.proofs.Words.{Gives, GoesOut, Happening, HasEnds, Header, Host, Init, Inits, IsBegunByHost, IsCut, IsDueAt, IsFew, IsGoodSite, IsHost}
+use Rattle.node_laws.proofs.Words.{IsNodeHeader, IsNodeLineOf, IsOrderly, IsReplyNoted, IsSentByHost, IsTrue, KeepsNotices, Line, Link, LinkEnd, LinkInput}
+use Rattle.node_laws.proofs.Words.{LinkState, List, Loses, LostFor, MayBoot, Message, NextFrame, NoInput, NodeHistory, NodeWorld, None, NumberedEnd, Occurrence}
+use Rattle.node_laws.proofs.Words.{OnWire, Option, Orders, Port, Resets, Running, Same, Sends, Site, SiteKeepsInit, Some, Take, Takes, TakesMessage, Ticks}
+use Rattle.node_laws.proofs.Words.{Turn, Undetected, Up, Verdict, Work, [], after_input, all_done, all_so, and_parts, ap, append-nil, arith, before_turn}
+use Rattle.node_laws.proofs.Words.{beginning, begins_with, begun_at, by_coming, by_controller, by_option, by_test, cond, controller_does, controller_work}
+use Rattle.node_laws.proofs.Words.{count_of, due, end_c, end_h, end_of_number, ended_by, ending_of, ends_in, entries_in, entries_of_reply, eq-eqb, eqb}
+use Rattle.node_laws.proofs.Words.{eqb-false, eqb-true, exchanged, false, filter, first_cause, first_verdict, flat_map-append, fold, frames_at, frames_noted}
+use Rattle.node_laws.proofs.Words.{frames_out, give_refusal, happenings, happens_by, has_taken, host_does, host_work, hosts_in, if_not_sent, if_off, if_waiting}
+use Rattle.node_laws.proofs.Words.{init_behind, is_answer_of, is_command_message, is_cut_of, is_down, is_reset_down, is_reset_due, is_rset, is_some, is_turn_of}
+use Rattle.node_laws.proofs.Words.{is_up, length, link_after_controller, link_to, list_any, lpdu_of, map, ne_eqb, near_end_in, new_world, node_at, node_entries}
+use Rattle.node_laws.proofs.Words.{node_of, noted_by_deeds, noted_of_deeds, number_now, number_of, occurrences_in, option_and_then, option_map_or, put, put_all}
+use Rattle.node_laws.proofs.Words.{refl, refusal_in, replicate, runs_on, same_number, sending, sent_in_session, session_now, session_of_port, site_at, steps}
+use Rattle.node_laws.proofs.Words.{steps_at_controller, steps_from, subst, suc, sym, taken_of, to_command, true, true≢false, turned, turns_at, unwrap_or}
+use Rattle.node_laws.proofs.Words.{verdict_on, wires_for, with_ended, world_behind, world_step, zero, ℕ, ◌&&◌, ◌++◌, ◌==◌, ◌∙◌, ◌∷◌, ◌≡◌, ◌≤◌}
+use Rattle.node_laws.proofs.creations.Events.{history_keeps}
+use Rattle.node_laws.proofs.kept.Ticking.{first_none, off_none}
 use Rattle.node_laws.proofs.links.Worlds.{IsFineSite}
+use Rattle.node_laws.proofs.notices.Events.{begins_read, event_read}
+use Rattle.node_laws.proofs.order.Upheld.{AreDone, done_back, history_done}
 use Rattle.node_laws.proofs.order.Lines.{IsSo, history_so, host_number}
 use Rattle.node_laws.proofs.order.Sessions.{are_read}
-use Rattle.node_laws.proofs.passes.Notes.{deeds_note}
+use Rattle.node_laws.proofs.passes.InSteps.{deeds_note_of_notes as deeds_note}
 use Rattle.node_laws.proofs.passes.Replying.{noted_so}
-use Rattle.node_laws.proofs.power.Doing.{IsMine}
+use Rattle.node_laws.proofs.power.Steps.{IsMine, own_not, part_own}
 use Rattle.node_laws.proofs.power.Events.{begins_part, sending_mine}
-use Rattle.node_laws.proofs.power.Parts.{own_not, part_own}
 use Rattle.node_laws.proofs.readings.Lines.{is_taken}
-use Rattle.node_laws.proofs.views.InitWorlds.{present}
-use Rattle.node_laws.proofs.readings.NoticedWorlds.{numbers}
-use Rattle.node_laws.proofs.reply_passes.Begins.{port_begins}
-use Rattle.node_laws.proofs.worlds.Downs.{AreDownless, frames_downless}
+use Rattle.node_laws.proofs.readings.Noticed.{numbers}
+use Rattle.node_laws.proofs.reply_passes.Ordered.{port_begins}
+use Rattle.node_laws.proofs.telling.Lasting.{AllMay, AnyLine, AreCaused, EachHolds, all_lines, boots_may, damaged_may, events_of_steps, front_each}
+use Rattle.node_laws.proofs.telling.Lasting.{lines_caused, lines_each, new_orderly, occurs, repeated_may}
+use Rattle.node_laws.proofs.telling.Events.{Stands, link_is, site_host, site_is, stands}
+use Rattle.node_laws.proofs.views.InitWorlds.{AtSite, Keeps, MayKeep, present}
+use Rattle.node_laws.proofs.views.Lines.{front_keeps, line_may_of_init_lines as line_may, new_keeps, taken_up}
+use Rattle.node_laws.proofs.worlds.Resetting.{AgesAreRead, IsReadBefore, aged_read, far_is, near_is}
+use Rattle.node_laws.proofs.worlds.Ticking.{AreDownless, IfNoNotices, NoNotices, far_node, far_number, frames_downless, host_begins}
 use Rattle.node_laws.proofs.worlds.Events.{all_two}
-use Rattle.node_laws.proofs.worlds.Hearing.{out_unanswered}
-use Rattle.node_laws.proofs.worlds.Histories.{quiet}
 use Rattle.node_laws.proofs.worlds.Late.{AreHostSites, IsHostSite, IsLate, NoAnswer, activates_late, answer_is, boots_late, coming_late, late_all, lost_late}
-use Rattle.node_laws.proofs.worlds.Late.{ticks_late}
-use Rattle.node_laws.proofs.worlds.Order.{others_answer, unanswered_all}
-use Rattle.node_laws.proofs.views.InitLines.{taken_up}
-use Rattle.node_laws.proofs.worlds.Steps.{far_node, far_number, host_begins}
-use Rattle.node_laws.proofs.worlds.Ticking.{IfNoNotices}
+use Rattle.node_laws.proofs.worlds.Late.{others_answer, out_unanswered, ticks_late, unanswered_all}
+use Rattle.trace_model.specs.declared.entry.Entry.TheVariants as entry
+use Rattle.trace_model.specs.declared.line.Line.TheVariants as line
+
+-- ## No host has a notice to answer, in each world of a history
+
+-- the host of a site that keeps its init has none
+keeps_none : (i : Option Init) (s : Site) → SiteKeepsInit i s → IfNoNotices s.node
+keeps_none i s k = by_option s.node
+    (λ q. rw q tt)
+    (λ r q. rw q (let runs = rw q at k.runs in subst (λ ds. AllByRecursion (λ (d : Desk). d.notice ≡ None) ds) (sym runs.desks_are) (runs.no_notice, tt)))
+
+-- ## Over histories sessions end by resets exactly where those are due
+
+-- ### Sites
+
+pub of_hosts : (Q : ℕ → Type 0) (sites : List Site) → AllByRecursion Q (hosts_in sites) → AllByRecursion (λ (s : Site). Q s.host) sites
+of_hosts Q [] a = tt
+of_hosts Q (s ∷ sites) a = (a.0, of_hosts Q sites a.1)
+
+-- so it is with each site where it is so with each that is found
+pub all_found : (P : Site → Type 0) (sites : List Site) → AreDifferent (hosts_in sites) → ((h : ℕ) (s : Site) → site_at sites h ≡ Some s → P s)
+    → AllByRecursion P sites
+all_found P [] d f = tt
+all_found P (s ∷ sites) d f = (f s.host s (rw (eq-eqb s.host s.host refl) refl), all_found P sites d.1 later) where
+  later : (h : ℕ) (z : Site) → site_at sites h ≡ Some z → P z
+  later h z found = by_test (eqb s.host h) (λ q. absurd (eqb-false h s.host other (sym (eqb-true s.host h q)))) (λ q. f h z (rw q found)) where
+    other : eqb h s.host ≡ false
+    other = subst (λ n. eqb n s.host ≡ false) (site_host sites h z found)
+        (site_is (λ (x : Site). eqb x.host s.host ≡ false) sites h z (of_hosts (λ k. eqb k s.host ≡ false) sites d.0) found)
+
+-- each host has its site
+abbrev IsFound : List Site → ℕ → Type 0
+IsFound sites h = (s : Site) × (site_at sites h ≡ Some s)
+
+each_found : (sites : List Site) → AllByRecursion (IsFound sites) (hosts_in sites)
+each_found [] = tt
+each_found (s ∷ sites) = ((s, rw (eq-eqb s.host s.host refl) refl), more (hosts_in sites) (each_found sites)) where
+  more : (hosts_of_histories : List ℕ) → AllByRecursion (IsFound sites) hosts_of_histories → AllByRecursion (IsFound (s ∷ sites)) hosts_of_histories
+  more hosts_of_histories a = all_so (IsFound sites) (IsFound (s ∷ sites)) (λ h b. (by_test (eqb s.host h) (λ q. (s, rw q refl)) (λ q. (b.0, rw q b.1))))
+      hosts_of_histories a
+
+-- both ends of each link
+all_ends : (P : End → Type 0) (hosts_of_histories : List ℕ) → AllByRecursion (λ h. P (end_c h) × P (end_h h)) hosts_of_histories
+    → AllByRecursion P (ends_in hosts_of_histories)
+all_ends P [] a = tt
+all_ends P (h ∷ hosts_of_histories) a = (a.0.0, (a.0.1, all_ends P hosts_of_histories a.1))
+
+-- ### Ages
+
+-- a world whose notices are read, and are as old as is read
+record IsAgedSo (past : List Occurrence) (w : NodeWorld) : Type 0 where
+  notices : KeepsNotices (entries_in past) w
+  ages : AgesAreRead past w.controller
+
+aged_so : (past : List Occurrence) (w : NodeWorld) (c : Happening) → IsAgedSo past w → MayBoot w c → IsAgedSo (past ++ occurs w c ∷ []) (world_step w c).0
+aged_so past w c a may =
+    let es : List Entry = (world_step w c).1 in
+    let same : entries_in (past ++ occurs w c ∷ []) ≡ entries_in past ++ es =
+    flat_map-append (λ (o : Occurrence). o.entries) past (occurs w c ∷ []) ∙ ap (λ z. entries_in past ++ z) (append-nil es) in
+    record {
+      notices = subst (λ u. KeepsNotices u (world_step w c).0) (sym same) (event_read (entries_in past) w c a.notices may);
+      ages = aged_read past w c a.notices a.ages;
+    }
+
+pub ages_read : (header : Header) (lines : List Line) (t : NodeHistory) → FollowsNodes header lines t → AreHosts header.hosts.items
+    → (past back : List Occurrence) → occurrences_in t ≡ past ++ back → AgesAreRead past (world_behind (new_world header.hosts.items) past).controller
+ages_read header lines t follows are past back parts =
+    let hosts_of_histories : List ℕ = header.hosts.items in
+    let P : List Occurrence → Type 0 = λ events. EachHolds IsAgedSo MayBoot AnyLine aged_so boots_may [] (new_world hosts_of_histories) events in
+    (front_each IsAgedSo MayBoot AnyLine aged_so boots_may past back [] (new_world hosts_of_histories)
+    (subst P (ap events_of_steps (sym follows.steps_are) ∙ parts) (lines_each IsAgedSo MayBoot AnyLine aged_so boots_may lines [] (new_world hosts_of_histories)
+    (record { notices = begins_read hosts_of_histories are; ages = tt }) (all_lines lines)))).ages
+
+module _ (header : Header) (lines : List Line) (t : NodeHistory) (follows : FollowsNodes header lines t) (are : AreHosts header.hosts.items)
+    (playable : ArePlayable lines) (sent : AllByRecursion IsSentByHost lines) (sides : AllByRecursion IsBegunByHost lines)
+    (few : IsFew (node_entries t)) where
+  abbrev hosts_of_histories : List ℕ
+  hosts_of_histories = header.hosts.items
+
+  module _ (past back : List Occurrence) (parts : occurrences_in t ≡ past ++ back) where
+    abbrev w : NodeWorld
+    w = world_behind (new_world hosts_of_histories) past
+
+    so : IsSo hosts_of_histories past w
+    so = history_so header lines t follows are playable past back parts
+
+    notices : KeepsNotices (entries_in past) w
+    notices = (history_keeps header lines t follows are sent few past back parts).notices
+
+    quiet : NoNotices w.sites
+    quiet = all_found (λ (s : Site). IfNoNotices s.node) w.sites so.well.orderly.different one where
+      one : (h : ℕ) (s : Site) → site_at w.sites h ≡ Some s → IfNoNotices s.node
+      one h s found =
+          let host : IsHost h = subst IsHost (site_host w.sites h s found) (site_is IsGoodSite w.sites h s notices.sites found).host in
+          let i : Option Init = fold (init_behind h) None past in
+          let keeps : Keeps h host w i =
+          front_keeps h host past back (new_world hosts_of_histories) None (new_orderly hosts_of_histories are.different (numbers hosts_of_histories are.all))
+          (new_keeps h host hosts_of_histories)
+          (subst (AreCaused MayKeep (new_world hosts_of_histories)) (sym (ap events_of_steps follows.steps_are) ∙ parts)
+          (lines_caused MayKeep IsBegunByHost line_may lines (new_world hosts_of_histories) sides)) in
+          keeps_none i s (subst (AtSite i) found keeps)
+
+    module _ (ages : AgesAreRead past w.controller) where
+      pub read_before : IsReadBefore past w
+      read_before = record {
+        orderly = so.well.orderly;
+        notices = notices;
+        sessions = λ x s found. are_read x s.link (entries_in past) (host_number w x s so.well.orderly found) (so.each x s found).told;
+        quiet = quiet;
+        ages = ages;
+      }
+
+  -- Sessions end by resets exactly where those are due.
+  pub resets_due : AtEachOccurrence t (AreReset t.header.hosts.items)
+  resets_due past back o parts =
+      subst (λ (h : Header). AreReset h.hosts.items past o) (sym follows.header_is)
+      (all_ends (λ e. list_any (is_reset_down e) o.entries ≡ is_reset_due past o e) hosts_of_histories
+      (subst (AllByRecursion (λ h. Due (end_c h) × Due (end_h h))) (so past (o ∷ back) parts).hosts_are
+      (both (hosts_in v.sites) (each_found v.sites)))) where
+        v : NodeWorld
+        v = world_behind (new_world hosts_of_histories) past
+
+        Due : End → Type 0
+        Due e = list_any (is_reset_down e) o.entries ≡ is_reset_due past o e
+
+        done : AreDone v (o ∷ back)
+        done = done_back past (o ∷ back) (new_world hosts_of_histories)
+            (subst (AreDone (new_world hosts_of_histories)) parts (history_done header lines t follows playable))
+
+        before : IsReadBefore past v
+        before = read_before past (o ∷ back) parts (ages_read header lines t follows are past (o ∷ back) parts)
+
+        as_noted : (e : End) → list_any (is_reset_down e) (world_step v o.cause).1 ≡ is_reset_due past (record {
+          cause = o.cause;
+          entries =
+              (world_step v o.cause).1;
+        }) e
+            → Due e
+        as_noted e z =
+            subst (λ es. list_any (is_reset_down e) es ≡ is_reset_due past (record { cause = o.cause; entries = es }) e) (sym done.0.0) z
+
+        both : (hs : List ℕ) → AllByRecursion (IsFound v.sites) hs → AllByRecursion (λ h. Due (end_c h) × Due (end_h h)) hs
+        both [] a = tt
+        both (h ∷ hs) a = (
+          (
+            as_noted (end_c h) (near_is past v before h a.0.0 a.0.1 o.cause done.0.1.1),
+            as_noted (end_h h) (far_is past v before h a.0.0 a.0.1 o.cause done.0.1.1),
+          ),
+          both hs a.1,
+        )
+
+-- ## Lines let the controller take no more frames than stand on its wire, and name ends of hosts of the world
+
+-- the controller takes a frame only where one stands on its wire, while it runs; and a host whose end takes a frame, or is reset, is no
+-- controller
+abbrev pub MayStep : NodeWorld → Happening → Type 0
+MayStep w (Takes e) = ((e.link == 0) ≡ false) × (e.at_host ≡ false → is_some w.controller ≡ true → frames_at w e ≡ [] → ⊥)
+MayStep w (Resets e window) = (e.link == 0) ≡ false
+MayStep w _ = Unit {0}
+
+-- ### One frame less
+
+put_near : (l : Link) (c : Control) → (put l c).to_controller ≡ l.to_controller
+put_near l c = by_test (is_rset c) (λ q. rw q refl) (λ q. rw q refl)
+
+puts_near : (l : Link) (cs : List Control) → (put_all l cs).to_controller ≡ l.to_controller
+puts_near l [] = refl
+puts_near l (c ∷ cs) = puts_near (put l c) cs ∙ put_near l c
+
+pub ended_near : (l : Link) (b : Bool) → (with_ended l b).to_controller ≡ l.to_controller
+ended_near l true = refl
+ended_near l false = refl
+
+taken_near : (l : Link) (x : OnWire) (xs : List OnWire) (ts : List Turn) → (has_taken l x xs ts GoesOut).to_controller ≡ xs
+taken_near l x xs ts =
+    let b : Bool = is_some (ended_by l.controller.side (Take x.frame)) in
+    puts_near _ (frames_out (turned (after_input l.controller.side (Take x.frame)) ts)) ∙ ended_near (record l { to_controller = xs }) b
+
+pub step_near : (l : Link) (ts : List Turn) (n : ℕ) → suc n ≤ length l.to_controller → n ≤ length (steps_at_controller l NextFrame ts GoesOut).to_controller
+step_near l ts n many = go l.to_controller many where
+  by : List OnWire → Link
+  by [] = l
+  by (x ∷ xs) = has_taken l x xs ts GoesOut
+
+  go : (xs : List OnWire) → suc n ≤ length xs → n ≤ length (by xs).to_controller
+  go [] most = let low = many in omega (arith, low)
+  go (x ∷ xs) most = let same = ap (λ (w : List OnWire). length w) (taken_near l x xs ts) in omega (arith, most, same)
+
+-- so it is with the link at which the controller takes one
+sites_near : (h : ℕ) (k : Work) (sites : List Site) (n : ℕ) → ending_of k ≡ GoesOut → suc n ≤ length (link_to sites h).to_controller
+    → n ≤ length (link_to (map (link_after_controller h NextFrame k) sites) h).to_controller
+sites_near h k [] n out many = omega (arith, many)
+sites_near h k (s ∷ sites) n out many = by_test (eqb s.host h)
+    (λ q. let now : link_to (map moved (s ∷ sites)) h ≡ steps_at_controller s.link NextFrame (turns_at k s.host) GoesOut =
+    ap (λ b. option_map_or (λ (x : Site). x.link) (cond b (Some (moved s)) (site_at (map moved sites) h)) (link_to [] h)) q
+    ∙ (ap (λ b. steps_at_controller s.link (cond b NextFrame NoInput) (turns_at k s.host) (ending_of k)) q
+    ∙ ap (steps_at_controller s.link NextFrame (turns_at k s.host)) out) in
+    omega (arith, step_near s.link (turns_at k s.host) n (rw q at many), ap (λ (l : Link). length l.to_controller) now))
+    (λ q. let now : link_to (map moved (s ∷ sites)) h ≡ link_to (map moved sites) h =
+    ap (λ b. option_map_or (λ (x : Site). x.link) (cond b (Some (moved s)) (site_at (map moved sites) h)) (link_to [] h)) q in
+    omega (arith, sites_near h k sites n out (rw q at many), ap (λ (l : Link). length l.to_controller) now)) where
+      moved : Site → Site
+      moved = link_after_controller h NextFrame k
+
+-- so many frames stand on the wire to the controller, while it runs
+abbrev Stand : NodeWorld → ℕ → ℕ → Type 0
+Stand w h n = is_some w.controller ≡ true → n ≤ length (link_to w.sites h).to_controller
+
+fewer : (w : NodeWorld) (h n : ℕ) → Stand w h (suc n) → Stand w h n
+fewer w h n many on = let some = many on in omega (arith, some)
+
+near_stand : (w : NodeWorld) (h : ℕ) (i : LinkInput) (n : ℕ) → Stand w h (suc n) → Stand (controller_does w h NextFrame (steps (AtEnd h i))).0 h n
+near_stand w h i n many =
+    by_controller (λ p. Stand p.0 h n) w h NextFrame (steps (AtEnd h i)) (fewer w h n many) (λ r q.
+    let k : Work = controller_work w r h NextFrame (steps (AtEnd h i)) in
+    by_cut k (many (ap is_some q)) k.cut refl) where
+      by_cut : (k : Work) → suc n ≤ length (link_to w.sites h).to_controller → (b : Bool) → k.cut ≡ b
+          → is_some (runs_on k) ≡ true → n ≤ length (link_to (map (link_after_controller h NextFrame k) w.sites) h).to_controller
+      by_cut k some true off on =
+          let none : runs_on k ≡ None = rw off refl in
+          absurd (true≢false (sym on ∙ ap is_some none))
+      by_cut k some false still on = let out : ending_of k ≡ GoesOut = rw still refl in sites_near h k w.sites n out some
+
+take_stands : (w : NodeWorld) (e : End) (n : ℕ) → e.at_host ≡ false → Stand w e.link (suc n) → Stand (world_step w (Takes e)).0 e.link n
+take_stands w e n near many =
+    by_coming (λ p. Stand p.0 e.link n) w e NextFrame (fewer w e.link n many) (λ i z seen. absurd (true≢false (sym z ∙ near)))
+    (λ i z seen. near_stand w e.link i n many)
+
+frames_near : (w : NodeWorld) (e : End) → e.at_host ≡ false → frames_at w e ≡ (link_to w.sites e.link).to_controller
+frames_near w e near = rw near refl
+
+takes_may : (n : ℕ) (w : NodeWorld) (e : End) → (e.link == 0) ≡ false → e.at_host ≡ false → Stand w e.link n → AllMay MayStep w (replicate n (Takes e))
+takes_may zero w e off near many = tt
+takes_may (suc n) w e off near many = (
+  (
+    off,
+    λ at on none.
+        absurd (omega (arith, many on, ap (λ (xs : List OnWire). length xs) (sym (frames_near w e near) ∙ none))),
+  ),
+  takes_may n (world_step w (Takes e)).0 e off near (take_stands w e n near many),
+)
+
+-- ### Lines
+
+pub off_zero : (header : Header) → IsNodeHeader header → (h : ℕ) → Contains header.hosts.items h → (h == 0) ≡ false
+off_zero header nodes h (k, below, is) =
+    let host : IsHost h = subst IsHost is (nodes.hosts k h below) in
+    ne_eqb h 0 (λ (zero_it : h ≡ 0). omega (arith, host.0, zero_it))
+
+pub taken_most : (count : Option ℕ) (wire : List OnWire) → taken_of count wire ≤ length wire
+taken_most None wire = omega arith
+taken_most (Some n) wire = omega arith
+
+damage_may : (w : NodeWorld) (e : End) → (e.link == 0) ≡ false → (places : List ℕ) (wire : List OnWire) → frames_at w e ≡ wire
+    → AllMay MayStep w (happens_by e (first_verdict wire places))
+damage_may w e off places [] here = tt
+damage_may w e off places (x ∷ xs) here = by (verdict_on (lpdu_of x.frame) places) where
+  by : (v : Verdict) → AllMay MayStep w (happens_by e (Some v))
+  by Same = ((off, λ near on none. let no : x ∷ xs ≡ [] = sym here ∙ none in cc no), tt)
+  by (LostFor why) = (tt, tt)
+  by (Undetected read) = tt
+
+module _ (header : Header) (nodes : IsNodeHeader header) where
+  pub line_steps : (w : NodeWorld) (l : Line) → IsNodeLineOf header l → refusal_in w l ≡ None → AllMay MayStep w (happenings w l)
+  line_steps w (line.Deliver e count) is none = by_test e.at_host
+      (λ far. repeated_may MayStep (Takes e) (λ v. (off, λ near. absurd (true≢false (sym far ∙ near)))) (taken_of count (frames_at w e)) w)
+      (λ near. takes_may (taken_of count (frames_at w e)) w e off near
+      (λ on. let same = ap (λ (xs : List OnWire). length xs) (frames_near w e near) in omega (arith, taken_most count (frames_at w e), same))) where
+        off : (e.link == 0) ≡ false
+        off = off_zero header nodes e.link is.0
+  line_steps w (line.Damage e places) is none = damage_may w e (off_zero header nodes e.link is.0) places.items (frames_at w e) refl
+  line_steps w (line.Tick times) is none = repeated_may MayStep Ticks (λ v. tt) (unwrap_or times 1) w
+  line_steps w (line.Reset e window) is none = (off_zero header nodes e.link is.0, tt)
+  line_steps w (line.Busy e) is none = tt
+  line_steps w (line.Ready e) is none = tt
+  line_steps w (line.Tables n) is none = tt
+  line_steps w (line.Settle rounds) is none = tt
+  line_steps w _ is none = (tt, tt)
+
+-- ## Before its first turn in an event a host answers exactly what is due: the message of a line, or the first command of an init
 
 -- what each host answers before its first turn in an event is exactly what is due
 abbrev pub AreDueAtHosts : List ℕ → List Occurrence → Occurrence → Type 0
 AreDueAtHosts hosts past o = AllByRecursion (IsDueAt hosts past o) hosts
 
--- ## Answers
+-- ### Answers
 
 neither : (b : Bool) (es : List Entry) → cond b es es ≡ es
 neither true es = refl
@@ -65,7 +347,7 @@ none_down : (es : List Entry) → AreDownless es → filter is_down es ≡ []
 none_down [] a = refl
 none_down (x ∷ es) a = ap (λ b. cond b (x ∷ filter is_down es) (filter is_down es)) a.0 ∙ none_down es a.1
 
--- ## What begins at a host
+-- ### What begins at a host
 
 up_now : (h : NumberedEnd) → h.side.shdlc.phase ≡ Up → number_now h ≡ Some (number_of h)
 up_now h up = rw up refl
@@ -120,7 +402,7 @@ module _ (t : List Entry) (s : Site) (r : Running) (has : HasEnds s.host (s.host
           reply s.host (λ k. session_now t (end_of_number s.host k) s.host) _
           ∙ ap (λ o. option_map_or (λ n. entry.Sent (end_of_number s.host s.host) n m.0 m.1 ∷ []) o [] ++ []) is_read
 
-      pub begun_due : (frames : List Entry) → AllByRecursion (NoAnswer s.host) frames → AreDownless frames
+      begun_due : (frames : List Entry) → AllByRecursion (NoAnswer s.host) frames → AreDownless frames
           → AnswersSo s.host ((all_done s.host D from).entries ++ frames)
           (noted_of_deeds (t ++ filter is_down ((all_done s.host D from).entries ++ frames)) s.host s.host D)
       begun_due frames none downless =
@@ -130,10 +412,10 @@ module _ (t : List Entry) (s : Site) (r : Running) (has : HasEnds s.host (s.host
           (subst (AnswersSo s.host (X ∷ frames)) (sym wanted)
           (one_due s.host X frames (rw off (same_number s.host)) refl refl none))))
 
--- ## Lines
+-- ### Lines
 
 -- what begins there may begin: the host runs, and its end takes the message
-pub record MayStartAt (w : NodeWorld) (e : End) (m : Message) : Type 0 where
+record MayStartAt (w : NodeWorld) (e : End) (m : Message) : Type 0 where
   side : IsTrue e.at_host
   node : Running
   runs : node_at w e.link ≡ Some node
@@ -177,7 +459,7 @@ both_plain : (lines : List Line) → AllByRecursion IsSentByHost lines → AllBy
 both_plain [] sent begun = tt
 both_plain (l ∷ lines) sent begun = ((sent.0, begun.0), both_plain lines sent.1 begun.1)
 
--- ## Events
+-- ### Events
 
 site_of : (w : NodeWorld) (k : ℕ) (r : Running) → (k == 0) ≡ false → node_at w k ≡ Some r
     → (s : Site) × (site_at w.sites k ≡ Some s) × (s.node ≡ Some r)
@@ -282,7 +564,7 @@ module _ (t : List Entry) (w : NodeWorld) (a : IsOrderly w) (sites : AreHostSite
         same : (node_of e == n) ≡ (e.link == n)
         same = ap (λ k. k == n) (node_is_link e may.side)
 
-  pub event_due : (c : Happening) → MayStart w c → IsDue (world_step w c).1 (begun_at n c)
+  event_due : (c : Happening) → MayStart w c → IsDue (world_step w c).1 (begun_at n c)
   event_due (Boots k) may = late_due n (world_step w (Boots k)).1 (boots_late n off w k)
   event_due (IsCut k) may = late_due n (world_step w (IsCut k)).1 (late_all n (world_step w (IsCut k)).1 (refl, tt))
   event_due (Gives e m) may = gives_due e m may
@@ -294,7 +576,7 @@ module _ (t : List Entry) (w : NodeWorld) (a : IsOrderly w) (sites : AreHostSite
   event_due (Activates h sync power) may = late_due n (world_step w (Activates h sync power)).1 (activates_late n off w h sync power a sites)
   event_due (Arms k plan) may = late_due n (world_step w (Arms k plan)).1 refl
 
--- ## Histories
+-- ### Histories
 
 each_starts : (past back : List Occurrence) (o : Occurrence) (w : NodeWorld) → AreCaused MayStart w (past ++ (o ∷ back))
     → (o.entries ≡ (world_step (world_behind w past) o.cause).1) × MayStart (world_behind w past) o.cause

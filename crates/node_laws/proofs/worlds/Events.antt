@@ -10,34 +10,25 @@ use Rattle.node_laws.proofs.Words.{is_done, is_held_at, is_some, link_after_cont
 use Rattle.node_laws.proofs.Words.{noted_by_deeds, own_side, refl, runs_on, same_number, site_at, site_lost, steps, subst, sym, true, true≢false, turns_at}
 use Rattle.node_laws.proofs.Words.{unhandled_after, unhandled_in, waiting_at, wires_for, with_error, with_memory, with_site, ℕ, ◌++◌, ◌==◌, ◌∙◌, ◌∷◌, ◌≡◌}
 use Rattle.trace_model.specs.declared.entry.Entry.TheVariants as entry
-use Rattle.node_laws.proofs.telling.Mute.{AreMute}
-use Rattle.node_laws.proofs.telling.Nodes.{link_is, site_host}
-use Rattle.node_laws.proofs.telling.Powers.{entries_uncut}
-use Rattle.node_laws.proofs.telling.Worlds.{node_is}
-use Rattle.node_laws.proofs.passes.Before.{links_none}
-use Rattle.node_laws.proofs.links.Ends.{here_host}
-use Rattle.node_laws.proofs.passes.Ends.{SeesAt, deeds_see}
-use Rattle.node_laws.proofs.passes.Notes.{deeds_note}
-use Rattle.node_laws.proofs.passes.Turnless.{NotesNoTurn, noted_none}
-use Rattle.node_laws.proofs.power.Doing.{IsMine}
-use Rattle.node_laws.proofs.power.Links.{arrival_of_side, links_own}
-use Rattle.node_laws.proofs.power.Parts.{IsPart, own_not, part_own}
-use Rattle.node_laws.proofs.power.Steps.{steps_fine}
+use Rattle.node_laws.proofs.telling.Accounts.{AreMute}
+use Rattle.node_laws.proofs.telling.Events.{link_is, node_is, site_host}
+use Rattle.node_laws.proofs.telling.Shapes.{entries_uncut}
+use Rattle.node_laws.proofs.passes.InSteps.{NotesNoTurn, deeds_note_of_notes as deeds_note, links_none, noted_none}
+use Rattle.node_laws.proofs.links.Sites.{here_host}
+use Rattle.node_laws.proofs.passes.Replying.{SeesAt, deeds_see}
+use Rattle.node_laws.proofs.power.Steps.{IsMine, IsPart, arrival_of_side, links_own, own_not, part_own, steps_fine}
 use Rattle.node_laws.proofs.readings.Sites.{comes_outside, near_end_side}
-use Rattle.node_laws.proofs.turns.Lines.{AllWait, Waiting}
-use Rattle.node_laws.proofs.turns.Coming.{AreNoGots, notes_still}
-use Rattle.node_laws.proofs.turns.Queues.{AreStill, Goes}
-use Rattle.node_laws.proofs.turns.Works.{ByPower, FarWaits, arrival_still, lost_none}
-use Rattle.node_laws.proofs.views.Worlds.{orderly_fine}
-use Rattle.node_laws.proofs.reply_passes.Begins.{WaitsRead}
-use Rattle.node_laws.proofs.reply_passes.Held.{desks_held, error_held, is_held_among, new_held, ports_held, site_fine}
-use Rattle.node_laws.proofs.reply_passes.Ordered.{deeds_still}
-use Rattle.node_laws.proofs.reply_passes.Sides.{AreNoBoots, begins_unbooted, notes_unbooted}
-use Rattle.node_laws.proofs.reply_passes.InTurn.{near_goes}
-use Rattle.node_laws.proofs.worlds.AtRest.{SiteRests, SiteWaits, far_site, flat_idle, frames_idle, near_rests, site_on}
+use Rattle.node_laws.proofs.turns.Worlds.{AllWait, Waiting}
+use Rattle.node_laws.proofs.turns.Passing.{AreNoGots, AreStill, Goes, notes_still}
+use Rattle.node_laws.proofs.turns.Nodes.{ByPower, FarWaits, arrival_still, lost_none}
+use Rattle.node_laws.proofs.views.Events.{orderly_fine}
+use Rattle.node_laws.proofs.reply_passes.Ordered.{WaitsRead, deeds_still, near_goes}
+use Rattle.node_laws.proofs.reply_passes.Held.{AreNoBoots, begins_unbooted, desks_held, error_held, is_held_among, new_held, notes_unbooted, ports_held}
+use Rattle.node_laws.proofs.reply_passes.Held.{site_fine}
+use Rattle.node_laws.proofs.worlds.Resting.{AreIdle, IsIdle, SiteRests, SiteWaits, done_empty, far_site, flat_idle, frames_idle, idle_done, idle_held}
+use Rattle.node_laws.proofs.worlds.Resting.{near_rests, others_idle, quiet_idle, site_on}
 use Rattle.node_laws.proofs.power.Events.{begins_part, controller_part, host_part}
-use Rattle.node_laws.proofs.worlds.Steps.{host_begins}
-use Rattle.node_laws.proofs.worlds.Resting.{AreIdle, IsIdle, done_empty, idle_done, idle_held, others_idle, quiet_idle}
+use Rattle.node_laws.proofs.worlds.Ticking.{host_begins}
 
 -- ## All sites
 

@@ -1,35 +1,365 @@
--- Unless a host begins something of its own, it answers nothing before its first turn in an event.
-use Rattle.node_laws.proofs.Words.{AllByRecursion, AreDifferent, AreNotOf, ArePassed, AsksReset, AtEnd, BeginWithTurn, Bool, Comes, ComesTo, Controller, Desk}
-use Rattle.node_laws.proofs.Words.{End, Entry, GoesOut, Host, IsOrderly, IsTurnSo, IsUicc, LinkEnd, LinkInput, List, Loss, NodeInput, NodeWorld, None}
-use Rattle.node_laws.proofs.Words.{NumberedEnd, Site, Starts, Step, TimePasses, Work, [], aged, all_aged, all_append, ap, append_assoc, before_turn, boots}
-use Rattle.node_laws.proofs.Words.{by_boot, by_coming, by_controller, by_controller_tick, by_host, by_host_tick, by_loss, by_test, comes_at, comes_to}
-use Rattle.node_laws.proofs.Words.{comes_to_pass, cond, controller_does, controller_ticks, controller_work, end_c, end_h, ending_of, eqb-true, exchanged, false}
-use Rattle.node_laws.proofs.Words.{filter, frame_lost, frames_noted, host_does, host_tick, host_ticks, host_work, hosts_in, hosts_of_ends, hosts_tick}
-use Rattle.node_laws.proofs.Words.{is_answer_of, is_late_at, is_turn_of, is_waiting, link_after_controller, link_to, map, near_end_in, near_tick, not, passes}
-use Rattle.node_laws.proofs.Words.{refl, same_number, site_ticked, site_unticked, steps, subst, sym, take_while-cons, ticks_host, told_of_coming, true}
-use Rattle.node_laws.proofs.Words.{true≢false, turns_at, wires_for, work_of, world_ticks, ℕ, ◌&&◌, ◌++◌, ◌==◌, ◌∙◌, ◌∷◌, ◌≡◌}
-use Rattle.trace_model.specs.declared.entry.Entry.TheVariants as entry
-use Rattle.node_laws.proofs.telling.Events.{comes_goes}
-use Rattle.node_laws.proofs.telling.Nodes.{ports_for}
-use Rattle.node_laws.proofs.telling.Worlds.{site_is}
-use Rattle.node_laws.proofs.telling.WorldTicks.{aged_orderly, ticked_orderly}
+-- What comes to a node is noted before what it answers, and a host answers nothing before its first turn but what it begins.
+use Rattle.node_laws.proofs.Words.{ActEvent, ActStart, ActStop, ActTake, ActTick, AllByRecursion, AreDifferent, AreNotOf, ArePassed, AsksReset, AtEnd, Bare}
+use Rattle.node_laws.proofs.Words.{BeginWithTurn, Bool, Clf, Comes, ComesTo, Controller, Core, Cut, Deed, Desk, Down, Emit, End, Entry, FollowsNodes, GoesOut}
+use Rattle.node_laws.proofs.Words.{Header, Host, Inactive, IsOrderly, IsTurnSo, IsUicc, Line, Link, LinkEnd, LinkInput, List, Loss, Lost, Message, NodeHistory}
+use Rattle.node_laws.proofs.Words.{NodeInput, NodeWorld, NodesHearFirst, None, Noted, NumberedEnd, OnWire, Option, Phase, Port, PowerMode, Ready, Report}
+use Rattle.node_laws.proofs.Words.{Response, Restarted, Role, Sent, Site, Some, Starts, Step, SyncId, TimePasses, Took, Uicc, UiccAct, Work, [], act_event}
+use Rattle.node_laws.proofs.Words.{act_out, aged, aged_entries, all_aged, all_append, all_come, all_done, all_owed, all_so, answerer, ap, append-nil}
+use Rattle.node_laws.proofs.Words.{append_assoc, arrival, asked_at, before_turn, beginning, boots, by_boot, by_coming, by_controller, by_controller_tick}
+use Rattle.node_laws.proofs.Words.{by_host, by_host_tick, by_loss, by_option, by_test, comes_at, comes_to, comes_to_pass, cond, controller_does}
+use Rattle.node_laws.proofs.Words.{controller_ticks, controller_work, end_c, end_h, ending_entries, ending_of, entries_for, eqb-true, exchanged, false, filter}
+use Rattle.node_laws.proofs.Words.{first_lost, flat_map, forgets, frame_lost, frames_noted, has_come, has_come_so, has_freed, has_synced, hears, host_does}
+use Rattle.node_laws.proofs.Words.{host_tick, host_ticks, host_work, hosts_in, hosts_of_ends, hosts_tick, input_at, is_answer_of, is_late, is_late_at}
+use Rattle.node_laws.proofs.Words.{is_of_node, is_turn_of, is_waiting, link_after_controller, link_to, map, nat_le, near_end_in, near_tick, not}
+use Rattle.node_laws.proofs.Words.{noted_before_pass, noted_by_deeds, option_map_or, owed, owed_in_step, passes, port_at, refl, report, reset_late, same_number}
+use Rattle.node_laws.proofs.Words.{sending, site_ticked, site_unticked, steps, subst, sym, synced, take_while-cons, ticks_host, told, told_of_coming, true}
+use Rattle.node_laws.proofs.Words.{true≢false, turns_at, uicc_step, wires_for, with_older, work_of, world_ticks, ℕ, ◌&&◌, ◌++◌, ◌==◌, ◌∙◌, ◌∷◌, ◌≡◌}
+use Rattle.link_laws.specs.entries.Entries.{End as Side}
+use Rattle.link_laws.specs.entries.Entries.Entry.{Tick}
 use Rattle.node_laws.specs.passes.Passing.ComesTo.{Begins}
-use Rattle.node_laws.proofs.links.Ends.{here_host}
-use Rattle.node_laws.proofs.passes.Before.{before_entries, steps_are}
+use Rattle.node_laws.proofs.kept.Stepping.{ticked_sync}
+use Rattle.node_laws.proofs.links.Sites.{here_host}
+use Rattle.node_laws.proofs.passes.InSteps.{IsBehind, IsOfStep, NotesOnly, before_entries, beginning_notes, coming_all, deeds_note, of_deeds, sending_notes}
+use Rattle.node_laws.proofs.passes.InSteps.{step_notes, steps_are}
 use Rattle.node_laws.proofs.passes.Passing.{comes_lasts, through}
 use Rattle.node_laws.proofs.power.Events.{AreNodes, controller_part, far_tick, host_part, near_ticks_part, others_tick, ticked_nodes}
-use Rattle.node_laws.proofs.power.Parts.{AreOwn, IsPart, own_not, part_own}
-use Rattle.node_laws.proofs.power.Steps.{steps_fine}
+use Rattle.node_laws.proofs.power.Steps.{AreOwn, IsPart, own_not, part_own, steps_fine}
+use Rattle.node_laws.proofs.readings.Turning.{IsQuiet, rest_quiet, told_rest}
 use Rattle.node_laws.proofs.readings.Sites.{near_end_side}
+use Rattle.node_laws.proofs.readings.Noting.{forgets_same}
+use Rattle.node_laws.proofs.telling.Events.{comes_goes, ports_for, site_is}
+use Rattle.node_laws.proofs.telling.Ticks.{arrival_all, ending_all, lost_all, wires_all}
+use Rattle.node_laws.proofs.telling.Lasting.{history_event}
+use Rattle.node_laws.proofs.telling.WorldTicks.{aged_orderly, ticked_orderly}
 use Rattle.node_laws.proofs.worlds.Events.{same_sym}
-use Rattle.node_laws.proofs.worlds.Hearing.{AreUnanswered, IsUnanswered, arrival_unanswered, coming_unanswered, lost_unanswered, out_unanswered}
-use Rattle.node_laws.proofs.worlds.Order.{others_answer, unanswered_all}
-use Rattle.node_laws.proofs.worlds.Orders.{aged_unanswered}
-use Rattle.node_laws.proofs.worlds.Steps.{host_begins}
-use Rattle.node_laws.proofs.worlds.Ticking.{IfNoNotices}
-use Rattle.node_laws.proofs.worlds.Uiccs.{IsOfHost, only_coming}
+use Rattle.node_laws.proofs.worlds.FramesLast.{AreHalves, PartsHave, aged_calm, behind_first, event_has, halves_before, halves_behind, halves_so}
+use Rattle.node_laws.proofs.worlds.Ticking.{IfNoNotices, host_begins}
+use Rattle.gate_answers.specs.declared.response.Response.TheVariants as response
+use Rattle.trace_model.specs.declared.entry.Entry.TheVariants as entry
 
--- ## Hosts
+-- ## In a step of a node what comes to it is noted before what it answers
+
+-- an entry tells of something that comes to an end
+abbrev pub comes_there : Entry → Bool
+comes_there (entry.Up e k) = true
+comes_there (entry.Down e cause) = true
+comes_there (entry.Acked e k count) = true
+comes_there (entry.Got e k pid message) = true
+comes_there _ = false
+
+abbrev pub IsUnheard : Entry → Type 0
+IsUnheard x = comes_there x ≡ false
+
+abbrev pub AreUnheard : List Entry → Type 0
+AreUnheard es = AllByRecursion IsUnheard es
+
+of_step : (x : Entry) → IsOfStep x → IsUnheard x
+of_step (entry.Up e k) a = absurd a
+of_step (entry.Down e cause) a = absurd a
+of_step (entry.Acked e k count) a = absurd a
+of_step (entry.Got e k pid message) a = absurd a
+of_step x a = refl
+
+-- it is no answer
+abbrev pub IsUnanswered : Entry → Type 0
+IsUnanswered x = answerer x ≡ None
+
+abbrev pub AreUnanswered : List Entry → Type 0
+AreUnanswered es = AllByRecursion IsUnanswered es
+
+abbrev NotesUnheard : Deed → Type 0
+NotesUnheard d = NotesOnly IsUnheard d
+
+sending_unheard : (h : ℕ) (m : Message) → AllByRecursion NotesUnheard (sending h m)
+sending_unheard = sending_notes IsUnheard (of_deeds IsUnheard of_step)
+
+beginning_unheard : (identity : List ℕ) (pipes : List (List ℕ)) → AllByRecursion NotesUnheard (beginning identity pipes)
+beginning_unheard = beginning_notes IsUnheard (of_deeds IsUnheard of_step)
+
+-- ### Links
+
+-- a frame that comes, goes out or is lost
+abbrev pub IsFrame : Noted → Type 0
+IsFrame (Emit who frame) = Unit {0}
+IsFrame (Took who frame) = Unit {0}
+IsFrame (Lost who frame why) = Unit {0}
+IsFrame (Cut who) = Unit {0}
+IsFrame _ = ⊥
+
+frames_unheard : (h : ℕ) (notes : List Noted) → AllByRecursion IsFrame notes → AreUnheard (entries_for h notes) × AreUnanswered (entries_for h notes)
+frames_unheard h [] all = (tt, tt)
+frames_unheard h (Emit who frame ∷ notes) all = let later = frames_unheard h notes all.1 in ((refl, later.0), (refl, later.1))
+frames_unheard h (Took who frame ∷ notes) all = let later = frames_unheard h notes all.1 in ((refl, later.0), (refl, later.1))
+frames_unheard h (Lost who frame why ∷ notes) all = let later = frames_unheard h notes all.1 in ((refl, later.0), (refl, later.1))
+frames_unheard h (Cut who ∷ notes) all = frames_unheard h notes all.1
+frames_unheard h (_ ∷ notes) all = absurd all.0
+
+out_frames : (who : Side) (h : ℕ) (l : Link) (k : Work) → AreUnheard (frames_noted who h l k) × AreUnanswered (frames_noted who h l k)
+out_frames who h l k = by_option (port_at k.ports h)
+    (λ q. rw q (tt, tt))
+    (λ p q. rw q (frames_unheard h (ending_entries who l p.side (ending_of k))
+    (ending_all IsFrame (λ w c. tt) (λ w c. tt) (λ w. tt) who l p.side (ending_of k))))
+
+out_unheard : (who : Side) (h : ℕ) (l : Link) (k : Work) → AreUnheard (frames_noted who h l k)
+out_unheard who h l k = (out_frames who h l k).0
+
+pub out_unanswered : (who : Side) (h : ℕ) (l : Link) (k : Work) → AreUnanswered (frames_noted who h l k)
+out_unanswered who h l k = (out_frames who h l k).1
+
+pub arrival_unanswered : (who : Side) (h : ℕ) (l : Link) (comes : Comes) → AreUnanswered (entries_for h (arrival who l comes))
+arrival_unanswered who h l comes =
+    (frames_unheard h (arrival who l comes) (arrival_all IsFrame (λ w c. tt) who l comes)).1
+
+pub lost_unanswered : (h : ℕ) (who : Side) (why : Loss) (xs : List OnWire) → AreUnanswered (entries_for h (first_lost who why xs))
+lost_unanswered h who why xs = (frames_unheard h (first_lost who why xs) (lost_all IsFrame (λ w c why. tt) who why xs)).1
+
+-- ### What comes
+
+quiet_unanswered : (h : ℕ) (notes : List Noted) → AllByRecursion IsQuiet notes → AreUnanswered (entries_for h notes)
+quiet_unanswered h [] all = tt
+quiet_unanswered h (Down who cause ∷ notes) all = absurd all.0
+quiet_unanswered h (Sent who n m ∷ notes) all = absurd all.0
+quiet_unanswered h (Tick ∷ notes) all = quiet_unanswered h notes all.1
+quiet_unanswered h (Restarted who ∷ notes) all = quiet_unanswered h notes all.1
+quiet_unanswered h (Cut who ∷ notes) all = quiet_unanswered h notes all.1
+quiet_unanswered h (_ ∷ notes) all = (refl, quiet_unanswered h notes all.1)
+
+told_unanswered : (h : ℕ) (who : Side) (n acked : ℕ) (r : Report) → AreUnanswered (entries_for h (told who n r acked))
+told_unanswered h who n acked r = by_option r.ended
+    (λ q. rw q (quiet_unanswered h rest (rest_quiet who n acked r)))
+    (λ cause q. rw q (refl, quiet_unanswered h rest (rest_quiet who n acked r))) where
+      rest : List Noted
+      rest = told_rest who n acked r
+
+pub coming_unanswered : (input : NodeInput) (w : Work) → AreUnanswered (told_of_coming input w)
+coming_unanswered = coming_all IsUnanswered told_unanswered
+
+-- ### A step
+
+-- first nothing is answered, and then nothing comes
+abbrev pub IsParted : List Entry → Type 0
+IsParted es = AreHalves IsUnanswered IsUnheard es
+
+parted_behind : (front es frames : List Entry) → AreUnanswered front → IsBehind IsUnheard front es → AreUnheard frames → IsParted (es ++ frames)
+parted_behind front es frames quiet b out = record {
+  front = front;
+  back = b.more ++ frames;
+  is = ap (λ l. l ++ frames) b.is ∙ append_assoc front b.more frames;
+  first = quiet;
+  second = all_append IsUnheard b.more frames b.all out;
+}
+
+pub step_parted : (input : NodeInput) (w : Work) (frames : List Entry) → AreUnanswered w.entries → AreUnheard frames
+    → IsParted ((steps input w).entries ++ frames)
+step_parted input w frames quiet out =
+    let front : List Entry = w.entries ++ told_of_coming input w in
+    parted_behind front (steps input w).entries frames (all_append IsUnanswered w.entries (told_of_coming input w) quiet (coming_unanswered input w))
+    (step_notes IsUnheard of_step input w) out
+
+deeds_parted : (h : ℕ) (deeds : List Deed) (w : Work) (frames : List Entry) → AllByRecursion NotesUnheard deeds → AreUnanswered w.entries
+    → AreUnheard frames → IsParted ((all_done h deeds w).entries ++ frames)
+deeds_parted h deeds w frames may quiet out =
+    parted_behind w.entries (all_done h deeds w).entries frames quiet (deeds_note IsUnheard of_step h deeds w may) out
+
+-- ## In each event of a history what comes to a node is noted before what it answers
+
+module _ (n : ℕ) where
+  abbrev NoAnswerOfOrder : Entry → Type 0
+  NoAnswerOfOrder x = is_answer_of n x ≡ false
+
+  abbrev NoHearing : Entry → Type 0
+  NoHearing x = hears n x ≡ false
+
+  -- first this node answers nothing, and then nothing comes to it
+  abbrev pub IsPartedFor : List Entry → Type 0
+  IsPartedFor es = AreHalves NoAnswerOfOrder NoHearing es
+
+  unheard_one : (x : Entry) → IsUnheard x → NoHearing x
+  unheard_one (entry.Up e k) q = absurd (true≢false q)
+  unheard_one (entry.Down e cause) q = absurd (true≢false q)
+  unheard_one (entry.Acked e k count) q = absurd (true≢false q)
+  unheard_one (entry.Got e k pid message) q = absurd (true≢false q)
+  unheard_one x q = refl
+
+  unanswered_one : (x : Entry) → IsUnanswered x → NoAnswerOfOrder x
+  unanswered_one x q = ap (λ o. option_map_or (λ k. k == n) o false) q
+
+  pub unanswered_all : (es : List Entry) → AreUnanswered es → AllByRecursion NoAnswerOfOrder es
+  unanswered_all es a = all_so IsUnanswered NoAnswerOfOrder unanswered_one es a
+
+  -- so it is where no other node notes anything
+  pub parted_for : (es : List Entry) → IsParted es → IsPartedFor es
+  parted_for es p = halves_so IsUnanswered IsUnheard NoAnswerOfOrder NoHearing unanswered_one unheard_one es p
+
+  -- what tells nothing of the node
+  other_hears : (x : Entry) → is_of_node n x ≡ false → NoHearing x
+  other_hears (entry.Up e k) q = q
+  other_hears (entry.Down e cause) q = q
+  other_hears (entry.Acked e k count) q = q
+  other_hears (entry.Got e k pid message) q = q
+  other_hears x q = refl
+
+  pub other_answers : (x : Entry) → is_of_node n x ≡ false → NoAnswerOfOrder x
+  other_answers (entry.Command k c) q = q
+  other_answers (entry.Sent e k pid message) q = q
+  other_answers (entry.AnyOk k count) q = q
+  other_answers (entry.Ask host message) q = q
+  other_answers (entry.Dropped e pid) q = q
+  other_answers (entry.InitSame e) q = q
+  other_answers (entry.InitMade e count) q = q
+  other_answers (entry.InitFailed e code) q = q
+  other_answers x q = refl
+
+  pub others_answer : (es : List Entry) → AreNotOf n es → AllByRecursion NoAnswerOfOrder es
+  others_answer es a = all_so (λ x. is_of_node n x ≡ false) NoAnswerOfOrder other_answers es a
+
+  others_behind : (es fs : List Entry) → IsPartedFor es → AreNotOf n fs → IsPartedFor (es ++ fs)
+  others_behind es fs p a = halves_behind NoAnswerOfOrder NoHearing es fs p (all_so (λ x. is_of_node n x ≡ false) NoHearing other_hears fs a)
+
+  not_of_before : (es fs : List Entry) → AreNotOf n fs → IsPartedFor es → IsPartedFor (fs ++ es)
+  not_of_before es fs a p = halves_before NoAnswerOfOrder NoHearing es fs (others_answer fs a) p
+
+  unanswered_before : (es fs : List Entry) → AreUnanswered fs → IsPartedFor es → IsPartedFor (fs ++ es)
+  unanswered_before es fs a p = halves_before NoAnswerOfOrder NoHearing es fs (unanswered_all fs a) p
+
+  -- behind an answer nothing comes
+  pub first_heard : (es before behind : List Entry) (x : Entry) → IsPartedFor es → es ≡ before ++ (x ∷ behind) → is_answer_of n x ≡ true
+      → AllByRecursion NoHearing behind
+  first_heard es before behind x p q answers =
+      behind_first NoAnswerOfOrder NoHearing es before behind x p q (λ none. true≢false (sym answers ∙ none))
+
+-- ## In each event of a world what comes to a node is noted before what it answers
+
+parts : PartsHave IsUnanswered IsUnheard NotesUnheard (λ ks. Unit {0}) IsParted
+parts = record {
+  alone = λ es a. record { front = es; back = []; is = sym (append-nil es); first = a; second = tt };
+  boot = λ k many. refl;
+  cut = λ k. refl;
+  lost = lost_unanswered;
+  aged = λ h one other xs ys.
+      (frames_unheard h (aged_entries one xs ++ aged_entries other ys) (wires_all IsFrame (λ w c. tt) one other xs ys)).1;
+  arrives = arrival_unanswered;
+  frames = out_unheard;
+  sends = sending_unheard;
+  begins = beginning_unheard;
+  deeds = deeds_parted;
+  step = λ input w frames ends quiet out. step_parted input w frames quiet out;
+}
+
+pub aged_unanswered : (sites : List Site)
+    → AreUnanswered (flat_map (λ (s : Site). entries_for s.host (aged_entries Controller s.link.to_controller ++ aged_entries Host s.link.to_host)) sites)
+aged_unanswered = aged_calm IsUnanswered IsUnheard NotesUnheard (λ ks. Unit {0}) (λ k. tt) IsParted parts
+
+pub hear_first : (header : Header) (lines : List Line) (t : NodeHistory) → FollowsNodes header lines t → AreDifferent header.hosts.items
+    → AllByRecursion (λ h. (h == 0) ≡ false) header.hosts.items → NodesHearFirst t
+hear_first header lines t follows different numbers past back o front behind x is split n answers =
+    first_heard n o.entries front behind x
+    (history_event (IsPartedFor n) (λ w c a. event_has IsUnanswered IsUnheard NotesUnheard (λ ks. Unit {0}) (λ k. tt) IsParted parts (IsPartedFor n) n
+    (parted_for n) (others_behind n) (not_of_before n) (unanswered_before n) w c a tt) header lines t follows different numbers past back o is) split answers
+
+-- ## A host takes no identifier of activation, and owes nothing to anyone: before it passes it notes only what came
+
+-- ### Identifiers
+
+pub uicc_sync : (s : UiccAct) (event : ActEvent) → (uicc_step s event).1.sync ≡ None
+uicc_sync s (ActStart value) = refl
+uicc_sync s (ActTake act true) = refl
+uicc_sync s (ActTake (SyncId id) false) = refl
+uicc_sync s (ActTake Ready false) = refl
+uicc_sync s (ActTake (PowerMode code) false) = go (nat_le code 1) refl s.phase refl where
+  go : (b : Bool) → nat_le code 1 ≡ b → (p : Phase) → s.phase ≡ p → (uicc_step s (ActTake (PowerMode code) false)).1.sync ≡ None
+  go true z Inactive q = rw (z, q) refl
+  go true z _ q = rw (z, q) refl
+  go false z p q = rw z refl
+uicc_sync s ActTick = ticked_sync s.phase s.last
+uicc_sync s ActStop = refl
+
+out_none : (r : Role) (o : Option ActEvent) → IsUicc r → (act_out r o).sync ≡ None
+out_none Bare o a = absurd a
+out_none (Clf s) o a = absurd a
+out_none (Uicc s) None a = refl
+out_none (Uicc s) (Some event) a = uicc_sync s event
+
+-- the end of a host, at which no notice stands
+abbrev IsOfHost : Port → Type 0
+IsOfHost p = IsUicc p.side.role × (p.desk.notice ≡ None)
+
+synced_none : (core : Core) (input : NodeInput) (p : Port) → IsUicc p.side.role → synced core input p ≡ []
+synced_none core input p a = by_option (input_at input p)
+    (λ q. rw q refl)
+    (λ i q. let none : (report p.side i).sync ≡ None = out_none p.side.role (act_event p.side i) a in rw (q, none) refl)
+
+syncs_none : (core : Core) (input : NodeInput) (ports : List Port) → AllByRecursion IsOfHost ports → flat_map (synced core input) ports ≡ []
+syncs_none core input [] a = refl
+syncs_none core input (p ∷ ports) a =
+    ap (λ ds. ds ++ flat_map (synced core input) ports) (synced_none core input p a.0.0) ∙ syncs_none core input ports a.1
+
+-- ### What is owed
+
+abbrev HasNoNotice : Port → Type 0
+HasNoNotice p = p.desk.notice ≡ None
+
+come_quiet : (p : Port) (o : Option LinkInput) → HasNoNotice p → HasNoNotice (has_come p o)
+come_quiet p None a = a
+come_quiet p (Some i) a = a
+
+older_quiet : (p : Port) → HasNoNotice p → HasNoNotice (with_older p)
+older_quiet p a = rw a refl
+
+reset_quiet : (p : Port) → HasNoNotice p → HasNoNotice (reset_late p)
+reset_quiet p a = by_test (is_late p) (λ q. rw q a) (λ q. rw q a)
+
+ports_come : (input : NodeInput) (ports : List Port) → AllByRecursion IsOfHost ports
+    → AllByRecursion HasNoNotice (map (λ p. has_come p (input_at input p)) ports)
+ports_come input [] a = tt
+ports_come input (p ∷ ports) a = (come_quiet p (input_at input p) a.0.1, ports_come input ports a.1)
+
+ports_older : (ports : List Port) → AllByRecursion HasNoNotice ports → AllByRecursion HasNoNotice (map reset_late (map with_older ports))
+ports_older [] a = tt
+ports_older (p ∷ ports) a = (reset_quiet (with_older p) (older_quiet p a.0), ports_older ports a.1)
+
+came_quiet : (input : NodeInput) (w : Work) → AllByRecursion IsOfHost w.ports → AllByRecursion HasNoNotice (has_come_so input w).ports
+came_quiet (AtEnd h i) w a = ports_come (AtEnd h i) w.ports a
+came_quiet TimePasses w a = ports_older (all_come TimePasses w).ports (ports_come TimePasses w.ports a)
+
+none_forgets : (all ports : List Port) → AllByRecursion HasNoNotice ports → map (forgets all) ports ≡ ports
+none_forgets all [] a = refl
+none_forgets all (p ∷ ports) a =
+    ap (λ q. q ∷ map (forgets all) ports) (forgets_same all p a.0) ∙ ap (λ l. p ∷ l) (none_forgets all ports a.1)
+
+none_asked : (p : Port) → HasNoNotice p → asked_at p ≡ None
+none_asked p a = rw a refl
+
+owed_none : (r : Response) (f : Port → Bool) (ports : List Port) → AllByRecursion HasNoNotice ports
+    → flat_map (λ p. owed r (asked_at p)) (filter f ports) ≡ []
+owed_none r f [] a = refl
+owed_none r f (p ∷ ports) a = by_test (f p)
+    (λ q. ap (λ b. flat_map (λ p. owed r (asked_at p)) (cond b (p ∷ filter f ports) (filter f ports))) q
+    ∙ (ap (λ o. owed r o ++ flat_map (λ p. owed r (asked_at p)) (filter f ports)) (none_asked p a.0) ∙ owed_none r f ports a.1))
+    (λ q. ap (λ b. flat_map (λ p. owed r (asked_at p)) (cond b (p ∷ filter f ports) (filter f ports))) q ∙ owed_none r f ports a.1)
+
+all_none : (ports : List Port) → AllByRecursion HasNoNotice ports → all_owed ports ≡ []
+all_none ports a =
+    ap (λ ds. ds ++ flat_map (λ p. owed response.Timeout (asked_at p)) (filter (λ p. p.late) ports))
+    (owed_none response.NotConnected (λ p. p.ended) ports a)
+    ∙ owed_none response.Timeout (λ p. p.late) ports a
+
+owing_none : (input : NodeInput) (w : Work) → AllByRecursion IsOfHost w.ports → owed_in_step input w ≡ []
+owing_none input w a =
+    let ports : List Port = (has_come_so input w).ports in
+    ap all_owed (none_forgets ports ports (came_quiet input w a)) ∙ all_none ports (came_quiet input w a)
+
+-- A host notes nothing before its pass but what came.
+only_coming : (input : NodeInput) (w : Work) → AllByRecursion IsOfHost w.ports → noted_before_pass input w ≡ told_of_coming input w
+only_coming input w a =
+    ap (λ ds. told_of_coming input w ++ (noted_by_deeds 0 ds (has_freed input w)
+    ++ cond (has_synced input w).cut [] (noted_by_deeds 0 (owed_in_step input w) (has_synced input w)))) (syncs_none w.core input w.ports a)
+    ∙ (ap (λ ds. told_of_coming input w ++ cond (has_synced input w).cut [] (noted_by_deeds 0 ds (has_synced input w))) (owing_none input w a)
+    ∙ (ap (λ es. told_of_coming input w ++ es) (by_test (has_synced input w).cut (λ q. rw q refl) (λ q. rw q refl)) ∙ append-nil (told_of_coming input w)))
+
+-- ## Unless a host begins something of its own, it answers nothing before its first turn in an event
+
+-- ### Hosts
 
 -- the end of a host on its link is that of a UICC, and no notice stands there
 abbrev pub IsHostSite : Site → Type 0
@@ -92,7 +422,7 @@ module _ (n : ℕ) where
   late_one : (x : Entry) (es : List Entry) → NoAnswer x → IsLate es → IsLate (x ∷ es)
   late_one x es none late = by_test (is_turn_of n x) (λ q. late_turn x es q) (λ q. rest_is x es q none ∙ late)
 
-  pub late_before : (front es : List Entry) → AllByRecursion NoAnswer front → IsLate es → IsLate (front ++ es)
+  late_before : (front es : List Entry) → AllByRecursion NoAnswer front → IsLate es → IsLate (front ++ es)
   late_before [] es none late = late
   late_before (x ∷ front) es none late = late_one x (front ++ es) none.0 (late_before front es none.1 late)
 
@@ -111,7 +441,7 @@ module _ (n : ℕ) where
         absurd (cc one)
     go false false q z later = late_one x (es ++ back) z (later (sym (rest_is x es q z) ∙ late))
 
-  -- ## Passes
+  -- ### Passes
 
   pass_late : (more frames : List Entry) → AreOwn n more → AllByRecursion NoAnswer frames → BeginWithTurn more
       → ((front back : List Entry) (x : Entry) → more ≡ front ++ (x ∷ back) → BeginsBehind x back) → IsLate (more ++ frames)
@@ -164,7 +494,7 @@ module _ (n : ℕ) where
         behind (entry.Turn f pid message) front back a = tt
         behind _ front back a = tt
 
-  -- ## Steps
+  -- ### Steps
 
   far_late : (w : NodeWorld) (h : ℕ) (comes : Comes) (i : LinkInput) → IsOrderly w → AreHostSites w.sites
       → IsLate (host_does w h comes (steps (AtEnd h i))).1
@@ -209,7 +539,7 @@ module _ (n : ℕ) where
       (others_answer n (host_ticks s).1 (own_not s.host n (host_ticks s).1 q (part_own s.host (host_ticks s).1 (far_tick s nodes.0.0 nodes.0.1))))
       (hosts_late sites d.1 nodes.1 a.1))
 
-  -- ## Events
+  -- ### Events
 
   module _ (off : (n == 0) ≡ false) where
     near_none : (es : List Entry) → IsPart 0 es → AllByRecursion NoAnswer es

@@ -10,12 +10,10 @@ use Rattle.node_laws.proofs.Words.{wires_for, work_of, world_step, world_ticks, 
 use Rattle.trace_model.specs.declared.entry.Entry.TheVariants as entry
 use Rattle.link_laws.specs.entries.Entries.{End as Side}
 use Rattle.link_laws.specs.entries.Entries.Entry.{Tick}
-use Rattle.node_laws.proofs.passes.Coming.{coming_all}
-use Rattle.node_laws.proofs.passes.Kinds.{NotesOnly, sending_notes, beginning_notes}
-use Rattle.node_laws.proofs.passes.InSteps.{IsOfStep, step_keeps, deeds_keep, of_deeds}
-use Rattle.node_laws.proofs.worlds.Steps.{host_begins}
-use Rattle.node_laws.proofs.telling.Reported.{told_all}
-use Rattle.node_laws.proofs.telling.Frames.{arrival_all, ending_all, wires_all}
+use Rattle.node_laws.proofs.passes.InSteps.{IsOfStep, NotesOnly, beginning_notes, coming_all, deeds_keep, of_deeds, sending_notes, step_keeps}
+use Rattle.node_laws.proofs.worlds.Ticking.{host_begins}
+use Rattle.node_laws.proofs.telling.Shapes.{told_all}
+use Rattle.node_laws.proofs.telling.Ticks.{arrival_all, ending_all, wires_all}
 
 -- it tells of no frame that a line loses
 abbrev pub IsLineless : Entry → Type 0

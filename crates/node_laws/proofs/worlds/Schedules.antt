@@ -4,31 +4,27 @@ use Rattle.node_laws.proofs.Words.{FollowsNodes, Header, IsBegunByHost, IsInitOf
 use Rattle.node_laws.proofs.Words.{TurnsAscend, [], all_so, append-nil, arith, commands_by_events, commands_noted, end_c, end_h, ends_in, is_left_short}
 use Rattle.node_laws.proofs.Words.{lines_asking, node_entries, occurrences_in, sym, true, ℕ, ◌++◌, ◌∷◌, ◌≡◌, ◌≤◌}
 use Rattle.trace_model.specs.declared.line.Line.TheVariants as line
-use Rattle.node_laws.proofs.readings.NoticedWorlds.{numbers}
-use Rattle.node_laws.proofs.power.Histories.{cuts_end}
+use Rattle.node_laws.proofs.readings.Noticed.{numbers}
+use Rattle.node_laws.proofs.power.Events.{cuts_end}
 use Rattle.node_laws.proofs.schedules.Ranges.{hosts_are, hosts_few, inits_of_hosts, playable, sent_by_hosts}
 use Rattle.node_laws.proofs.schedules.Few.{are_few}
 use Rattle.std.proofs.lemmas.Map.Keys.{sorted_from_strictly_increasing}
-use Rattle.node_laws.proofs.worlds.Ascending.{rising}
-use Rattle.node_laws.proofs.worlds.Turns.{turns_ascend}
-use Rattle.node_laws.proofs.worlds.Orders.{hear_first}
-use Rattle.node_laws.proofs.worlds.FramesLast.{schedule_emits}
-use Rattle.node_laws.proofs.worlds.Histories.{resets_due}
+use Rattle.node_laws.proofs.worlds.FramesLast.{rising, schedule_emits, turns_ascend}
+use Rattle.node_laws.proofs.worlds.Late.{hear_first}
+use Rattle.node_laws.proofs.worlds.Due.{resets_due}
 use Rattle.history.specs.Histories.{History}
 use Rattle.history.proofs.legal.Ordered.{in_order, joined}
 use Rattle.history.proofs.legal.Complete.{complete}
 use Rattle.history.proofs.legal.Settled.{settled}
-use Rattle.node_laws.proofs.turns.Lines.{in_turn}
-use Rattle.node_laws.proofs.order.LegalLemmas.{legal}
+use Rattle.node_laws.proofs.turns.Worlds.{in_turn}
+use Rattle.node_laws.proofs.order.Upheld.{legal}
 use Rattle.node_laws.specs.answers.Headline.{IsLegal, IsPlayed, PlayedHistory}
 use Rattle.node_laws.specs.answers.Headline.PlayedHistory.{OfLink, OfNodes}
-use Rattle.node_laws.proofs.bounds.Lines.{front_asked, lines_bounded}
+use Rattle.node_laws.proofs.bounds.Paying.{front_asked, lines_bounded}
 use Rattle.node_laws.proofs.hosts.Histories.{hosts_answer}
 use Rattle.node_laws.proofs.shorts.Histories.{hosts_left_short}
-use Rattle.node_laws.proofs.worlds.Done.{histories_done}
+use Rattle.node_laws.proofs.worlds.Done.{IsAnswered, IsAnsweredFar, controller_answers, everywhere, histories_done}
 use Rattle.node_laws.proofs.dues.Events.{all_due}
-use Rattle.node_laws.proofs.worlds.Everywhere.{IsAnswered, IsAnsweredFar, everywhere}
-use Rattle.node_laws.proofs.worlds.Lifting.{controller_answers}
 use Rattle.node_laws.proofs.worlds.Short.{near_left_short}
 
 begun_one : (l : Line) → IsInitOfHost l → IsBegunByHost l

@@ -1,52 +1,299 @@
--- At the end of each event in which the controller made a step and runs on, the first message that is left at an end of it lacked room.
-use Rattle.node_laws.proofs.Words.{Activates, AllByRecursion, AreDifferent, AreHosts, AreNodeLinesOf, AreNotOf, ArePlayable, Arms, AsksReset, AtEachOccurrence}
-use Rattle.node_laws.proofs.Words.{AtEnd, BeginsPass, Bool, Boots, Comes, Controller, Cut, Emit, End, Entry, FollowsNodes, Gives, Happening, HasEnds, Header}
-use Rattle.node_laws.proofs.Words.{Host, Inits, IsAscending, IsCut, IsFew, IsNodeHeader, IsOrderly, IsSentByHost, KeepsBetween, Line, Link, LinkInput, List}
-use Rattle.node_laws.proofs.Words.{Loses, Lost, NextFrame, NodeHistory, NodeWorld, None, Noted, Occurrence, ReadsInStep, Reset, Resets, Running, Site, Some}
-use Rattle.node_laws.proofs.Words.{Start, Starts, Take, Takes, Ticks, TimePasses, Took, Work, [], after_near_tick, all_aged, all_append, all_flat, ap}
-use Rattle.node_laws.proofs.Words.{append-nil, append_assoc, arrival, as_it_ticks, by_coming, by_host, by_option, by_test, comes_at, comes_to, comes_to_pass}
+-- Behind a step or an event in which the controller runs on, the first message that is left at an end of it lacks room.
+use Rattle.node_laws.proofs.Words.{Activates, AllByRecursion, AreAlong, AreDifferent, AreHosts, AreNoTurns, AreNodeLinesOf, AreNotOf, ArePlayable, Arms}
+use Rattle.node_laws.proofs.Words.{AsksReset, AtEachOccurrence, AtEnd, BeginWithTurn, BeginsPass, Bool, Boots, Comes, Controller, Cut, Emit, End, Entry}
+use Rattle.node_laws.proofs.Words.{FollowsNodes, Gives, Happening, HasEnds, Header, Host, Inits, IsAscending, IsCut, IsFew, IsNoTurn, IsNodeHeader, IsNodeOf}
+use Rattle.node_laws.proofs.Words.{IsOrderly, IsSentByHost, KeepsBetween, Line, Link, LinkInput, List, Loses, Lost, NextFrame, NodeHistory, NodeInput}
+use Rattle.node_laws.proofs.Words.{NodeWorld, None, Noted, Occurrence, ReadsInStep, Reckoning, Reset, Resets, Running, Site, Some, Start, Starts, Take, Takes}
+use Rattle.node_laws.proofs.Words.{Ticks, TimePasses, Took, Work, [], after_near_tick, all_aged, all_append, all_flat, ap, append-nil, append_assoc, arith}
+use Rattle.node_laws.proofs.Words.{arrival, as_it_ticks, as_left, begun_by, by_coming, by_host, by_list, by_option, by_test, comes_at, comes_to, comes_to_pass}
 use Rattle.node_laws.proofs.Words.{commands_by_events, cond, controller_begins, controller_does, controller_ticks, end_c, end_h, end_of, ending_entries}
-use Rattle.node_laws.proofs.Words.{ending_of, entries_for, entries_in, exchanged, false, flat_map, frames_noted, host_work, hosts_tick, input_of, is_left_short}
-use Rattle.node_laws.proofs.Words.{is_of_node, is_some, length, link_to, makes_step, near_end_in, near_tick, new_world, node_entries, node_of, occurrences_in}
-use Rattle.node_laws.proofs.Words.{port_at, refl, runs_in, seen_from, steps, subst, sym, true, true≢false, wires_for, world_behind, world_step, ℕ, ◌++◌, ◌==◌}
-use Rattle.node_laws.proofs.Words.{◌∙◌, ◌∷◌, ◌≡◌, ◌≤◌}
-use Rattle.trace_model.specs.declared.entry.Entry.TheVariants as entry
+use Rattle.node_laws.proofs.Words.{ending_of, entries_for, entries_in, eq-eqb, exchanged, false, flat_map, fold, fold-append, frames_noted, host_work}
+use Rattle.node_laws.proofs.Words.{hosts_tick, inl, input_of, inr, is_later, is_left_short, is_none, is_of_node, is_some, lack_at, le-ltb, length, link_of_turn}
+use Rattle.node_laws.proofs.Words.{link_to, links_of_turns, lt-ltb, makes_step, nat_lt, near_end_in, near_tick, new_book, new_memory, new_world, node_at}
+use Rattle.node_laws.proofs.Words.{node_entries, node_of, not, noted_before_pass, occurrences_in, oldest, or-true, passes, port_at, reckoned, reckoning_of}
+use Rattle.node_laws.proofs.Words.{refl, replicate, runs_in, seen_from, steps, subst, sym, take_while, take_while-cons, through, true, true≢false, turn_link}
+use Rattle.node_laws.proofs.Words.{unhandled_in, wires_for, with_event, world_behind, world_step, ℕ, ◌&&◌, ◌++◌, ◌<◌, ◌==◌, ◌||◌, ◌∙◌, ◌∷◌, ◌≡◌, ◌≤◌, ◌⊎◌}
 use Rattle.link_laws.specs.entries.Entries.{End as Side}
-use Rattle.node_laws.proofs.telling.Events.{comes_goes}
-use Rattle.node_laws.proofs.telling.Frames.{ending_all}
-use Rattle.node_laws.proofs.telling.Lasting.{AreCaused, events_of_steps, lines_caused}
-use Rattle.node_laws.proofs.telling.Powers.{entries_uncut}
-use Rattle.node_laws.proofs.telling.WorldTicks.{ticked_orderly}
+use Rattle.node_laws.proofs.creations.Events.{aged_good, far_beside, near_good}
+use Rattle.node_laws.proofs.cuts.Histories.{known}
+use Rattle.node_laws.proofs.notices.Near.{AreGood, Reads, all_tick, comes_reads, far_flat, frames_quiet, not_near}
 use Rattle.node_laws.proofs.order.Lines.{IsSo, history_so}
-use Rattle.node_laws.proofs.passes.Before.{links_none}
+use Rattle.node_laws.proofs.passes.InSteps.{before_entries, before_none, links_none, steps_are}
+use Rattle.node_laws.proofs.power.Steps.{Fine, HasLost, Runs, arrival_of_side, links_own, steps_fine}
 use Rattle.node_laws.proofs.power.Events.{near_runs, ticked_others}
-use Rattle.node_laws.proofs.power.Links.{arrival_of_side, links_own}
-use Rattle.node_laws.proofs.creations.Events.{far_beside}
-use Rattle.node_laws.proofs.creations.Worlds.{aged_good, near_good}
-use Rattle.node_laws.proofs.notices.Far.{far_flat, not_near}
-use Rattle.node_laws.proofs.notices.Near.{comes_reads}
-use Rattle.node_laws.proofs.notices.Sites.{AreGood, Reads, all_tick, frames_quiet}
-use Rattle.node_laws.proofs.views.Events.{ticks_leave}
-use Rattle.node_laws.proofs.views.Leaving.{IsStill, Leaves, still_leaves}
+use Rattle.node_laws.proofs.read_rooms.Carrying.{IsCarried}
+use Rattle.node_laws.proofs.read_steps.Knowing.{history_keeps_between}
+use Rattle.node_laws.proofs.replies.Left.{AreCalm, IsLeft, IsNear, IsUnheard, LacksBehind, calm_both, calm_none, idle_left, is_left}
+use Rattle.node_laws.proofs.replies.Waiting.{comes_known, tick_known}
+use Rattle.node_laws.proofs.reply_passes.Roomy.{comes_begins, tick_begins}
+use Rattle.node_laws.proofs.telling.Events.{comes_goes}
+use Rattle.node_laws.proofs.telling.Ticks.{ending_all}
+use Rattle.node_laws.proofs.telling.Lasting.{AreCaused, events_of_steps, lines_caused}
+use Rattle.node_laws.proofs.telling.Shapes.{entries_uncut}
+use Rattle.node_laws.proofs.telling.WorldTicks.{ticked_orderly}
+use Rattle.node_laws.proofs.views.Events.{orderly_fine, ticks_leave}
+use Rattle.node_laws.proofs.views.Doing.{IsStill, Leaves, still_leaves}
 use Rattle.node_laws.proofs.views.Nodes.{arrival_still, frames_still, others_step}
-use Rattle.node_laws.proofs.views.Worlds.{orderly_fine}
-use Rattle.node_laws.proofs.reply_passes.Whole.{comes_begins, tick_begins}
-use Rattle.node_laws.proofs.replies.Calm.{AreCalm, IsUnheard, calm_both}
-use Rattle.node_laws.proofs.replies.Histories.{comes_known, tick_known}
-use Rattle.node_laws.proofs.read_rooms.Lasting.{IsCarried}
-use Rattle.node_laws.proofs.read_steps.Lines.{history_keeps_between}
-use Rattle.node_laws.proofs.worlds.AtRest.{flat_idle, frames_idle}
-use Rattle.node_laws.proofs.worlds.Done.{aged_idle}
-use Rattle.node_laws.proofs.worlds.Hearing.{IsFrame}
-use Rattle.node_laws.proofs.worlds.Leaving.{idle_on, short_off, short_still, step_short}
-use Rattle.node_laws.proofs.worlds.Lifting.{far_not, frames_none}
-use Rattle.node_laws.proofs.worlds.Powered.{off_read}
-use Rattle.node_laws.proofs.worlds.Resting.{AreIdle, others_idle}
-use Rattle.node_laws.proofs.worlds.Steps.{far_node, far_number, near_node}
-use Rattle.node_laws.proofs.worlds.Taking.{MayStep, line_steps}
-use Rattle.node_laws.proofs.worlds.Turns.{aged_turnless, other_turns, turnless_there}
+use Rattle.node_laws.proofs.worlds.Resting.{AreIdle, cut_off, flat_idle, frames_idle, idle_runs, others_idle}
+use Rattle.node_laws.proofs.worlds.Done.{NoneThere, aged_idle, far_not, frames_none}
+use Rattle.node_laws.proofs.worlds.Late.{IsFrame}
+use Rattle.node_laws.proofs.worlds.Ticking.{far_node, far_number, near_node}
+use Rattle.node_laws.proofs.worlds.Due.{MayStep, line_steps}
+use Rattle.node_laws.proofs.worlds.FramesLast.{aged_turnless, other_turns, turnless_there}
+use Rattle.trace_model.specs.declared.entry.Entry.TheVariants as entry
 
--- ## Entries that change nothing
+-- ## Behind a step of the controller that runs on, the first message that is left at an end of it lacks room, as it leaves that end
+
+-- ### What is said of an end
+
+module _ (hosts : List ℕ) (past : List Occurrence) (o : Occurrence) (e : End) where
+  abbrev steps_there : Bool
+  steps_there = makes_step (node_of e) o.cause
+
+  pub short_off : runs_in (through past o) (node_of e) ≡ false → is_left_short hosts past o e ≡ true
+  short_off off =
+      ap (λ b. (not (steps_there && b) || is_none (oldest (unhandled_in (through past o) e))) || is_some (lack_at hosts (as_left past o e) e)) off
+      ∙ by_test steps_there (λ q. rw q refl) (λ q. rw q refl)
+
+  pub short_still : steps_there ≡ false → is_left_short hosts past o e ≡ true
+  short_still still =
+      ap (λ b. (not (b && runs_in (through past o) (node_of e)) || is_none (oldest (unhandled_in (through past o) e)))
+      || is_some (lack_at hosts (as_left past o e) e))
+      still
+
+  pub short_none : unhandled_in (through past o) e ≡ [] → is_left_short hosts past o e ≡ true
+  short_none none =
+      ap (λ l. (not (steps_there && runs_in (through past o) (node_of e)) || is_none (oldest l)) || is_some (lack_at hosts (as_left past o e) e)) none
+      ∙ by_test (not (steps_there && runs_in (through past o) (node_of e))) (λ q. rw q refl) (λ q. rw q refl)
+
+  pub short_lacks : is_some (lack_at hosts (as_left past o e) e) ≡ true → is_left_short hosts past o e ≡ true
+  short_lacks lacks =
+      ap (λ b. (not (steps_there && runs_in (through past o) (node_of e)) || is_none (oldest (unhandled_in (through past o) e))) || b) lacks
+      ∙ or-true (not (steps_there && runs_in (through past o) (node_of e)) || is_none (oldest (unhandled_in (through past o) e)))
+
+-- entries that tell nothing of the controller's power leave it as it was
+idle_on : (k : ℕ) (s es : List Entry) → AreIdle (end_c k) es → runs_in (s ++ es) 0 ≡ true → runs_in s 0 ≡ true
+idle_on k s [] idle on = ap (λ l. runs_in l 0) (sym (append-nil s)) ∙ on
+idle_on k s (x ∷ es) idle on =
+    idle_runs (end_c k) s x idle.0 (idle_on k (s ++ x ∷ []) es idle.1 (ap (λ l. runs_in l 0) (append_assoc s (x ∷ []) es) ∙ on))
+
+-- ### Later ends
+
+module _ (k : ℕ) where
+  abbrev before_it : Entry → Bool
+  before_it x = not (is_later (end_c k) x)
+
+  abbrev NotLater : List Entry → Type 0
+  NotLater es = AllByRecursion (λ x. is_later (end_c k) x ≡ false) es
+
+  take_all : (es : List Entry) → NotLater es → take_while before_it es ≡ es
+  take_all [] a = refl
+  take_all (x ∷ es) a =
+      take_while-cons before_it x es ∙ (ap (λ b. cond (not b) (x ∷ take_while before_it es) []) a.0 ∙ ap (λ l. x ∷ l) (take_all es a.1))
+
+  take_to : (es : List Entry) (x : Entry) (rest : List Entry) → NotLater es → is_later (end_c k) x ≡ true → take_while before_it (es ++ (x ∷ rest)) ≡ es
+  take_to [] x rest a late = take_while-cons before_it x rest ∙ ap (λ b. cond (not b) (x ∷ take_while before_it rest) []) late
+  take_to (y ∷ es) x rest a late =
+      take_while-cons before_it y (es ++ (x ∷ rest))
+      ∙ (ap (λ b. cond (not b) (y ∷ take_while before_it (es ++ (x ∷ rest))) []) a.0 ∙ ap (λ l. y ∷ l) (take_to es x rest a.1 late))
+
+  far_end : (f : End) → cond (node_of f == 0) (Some f.link) None ≡ None → (not f.at_host && nat_lt k f.link) ≡ false
+  far_end f none = by_test f.at_host
+      (λ q. rw q refl)
+      (λ q. let zero : node_of f ≡ 0 = rw q refl in
+      let some : Some f.link ≡ None = sym (ap (λ n. cond (n == 0) (Some f.link) None) zero) ∙ none in absurd (cc some))
+
+  not_later : (x : Entry) → turn_link 0 x ≡ None → is_later (end_c k) x ≡ false
+  not_later (entry.Turn f pid message) none = far_end f none
+  not_later (entry.Held f need spare) none = far_end f none
+  not_later x none = refl
+
+  none_later : (es : List Entry) → NoneThere es → NotLater es
+  none_later [] a = tt
+  none_later (x ∷ es) a = (not_later x a.0, none_later es a.1)
+
+  not_above : (f : End) → f.link ≤ k → (not f.at_host && nat_lt k f.link) ≡ false
+  not_above f low = by_test (not f.at_host) (λ q. rw q (le-ltb k f.link low)) (λ q. rw q refl)
+
+  low_later : (es : List Entry) → AllByRecursion (λ l. l ≤ k) (links_of_turns es) → NotLater es
+  low_later [] a = tt
+  low_later (entry.Turn f pid message ∷ es) a = (not_above f a.0, low_later es a.1)
+  low_later (entry.Held f need spare ∷ es) a = (not_above f a.0, low_later es a.1)
+  low_later (_ ∷ es) a = (refl, low_later es a)
+
+  above : (f : End) → f.at_host ≡ false → k < f.link → (not f.at_host && nat_lt k f.link) ≡ true
+  above f near high = ap (λ b. not b && nat_lt k f.link) near ∙ lt-ltb k f.link high
+
+  head_later : (x : Entry) (es : List Entry) → is_some (link_of_turn x) ≡ true → IsNear x → AllByRecursion (λ l. k < l) (links_of_turns (x ∷ es))
+      → is_later (end_c k) x ≡ true
+  head_later (entry.Turn f pid message) es some near a = above f near a.0
+  head_later (entry.Held f need spare) es some near a = above f near a.0
+  head_later _ es some near a = absurd (true≢false (sym some))
+
+  -- ### Hosts in order
+
+  along_all : (P : ℕ → Type 0) (hs links : List ℕ) → AllByRecursion P hs → AreAlong hs links → AllByRecursion P links
+  along_all P hs [] all along = tt
+  along_all P [] (link ∷ links) all along = absurd along
+  along_all P (h ∷ hs) (link ∷ links) all (inl at) = (subst P (sym at.0) all.0, along_all P (h ∷ hs) links all at.1)
+  along_all P (h ∷ hs) (link ∷ links) all (inr later) = along_all P hs (link ∷ links) all.1 later
+
+  lows : (earlier later : List ℕ) → IsAscending (earlier ++ k ∷ later) → AllByRecursion (λ h. h ≤ k) (earlier ++ k ∷ [])
+  lows [] later up = (omega arith, tt)
+  lows (h ∷ earlier) later up = (mid earlier up.0, lows earlier later up.1) where
+    mid : (hs : List ℕ) → AllByRecursion (λ y. h ≤ y) (hs ++ k ∷ later) → h ≤ k
+    mid [] a = a.0
+    mid (x ∷ hs) a = mid hs a.1
+
+  highs : (earlier later : List ℕ) → IsAscending (earlier ++ k ∷ later) → AllByRecursion (λ j. (j == k) ≡ false) later → AllByRecursion (λ h. k < h) later
+  highs [] later up off = both later up.0 off where
+    both : (hs : List ℕ) → AllByRecursion (λ y. k ≤ y) hs → AllByRecursion (λ j. (j == k) ≡ false) hs → AllByRecursion (λ h. k < h) hs
+    both [] a b = tt
+    both (h ∷ hs) a b =
+        let apart : h ≡ k → ⊥ = λ q. true≢false (sym (eq-eqb h k q) ∙ b.0) in
+        (omega (arith, apart, a.0), both hs a.1 b.1)
+  highs (h ∷ earlier) later up off = highs earlier later up.1 off
+
+-- ### A step
+
+module _ (hosts : List ℕ) (are : AreHosts hosts) (up : IsAscending hosts) (past : List Occurrence) (c : Happening) (lead rest : List Entry)
+    (input : NodeInput) (w : Work) (runs : Runs 0 w) (none : NoneThere lead) (own : AreNoTurns w.entries) (after : NoneThere rest) (calm : AreCalm rest)
+    (ready : (comes_to_pass input w).cut ≡ false → ReadsInStep hosts (entries_in past ++ lead) (comes_to_pass input w)
+    × IsCarried (entries_in past ++ lead) Controller (comes_to_pass input w) × BeginsPass (entries_in past ++ lead) (comes_to_pass input w))
+    (earlier : List ℕ) (k : ℕ) (later : List ℕ) (at : hosts ≡ earlier ++ k ∷ later) (off : AllByRecursion (λ j. (j == k) ≡ false) later)
+    (idle : AreIdle (end_c k) rest) where
+  abbrev t : List Entry
+  t = entries_in past ++ lead
+
+  abbrev v : Work
+  v = comes_to_pass input w
+
+  abbrev last : Work
+  last = steps input w
+
+  abbrev seen : List Entry → Occurrence
+  seen es = record { cause = c; entries = lead ++ (es ++ rest) }
+
+  abbrev IsShort : List Entry → Type 0
+  IsShort es = is_left_short hosts past (seen es) (end_c k) ≡ true
+
+  all_of : (es : List Entry) → through past (seen es) ≡ (t ++ es) ++ rest
+  all_of es = sym (append_assoc (entries_in past) lead (es ++ rest)) ∙ sym (append_assoc t es rest)
+
+  early : NoneThere v.entries
+  early =
+      turnless_there 0 v.entries
+      (subst AreNoTurns (sym (before_entries input w)) (all_append IsNoTurn w.entries (noted_before_pass input w) own (before_none input w)))
+
+  ascending : IsAscending (earlier ++ k ∷ later)
+  ascending = subst IsAscending at up
+
+  by_left : IsLeft hosts t v earlier k later → IsShort (passes v).entries
+  by_left l = by l.lacks where
+    P : List Entry
+    P = (passes v).entries
+
+    A : List Entry
+    A = (v.entries ++ l.front) ++ l.own
+
+    first : NotLater k (lead ++ A)
+    first =
+        all_append _ lead A (none_later k lead none)
+        (all_append _ (v.entries ++ l.front) l.own
+        (all_append _ v.entries l.front (none_later k v.entries early)
+        (low_later k l.front (along_all k (λ h. h ≤ k) (earlier ++ k ∷ []) (links_of_turns l.front) (lows k earlier later ascending) l.before))) l.mine)
+
+    shape : (back : List Entry) → l.back ≡ back → lead ++ (P ++ rest) ≡ (lead ++ A) ++ (back ++ rest)
+    shape back q =
+        ap (λ es. lead ++ (es ++ rest)) (l.all ∙ (ap (λ b. (v.entries ++ l.front) ++ (l.own ++ b)) q ∙ sym (append_assoc (v.entries ++ l.front) l.own back)))
+        ∙ (ap (λ es. lead ++ es) (append_assoc A back rest) ∙ sym (append_assoc lead A (back ++ rest)))
+
+    told : (es : List Entry) → entries_in past ++ ((lead ++ A) ++ es) ≡ (t ++ (v.entries ++ l.front)) ++ (l.own ++ es)
+    told es =
+        ap (λ x. entries_in past ++ x) (append_assoc lead A es)
+        ∙ (sym (append_assoc (entries_in past) lead (A ++ es))
+        ∙ (ap (λ x. t ++ x) (append_assoc (v.entries ++ l.front) l.own es) ∙ sym (append_assoc t (v.entries ++ l.front) (l.own ++ es))))
+
+    by : (unhandled_in (t ++ P) (end_c k) ≡ []) ⊎ LacksBehind hosts (t ++ (v.entries ++ l.front)) l.own k → IsShort P
+    by (inl empty) =
+        short_none hosts past (seen P) (end_c k)
+        (ap (λ x. unhandled_in x (end_c k)) (all_of P) ∙ (idle_left (end_c k) (t ++ P) rest idle ∙ empty))
+    by (inr lacks) = by_list l.back
+        (λ q. let taken : take_while (before_it k) (lead ++ (P ++ rest)) ≡ (lead ++ A) ++ rest =
+        ap (take_while (before_it k)) (shape [] q) ∙ take_all k ((lead ++ A) ++ rest) (all_append _ (lead ++ A) rest first (none_later k rest after)) in
+        short_lacks hosts past (seen P) (end_c k)
+        (lacks (as_left past (seen P) (end_c k)) rest calm idle (ap (λ x. entries_in past ++ x) taken ∙ told rest)))
+        (λ x back q. let links : AllByRecursion (λ n. k < n) (links_of_turns (x ∷ back)) =
+        along_all k (λ n. k < n) later (links_of_turns (x ∷ back)) (highs k earlier later ascending off)
+        (subst (λ b. AreAlong later (links_of_turns b)) q l.behind) in
+        let late : is_later (end_c k) x ≡ true = head_later k x back (subst BeginWithTurn q l.next) (l.near x back q) links in
+        let taken : take_while (before_it k) (lead ++ (P ++ rest)) ≡ lead ++ A =
+        ap (take_while (before_it k)) (shape (x ∷ back) q) ∙ take_to k (lead ++ A) x (back ++ rest) first late in
+        short_lacks hosts past (seen P) (end_c k)
+        (lacks (as_left past (seen P) (end_c k)) [] calm_none tt
+        (ap (λ y. entries_in past ++ y) (taken ∙ sym (append-nil (lead ++ A))) ∙ told [])))
+
+  gone : HasLost 0 last → runs_in (through past (seen last.entries)) 0 ≡ false
+  gone l = by_test (runs_in (through past (seen last.entries)) 0)
+      (λ q. let on : runs_in (t ++ last.entries) 0 ≡ true = idle_on k (t ++ last.entries) rest idle (ap (λ x. runs_in x 0) (sym (all_of last.entries)) ∙ q) in
+      let lost : runs_in (t ++ last.entries) 0 ≡ false =
+      ap (λ x. runs_in x 0) (ap (λ x. t ++ x) l.entries ∙ sym (append_assoc t l.front (entry.Cut 0 ∷ []))) ∙ cut_off 0 (t ++ l.front) in
+      absurd (true≢false (sym on ∙ lost)))
+      (λ q. q)
+
+  step_short : IsShort last.entries
+  step_short = by_fine (steps_fine 0 input w runs) where
+    by_begun : (b : Bool) → v.cut ≡ b → last.cut ≡ false → IsShort last.entries
+    by_begun true q on =
+        let is : last ≡ v = steps_are input w ∙ rw q refl in
+        absurd (true≢false (sym (ap (λ (u : Work). u.cut) is ∙ q) ∙ on))
+    by_begun false q on =
+        let is : last ≡ passes v = steps_are input w ∙ rw q refl in
+        let known = ready q in
+        subst (λ (u : Work). IsShort u.entries) (sym is)
+        (by_left (is_left hosts are t v known.0 known.1 known.2 earlier k later (known.0.runs.keeps.hosts_are ∙ at) off q
+        (ap (λ (u : Work). u.cut) (sym is) ∙ on)))
+
+    by_fine : Fine 0 last → IsShort last.entries
+    by_fine (inl r) = by_begun v.cut refl r.on
+    by_fine (inr l) = short_off hosts past (seen last.entries) (end_c k) (gone l)
+
+-- ## Whether a node runs is read off a history
+
+module _ (n : ℕ) where
+  run_one : (s : List Entry) (r : Reckoning) (x : Entry) → r.runs ≡ runs_in s n → (reckoned n r x).runs ≡ runs_in (s ++ x ∷ []) n
+  run_one s r (entry.Booted m k) q = by_test (m == n) (λ is. rw is refl) (λ is. rw is q) ∙ sym (fold-append _ false s (entry.Booted m k ∷ []))
+  run_one s r (entry.Cut m) q = by_test (m == n) (λ is. rw is refl) (λ is. rw is q) ∙ sym (fold-append _ false s (entry.Cut m ∷ []))
+  run_one s r (entry.Command m c) q = by_test (m == n) (λ is. rw is q) (λ is. rw is q) ∙ sym (fold-append _ false s (entry.Command m c ∷ []))
+  run_one s r x q = q ∙ sym (fold-append _ false s (x ∷ []))
+
+  run_all : (s es : List Entry) (r : Reckoning) → r.runs ≡ runs_in s n → (fold (reckoned n) r es).runs ≡ runs_in (s ++ es) n
+  run_all s [] r q = q ∙ ap (λ l. runs_in l n) (sym (append-nil s))
+  run_all s (x ∷ es) r q = run_all (s ++ x ∷ []) es (reckoned n r x) (run_one s r x q) ∙ ap (λ l. runs_in l n) (append_assoc s (x ∷ []) es)
+
+  begun_runs : (c : Happening) (r : Reckoning) → (begun_by n c r).runs ≡ r.runs
+  begun_runs (Boots m) r = by_test (m == n) (λ q. rw q refl) (λ q. rw q refl)
+  begun_runs (Arms m plan) r = by_test (m == n) (λ q. rw q refl) (λ q. rw q refl)
+  begun_runs _ r = refl
+
+  run_events : (s : List Entry) (events : List Occurrence) (r : Reckoning) → r.runs ≡ runs_in s n
+      → (fold (with_event n) r events).runs ≡ runs_in (s ++ entries_in events) n
+  run_events s [] r q = q ∙ ap (λ l. runs_in l n) (sym (append-nil s))
+  run_events s (o ∷ events) r q =
+      run_events (s ++ o.entries) events (with_event n r o) (run_all s o.entries (begun_by n o.cause r) (begun_runs o.cause r ∙ q))
+      ∙ ap (λ l. runs_in l n) (append_assoc s o.entries (entries_in events))
+
+  -- a node that doesn't run is read so
+  pub off_read : (header : Header) (lines : List Line) (t : NodeHistory) → FollowsNodes header lines t → AreHosts header.hosts.items
+      → AllByRecursion IsSentByHost lines → IsFew (node_entries t) → IsNodeOf t.header.hosts.items n → (front back : List Occurrence)
+      → occurrences_in t ≡ front ++ back → node_at (world_behind (new_world header.hosts.items) front) n ≡ None → runs_in (entries_in front) n ≡ false
+  off_read header lines t follows are sent few node front back parts none =
+      sym (run_events [] front (reckoning_of false new_book (new_memory (replicate 65536 255))) refl)
+      ∙ ((known header lines t follows are sent few n node front back parts).stands.runs_is ∙ ap is_some none)
+
+-- ## At the end of each event in which the controller made a step and runs on, the first message that is left at an end of it lacked room
+
+-- ### Entries that change nothing
 
 frames_unheard : (h : ℕ) (notes : List Noted) → AllByRecursion IsFrame notes → AllByRecursion IsUnheard (entries_for h notes)
 frames_unheard h [] all = tt
@@ -102,7 +349,7 @@ coming_leaves w a h comes k =
     (still_leaves (end_c k) frames (frames_still (end_c k) Host h (wires_for (exchanged s.link) comes) v))))
     (λ i z seen. let no : true ≡ false = z in absurd (true≢false no))
 
--- ## Events
+-- ### Events
 
 module _ (header : Header) (lines : List Line) (t : NodeHistory) (follows : FollowsNodes header lines t) (are : AreHosts header.hosts.items)
     (seven : length header.hosts.items ≤ 7) (sent : AllByRecursion IsSentByHost lines) (few : IsFew (node_entries t)) (playable : ArePlayable lines)
@@ -268,7 +515,7 @@ module _ (header : Header) (lines : List Line) (t : NodeHistory) (follows : Foll
         on_of : (v : NodeWorld) (r : Running) → v.controller ≡ Some r → (controller_ticks v).1 ≡ (after_near_tick v (near_tick v r)).1
         on_of v r q = rw q refl
 
-  pub event_short : (c : Happening) → MayStep w c → Short c (world_step w c).1
+  event_short : (c : Happening) → MayStep w c → Short c (world_step w c).1
   event_short (Boots n) may = still (Boots n) (world_step w (Boots n)).1 refl
   event_short (IsCut n) may = still (IsCut n) (world_step w (IsCut n)).1 refl
   event_short (Gives e m) may = still (Gives e m) (world_step w (Gives e m)).1 refl
@@ -280,7 +527,7 @@ module _ (header : Header) (lines : List Line) (t : NodeHistory) (follows : Foll
   event_short (Activates h sync power) may = activates_short h sync power
   event_short (Arms n plan) may = still (Arms n plan) (world_step w (Arms n plan)).1 refl
 
--- ## Histories
+-- ### Histories
 
 -- At each end of the controller the first message that is left lacks room, as the controller leaves that end.
 abbrev pub AreLeftShortNear : List ℕ → List Occurrence → Occurrence → Type 0

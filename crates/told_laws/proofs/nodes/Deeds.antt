@@ -20,8 +20,8 @@ use Rattle.gate_admin.specs.Decide.{opening, closing, setting, getting, creating
 use Rattle.gate_admin.specs.Decide.{ends_of, commits_and_tells, told_of_deletion, told_of_clearing, far_end}
 use Rattle.gate_admin.proofs.CreationLemmas.{creation-recordable}
 use Rattle.tables_laws.proofs.gate.Decisions.{unless, new_row}
-use Rattle.node_laws.proofs.steps.Ports.{at_port}
-use Rattle.node_laws.proofs.links.Masking.{nobody}
+use Rattle.node_laws.proofs.steps.StepWalks.{at_port}
+use Rattle.node_laws.proofs.links.Noticing.{nobody}
 use Rattle.told_laws.proofs.told.Lines.{each_all}
 use Rattle.told_laws.proofs.told.Wires.{drop_each}
 use Rattle.told_laws.proofs.nodes.Sides.{AreBytes, IsMail}

@@ -15,9 +15,9 @@ use Rattle.trace_model.specs.declared.entry.Entry.TheVariants as entry
 use Rattle.trace_model.specs.declared.line.Line.TheVariants as line
 use Rattle.told_laws.proofs.texts.ReadLemmas.{said_in}
 use Rattle.node_machine.specs.world.Lines.LineOutcome.{WasRefused, Occurred}
-use Rattle.node_laws.proofs.kept.Kept.{all_begin}
-use Rattle.node_laws.proofs.links.Playing.{world_fine}
-use Rattle.node_laws.proofs.bounds.Lines.{asking-append, asking_few}
+use Rattle.node_laws.proofs.kept.Ticking.{all_begin}
+use Rattle.node_laws.proofs.links.Worlds.{world_fine}
+use Rattle.node_laws.proofs.bounds.Paying.{asking-append, asking_few}
 use Rattle.node_laws.proofs.schedules.Ranges.{hosts_are, in_range, playable, sent_by_hosts}
 use Rattle.node_laws.proofs.schedules.Few.{are_few}
 use Rattle.told_laws.specs.told.NodesTold.{line_told, nodes_told}

@@ -14,7 +14,7 @@ use Rattle.hci_tables.specs.Bodies.{body_of}
 use Rattle.hci_store.specs.Committing.{commit_writes}
 use Rattle.node_machine.specs.Parts.About.{Waits, Removed}
 use Rattle.node_machine.specs.Turns.{deeds_of, handles, holds_back, lets_go, have_turns, goes_through_ends, passes}
-use Rattle.node_laws.proofs.steps.StepWalks.{got_at, unless, lets}
+use Rattle.node_laws.proofs.steps.StepWalks.{got_at, lets, unless}
 use Rattle.told_laws.proofs.told.Lines.{each_all}
 use Rattle.told_laws.proofs.nodes.Sides.{IsMail, AreMail}
 use Rattle.told_laws.proofs.nodes.Machines.{SideIn, side_more, side_turn, side_input, side_reset_at, IsTurnIn, AreTurnsIn, IsInputIn, IfSync, report_in}

@@ -16,8 +16,7 @@ use Rattle.told_laws.proofs.nodes.Commands.{AreTablesIn}
 use Rattle.told_laws.proofs.nodes.Deeds.{IsDeskIn}
 use Rattle.told_laws.proofs.nodes.Hosts.{IfBytes, IfInit}
 use Rattle.told_laws.proofs.nodes.Works.{port_more, IsPortIn, ArePortsIn, IsWorkIn}
-use Rattle.node_laws.proofs.telling.Nodes.{site_host}
-use Rattle.node_laws.proofs.telling.Worlds.{site_is}
+use Rattle.node_laws.proofs.telling.Events.{site_host, site_is}
 
 -- ## What is kept
 

@@ -4,8 +4,8 @@ use Rattle.world_laws.proofs.Words.{NodeHistory, None, Noted, Occurrence, Option
 use Rattle.world_laws.proofs.Words.{entries_for, entries_in, false, filter_map, got_on, gots_noted, gots_on, history_so, is_cut, is_of, list_any, lpdus_heard}
 use Rattle.world_laws.proofs.Words.{lpdus_on, new_line, new_world, no_cut, occurrences_in, of_link, put_on, refl, said, subst, sym, tapped_lpdus, tells_of}
 use Rattle.world_laws.proofs.Words.{untold, world_behind, ℕ, ◌++◌, ◌∙◌, ◌∷◌, ◌≡◌}
-use Rattle.node_laws.proofs.order.Ordered.{Whether, whether}
-use Rattle.node_laws.proofs.order.Ordered.Whether.{Stands, IsNone}
+use Rattle.node_laws.proofs.order.Sessions.{Whether, whether}
+use Rattle.node_laws.proofs.order.Sessions.Whether.{IsNone, Stands}
 use Rattle.world_laws.proofs.entries.Events.{tap_reports_lpdus}
 use Rattle.world_laws.proofs.histories.Histories.{lpdus_same, gots_same}
 

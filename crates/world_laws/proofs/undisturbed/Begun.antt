@@ -12,7 +12,7 @@ use Rattle.link_laws.proofs.machine.Sound.{Shift}
 use Rattle.link_laws.proofs.machine.Sound.Shift.{Begins, Ends, Renews, Rests, Stays}
 use Rattle.link_laws.specs.entries.Entries.{End, Entry, ending_entries}
 use Rattle.link_laws.specs.entries.Entries.Entry.{Up, Down, Tick}
-use Rattle.node_laws.proofs.telling.Frames.{ending_all, wires_all}
+use Rattle.node_laws.proofs.telling.Ticks.{ending_all, wires_all}
 use Rattle.world_laws.proofs.undisturbed.Losing.{Calm, calm_parts}
 use Rattle.world_laws.proofs.undisturbed.Events.{IsRoundEvent}
 

@@ -12,13 +12,11 @@ use Rattle.node_machine.specs.Parts.Deed.{Commits, Sends, Asks, Releases, Tells,
 use Rattle.node_machine.specs.Controller.{asked_at}
 use Rattle.node_machine.specs.Turns.{deeds_of, goes_through_ends, handles, have_turns, holds_back, lets_go, passes}
 use Rattle.node_laws.proofs.kept.Doing.{stays_cut, uncut}
-use Rattle.node_laws.proofs.steps.Ports.{changed_host, come_host, forgets_host, late_host, without_host}
-use Rattle.node_laws.proofs.steps.StepWalks.{unless}
-use Rattle.node_laws.proofs.telling.Away.{at_map}
-use Rattle.node_laws.proofs.telling.Mute.{deeds_mute}
-use Rattle.node_laws.proofs.telling.Walks.{handling}
+use Rattle.node_laws.proofs.steps.StepWalks.{changed_host, come_host, forgets_host, late_host, unless, without_host}
+use Rattle.node_laws.proofs.telling.Steps.{at_map}
+use Rattle.node_laws.proofs.telling.Accounts.{deeds_mute, handling}
 use Rattle.node_laws.specs.passes.Noting.{goes_in}
-use Rattle.node_laws.proofs.passes.Ends.{other_stays, own_changed}
+use Rattle.node_laws.proofs.passes.Replying.{other_stays, own_changed}
 use Rattle.node_laws.proofs.passes.Passing.{have_handled, have_held}
 use Rattle.world_laws.proofs.undisturbed.Ready.{asked_ready, ready_after, turn_ready}
 use Rattle.world_laws.proofs.undisturbed.Steps.{coming_ready, readied, readied-append}

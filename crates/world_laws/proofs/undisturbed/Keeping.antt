@@ -16,10 +16,10 @@ use Rattle.journal_laws.specs.Planned.{after_planned}
 use Rattle.link_laws.proofs.entries.Together.{ticks_host}
 use Rattle.node_machine.specs.world.World.{counts}
 use Rattle.node_machine.specs.world.World.Happening.{Loses}
-use Rattle.node_laws.proofs.telling.Nodes.{Stands}
-use Rattle.node_laws.proofs.links.Ends.{here_host}
+use Rattle.node_laws.proofs.telling.Events.{Stands}
+use Rattle.node_laws.proofs.links.Sites.{here_host}
 use Rattle.node_laws.proofs.readings.Sites.{comes_outside, near_end_side}
-use Rattle.node_laws.proofs.turns.Works.{sites_is}
+use Rattle.node_laws.proofs.turns.Nodes.{sites_is}
 use Rattle.world_laws.proofs.undisturbed.Holding.{IfOn, Kept, KeepsHeld, There, kept_deeds, step_kept}
 use Rattle.world_laws.proofs.undisturbed.Steps.{idle_ready, late_ready, near_ready, readied, ready_at_end, stepped_ready, tick_ready}
 

@@ -8,10 +8,9 @@ use Rattle.world_laws.proofs.Words.{entries, entries_in, event_entries, event_st
 use Rattle.world_laws.proofs.Words.{is_open, is_waiting, link_events_in, near_tick, near_turns, new_clf, new_line, new_link_end, new_uicc, not, not-true}
 use Rattle.world_laws.proofs.Words.{open_up, refl, runs_on, site_at, site_host, site_ticks, subst, sym, tick_event, tick_so, tick_unstarted, ticking}
 use Rattle.world_laws.proofs.Words.{ticks_at_controller, ticks_on, true, world_step, world_ticked, world_ticks, ℕ, ◌&&◌, ◌++◌, ◌∙◌, ◌∷◌, ◌≡◌}
-use Rattle.node_laws.proofs.links.Got.{Clean}
-use Rattle.node_laws.proofs.links.Sites.{AreNodes, reset_allowed, tick_allowed}
+use Rattle.node_laws.proofs.links.Sites.{AreNodes, Clean, reset_allowed, tick_allowed}
 use Rattle.node_laws.proofs.order.Ticking.{aged_clean, far_sends, near_sends, timely}
-use Rattle.node_laws.proofs.rounds.LinkEvents.{Ticked}
+use Rattle.node_laws.proofs.rounds.Allowing.{TickedOfLinkEvents as Ticked}
 use Rattle.world_laws.proofs.undisturbed.Losing.{Calm, calm_parts}
 use Rattle.world_laws.proofs.undisturbed.Events.{IsRoundEvent, TickParts, goes_out, reset_ends, tick_parts}
 use Rattle.world_laws.proofs.undisturbed.Runs.{AreBothUpNow, AreRoundEvents, up_after}

@@ -15,8 +15,8 @@ use Rattle.trace_model.specs.declared.entry.Entry.TheVariants as entry
 use Rattle.trace_model.specs.declared.line.Line.TheVariants as line
 use Rattle.node_laws.specs.rounds.LinkEvents.{takes_on}
 use Rattle.node_laws.specs.answers.Moments.{holds_in}
-use Rattle.node_laws.proofs.reply_passes.Begins.{reads_last}
-use Rattle.node_laws.proofs.worlds.AtRest.{SiteRests}
+use Rattle.node_laws.proofs.reply_passes.Ordered.{reads_last}
+use Rattle.node_laws.proofs.worlds.Resting.{SiteRests}
 use Rattle.node_laws.proofs.worlds.Done.{IsAtRest, event_rests, history_rests}
 use Rattle.world_laws.proofs.schedules.Nodes.{last}
 use Rattle.world_laws.proofs.undisturbed.Keeping.{HeldAt, HeldIn, IsHeldSo, SiteHeld, event_kept}

@@ -8,9 +8,8 @@ use Rattle.world_laws.proofs.Words.{occurrences_in, open_up, refl, round_allowed
 use Rattle.world_laws.proofs.Words.{site_ticks, subst, suc, sym, takes_pass, tick_so, world_after_round, world_behind, world_rounds_to_settle, world_settling}
 use Rattle.world_laws.proofs.Words.{world_step, world_ticked, zero, ℕ, ◌*◌, ◌++◌, ◌+◌, ◌==◌, ◌∙◌, ◌∷◌, ◌≡◌, ◌≤◌}
 use Rattle.trace_model.specs.declared.line.Line.TheVariants as line
-use Rattle.node_laws.proofs.rounds.Ends.{ends_of, order_is, ends-append, AreOthers, Split, split, events-append}
+use Rattle.node_laws.proofs.rounds.Allowing.{AreOthers, Split, TickedOfLinkEvents as Ticked, ends-append, ends_of, events-append, order_is, split}
 use Rattle.world_laws.proofs.worlds.Endings.{calm_tick}
-use Rattle.node_laws.proofs.rounds.LinkEvents.{Ticked}
 use Rattle.world_laws.proofs.worlds.Rounds.{IsReached, reached_end, reached_ends, reached_round, known_there, near_up, far_up, stretch_then, IsIdle, idle_none}
 use Rattle.world_laws.proofs.worlds.Rounds.{idle_then, idle_many, other_many, near_many, far_many}
 use Rattle.world_laws.proofs.worlds.WorldLaw.{settled}

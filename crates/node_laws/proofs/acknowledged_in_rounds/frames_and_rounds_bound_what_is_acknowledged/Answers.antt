@@ -1,4 +1,4 @@
-use Rattle.node_laws.proofs.acked.AckedSteps.{all_acks, legs_fit, amid_fit}
+use Rattle.node_laws.proofs.acked.AckedRounds.{all_acks, amid_fit, legs_fit}
 use Rattle.node_laws.proofs.acknowledged_in_rounds.frames_and_rounds_bound_what_is_acknowledged.Goals as goal
 
 pub returns-clause-each : goal.returns-clause-each

@@ -1,5 +1,5 @@
 use Rattle.node_laws.proofs.acked.BareRounds.{good_start}
-use Rattle.node_laws.proofs.acked.InTurn.{near_acks, far_acks, none_acks}
+use Rattle.node_laws.proofs.acked.InTurn.{far_acks, near_acks, none_acks}
 use Rattle.node_laws.proofs.acknowledged_in_turn.an_end_that_acts_alone_acknowledges_a_window.Goals as goal
 
 pub returns-clause-controller : goal.returns-clause-controller

@@ -1,4 +1,4 @@
-use Rattle.node_laws.proofs.worlds.Histories.{resets_due}
+use Rattle.node_laws.proofs.worlds.Due.{resets_due}
 use Rattle.node_laws.proofs.worlds.Schedules.{schedule_resets}
 use Rattle.node_laws.proofs.answers_of_worlds.sessions_end_by_resets_where_due.Goals as goal
 

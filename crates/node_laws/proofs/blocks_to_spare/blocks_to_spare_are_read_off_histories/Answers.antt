@@ -1,8 +1,8 @@
 use Rattle.node_laws.proofs.Words.{entries_in, new_world, world_behind}
 use Rattle.node_laws.proofs.order.Lines.{history_so}
 use Rattle.node_laws.proofs.creations.Knowing.{asides_are}
-use Rattle.node_laws.proofs.creations.Lines.{history_keeps}
-use Rattle.node_laws.proofs.rooms.Lines.{spares_read}
+use Rattle.node_laws.proofs.creations.Events.{history_keeps}
+use Rattle.node_laws.proofs.rooms.Holding.{spares_read}
 use Rattle.node_laws.proofs.blocks_to_spare.blocks_to_spare_are_read_off_histories.Goals as goal
 
 pub returns : goal.returns

@@ -1,6 +1,5 @@
 use Rattle.node_laws.proofs.bounds.Begun.{passes_bounded, ticks_bounded}
-use Rattle.node_laws.proofs.bounds.Causes.{bounded, events_bounded}
-use Rattle.node_laws.proofs.bounds.Lines.{front_asked, lines_bounded}
+use Rattle.node_laws.proofs.bounds.Paying.{bounded, events_bounded, front_asked, lines_bounded}
 use Rattle.node_laws.proofs.bounds_of_commands.commands_are_bounded_by_what_is_asked_for.Goals as goal
 
 pub returns-clause-causes : goal.returns-clause-causes

@@ -1,4 +1,4 @@
-use Rattle.node_laws.proofs.bounds.SessionsInHistories.{sessions_in_bare_history}
+use Rattle.node_laws.proofs.bounds.SessionsNoted.{sessions_in_bare_history}
 use Rattle.node_laws.proofs.bounds_of_resets.sessions_of_bare_histories_have_few_numbers.Goals as goal
 
 pub returns : goal.returns

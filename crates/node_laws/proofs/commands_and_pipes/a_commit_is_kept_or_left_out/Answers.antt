@@ -1,4 +1,4 @@
-use Rattle.node_laws.proofs.kept.Commits.{planned_knows, commit_count, planned_left}
+use Rattle.node_laws.proofs.kept.Reckoned.{commit_count, planned_knows, planned_left}
 use Rattle.node_laws.proofs.commands_and_pipes.a_commit_is_kept_or_left_out.Goals as goal
 
 pub returns : goal.returns

@@ -1,6 +1,5 @@
 use Rattle.node_laws.proofs.Words.{Some, refl}
-use Rattle.node_laws.proofs.kept.Asking.{same_new}
-use Rattle.node_laws.proofs.kept.Doing.{all_fine}
+use Rattle.node_laws.proofs.kept.Doing.{all_fine, same_new}
 use Rattle.node_laws.proofs.kept.Stepping.{steps_fine}
 use Rattle.node_laws.proofs.commands_and_pipes.a_step_is_kept_or_cut.Goals as goal
 

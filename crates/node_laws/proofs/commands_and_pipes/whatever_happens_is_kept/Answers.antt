@@ -1,5 +1,4 @@
-use Rattle.node_laws.proofs.kept.Kept.{all_begin}
-use Rattle.node_laws.proofs.kept.Lines.{world_goes}
+use Rattle.node_laws.proofs.kept.Ticking.{all_begin, world_goes}
 use Rattle.node_laws.proofs.commands_and_pipes.whatever_happens_is_kept.Goals as goal
 
 pub returns : goal.returns

@@ -1,5 +1,5 @@
 use Rattle.node_laws.proofs.order.Lines.{history_so}
-use Rattle.node_laws.proofs.order.Quiet.{read_off}
+use Rattle.node_laws.proofs.order.Sessions.{read_off}
 use Rattle.node_laws.proofs.histories_in_order.histories_tell_of_each_link.Goals as goal
 
 pub returns-clause-told : goal.returns-clause-told

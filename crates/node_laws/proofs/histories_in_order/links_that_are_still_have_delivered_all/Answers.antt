@@ -1,4 +1,4 @@
-use Rattle.node_laws.proofs.order.Still.{history_delivered}
+use Rattle.node_laws.proofs.order.Sessions.{history_delivered}
 use Rattle.node_laws.proofs.histories_in_order.links_that_are_still_have_delivered_all.Goals as goal
 
 pub returns : goal.returns

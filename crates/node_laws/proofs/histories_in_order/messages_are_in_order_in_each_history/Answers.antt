@@ -1,4 +1,4 @@
-use Rattle.node_laws.proofs.order.Ordered.{in_order, joined}
+use Rattle.node_laws.proofs.order.Sessions.{in_order, joined}
 use Rattle.node_laws.proofs.histories_in_order.messages_are_in_order_in_each_history.Goals as goal
 
 pub returns : goal.returns

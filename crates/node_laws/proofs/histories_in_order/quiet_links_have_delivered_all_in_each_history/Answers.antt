@@ -1,6 +1,6 @@
 use Rattle.node_laws.proofs.Words.{entries_in, new_world, world_behind}
 use Rattle.node_laws.proofs.order.Lines.{IsSo, host_number, history_so}
-use Rattle.node_laws.proofs.order.Quiet.{delivered, has_settled}
+use Rattle.node_laws.proofs.order.Sessions.{delivered, has_settled}
 use Rattle.node_laws.proofs.histories_in_order.quiet_links_have_delivered_all_in_each_history.Goals as goal
 
 pub returns-clause-delivered : goal.returns-clause-delivered

@@ -1,4 +1,4 @@
-use Rattle.node_laws.proofs.bounds.Lines.{asking_few}
+use Rattle.node_laws.proofs.bounds.Paying.{asking_few}
 use Rattle.node_laws.proofs.schedules.Few.{bounded, are_few}
 use Rattle.node_laws.proofs.histories_of_schedules.commands_of_a_schedule_are_few.Goals as goal
 

@@ -1,4 +1,4 @@
-use Rattle.node_laws.proofs.order.LegalLemmas.{legal}
+use Rattle.node_laws.proofs.order.Upheld.{legal}
 use Rattle.node_laws.proofs.schedules.Ranges.{hosts_are, playable, sent_by_hosts}
 use Rattle.node_laws.proofs.schedules.Few.{are_few}
 use Rattle.node_laws.proofs.histories_of_schedules.every_history_of_a_schedule_is_legal.Goals as goal

@@ -1,4 +1,4 @@
-use Rattle.node_laws.proofs.links.Obeying.{settled}
+use Rattle.node_laws.proofs.links.Blocks.{settled}
 use Rattle.node_laws.proofs.links_of_worlds.resets_bring_both_ends_up.Goals as goal
 
 pub returns : goal.returns

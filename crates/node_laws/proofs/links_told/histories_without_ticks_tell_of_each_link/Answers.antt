@@ -1,6 +1,5 @@
 use Rattle.node_laws.proofs.Words.{EachGoesSo, LineStep, List, entries_in, flat_map, new_world, occurrences_of, subst, sym, world_after}
-use Rattle.node_laws.proofs.telling.Orderly.{new_orderly}
-use Rattle.node_laws.proofs.telling.Histories.{lines_go}
+use Rattle.node_laws.proofs.telling.Lasting.{lines_go, new_orderly}
 use Rattle.node_laws.proofs.links_told.histories_without_ticks_tell_of_each_link.Goals as goal
 
 pub returns : goal.returns

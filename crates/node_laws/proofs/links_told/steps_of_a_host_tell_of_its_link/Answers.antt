@@ -1,4 +1,4 @@
-use Rattle.node_laws.proofs.telling.Worlds.{host_does_step}
+use Rattle.node_laws.proofs.telling.Events.{host_does_step}
 use Rattle.node_laws.proofs.links_told.steps_of_a_host_tell_of_its_link.Goals as goal
 
 pub returns : goal.returns

@@ -1,6 +1,5 @@
 use Rattle.node_laws.proofs.Words.{hosts_in}
-use Rattle.node_laws.proofs.telling.Nodes.{controller_tells}
-use Rattle.node_laws.proofs.telling.Worlds.{node_is}
+use Rattle.node_laws.proofs.telling.Events.{controller_tells, node_is}
 use Rattle.node_laws.proofs.links_told.steps_of_the_controller_tell_of_each_link.Goals as goal
 
 pub returns : goal.returns

@@ -1,4 +1,4 @@
-use Rattle.node_laws.proofs.telling.Orderly.{worlds_are_orderly}
+use Rattle.node_laws.proofs.telling.Lasting.{worlds_are_orderly}
 use Rattle.node_laws.proofs.links_told.worlds_stay_orderly.Goals as goal
 
 pub returns : goal.returns

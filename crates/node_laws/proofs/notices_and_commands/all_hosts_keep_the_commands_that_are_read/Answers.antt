@@ -1,4 +1,4 @@
-use Rattle.node_laws.proofs.readings.Events.{all_begin}
+use Rattle.node_laws.proofs.readings.Sites.{all_begin}
 use Rattle.node_laws.proofs.readings.Lines.{event_read}
 use Rattle.node_laws.proofs.notices_and_commands.all_hosts_keep_the_commands_that_are_read.Goals as goal
 

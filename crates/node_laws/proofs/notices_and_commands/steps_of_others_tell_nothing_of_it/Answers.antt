@@ -1,5 +1,5 @@
 use Rattle.node_laws.proofs.Words.{own_side, refl}
-use Rattle.node_laws.proofs.readings.Elsewhere.{steps_away}
+use Rattle.node_laws.proofs.readings.Noting.{steps_away}
 use Rattle.node_laws.proofs.notices_and_commands.steps_of_others_tell_nothing_of_it.Goals as goal
 
 pub returns : goal.returns

@@ -1,4 +1,4 @@
-use Rattle.node_laws.proofs.steps.Waits.{message_allowed}
+use Rattle.node_laws.proofs.steps.StepWalks.{message_allowed}
 use Rattle.node_laws.proofs.one_step.waiting_creations_stay_allowed.Goals as goal
 
 pub returns : goal.returns

@@ -1,5 +1,4 @@
-use Rattle.node_laws.proofs.steps.Values.{whitelist_left}
-use Rattle.node_laws.proofs.steps.Whitelists.{whitelists_stay}
+use Rattle.node_laws.proofs.steps.StepWalks.{whitelist_left, whitelists_stay}
 use Rattle.node_laws.proofs.one_step.whitelists_stay_while_hosts_are_asked.Goals as goal
 
 pub returns : goal.returns

@@ -1,7 +1,6 @@
 use Rattle.node_laws.proofs.Words.{ComesTo, IsBehind, false, goes_through_ends, hosts_of_ends, subst, sym, ◌≡◌}
 use Rattle.node_laws.specs.passes.Passing.ComesTo.{Begins}
-use Rattle.node_laws.proofs.passes.Passing.{through, comes_lasts}
-use Rattle.node_laws.proofs.passes.Behind.{leaves_behind}
+use Rattle.node_laws.proofs.passes.Passing.{comes_lasts, leaves_behind, through}
 use Rattle.node_laws.proofs.passes_of_steps.passes_have_turns.Goals as goal
 
 pub returns-clause-walked : goal.returns-clause-walked

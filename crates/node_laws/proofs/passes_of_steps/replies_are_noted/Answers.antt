@@ -1,6 +1,5 @@
 use Rattle.node_laws.proofs.Words.{refl, session_of_port}
-use Rattle.node_laws.proofs.passes.Replying.{noted_so}
-use Rattle.node_laws.proofs.passes.Counts.{counts_one, taken_at_once, reply_noted}
+use Rattle.node_laws.proofs.passes.Replying.{counts_one, noted_so, reply_noted, taken_at_once}
 use Rattle.node_laws.proofs.passes_of_steps.replies_are_noted.Goals as goal
 
 pub returns-clause-message : goal.returns-clause-message

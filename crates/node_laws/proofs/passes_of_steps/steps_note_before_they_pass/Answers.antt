@@ -1,5 +1,5 @@
 use Rattle.node_laws.proofs.Words.{comes_to_pass, passes}
-use Rattle.node_laws.proofs.passes.Before.{before_entries, before_none, before_hosts}
+use Rattle.node_laws.proofs.passes.InSteps.{before_entries, before_hosts, before_none}
 use Rattle.node_laws.proofs.passes_of_steps.steps_note_before_they_pass.Goals as goal
 use Rattle.node_laws.proofs.kept.Doing.{uncut, stays_cut}
 

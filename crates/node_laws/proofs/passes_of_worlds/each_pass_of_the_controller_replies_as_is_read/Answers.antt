@@ -1,4 +1,4 @@
-use Rattle.node_laws.proofs.reply_passes.Whole.{comes_are_replied, comes_begins, tick_begins, ticks_are_replied}
+use Rattle.node_laws.proofs.reply_passes.Roomy.{comes_are_replied, comes_begins, tick_begins, ticks_are_replied}
 use Rattle.node_laws.proofs.passes_of_worlds.each_pass_of_the_controller_replies_as_is_read.Goals as goal
 
 pub returns : goal.returns

@@ -1,5 +1,4 @@
-use Rattle.node_laws.proofs.reply_passes.Roomy.{history_grown}
-use Rattle.node_laws.proofs.reply_passes.Ready.{comes_room, tick_room}
+use Rattle.node_laws.proofs.reply_passes.Roomy.{comes_room, history_grown, tick_room}
 use Rattle.node_laws.proofs.passes_of_worlds.journals_have_room_while_few_commands_are_noted.Goals as goal
 
 pub returns : goal.returns

@@ -1,4 +1,4 @@
-use Rattle.node_laws.proofs.reply_passes.Ready.{comes_wait, tick_waits}
+use Rattle.node_laws.proofs.reply_passes.Roomy.{comes_wait, tick_waits}
 use Rattle.node_laws.proofs.passes_of_worlds.what_waits_is_read_as_passes_begin.Goals as goal
 
 pub returns : goal.returns

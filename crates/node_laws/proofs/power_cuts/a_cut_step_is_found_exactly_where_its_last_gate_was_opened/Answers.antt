@@ -1,4 +1,4 @@
-use Rattle.node_laws.proofs.cuts.Steps.{step_opened, step_closed}
+use Rattle.node_laws.proofs.cuts.Standing.{step_closed, step_opened}
 use Rattle.node_laws.proofs.power_cuts.a_cut_step_is_found_exactly_where_its_last_gate_was_opened.Goals as goal
 
 pub returns : goal.returns

@@ -1,6 +1,6 @@
 use Rattle.node_laws.proofs.Words.{steps}
 use Rattle.node_laws.proofs.kept.Stepping.{steps_fine}
-use Rattle.node_laws.proofs.cuts.Ending.{lost_ends}
+use Rattle.node_laws.proofs.cuts.Ticking.{lost_ends}
 use Rattle.node_laws.proofs.telling.Shapes.{frames_none as no_frames}
 use Rattle.node_laws.proofs.power_cuts.a_step_that_loses_its_power_ends_with_its_cut.Goals as goal
 

@@ -1,5 +1,4 @@
-use Rattle.node_laws.proofs.cuts.Counting.{two_writes, snapshot_writes}
-use Rattle.node_laws.proofs.cuts.Histories.{boots_write_so, commands_write_so}
+use Rattle.node_laws.proofs.cuts.Histories.{boots_write_so, commands_write_so, snapshot_writes, two_writes}
 use Rattle.node_laws.proofs.power_cuts.commands_and_boots_make_so_many_writes.Goals as goal
 
 pub returns : goal.returns

@@ -1,6 +1,6 @@
 use Rattle.node_laws.proofs.Words.{◌++◌}
 use Rattle.node_laws.proofs.read_steps.Knowing.{notice_is, creations_known, aside_known, errors_known, view_known}
-use Rattle.node_laws.proofs.read_steps.Naming.{names_read}
+use Rattle.node_laws.proofs.read_steps.Reading.{names_read}
 use Rattle.node_laws.proofs.readings_in_steps.what_decides_a_turn_is_read.Goals as goal
 
 pub returns : goal.returns

@@ -1,6 +1,6 @@
 use Rattle.node_laws.proofs.Words.{end_c, end_h, node_entries}
-use Rattle.node_laws.proofs.turns.Lines.{in_turn, left_at_host, left_at_controller}
-use Rattle.node_laws.proofs.answers.Unhandled.{all_read, first_read, left_is}
+use Rattle.node_laws.proofs.turns.Worlds.{in_turn, left_at_controller, left_at_host}
+use Rattle.node_laws.proofs.answers.Rules.{all_read, first_read, left_is}
 use Rattle.node_laws.proofs.replies_as_read.messages_without_turns_are_read.Goals as goal
 
 pub returns-clause-moments : goal.returns-clause-moments

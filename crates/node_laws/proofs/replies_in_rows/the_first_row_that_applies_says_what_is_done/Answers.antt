@@ -1,5 +1,5 @@
 use Rattle.node_laws.proofs.Words.{node_of, view_read}
-use Rattle.node_laws.proofs.answers.HostRows.{done_by_rows}
+use Rattle.node_laws.proofs.answers.Rows.{done_by_rows}
 use Rattle.node_laws.proofs.replies_in_rows.the_first_row_that_applies_says_what_is_done.Goals as goal
 
 pub returns-clause-done : goal.returns-clause-done

@@ -1,4 +1,4 @@
-use Rattle.node_laws.proofs.replies.Histories.{comes_replied, tick_replied}
+use Rattle.node_laws.proofs.replies.Waiting.{comes_replied, tick_replied}
 use Rattle.node_laws.proofs.replies_of_histories.passes_of_histories_reply_as_is_read.Goals as goal
 
 pub returns : goal.returns

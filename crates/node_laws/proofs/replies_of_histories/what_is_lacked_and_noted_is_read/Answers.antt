@@ -1,4 +1,4 @@
-use Rattle.node_laws.proofs.replies.Turns.{lack_so, noted_read}
+use Rattle.node_laws.proofs.replies.Passes.{lack_so, noted_read}
 use Rattle.node_laws.proofs.replies_of_histories.what_is_lacked_and_noted_is_read.Goals as goal
 
 pub returns : goal.returns

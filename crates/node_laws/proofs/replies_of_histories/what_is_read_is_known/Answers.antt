@@ -1,5 +1,5 @@
 use Rattle.node_laws.proofs.Words.{◌++◌}
-use Rattle.node_laws.proofs.replies.Knowing.{known_so, reply_so, up_by_links}
+use Rattle.node_laws.proofs.replies.Passes.{known_so, reply_so, up_by_links}
 use Rattle.node_laws.proofs.replies_of_histories.what_is_read_is_known.Goals as goal
 
 pub returns : goal.returns

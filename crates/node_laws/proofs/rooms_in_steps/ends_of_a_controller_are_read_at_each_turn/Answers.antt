@@ -1,6 +1,6 @@
 use Rattle.node_laws.proofs.Words.{NodeWorld, subst}
 use Rattle.node_laws.proofs.order.Lines.{IsSo, history_so}
-use Rattle.node_laws.proofs.read_rooms.Lines.{comes_read}
+use Rattle.node_laws.proofs.read_rooms.HostTicking.{comes_read}
 use Rattle.node_laws.proofs.rooms_in_steps.ends_of_a_controller_are_read_at_each_turn.Goals as goal
 
 pub returns : goal.returns

@@ -1,6 +1,6 @@
 use Rattle.node_laws.proofs.Words.{NodeWorld, subst}
 use Rattle.node_laws.proofs.order.Lines.{IsSo, history_so}
-use Rattle.node_laws.proofs.read_rooms.HostLines.{ticked_read}
+use Rattle.node_laws.proofs.read_rooms.HostTicking.{ticked_read}
 use Rattle.node_laws.proofs.rooms_in_steps.the_end_of_a_host_is_read_at_each_turn_of_its_tick.Goals as goal
 
 pub returns : goal.returns

@@ -1,4 +1,4 @@
-use Rattle.node_laws.proofs.turns.Lines.{in_turn, left_at_host, left_at_controller}
+use Rattle.node_laws.proofs.turns.Worlds.{in_turn, left_at_controller, left_at_host}
 use Rattle.node_laws.proofs.turns_in_order.messages_have_their_turns_in_order.Goals as goal
 
 pub returns-clause-in_order : goal.returns-clause-in_order

@@ -1,4 +1,4 @@
-use Rattle.node_laws.proofs.notices.Knowing.{noticed_is, asked_is}
+use Rattle.node_laws.proofs.notices.Steps.{asked_is, noticed_is}
 use Rattle.node_laws.proofs.unanswered_notices.noticed_and_asked_hosts_are_read.Goals as goal
 
 pub returns : goal.returns

@@ -1,4 +1,4 @@
-use Rattle.node_laws.proofs.views.HostInits.{begins_keeps, boot_keeps, comes_keeps, cut_keeps, sends_keeps, ticks_keep}
+use Rattle.node_laws.proofs.views.InitWorlds.{begins_keeps, boot_keeps, comes_keeps, cut_keeps, sends_keeps, ticks_keep}
 use Rattle.node_laws.proofs.views_of_controllers.a_host_keeps_the_init_that_is_read.Goals as goal
 
 pub returns : goal.returns

@@ -1,4 +1,4 @@
-use Rattle.node_laws.proofs.views.InitLines.{inits_read, inits_read_events}
+use Rattle.node_laws.proofs.views.Lines.{inits_read, inits_read_events}
 use Rattle.node_laws.proofs.views_of_controllers.running_inits_are_read_off_histories.Goals as goal
 
 pub returns : goal.returns

@@ -1,5 +1,5 @@
 use Rattle.node_laws.proofs.Words.{Controller, Host, cond, eqb, refl}
-use Rattle.node_laws.proofs.views.Elsewhere.{others_step}
+use Rattle.node_laws.proofs.views.Going.{others_step}
 use Rattle.node_laws.proofs.views_of_controllers.steps_of_others_tell_nothing_of_an_init.Goals as goal
 
 pub returns : goal.returns

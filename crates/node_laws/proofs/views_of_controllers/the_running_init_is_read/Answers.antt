@@ -1,4 +1,4 @@
-use Rattle.node_laws.proofs.views.Beginning.{begins_keep, sends_keep, steps_keep}
+use Rattle.node_laws.proofs.views.Going.{begins_keep, sends_keep, steps_keep}
 use Rattle.node_laws.proofs.views_of_controllers.the_running_init_is_read.Goals as goal
 
 pub returns : goal.returns

@@ -1,6 +1,6 @@
 use Rattle.node_laws.proofs.Words.{new_world, node_entries, world_after}
 use Rattle.node_laws.proofs.creations.Knowing.{asides_are, finds_room}
-use Rattle.node_laws.proofs.creations.Lines.{schedule_keeps}
+use Rattle.node_laws.proofs.creations.Events.{schedule_keeps}
 use Rattle.node_laws.proofs.waiting_creations.blocks_set_aside_are_read.Goals as goal
 
 pub returns : goal.returns

@@ -1,5 +1,4 @@
-use Rattle.node_laws.proofs.creations.Lines.{history_keeps}
-use Rattle.node_laws.proofs.creations.Worlds.{begin_keeps, event_keeps}
+use Rattle.node_laws.proofs.creations.Events.{begin_keeps, event_keeps, history_keeps}
 use Rattle.node_laws.proofs.waiting_creations.the_controller_keeps_the_creations_that_are_read.Goals as goal
 
 pub returns : goal.returns

@@ -1,4 +1,4 @@
-use Rattle.node_laws.proofs.creations.Lines.{history_keeps, schedule_keeps}
+use Rattle.node_laws.proofs.creations.Events.{history_keeps, schedule_keeps}
 use Rattle.node_laws.proofs.waiting_creations.waiting_creations_are_read_off_histories.Goals as goal
 
 pub returns : goal.returns
