@@ -1,9 +1,2 @@
-pub mod Runs
-pub mod Noted
-pub mod Ordered
 pub mod Sessions
-pub mod Plain
-pub mod Reading
-pub mod Complete
-pub mod Asked
 pub mod Settled

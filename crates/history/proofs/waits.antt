@@ -1,5 +1,3 @@
 pub mod Harking
-pub mod Harked
-pub mod Reading
 pub mod Histories
 mod Examples

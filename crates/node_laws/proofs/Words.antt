@@ -25,7 +25,7 @@ pub use Rattle.hcp_packet.specs.declared.MessageFault.{MessageFault}
 pub use Rattle.hcp_packet.specs.declared.MessageKind.{MessageKind}
 pub use Rattle.hcp_packet.specs.declared.MessageKind.TheVariants.{Response as IsResponse}
 pub use Rattle.history.proofs.Filters.{same_end_itself}
-pub use Rattle.history.proofs.legal.Noted.{acked-all, got-all, sent-all}
+pub use Rattle.history.proofs.legal.Sessions.{acked-all, got-all, sent-all}
 pub use Rattle.history.specs.Damage.{Verdict, same_bytes, verdict_on}
 pub use Rattle.history.specs.Damage.Verdict.{LostFor, Same, Undetected}
 pub use Rattle.history.specs.Filters.{Saying, acked_after, acked_in, at_end, got_in, got_in_session, said, said_of, same_end, same_side, sent_by, sent_in}

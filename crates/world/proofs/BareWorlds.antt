@@ -19,7 +19,7 @@ use Rattle.history.specs.Histories.{Step, events_of, causes_of, all_events, all_
 use Rattle.history.specs.Follows.{Follows, StepsFollow, opened, with_step}
 use Rattle.history.proofs.Leading.{events_in, after_events}
 use Rattle.history.specs.Legal.{Legal, Complete, Prefix, Settled, is_chain_fault}
-use Rattle.history.proofs.legal.Asked.{only_one}
+use Rattle.history.proofs.legal.Settled.{only_one}
 use Rattle.lines_told.specs.lines.Below.{IsPlayedLine}
 use Rattle.lines_told.specs.lines.Plays.{told_behind, told_of_play}
 use Rattle.lines_told.specs.lines.RoundLines.{IsRoundLine}

@@ -2,11 +2,9 @@
 pub use Rattle.hcp_chain.specs.Joining.{are_taken, given_by}
 pub use Rattle.hcp_packet.specs.Packets.{IsFrontOf, fragments_of, good_of, packet_bytes, packet_count, packets_in, packets_of, parts_of}
 pub use Rattle.history.proofs.Leading.{events_in, lines_lead}
-pub use Rattle.history.proofs.legal.Ordered.{IsRun, is_run, notes_of, run_entries}
-pub use Rattle.history.proofs.legal.Plain.{ArePlain, plain_trace}
-pub use Rattle.history.proofs.legal.Reading.{bytes_on, link_same, session-all, wire-controller, wire-host}
-pub use Rattle.history.proofs.legal.Runs.{AreOf, link_events, of_allowed, of_can, of_front, of_steps}
-pub use Rattle.history.proofs.legal.Sessions.{controller_heard, host_heard}
+pub use Rattle.history.proofs.legal.Sessions.{AreOf, ArePlain, IsRun, controller_heard, host_heard, is_run, link_events, notes_of, of_allowed, of_can, of_front}
+pub use Rattle.history.proofs.legal.Sessions.{of_steps, plain_trace, run_entries}
+pub use Rattle.history.proofs.legal.Settled.{bytes_on, link_same, session-all, wire-controller, wire-host}
 pub use Rattle.history.specs.Filters.{Saying, acked_in, got_in, said, same_end, same_side, sent_in, session_number}
 pub use Rattle.history.specs.Filters.Saying.{Ends, Gets, Loses, Puts}
 pub use Rattle.history.specs.Follows.{Follows, StepsFollow, causes_in, damage_causes, first_verdict, frames_to, host_of, link_after_line, link_after_lines}

@@ -1,27 +1,504 @@
--- A reset whose answer nothing kept back has brought both ends up.
-use Rattle.history.proofs.Words.{Act, AllAllowed, AllByRecursion, AreActive, AreReadUpTogether, AsksReset, Bool, Cause, Clt, Controller, Cut, Emit, End}
-use Rattle.history.proofs.Words.{EndStep, Entry, Event, Follows, GoesOut, Good, Header, History, Host, I, IsBare, IsHeader, IsLineOf, IsNoted, Line, Link}
-use Rattle.history.proofs.Words.{LinkEvent, List, Lost, None, Noted, Option, Reached, Restarted, Rset, S, Settled, Some, Ua, WasReset, [], after_link_events}
-use Rattle.history.proofs.Words.{all_events, ap, append_assoc, at, bare_link, causes_of, core_event, core_of, end_of, entries, entries_for, entries_of}
-use Rattle.history.proofs.Words.{event_entries, event_goes, event_of, event_step, false, first_entries, happens, has_lost, has_rset, host_of, is_waiting}
-use Rattle.history.proofs.Words.{link_after, link_after_all, list_any, machine_of, note_event, number_of, other_end, reached_more, refl, reset_refusal}
-use Rattle.history.proofs.Words.{session_number, start_noted, subst, sym, together, true, true≢false, up_session, waits_in, wire_to, ℕ, ◌&&◌, ◌++◌, ◌==◌, ◌∙◌}
-use Rattle.history.proofs.Words.{◌∷◌, ◌≡◌}
-use Rattle.link_laws.specs.places.Wire.{sans}
-use Rattle.link_laws.specs.messages.Settled.{AreUpTogether as LinkTogether}
+-- Sessions and wires are read off a history: a quiet link has delivered all, and a reset whose answer nothing kept back has brought both
+-- ends up.
+use Rattle.std.proofs.lemmas.List.{drop-map, map-append}
+use Rattle.history.proofs.Words.{Acked, Act, AllAllowed, AllByRecursion, AreActive, AreReadUpTogether, AsksReset, Begins, Bool, Busy, Cause, Caused, Clt}
+use Rattle.history.proofs.Words.{Complete, Contains, Control, Controller, Counts, Cut, Damage, Deliver, Down, Emit, End, EndRefused, EndStep, Ends, Entry}
+use Rattle.history.proofs.Words.{Event, Follows, Gets, GoesOut, Good, Got, Header, History, Host, I, IsBare, IsComplete, IsDelivered, IsEndOf, IsHeader}
+use Rattle.history.proofs.Words.{IsLineOf, IsNoted, IsQuietSince, IsReadQuiet, Line, Link, LinkDelivered, LinkEvent, List, Lose, Loses, Loss, Lost, LostFor}
+use Rattle.history.proofs.Words.{Message, NoCause, None, Noted, OnWire, Option, Outcome, Puts, Reached, Ready, Refused, Rej, Reset, Restarted, Rnr, Rr, Rset, S}
+use Rattle.history.proofs.Words.{Same, Saying, Seen, Send, Sends, Sent, Settled, Side, Some, Srej, Step, StepsFollow, Taken, Takes, Tick, Ticked, Took, Ua}
+use Rattle.history.proofs.Words.{Undetected, Up, Verdict, WasReset, [], after_link_events, all_events, ap, append_assoc, arith, as_noted, at, bare_link, begins}
+use Rattle.history.proofs.Words.{begins_on, causes_in, causes_of, core_event, core_of, damage_causes, disturbs, end_of, entries, entries_for, entries_of}
+use Rattle.history.proofs.Words.{event_entries, event_goes, event_of, event_step, events_at, events_of, false, first_entries, first_verdict, fold, frames_to}
+use Rattle.history.proofs.Words.{good_of, happens, has_lost, has_rnr, has_rset, heard, host_of, if◌then◌else◌, is_rnr_lpdu, is_waiting, length, link_after}
+use Rattle.history.proofs.Words.{link_after_all, link_after_line, list_any, lpdu_of, machine_of, map, note_event, nothing_seen, number_of, numbered, older}
+use Rattle.history.proofs.Words.{other_end, outcome_of, reached_more, refl, refusal, replicate, reset_refusal, said_of, same_end, same_number, same_side, see}
+use Rattle.history.proofs.Words.{see_all, session_after, session_number, session_up, since, since_up, slice_index, slice_index_or, start_noted, subst, suc, sym}
+use Rattle.history.proofs.Words.{taken_of, together, true, true≢false, unwrap_or, up_session, waits_in, wire_after, wire_to, zero, ℕ, ◌&&◌, ◌++◌, ◌<◌, ◌==◌}
+use Rattle.history.proofs.Words.{◌||◌, ◌∙◌, ◌∷◌, ◌≡◌}
+use Rattle.link_laws.proofs.entries.Seeing.{read_off}
+use Rattle.link_laws.proofs.entries.Settling.{Spared, Stands, none_withheld, or_none}
+use Rattle.link_laws.proofs.entries.Together.{quiet_here, quiet_there}
 use Rattle.link_laws.proofs.messages.Runs.{start_good, start_reached}
 use Rattle.link_laws.specs.entries.Settled.{IsReset, rest_of, withholds}
-use Rattle.link_laws.proofs.entries.Settling.{Spared, Stands, none_withheld, or_none}
-use Rattle.history.proofs.legal.Runs.{AreOf, CanAll, can_event, link_events, of_front, of_entries, of_allowed, of_can, after_causes}
-use Rattle.history.proofs.legal.Plain.{ArePlain, plain_event, plain_entries, plain_trace}
-use Rattle.history.proofs.legal.Ordered.{IsRun, is_run, notes_of, run_entries}
-use Rattle.history.proofs.legal.Sessions.{controller_heard, host_heard}
-use Rattle.history.proofs.legal.Reading.{session-all, link_same}
-use Rattle.history.proofs.legal.Complete.{link_now, empty_controller, empty_host}
-use Rattle.history.proofs.waits.Reading.{waits_as_read}
-use Rattle.history.proofs.legal.Asked.{IsAsked, AreAsked, asked_front, all_asked}
+use Rattle.link_laws.specs.messages.Settled.{AreUpTogether as LinkTogether}
+use Rattle.link_laws.specs.places.Wire.{sans}
+use Rattle.trace_model.specs.declared.line.Line.TheVariants.{Tick as LineTick}
+use Rattle.history.proofs.legal.Sessions.{AreOf, ArePlain, CanAll, IsRun, Unsaid, acked-all, after_causes, can_event, controller_heard, events_in, got-all}
+use Rattle.history.proofs.legal.Sessions.{host_heard, if_said, is_run, link_events, notes_of, of_allowed, of_can, of_entries, of_front, plain_entries}
+use Rattle.history.proofs.legal.Sessions.{plain_event, plain_trace, run_entries, same_as, same_link, sent-all, unsaid}
+use Rattle.history.proofs.waits.Histories.{waits_as_read}
 
--- ## Events
+-- ## The sessions and the wires that are read off the entries of a history are those of the link, and what disturbs a link is seen there
+
+-- ### Sessions
+
+-- the session of an end after these entries
+abbrev session_from : Option ℕ → End → List Entry → Option ℕ
+session_from s e t = fold (λ session entry. session_after session (said_of e entry)) s t
+
+unheard : (s : Option ℕ) (b : Bool) (x : Saying) → session_after s (Some x) ≡ s → session_after s (if_said b x) ≡ s
+unheard s true x q = q
+unheard s false x q = refl
+
+begun_here : (s : Option ℕ) (k : ℕ) (b : Bool) → session_after s (if_said b (Begins k)) ≡ (if b then Some k else s)
+begun_here s k true = refl
+begun_here s k false = refl
+
+ended_here : (s : Option ℕ) (b : Bool) → session_after s (if_said b Ends) ≡ (if b then None else s)
+ended_here s true = refl
+ended_here s false = refl
+
+passed_over : (h : ℕ) (t : List Noted) (who w : Side) (s : Option ℕ) (x : Saying) → session_after s (Some x) ≡ s
+    → session_from (session_after s (if_said (same_end (end_of h w) (end_of h who)) x)) (end_of h who) (entries_for h t)
+    ≡ session_from s (end_of h who) (entries_for h t)
+passed_over h t who w s x q = ap (λ z. session_from z (end_of h who) (entries_for h t)) (unheard s (same_end (end_of h w) (end_of h who)) x q)
+
+session-from : (h : ℕ) (t : List Noted) (who : Side) (s : Option ℕ) → ArePlain t → session_from s (end_of h who) (entries_for h t) ≡ heard who s t
+session-from h [] who s p = refl
+session-from h (Up w k ∷ t) who s p =
+    ap (λ z. session_from z (end_of h who) (entries_for h t))
+    (begun_here s k (same_end (end_of h w) (end_of h who)) ∙ ap (λ b. if b then Some k else s) (same_as h w who))
+    ∙ session-from h t who (if same_side w who then Some k else s) p.1
+session-from h (Down w cause ∷ t) who s p =
+    ap (λ z. session_from z (end_of h who) (entries_for h t))
+    (ended_here s (same_end (end_of h w) (end_of h who)) ∙ ap (λ b. if b then None else s) (same_as h w who))
+    ∙ session-from h t who (if same_side w who then None else s) p.1
+session-from h (Acked w k count ∷ t) who s p = passed_over h t who w s (Counts k count) refl ∙ session-from h t who s p.1
+session-from h (Got w k m ∷ t) who s p = passed_over h t who w s (Gets k m) refl ∙ session-from h t who s p.1
+session-from h (Sent w k m ∷ t) who s p = passed_over h t who w s (Sends k m) refl ∙ session-from h t who s p.1
+session-from h (Emit w c ∷ t) who s p = passed_over h t who w s (Puts (lpdu_of c)) refl ∙ session-from h t who s p.1
+session-from h (Took w c ∷ t) who s p = passed_over h t who w s (Takes (lpdu_of c)) refl ∙ session-from h t who s p.1
+session-from h (Lost w c why ∷ t) who s p = passed_over h t who w s (Loses (lpdu_of c)) refl ∙ session-from h t who s p.1
+session-from h (Cut w ∷ t) who s p = absurd p.0
+session-from h (_ ∷ t) who s p = session-from h t who s p.1
+
+pub session-all : (h : ℕ) (t : List Noted) (who : Side) → ArePlain t → session_number (entries_for h t) (end_of h who) ≡ heard who None t
+session-all h t who p = session-from h t who None p
+
+none_session : (e : End) (t : List Entry) → Unsaid e t → session_number t e ≡ None
+none_session e [] u = refl
+none_session e (x ∷ t) u = ap (λ o. session_from (session_after None o) e t) u.0 ∙ none_session e t u.1
+
+-- ### Wires
+
+-- the bytes of the frames on a wire
+abbrev pub bytes_on : List OnWire → List (List ℕ)
+bytes_on xs = map (λ (x : OnWire). lpdu_of x.frame) xs
+
+pub no_bytes : (xs : List OnWire) → bytes_on xs ≡ [] → xs ≡ []
+no_bytes [] q = refl
+no_bytes (x ∷ xs) q = absurd (nothing q)
+  where
+    nothing : lpdu_of x.frame ∷ bytes_on xs ≡ [] → ⊥
+    nothing e = cc
+
+older_bytes : (xs : List OnWire) → bytes_on (older xs) ≡ bytes_on xs
+older_bytes [] = refl
+older_bytes (x ∷ xs) = ap (λ z. lpdu_of x.frame ∷ z) (older_bytes xs)
+
+-- the wire to an end, of what is seen
+abbrev wire_seen : Side → Seen → List OnWire
+wire_seen Controller s = s.to_controller
+wire_seen Host s = s.to_host
+
+abbrev wire_from : List (List ℕ) → End → List Entry → List (List ℕ)
+wire_from wire e t = fold (λ wire entry. wire_after wire (said_of e entry) (said_of (other_end e) entry)) wire t
+
+-- what is said of wires, at both ends
+abbrev moved : ℕ → Side → Side → List (List ℕ) → Saying → List (List ℕ)
+moved h who w wire x =
+    wire_after wire (if_said (same_end (end_of h w) (end_of h who)) x) (if_said (same_end (end_of h w) (other_end (end_of h who))) x)
+
+-- what is no frame moves none
+record IsStill (wire : List (List ℕ)) (x : Saying) : Type 0 where
+  both : wire_after wire (Some x) (Some x) ≡ wire
+  here : wire_after wire (Some x) None ≡ wire
+  there : wire_after wire None (Some x) ≡ wire
+
+unmoved : (wire : List (List ℕ)) (x : Saying) (b c : Bool) → IsStill wire x → wire_after wire (if_said b x) (if_said c x) ≡ wire
+unmoved wire x true true q = q.both
+unmoved wire x true false q = q.here
+unmoved wire x false true q = q.there
+unmoved wire x false false q = refl
+
+put_seen : (h : ℕ) (who w : Side) (s : Seen) (c : Control) → moved h who w (bytes_on (wire_seen who s)) (Puts (lpdu_of c))
+    ≡ bytes_on (wire_seen who (see s (Emit w c)))
+put_seen h Controller Controller s c = let z = same_number h in rw z refl
+put_seen h Controller Host s c =
+    let z = same_number h in rw z (sym (map-append (λ (x : OnWire). lpdu_of x.frame) s.to_controller (numbered s c ∷ [])))
+put_seen h Host Controller s c = let z = same_number h in rw z (sym (map-append (λ (x : OnWire). lpdu_of x.frame) s.to_host (numbered s c ∷ [])))
+put_seen h Host Host s c = let z = same_number h in rw z refl
+
+taken_seen : (h : ℕ) (who w : Side) (s : Seen) (c : Control) → moved h who w (bytes_on (wire_seen who s)) (Takes (lpdu_of c))
+    ≡ bytes_on (wire_seen who (see s (Took w c)))
+taken_seen h Controller Controller s c = let z = same_number h in rw z (drop-map (λ (x : OnWire). lpdu_of x.frame) 1 s.to_controller)
+taken_seen h Controller Host s c = let z = same_number h in rw z refl
+taken_seen h Host Controller s c = let z = same_number h in rw z refl
+taken_seen h Host Host s c = let z = same_number h in rw z (drop-map (λ (x : OnWire). lpdu_of x.frame) 1 s.to_host)
+
+lost_seen : (h : ℕ) (who w : Side) (s : Seen) (c : Control) (why : Loss) → moved h who w (bytes_on (wire_seen who s)) (Loses (lpdu_of c))
+    ≡ bytes_on (wire_seen who (see s (Lost w c why)))
+lost_seen h Controller Controller s c why = let z = same_number h in rw z (drop-map (λ (x : OnWire). lpdu_of x.frame) 1 s.to_controller)
+lost_seen h Controller Host s c why = let z = same_number h in rw z refl
+lost_seen h Host Controller s c why = let z = same_number h in rw z refl
+lost_seen h Host Host s c why = let z = same_number h in rw z (drop-map (λ (x : OnWire). lpdu_of x.frame) 1 s.to_host)
+
+aged_seen : (who : Side) (s : Seen) → bytes_on (wire_seen who s) ≡ bytes_on (wire_seen who (see s Tick))
+aged_seen Controller s = sym (older_bytes s.to_controller)
+aged_seen Host s = sym (older_bytes s.to_host)
+
+wire-from : (h : ℕ) (who : Side) (t : List Noted) (s : Seen) → ArePlain t
+    → wire_from (bytes_on (wire_seen who s)) (end_of h who) (entries_for h t) ≡ bytes_on (wire_seen who (see_all s t))
+wire-from h who [] s p = refl
+wire-from h who (Up w k ∷ t) s p =
+    ap (λ z. wire_from z (end_of h who) (entries_for h t)) (unmoved (bytes_on (wire_seen who s)) (Begins k) (same_end (end_of h w) (end_of h who))
+    (same_end (end_of h w) (other_end (end_of h who))) (record { both = refl; here = refl; there = refl })) ∙ wire-from h who t s p.1
+wire-from h who (Down w cause ∷ t) s p =
+    ap (λ z. wire_from z (end_of h who) (entries_for h t)) (unmoved (bytes_on (wire_seen who s)) Ends (same_end (end_of h w) (end_of h who))
+    (same_end (end_of h w) (other_end (end_of h who))) (record { both = refl; here = refl; there = refl })) ∙ wire-from h who t s p.1
+wire-from h who (Acked w k count ∷ t) s p =
+    ap (λ z. wire_from z (end_of h who) (entries_for h t)) (unmoved (bytes_on (wire_seen who s)) (Counts k count) (same_end (end_of h w) (end_of h who))
+    (same_end (end_of h w) (other_end (end_of h who))) (record { both = refl; here = refl; there = refl })) ∙ wire-from h who t s p.1
+wire-from h who (Got w k m ∷ t) s p =
+    ap (λ z. wire_from z (end_of h who) (entries_for h t)) (unmoved (bytes_on (wire_seen who s)) (Gets k m) (same_end (end_of h w) (end_of h who))
+    (same_end (end_of h w) (other_end (end_of h who))) (record { both = refl; here = refl; there = refl })) ∙ wire-from h who t s p.1
+wire-from h who (Sent w k m ∷ t) s p =
+    ap (λ z. wire_from z (end_of h who) (entries_for h t)) (unmoved (bytes_on (wire_seen who s)) (Sends k m) (same_end (end_of h w) (end_of h who))
+    (same_end (end_of h w) (other_end (end_of h who))) (record { both = refl; here = refl; there = refl })) ∙ wire-from h who t s p.1
+wire-from h who (Emit w c ∷ t) s p =
+    ap (λ z. wire_from z (end_of h who) (entries_for h t)) (put_seen h who w s c) ∙ wire-from h who t (see s (Emit w c)) p.1
+wire-from h who (Took w c ∷ t) s p =
+    ap (λ z. wire_from z (end_of h who) (entries_for h t)) (taken_seen h who w s c) ∙ wire-from h who t (see s (Took w c)) p.1
+wire-from h who (Lost w c why ∷ t) s p =
+    ap (λ z. wire_from z (end_of h who) (entries_for h t)) (lost_seen h who w s c why) ∙ wire-from h who t (see s (Lost w c why)) p.1
+wire-from h who (Tick ∷ t) s p = ap (λ z. wire_from z (end_of h who) (entries_for h t)) (aged_seen who s) ∙ wire-from h who t (see s Tick) p.1
+wire-from h who (Restarted w ∷ t) s p = absurd p.0
+wire-from h who (Cut w ∷ t) s p = absurd p.0
+wire-from h who (_ ∷ t) s p = wire-from h who t s p.1
+
+pub wire-controller : (h : ℕ) (t : List Noted) (s : Seen) → s.to_controller ≡ [] → ArePlain t
+    → wire_to (entries_for h t) (end_of h Controller) ≡ bytes_on (see_all s t).to_controller
+wire-controller h t s q p = ap (λ z. wire_from (bytes_on z) (end_of h Controller) (entries_for h t)) (sym q) ∙ wire-from h Controller t s p
+
+pub wire-host : (h : ℕ) (t : List Noted) (s : Seen) → s.to_host ≡ [] → ArePlain t → wire_to (entries_for h t) (end_of h Host) ≡ bytes_on (see_all s t).to_host
+wire-host h t s q p = ap (λ z. wire_from (bytes_on z) (end_of h Host) (entries_for h t)) (sym q) ∙ wire-from h Host t s p
+
+-- ### Since an end came up
+
+begins_here : (h n k : ℕ) (w : Side) → begins_on h n (Some (end_of h w, Begins k)) ≡ (k == n)
+begins_here h n k Controller = let z = same_number h in rw z refl
+begins_here h n k Host = let z = same_number h in rw z refl
+
+pub since-all : (h n : ℕ) (t : List Noted) → since_up h n (entries_for h t) ≡ entries_for h (since n t)
+since-all h n [] = refl
+since-all h n (Up w k ∷ t) =
+    ap (λ b. if b then entries_for h t else since_up h n (entries_for h t)) (begins_here h n k w) ∙ go (k == n) (since-all h n t)
+  where
+    go : (b : Bool) → since_up h n (entries_for h t) ≡ entries_for h (since n t)
+        → (if b then entries_for h t else since_up h n (entries_for h t)) ≡ entries_for h (if b then t else since n t)
+    go true q = refl
+    go false q = q
+since-all h n (Down w cause ∷ t) = since-all h n t
+since-all h n (_ ∷ t) = since-all h n t
+
+plain_since : (n : ℕ) (t : List Noted) → ArePlain t → ArePlain (since n t)
+plain_since n [] p = tt
+plain_since n (e ∷ t) p = go (begins n e) refl (plain_since n t p.1)
+  where
+    go : (b : Bool) → begins n e ≡ b → ArePlain (since n t) → ArePlain (since n (e ∷ t))
+    go true q later = rw q p.1
+    go false q later = rw q later
+
+-- ### What disturbs a link
+
+-- RNR with a number below 8 is read again
+reads_rnr : (nr : ℕ) → nr < 8 → is_rnr_lpdu (lpdu_of (S Rnr nr)) ≡ true
+reads_rnr zero low = refl
+reads_rnr (suc zero) low = refl
+reads_rnr (suc (suc zero)) low = refl
+reads_rnr (suc (suc (suc zero))) low = refl
+reads_rnr (suc (suc (suc (suc zero)))) low = refl
+reads_rnr (suc (suc (suc (suc (suc zero))))) low = refl
+reads_rnr (suc (suc (suc (suc (suc (suc zero)))))) low = refl
+reads_rnr (suc (suc (suc (suc (suc (suc (suc zero))))))) low = refl
+reads_rnr (suc (suc (suc (suc (suc (suc (suc (suc nr)))))))) low = absurd (omega (arith, low))
+
+pub or_right : (a b : Bool) → (a || b) ≡ false → b ≡ false
+or_right true b q = absurd (let z : true ≡ false = q in cc)
+or_right false b q = q
+
+or_left : (a b : Bool) → (a || b) ≡ false → a ≡ true → ⊥
+or_left true b q e = let z : true ≡ false = q in cc
+or_left false b q e = cc
+
+pub link_same : (h : ℕ) (w : Side) → ((end_of h w).link == h) ≡ true
+link_same h Controller = same_number h
+link_same h Host = same_number h
+
+-- where no frame of it was lost and no RNR put on it nothing disturbed a bare link
+pub undisturbed : (h : ℕ) (t : List Noted) → ArePlain t → has_lost h (entries_for h t) ≡ false → has_rnr h (entries_for h t) ≡ false
+    → list_any disturbs t ≡ false
+undisturbed h [] p a b = refl
+undisturbed h (Emit w (I ns nr info) ∷ t) p a b = undisturbed h t p.1 a (or_right _ _ b)
+undisturbed h (Emit w (S Rr nr) ∷ t) p a b = undisturbed h t p.1 a (or_right _ _ b)
+undisturbed h (Emit w (S Rej nr) ∷ t) p a b = undisturbed h t p.1 a (or_right _ _ b)
+undisturbed h (Emit w (S Srej nr) ∷ t) p a b = undisturbed h t p.1 a (or_right _ _ b)
+undisturbed h (Emit w (S Rnr nr) ∷ t) p a b =
+    let one = link_same h w in
+    let two = reads_rnr nr p.0 in
+    absurd (or_left (((end_of h w).link == h) && is_rnr_lpdu (lpdu_of (S Rnr nr))) (has_rnr h (entries_for h t)) b (rw (one, two) refl))
+undisturbed h (Emit w (Rset window caps) ∷ t) p a b = undisturbed h t p.1 a (or_right _ _ b)
+undisturbed h (Emit w Ua ∷ t) p a b = undisturbed h t p.1 a (or_right _ _ b)
+undisturbed h (Emit w (Act act again) ∷ t) p a b = undisturbed h t p.1 a (or_right _ _ b)
+undisturbed h (Emit w Clt ∷ t) p a b = undisturbed h t p.1 a (or_right _ _ b)
+undisturbed h (Lost w c why ∷ t) p a b = absurd (or_left ((end_of h w).link == h) (has_lost h (entries_for h t)) a (link_same h w))
+undisturbed h (Restarted w ∷ t) p a b = absurd p.0
+undisturbed h (Cut w ∷ t) p a b = absurd p.0
+undisturbed h (_ ∷ t) p a b = undisturbed h t p.1 a b
+
+-- ## A quiet link has delivered all, at the end of each event of a history
+
+-- the link after these events
+abbrev link_now : List Event → Link
+link_now xs = after_link_events bare_link (link_events xs)
+
+-- where the wires are empty as they are read they are empty
+empty_controller : (h : ℕ) (xs : List Event) → wire_to (entries_for h (notes_of xs)) (end_of h Controller) ≡ [] → (link_now xs).to_controller ≡ []
+empty_controller h xs q =
+    let t : List Noted = notes_of xs in
+    let plain = plain_trace (causes_of xs) in
+    sym (ap (λ (s : Seen). s.to_controller) (read_off bare_link IsBare (link_events xs)))
+    ∙ no_bytes (see_all nothing_seen t).to_controller (sym (wire-controller h t nothing_seen refl plain) ∙ q)
+
+empty_host : (h : ℕ) (xs : List Event) → wire_to (entries_for h (notes_of xs)) (end_of h Host) ≡ [] → (link_now xs).to_host ≡ []
+empty_host h xs q =
+    let t : List Noted = notes_of xs in
+    let plain = plain_trace (causes_of xs) in
+    sym (ap (λ (s : Seen). s.to_host) (read_off bare_link IsBare (link_events xs)))
+    ∙ no_bytes (see_all nothing_seen t).to_host (sym (wire-host h t nothing_seen refl plain) ∙ q)
+
+-- both ends are up with this number, nothing disturbed the link since, and its wires are empty
+record IsStillOfComplete (h : ℕ) (xs : List Event) (n : ℕ) : Type 0 where
+  controller : session_number (entries_for h (notes_of xs)) (end_of h Controller) ≡ Some n
+  host : session_number (entries_for h (notes_of xs)) (end_of h Host) ≡ Some n
+  lossless : has_lost h (since_up h n (entries_for h (notes_of xs))) ≡ false
+  ready : has_rnr h (since_up h n (entries_for h (notes_of xs))) ≡ false
+  to_controller : wire_to (entries_for h (notes_of xs)) (end_of h Controller) ≡ []
+  to_host : wire_to (entries_for h (notes_of xs)) (end_of h Host) ≡ []
+
+-- a quiet link as it is kept
+record IsKeptQuiet (xs : List Event) (n : ℕ) : Type 0 where
+  quiet : IsQuietSince (notes_of xs) (link_now xs)
+  number : number_of (link_now xs).controller ≡ n
+
+kept_quiet : (h : ℕ) (xs : List Event) (n : ℕ) → AreOf h bare_link xs → IsStillOfComplete h xs n → IsKeptQuiet xs n
+kept_quiet h xs n a q =
+    let t : List Noted = notes_of xs in
+    let can = of_can h bare_link xs a in
+    let plain = plain_trace (causes_of xs) in
+    let near = session_up (link_now xs).controller n (sym (session-all h t Controller plain ∙ controller_heard (causes_of xs) can) ∙ q.controller) in
+    let there = session_up (link_now xs).host n (sym (session-all h t Host plain ∙ host_heard (causes_of xs) can) ∙ q.host) in
+    let plain = plain_trace (causes_of xs) in
+    let since_is = since-all h n t in
+    let none_disturbs : list_any disturbs (since n t) ≡ false =
+    undisturbed h (since n t) (plain_since n t plain) (sym (ap (has_lost h) since_is) ∙ q.lossless) (sym (ap (has_rnr h) since_is) ∙ q.ready) in
+    let P : ℕ → Type 0 = λ z. list_any disturbs (since z t) ≡ false in
+    record {
+      quiet = record {
+        controller = near.0;
+        host = there.0;
+        undisturbed = subst P (sym near.1) none_disturbs;
+        to_controller = empty_controller h xs q.to_controller;
+        to_host = empty_host h xs q.to_host;
+      };
+      number = near.1;
+    }
+
+-- what was delivered to an end, as it is noted
+delivered_to_host : (h : ℕ) (t : List Noted) (n : ℕ) → LinkDelivered t Controller n → IsDelivered (entries_for h t) (end_of h Controller) n
+delivered_to_host h t n d =
+    record {
+      got = got-all h t Host n ∙ (d.got ∙ sym (ap good_of (sent-all h t Controller n)));
+      acked = acked-all h t Controller n ∙ (d.acked ∙ sym (ap (λ (ms : List Message). length ms) (sent-all h t Controller n)));
+    }
+
+delivered_to_controller : (h : ℕ) (t : List Noted) (n : ℕ) → LinkDelivered t Host n → IsDelivered (entries_for h t) (end_of h Host) n
+delivered_to_controller h t n d =
+    record {
+      got = got-all h t Controller n ∙ (d.got ∙ sym (ap good_of (sent-all h t Host n)));
+      acked = acked-all h t Host n ∙ (d.acked ∙ sym (ap (λ (ms : List Message). length ms) (sent-all h t Host n)));
+    }
+
+complete_controller : (h : ℕ) (xs : List Event) (n : ℕ) → AreOf h bare_link xs → IsReadQuiet (entries_for h (notes_of xs)) (end_of h Controller) n
+    → IsDelivered (entries_for h (notes_of xs)) (end_of h Controller) n
+complete_controller h xs n a q =
+    let t : List Noted = notes_of xs in
+    let k = kept_quiet h xs n a (record {
+      controller = q.here;
+      host = q.there;
+      lossless = q.lossless;
+      ready = q.ready;
+      to_controller = q.to_here;
+      to_host = q.to_there;
+    }) in
+    let P : ℕ → Type 0 = λ z. LinkDelivered t Controller z in
+    delivered_to_host h t n (subst P k.number (quiet_here bare_link IsBare (link_events xs) (of_allowed h bare_link xs a) k.quiet))
+
+complete_host : (h : ℕ) (xs : List Event) (n : ℕ) → AreOf h bare_link xs → IsReadQuiet (entries_for h (notes_of xs)) (end_of h Host) n
+    → IsDelivered (entries_for h (notes_of xs)) (end_of h Host) n
+complete_host h xs n a q =
+    let t : List Noted = notes_of xs in
+    let k = kept_quiet h xs n a (record {
+      controller = q.there;
+      host = q.here;
+      lossless = q.lossless;
+      ready = q.ready;
+      to_controller = q.to_there;
+      to_host = q.to_here;
+    }) in
+    let P : ℕ → Type 0 = λ z. LinkDelivered t Host z in
+    delivered_to_controller h t n (subst P k.number (quiet_there bare_link IsBare (link_events xs) (of_allowed h bare_link xs a) k.quiet))
+
+complete_at : (h : ℕ) (xs : List Event) → AreOf h bare_link xs → IsComplete (entries_for h (notes_of xs))
+complete_at h xs a e n = go (h == e.link) refl
+  where
+    t : List Entry
+    t = entries_for h (notes_of xs)
+
+    side : (k : ℕ) (b : Bool) → h ≡ k → IsReadQuiet t (record { link = k; at_host = b }) n → IsDelivered t (record { link = k; at_host = b }) n
+    side k false q =
+        let P : ℕ → Type 0 = λ z. IsReadQuiet t (record { link = z; at_host = false }) n → IsDelivered t (record { link = z; at_host = false }) n in
+        subst P q (complete_controller h xs n a)
+    side k true q =
+        let P : ℕ → Type 0 = λ z. IsReadQuiet t (record { link = z; at_host = true }) n → IsDelivered t (record { link = z; at_host = true }) n in
+        subst P q (complete_host h xs n a)
+
+    go : (b : Bool) → (h == e.link) ≡ b → IsReadQuiet t e n → IsDelivered t e n
+    go true q = side e.link e.at_host (same_link h e.link q)
+    go false q = λ quiet. absurd (let z : None ≡ Some n = sym (none_session e t (unsaid h e (notes_of xs) q)) ∙ quiet.here in cc)
+
+complete_of : (h : ℕ) (t : History) → IsRun h t → Complete t
+complete_of h t run front back q =
+    let A : List Event → Type 0 = λ z. AreOf h bare_link z in
+    let a = of_front h bare_link front back (subst A q run.events) in
+    let P : List Entry → Type 0 = λ z. IsComplete z in
+    subst P (sym (run_entries h t.opening front run.opening a)) (complete_at h front a)
+
+pub complete : (header : Header) (lines : List Line) (t : History) → AllByRecursion (IsLineOf header) lines → IsHeader header → Follows header lines t
+    → Complete t
+complete header lines t valid is follows = complete_of (host_of header) t (is_run header lines t valid follows)
+
+-- ## In a history that follows a schedule a reset is at an end of its link that doesn't refuse it
+
+-- ### Resets
+
+-- a reset is at an end of the link with this host, which doesn't refuse it
+abbrev pub IsAsked : ℕ → Link → Cause → Type 0
+IsAsked h l (WasReset e window) = (e.link ≡ h) × (reset_refusal (machine_of l e) ≡ None)
+IsAsked h l _ = Unit {0}
+
+abbrev AreAsked : ℕ → Link → List Event → Type 0
+AreAsked h l [] = Unit {0}
+AreAsked h l (x ∷ xs) = IsAsked h l x.cause × AreAsked h (link_after l x.cause) xs
+
+asked_append : (h : ℕ) (l : Link) (xs ys : List Event) → AreAsked h l xs → AreAsked h (link_after_all l (causes_of xs)) ys → AreAsked h l (xs ++ ys)
+asked_append h l [] ys a b = b
+asked_append h l (x ∷ xs) ys a b = (a.0, asked_append h (link_after l x.cause) xs ys a.1 b)
+
+asked_front : (h : ℕ) (l : Link) (xs ys : List Event) → AreAsked h l (xs ++ ys) → AreAsked h l xs
+asked_front h l [] ys a = tt
+asked_front h l (x ∷ xs) ys a = (a.0, asked_front h (link_after l x.cause) xs ys a.1)
+
+-- ### Causes that are no resets
+
+abbrev IsNoReset : Cause → Type 0
+IsNoReset (WasReset e window) = ⊥
+IsNoReset _ = Unit {0}
+
+abbrev NoResets : List Cause → Type 0
+NoResets cs = AllByRecursion IsNoReset cs
+
+no_reset_asked : (h : ℕ) (l : Link) (c : Cause) → IsNoReset c → IsAsked h l c
+no_reset_asked h l (WasReset e window) n = absurd n
+no_reset_asked h l _ n = tt
+
+no_resets_asked : (h : ℕ) (l : Link) (cs : List Cause) → NoResets cs → AreAsked h l (events_at h l cs)
+no_resets_asked h l [] n = tt
+no_resets_asked h l (c ∷ cs) n = (no_reset_asked h l c n.0, no_resets_asked h (link_after l c) cs n.1)
+
+no_repeat : (c : Cause) → IsNoReset c → (n : ℕ) → NoResets (replicate n c)
+no_repeat c none zero = tt
+no_repeat c none (suc n) = (none, no_repeat c none n)
+
+no_damage : (e : End) (v : Option Verdict) → NoResets (damage_causes e v)
+no_damage e None = tt
+no_damage e (Some Same) = (tt, tt)
+no_damage e (Some (LostFor why)) = (tt, tt)
+no_damage e (Some (Undetected read)) = tt
+
+-- ### Lines
+
+-- what becomes of a line with these causes
+abbrev decided : ℕ → Link → List Cause → Option NoCause → Outcome
+decided h l cs (Some cause) = Refused cause
+decided h l cs None = Caused (events_at h l cs)
+
+unasked : (h : ℕ) (l : Link) (cs : List Cause) (o : Option NoCause) → NoResets cs → AreAsked h l (events_of (decided h l cs o))
+unasked h l cs (Some cause) n = tt
+unasked h l cs None n = no_resets_asked h l cs n
+
+reset_line : (h : ℕ) (l : Link) (e : End) (window : Option ℕ) → e.link ≡ h → AreAsked h l (events_of (outcome_of h l (Reset e window)))
+reset_line h l e window is = go (reset_refusal (machine_of l e)) refl
+  where
+    go : (o : Option EndRefused) → reset_refusal (machine_of l e) ≡ o → AreAsked h l (events_of (decided h l (WasReset e window ∷ []) (as_noted o)))
+    go None q = ((is, q), tt)
+    go (Some why) q = tt
+
+asked_line : (header : Header) (h : ℕ) (l : Link) (line : Line) → IsLineOf header line → ((e : End) → IsEndOf header e → e.link ≡ h)
+    → AreAsked h l (events_of (outcome_of h l line))
+asked_line header h l (Send e pid message) is ends = unasked h l (causes_in l (Send e pid message)) (refusal l (Send e pid message)) (tt, tt)
+asked_line header h l (Deliver e count) is ends =
+    unasked h l (causes_in l (Deliver e count)) (refusal l (Deliver e count)) (no_repeat (Taken e) tt (taken_of count (frames_to l e)))
+asked_line header h l (Lose e) is ends = unasked h l (causes_in l (Lose e)) (refusal l (Lose e)) (tt, tt)
+asked_line header h l (Damage e places) is ends =
+    unasked h l (causes_in l (Damage e places)) (refusal l (Damage e places)) (no_damage e (first_verdict (frames_to l e) places.items))
+asked_line header h l (LineTick times) is ends =
+    unasked h l (causes_in l (LineTick times)) (refusal l (LineTick times)) (no_repeat Ticked tt (unwrap_or times 1))
+asked_line header h l (Reset e window) is ends = reset_line h l e window (ends e is.0)
+asked_line header h l (Busy e) is ends = unasked h l (causes_in l (Busy e)) (refusal l (Busy e)) (tt, tt)
+asked_line header h l (Ready e) is ends = unasked h l (causes_in l (Ready e)) (refusal l (Ready e)) (tt, tt)
+asked_line header h l _ is ends = absurd is
+
+asked_steps : (header : Header) (h : ℕ) (l : Link) (lines : List Line) (steps : List Step) → AllByRecursion (IsLineOf header) lines
+    → ((e : End) → IsEndOf header e → e.link ≡ h) → StepsFollow h l lines steps → AreAsked h l (events_in steps)
+asked_steps header h l [] [] valid ends follows = tt
+asked_steps header h l [] (step ∷ steps) valid ends follows = absurd follows
+asked_steps header h l (line ∷ lines) [] valid ends follows = absurd follows
+asked_steps header h l (line ∷ lines) (step ∷ steps) valid ends follows =
+    let P : Outcome → Type 0 = λ o. AreAsked h l (events_of o) in
+    asked_append h l (events_of step.outcome) (events_in steps) (subst P (sym follows.1) (asked_line header h l line valid.0 ends))
+    (asked_steps header h (link_after_line l step.outcome) lines steps valid.1 ends follows.3)
+
+-- ### The one link of a bare world
+
+pub only_one : (xs : List ℕ) (x : ℕ) → length xs ≡ 1 → Contains xs x → x ≡ slice_index xs 0
+only_one [] x one has = absurd (let k : has.0 < 0 = has.1 in omega (arith, k))
+only_one (y ∷ []) x one has = go has.0 has.1 has.2
+  where
+    go : (k : ℕ) → k < 1 → slice_index_or (y ∷ []) k x ≡ x → x ≡ y
+    go zero low q = sym q
+    go (suc k) low q = absurd (omega (arith, low))
+only_one (y ∷ z ∷ ys) x one has = absurd (let e : suc (suc (length ys)) ≡ 1 = one in omega (arith, e))
+
+all_asked : (header : Header) (l : Link) (lines : List Line) (steps : List Step) → IsHeader header → AllByRecursion (IsLineOf header) lines
+    → StepsFollow (host_of header) l lines steps → AreAsked (host_of header) l (events_in steps)
+all_asked header l lines steps is valid follows =
+    asked_steps header (host_of header) l lines steps valid (λ e has. only_one header.hosts.items e.link is.one has) follows
+
+-- ## A reset whose answer nothing kept back has brought both ends up
+
+-- ### Events
 
 -- none of these starts, stops or cuts off an end
 plain_stands : (t : List Noted) → ArePlain t → Stands t
@@ -68,7 +545,7 @@ reset_alone l e window = go e.at_host
     go false = refl
     go true = refl
 
--- ## Runs
+-- ### Runs
 
 events-append : (xs ys : List Event) → link_events (xs ++ ys) ≡ link_events xs ++ link_events ys
 events-append [] ys = refl
@@ -97,7 +574,7 @@ run_together before reset behind a asked alone undisturbed near there =
     λ b c d. together bare_link IsBare es e fs b (subst R (sym same) asked) (subst W (sym same) (subst V (sym alone) undisturbed)) (ap sans c) (ap sans d) in
     subst P (sym is) law a near there
 
--- ## Entries
+-- ### Entries
 
 any_right : (f : Entry → Bool) (t u : List Entry) → list_any f (t ++ u) ≡ false → list_any f u ≡ false
 any_right f [] u q = q
@@ -125,7 +602,7 @@ asked_at : (h : ℕ) (l : Link) (xs : List Event) (x : Event) (ys : List Event) 
 asked_at h l [] x ys a = a.0
 asked_at h l (y ∷ xs) x ys a = asked_at h (link_after l y.cause) xs x ys a.1
 
--- ## Both ends are up
+-- ### Both ends are up
 
 -- where nothing kept the answer back and both wires are empty
 up_both : (h : ℕ) (xs : List Event) (e : End) → AreOf h bare_link xs → h ≡ e.link

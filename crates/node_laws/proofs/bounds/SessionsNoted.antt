@@ -19,8 +19,7 @@ use Rattle.node_laws.proofs.Words.{times_out, told, told_at, told_late, told_of,
 use Rattle.node_laws.proofs.Words.{view_of, whole_acked, wire_with, with_desk, with_ended, with_older, without_notice, world_behind, ℕ, ◌&&◌, ◌++◌, ◌+◌, ◌==◌}
 use Rattle.node_laws.proofs.Words.{◌∙◌, ◌∷◌, ◌≡◌, ◌≤◌}
 use Rattle.history.proofs.RsetsInBareWorlds.{numbers_in_bare}
-use Rattle.history.proofs.legal.Ordered.{IsRun, is_run, run_entries}
-use Rattle.history.proofs.legal.Runs.{link_events}
+use Rattle.history.proofs.legal.Sessions.{IsRun, is_run, link_events, run_entries}
 use Rattle.history.specs.BareRsets.{rsets_by_all_bare}
 use Rattle.history.specs.Follows.{Follows, host_of}
 use Rattle.history.specs.Histories.{Cause, History, all_entries, all_events, causes_of}

@@ -10,10 +10,8 @@ use Rattle.node_laws.proofs.Words.{new_world, no_longer_waits, node_entries, num
 use Rattle.node_laws.proofs.Words.{read_there, refl, said, said_far, said_near, said_of, same_end, same_number, same_side, sent-all, sent_by, sent_in}
 use Rattle.node_laws.proofs.Words.{session_at, session_now, silences, since, site_at, standing, standing_by_law, stands_noted, stands_said, subst, sym}
 use Rattle.node_laws.proofs.Words.{talk_now, talk_of, tells_of, true, true≢false, without_power, world_behind, ℕ, ◌&&◌, ◌++◌, ◌==◌, ◌||◌, ◌∙◌, ◌∷◌, ◌≡◌}
-use Rattle.history.proofs.legal.Noted.{fault-all, if_said, same_as}
-use Rattle.history.proofs.legal.Ordered.{AtEnd, IsOneAtMost, empty, front_given, one_entry, order_at, read_as}
-use Rattle.history.proofs.legal.Plain.{ArePlain}
-use Rattle.history.proofs.legal.Reading.{no_bytes, or_right, since-all, undisturbed}
+use Rattle.history.proofs.legal.Sessions.{ArePlain, AtEnd, IsOneAtMost, empty, fault-all, front_given, if_said, one_entry, order_at, read_as, same_as}
+use Rattle.history.proofs.legal.Settled.{no_bytes, or_right, since-all, undisturbed}
 use Rattle.history.specs.Filters.{session_after}
 use Rattle.history.specs.Filters.Saying.{Ends, Loses, Sends, Takes}
 use Rattle.history.specs.Legal.{IsDelivered, IsInOrder, begins_on, has_lost, has_rnr, is_chain_fault, loses_on, rejects_on, since_up}

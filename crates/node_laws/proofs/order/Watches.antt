@@ -12,7 +12,7 @@ use Rattle.node_laws.proofs.Words.{new_standing, no_longer_waits, not, number_of
 use Rattle.node_laws.proofs.Words.{said_far, said_near, sans, slice_index, standing, standing_by_law, stands_noted, stands_said, stands_told, subst, suc, sym}
 use Rattle.node_laws.proofs.Words.{table, tells_of, told_of, true, true≢false, turn_entries, with_empty_wires, with_ended, withholds, withholds_in, world_step}
 use Rattle.node_laws.proofs.Words.{ℕ, ◌&&◌, ◌*◌, ◌++◌, ◌+◌, ◌<◌, ◌==◌, ◌||◌, ◌∙◌, ◌∷◌, ◌≡◌, ◌≤◌, ◌⊎◌}
-use Rattle.history.proofs.legal.Reading.{link_same}
+use Rattle.history.proofs.legal.Settled.{link_same}
 use Rattle.history.specs.Filters.Saying.{Ends, Loses as SayingLoses, Sends, Takes as SayingTakes}
 use Rattle.history.specs.Legal.{resets_on}
 use Rattle.link_laws.proofs.entries.Settling.{Spared, Stands, none_withheld, spoils}

@@ -13,8 +13,8 @@ use Rattle.node_laws.proofs.Words.{reached_more, readiness_of, refl, renewed, ro
 use Rattle.node_laws.proofs.Words.{silent, since, slice_index, standing, standing_by_law, stands_said, start_good, start_reached, started, step_entries}
 use Rattle.node_laws.proofs.Words.{stopped, subst, suc, sym, tick_entries, true, true≢false, turn, turned, turned_role, turned_same, with_empty_wires}
 use Rattle.node_laws.proofs.Words.{with_ready, zero, ℕ, ◌&&◌, ◌*◌, ◌++◌, ◌+◌, ◌<◌, ◌∙◌, ◌∷◌, ◌≡◌, ◌≤◌, ◌⊎◌}
-use Rattle.history.proofs.legal.Plain.{out_numbers}
-use Rattle.history.proofs.waits.Harked.{controller_harked, host_harked}
+use Rattle.history.proofs.legal.Sessions.{out_numbers}
+use Rattle.history.proofs.waits.Histories.{controller_harked, host_harked}
 use Rattle.history.proofs.waits.Harking.{hark, harks, harks-append, waits}
 use Rattle.history.specs.Filters.Saying.{Ends, Loses, Sends, Takes}
 use Rattle.history.specs.Legal.{is_rset_lpdu}

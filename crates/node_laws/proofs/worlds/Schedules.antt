@@ -13,9 +13,8 @@ use Rattle.node_laws.proofs.worlds.FramesLast.{rising, schedule_emits, turns_asc
 use Rattle.node_laws.proofs.worlds.Late.{hear_first}
 use Rattle.node_laws.proofs.worlds.Due.{resets_due}
 use Rattle.history.specs.Histories.{History}
-use Rattle.history.proofs.legal.Ordered.{in_order, joined}
-use Rattle.history.proofs.legal.Complete.{complete}
-use Rattle.history.proofs.legal.Settled.{settled}
+use Rattle.history.proofs.legal.Sessions.{in_order, joined}
+use Rattle.history.proofs.legal.Settled.{complete, settled}
 use Rattle.node_laws.proofs.turns.Worlds.{in_turn}
 use Rattle.node_laws.proofs.order.Upheld.{legal}
 use Rattle.node_laws.specs.answers.Headline.{IsLegal, IsPlayed, PlayedHistory}

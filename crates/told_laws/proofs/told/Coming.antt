@@ -11,8 +11,7 @@ use Rattle.history.specs.Histories.Outcome.{Refused}
 use Rattle.history.specs.Filters.{Saying, same_end, said, at_end, said_of, sent_by, sent_in, got_in_session, got_in}
 use Rattle.history.specs.Filters.Saying.{Sends}
 use Rattle.history.specs.Legal.{IsInOrder}
-use Rattle.history.proofs.legal.Ordered.{in_order}
-use Rattle.history.proofs.legal.Runs.{events_in}
+use Rattle.history.proofs.legal.Sessions.{events_in, in_order}
 use Rattle.told_laws.proofs.told.Lines.{IsApart, AreApart, bare_stands, host_low, lines_cost, steps_told, top}
 use Rattle.history.proofs.Filters.{same_end_itself}
 

@@ -7,7 +7,7 @@ use Rattle.world_laws.proofs.Words.{lines_played_of, link_events, notes_of, of_a
 use Rattle.world_laws.proofs.Words.{rounds_to_rest, run_entries, session-all, session_number, session_up, settling_events, start_good, start_reached, subst}
 use Rattle.world_laws.proofs.Words.{sym, talk_now, ℕ, ◌*◌, ◌++◌, ◌+◌, ◌∙◌, ◌∷◌, ◌≡◌, ◌≤◌}
 use Rattle.trace_model.specs.declared.line.Line.TheVariants as saying
-use Rattle.history.proofs.legal.Noted.{sent-all, got-all, acked-all}
+use Rattle.history.proofs.legal.Sessions.{acked-all, got-all, sent-all}
 use Rattle.world_laws.proofs.worlds.NotedFragments.{end_left}
 use Rattle.world_laws.proofs.schedules.Bare.{happened_leads, bare_settled}
 use Rattle.world_laws.proofs.schedules.Nodes.{brought, with_settle}

@@ -11,7 +11,7 @@ use Rattle.world_laws.proofs.Words.{taken_of, ticks_at_controller, true, true≢
 use Rattle.trace_model.specs.declared.line.Line.TheVariants as saying
 use Rattle.history.specs.Damage.{Verdict}
 use Rattle.history.specs.Damage.Verdict.{Same}
-use Rattle.history.proofs.legal.Asked.{only_one}
+use Rattle.history.proofs.legal.Settled.{only_one}
 use Rattle.world_laws.proofs.links.RoundCauses.{rounds_are}
 use Rattle.world_laws.proofs.schedules.Bare.{settled_link}
 use Rattle.world_laws.proofs.undisturbed.Causes.{ready_at, readied_by, HasReady, became, turned_ready, frame_readied}

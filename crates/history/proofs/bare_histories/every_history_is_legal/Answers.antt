@@ -1,6 +1,5 @@
-use Rattle.history.proofs.legal.Ordered.{in_order, joined}
-use Rattle.history.proofs.legal.Complete.{complete}
-use Rattle.history.proofs.legal.Settled.{settled}
+use Rattle.history.proofs.legal.Sessions.{in_order, joined}
+use Rattle.history.proofs.legal.Settled.{complete, settled}
 use Rattle.history.proofs.bare_histories.every_history_is_legal.Goals as goal
 
 pub returns-clause-in_order : goal.returns-clause-in_order
