@@ -1,14 +1,6 @@
-pub mod Wires
-pub mod Sends
 pub mod Turns
-pub mod Takes
-pub mod Advances
 pub mod Becomes
-pub mod Near
 pub mod NearSteps
-pub mod Events
-pub mod Stretches
-pub mod Settles
 pub mod Wide
 pub mod Law
 pub mod Examples

@@ -1,6 +1,1 @@
-pub mod Plays
-pub mod NodeRounds
-pub mod BareRounds
-pub mod Resting
 pub mod Told
-pub mod Lines

@@ -1,3 +1,1 @@
-pub mod Projected
-pub mod Rest
 pub mod Law

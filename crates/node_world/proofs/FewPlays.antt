@@ -2,7 +2,7 @@
 use Rattle.std.proofs.Common.{◌<◌, List, [], ◌∷◌, ◌++◌, arith}
 use Rattle.node_world.proofs.Words.{AreFewWithParts, Line, Play, Round, Said, lines_said, rounds_played}
 use Rattle.lines_told.specs.lines.Plays.{AreFewPlays}
-use Rattle.lines_told.proofs.lines.Plays.{no_more_rounds, no_more_said, one_round, one_said}
+use Rattle.lines_told.proofs.lines.Told.{no_more_rounds, no_more_said, one_round, one_said}
 
 -- a line or a round more leaves few of them
 pub few_with_line : (plays : List Play) (line : Line) → AreFewWithParts plays → lines_said plays < 320000 → AreFewWithParts (plays ++ Said line ∷ [])

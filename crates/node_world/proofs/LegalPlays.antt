@@ -19,7 +19,7 @@ use Rattle.node_laws.proofs.worlds.Schedules.{played_legal}
 use Rattle.lines_told.specs.lines.Below.{is_settling}
 use Rattle.lines_told.specs.lines.Plays.{lines_of_play}
 use Rattle.lines_told.specs.lines.RoundLines.{IsRoundLine}
-use Rattle.lines_told.proofs.lines.Lines.{round_known}
+use Rattle.lines_told.proofs.lines.Told.{round_known}
 use Rattle.node_world.specs.Legal.{HaveLegalHistory}
 
 -- ## Lines in their ranges

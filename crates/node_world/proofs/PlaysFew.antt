@@ -29,7 +29,7 @@ use Rattle.node_laws.proofs.links.Worlds.{MayHappen, runs_then}
 use Rattle.node_laws.proofs.rounds.Allowing.{all_go, on_allowed, takes_pass}
 use Rattle.node_laws.proofs.rsets.InWorlds.{each_longer, few_behind_step, few_in_new_world}
 use Rattle.lines_told.specs.lines.Plays.{lines_of_play}
-use Rattle.lines_told.proofs.lines.NodeRounds.{round_behind_goes}
+use Rattle.lines_told.proofs.lines.Told.{round_behind_goes}
 use Rattle.node_world.proofs.CountsStay.{ticks_within}
 use Rattle.node_world.proofs.LinesAgain.{happens_first, happens_not}
 use Rattle.node_world.proofs.LinesFit.{are_hosts, playable}

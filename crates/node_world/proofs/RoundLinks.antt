@@ -4,7 +4,7 @@ use Rattle.std.specs.List.{flat_map}
 use Rattle.node_world.proofs.Words.{End, Header, Line, Site, end_c, end_h, hosts_stay_behind, nodes_behind, round_behind}
 use Rattle.node_laws.specs.telling.Telling.{hosts_in}
 use Rattle.lines_told.specs.lines.Plays.{round_in}
-use Rattle.lines_told.proofs.lines.NodeRounds.{round_lines}
+use Rattle.lines_told.proofs.lines.Told.{round_lines}
 
 -- the controller's end of a link, and the host's
 abbrev both : ℕ → List End

@@ -15,8 +15,7 @@ use Rattle.node_machine.specs.world.NodeHistories.{world_after}
 use Rattle.node_laws.specs.telling.Telling.{hosts_in}
 use Rattle.node_laws.specs.links.Runs.{ArePlayable}
 use Rattle.lines_told.specs.lines.Plays.{round_in, taking_in}
-use Rattle.lines_told.proofs.lines.NodeRounds.{sure-append, sure_round, takes_so}
-use Rattle.lines_told.proofs.lines.Plays.{all-append}
+use Rattle.lines_told.proofs.lines.Told.{all-append, sure-append, sure_round, takes_so}
 use Rattle.node_world.specs.Rounds.{MayGoRound}
 use Rattle.node_world.proofs.LinesFit.{IsAbove, above}
 use Rattle.node_world.proofs.WorldsBehind.{are_playable, goes_on_behind, hosts_behind, timely_behind}

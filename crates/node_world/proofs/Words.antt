@@ -8,8 +8,7 @@ pub use Rattle.journal_laws.specs.Journal.{count_of, state_of}
 pub use Rattle.journal_laws.specs.Operations.{started_state}
 pub use Rattle.journal_laws.specs.Planned.{after_planned, fails_within}
 pub use Rattle.journal_laws.specs.declared.banks.Side.{Side}
-pub use Rattle.lines_told.proofs.lines.Lines.{lines_may_be_played}
-pub use Rattle.lines_told.proofs.lines.NodeRounds.{after-append}
+pub use Rattle.lines_told.proofs.lines.Told.{after-append, lines_may_be_played}
 pub use Rattle.lines_told.specs.lines.Below.{IsPlayedLine, nodes_behind}
 pub use Rattle.lines_told.specs.lines.Plays.{IsPlayFor, Play, lines_played, lines_said, round_behind, rounds_played}
 pub use Rattle.lines_told.specs.lines.Plays.Play.{Round, Said}

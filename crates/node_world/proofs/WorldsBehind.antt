@@ -13,8 +13,7 @@ use Rattle.node_laws.specs.telling.Telling.{hosts_in}
 use Rattle.node_laws.specs.links.Runs.{ArePlayable}
 use Rattle.node_laws.proofs.order.Lines.{watches, of_none, IsSo, all_so_behind, behind_history}
 use Rattle.node_laws.proofs.order.Ticking.{timely}
-use Rattle.lines_told.proofs.lines.NodeRounds.{sure-append}
-use Rattle.lines_told.proofs.lines.Plays.{all-append}
+use Rattle.lines_told.proofs.lines.Told.{all-append, sure-append}
 use Rattle.node_sites.specs.Memories.{KeepsSome}
 use Rattle.node_world.specs.Whole.{after_ticks}
 use Rattle.node_world.proofs.MemoriesKeep.{keeps_at_first, keeps_behind_lines, controller_in_order, hosts_in_order}

@@ -18,9 +18,8 @@ use Rattle.node_machine.specs.world.World.{NodeWorld as Machine, new_memory}
 use Rattle.node_machine.specs.world.Lines.{noted_below}
 use Rattle.lines_told.specs.lines.Below.{bare_link_behind, entries_below, told_below}
 use Rattle.lines_told.specs.lines.Plays.{told_of_play}
-use Rattle.lines_told.proofs.lines.NodeRounds.{played_round, played_said, sure_with_round, sure_with_said}
-use Rattle.lines_told.proofs.lines.Plays.{for_with, no_more_rounds, no_more_said, one_round, one_said}
-use Rattle.lines_told.proofs.lines.Told.{told_round}
+use Rattle.lines_told.proofs.lines.Told.{for_with, no_more_rounds, no_more_said, one_round, one_said, played_round, played_said, sure_with_round}
+use Rattle.lines_told.proofs.lines.Told.{sure_with_said, told_round}
 use Rattle.link_wires.specs.declared.finding.Misread.{Misread}
 use Rattle.node_world.specs.declared.worlds.NodeWorld.{NodeWorld}
 use Rattle.node_world.specs.Rounds.{MayGoRound}

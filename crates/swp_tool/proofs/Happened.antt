@@ -16,7 +16,7 @@ use Rattle.lines_told.specs.lines.Below.{is_settling, opening_told, told_below}
 use Rattle.lines_told.specs.lines.Plays.{Play, lines_played, lines_played_of, plays_of, plays_of_line, round_behind, rounds_to_rest, schedule_told, told_behind}
 use Rattle.lines_told.specs.lines.Plays.{told_of_line, told_of_lines, told_of_play, told_of_rounds}
 use Rattle.lines_told.specs.lines.Plays.Play.{Said, Round}
-use Rattle.lines_told.proofs.lines.Plays.{played_more, plays_more, round_first}
+use Rattle.lines_told.proofs.lines.Told.{played_more, plays_more, round_first}
 use Rattle.swp_tool.specs.Transcripts.{link_history, nodes_history, history_below, played_told, is_of_schedule, what_happened}
 use Rattle.swp_tool.proofs.Texts.{told_more}
 

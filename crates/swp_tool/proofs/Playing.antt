@@ -10,8 +10,7 @@ use Rattle.trace_model.specs.Lines.{MayFollow}
 use Rattle.schedule_text.specs.Entries.{entry_lines}
 use Rattle.lines_told.specs.lines.Below.{is_settling, misread_below}
 use Rattle.lines_told.specs.lines.Plays.{Play, lines_played, plays_of, plays_of_line, rounds_to_rest, schedule_told}
-use Rattle.lines_told.proofs.lines.Plays.{none_said, played-append, said-append, so_many_rounds}
-use Rattle.lines_told.proofs.lines.Resting.{at_most}
+use Rattle.lines_told.proofs.lines.Told.{at_most, none_said, played-append, said-append, so_many_rounds}
 use Rattle.world.specs.declared.world_steps.World.{World}
 use Rattle.world.specs.declared.fault.WorldFault.{WorldFault}
 use Rattle.world.specs.declared.fault.WorldFault.TheVariants as fault

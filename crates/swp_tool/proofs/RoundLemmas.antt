@@ -12,7 +12,7 @@ use Rattle.schedule_text.specs.Entries.{entry_line, entry_lines}
 use Rattle.lines_told.specs.lines.Plays.{Play, lines_played, plays_of, plays_of_line, rests_behind, rounds_to_rest}
 use Rattle.lines_told.specs.lines.Plays.{told_of_line, told_of_play, told_of_rounds}
 use Rattle.lines_told.specs.lines.Plays.Play.{Round}
-use Rattle.lines_told.proofs.lines.Plays.{plays_more, round_first, round_last, played-append, so_many_rounds}
+use Rattle.lines_told.proofs.lines.Told.{played-append, plays_more, round_first, round_last, so_many_rounds}
 use Rattle.world.specs.declared.world_steps.World.{World}
 use Rattle.world.specs.Worlds.{IsWorldAt, HasRoomToSettle, StandsBehind, world_header}
 use Rattle.swp_tool.specs.Replays.{Runs, HasGoneThrough, HasRoundsLeft}

@@ -24,10 +24,9 @@ pub use Rattle.history.specs.Histories.Cause.{Given, Readied, Taken, Ticked, Was
 pub use Rattle.history.specs.Histories.Outcome.{Caused, Refused as LineRefused}
 pub use Rattle.history.specs.Steps.{at, bare_link, end_of, entries_for, entry_of, event_of, events_at, idle, link_after, link_after_all}
 pub use Rattle.journal_laws.specs.Planned.{after_planned, fails_within}
-pub use Rattle.lines_told.proofs.lines.BareRounds.{bare_round_lines, lines-append}
-pub use Rattle.lines_told.proofs.lines.Lines.{bare_line, bare_lines, lines_may_be_played, round_known, sure_below}
-pub use Rattle.lines_told.proofs.lines.NodeRounds.{after-append, round_is, round_lines, round_told, takes_so, told-append, told_in}
-pub use Rattle.lines_told.proofs.lines.Plays.{for_with, played-append, played_more, plays_for, plays_more, round_first, said-append}
+pub use Rattle.lines_told.proofs.lines.Told.{after-append, bare_line, bare_lines, bare_round_lines, for_with, lines-append, lines_may_be_played, played-append}
+pub use Rattle.lines_told.proofs.lines.Told.{played_more, plays_for, plays_more, round_first, round_is, round_known, round_lines, round_told, said-append}
+pub use Rattle.lines_told.proofs.lines.Told.{sure_below, takes_so, told-append, told_in}
 pub use Rattle.lines_told.specs.lines.Below.{IsPlayedLine, bare_link_behind, entries_below, is_settling, misread_below, nodes_behind, opening_told, told_below}
 pub use Rattle.lines_told.specs.lines.Plays.{AreFewPlays, IsPlayFor, Play, lines_of_play, lines_played, lines_played_of, lines_said, plays_of, plays_of_line}
 pub use Rattle.lines_told.specs.lines.Plays.{round_behind, round_in, round_on, rounds_played, rounds_to_rest, schedule_told, taking_in, taking_on, told_behind}

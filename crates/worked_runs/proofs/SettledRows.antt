@@ -4,7 +4,7 @@ use Rattle.trace_model.specs.declared.line.Header.{Header}
 use Rattle.trace_model.specs.declared.line.Line.{Line}
 use Rattle.lines_told.specs.lines.Plays.{Play, lines_said, rounds_played}
 use Rattle.lines_told.specs.lines.Plays.Play.{Said}
-use Rattle.lines_told.proofs.lines.Plays.{one_said, no_more_rounds}
+use Rattle.lines_told.proofs.lines.Told.{no_more_rounds, one_said}
 use Rattle.world.specs.declared.world_steps.World.{World}
 use Rattle.world.specs.Worlds.{IsWorldAt, world_header}
 

@@ -23,8 +23,8 @@ use Rattle.history.proofs.legal.Settled.{only_one}
 use Rattle.lines_told.specs.lines.Below.{IsPlayedLine}
 use Rattle.lines_told.specs.lines.Plays.{told_behind, told_of_play}
 use Rattle.lines_told.specs.lines.RoundLines.{IsRoundLine}
-use Rattle.lines_told.proofs.lines.Plays.{played_more, one_said, no_more_rounds, no_more_said, one_round, for_with}
-use Rattle.lines_told.proofs.lines.Lines.{bare_lines_may_be_played, sure_on, bare_known}
+use Rattle.lines_told.proofs.lines.Told.{bare_known, bare_lines_may_be_played, for_with, no_more_rounds, no_more_said, one_round, one_said, played_more}
+use Rattle.lines_told.proofs.lines.Told.{sure_on}
 use Rattle.link_wires.specs.declared.finding.Misread.{Misread}
 use Rattle.node_world.proofs.FewPlays.{few_with_line, few_with_one_round}
 use Rattle.world.specs.Sides.{SideStandsFor}

@@ -10,7 +10,7 @@ use Rattle.world.proofs.Words.{Round, frames_to, host_of, lines_lead, lines_play
 use Rattle.link_laws.specs.messages.Rest.{link_rests}
 use Rattle.lines_told.specs.lines.Below.{IsPlayedLine, misread_below}
 use Rattle.lines_told.specs.lines.Plays.{lines_said, rests_behind, rounds_played, told_of_play}
-use Rattle.lines_told.proofs.lines.Resting.{bare_rests}
+use Rattle.lines_told.proofs.lines.Told.{bare_rests}
 use Rattle.world.specs.declared.fault.WorldFault.{WorldFault}
 use Rattle.world.specs.declared.fault.WorldFault.TheVariants as fault
 use Rattle.world.specs.declared.world_steps.Below.TheVariants.{Bare, Nodes}

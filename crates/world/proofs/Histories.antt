@@ -7,7 +7,7 @@ use Rattle.world.proofs.Words.{Below, Header, IsPlayFor, Line, Play, Said, Stand
 use Rattle.trace_model.specs.declared.line.Line.TheVariants as saying
 use Rattle.trace_model.specs.Lines.{IsNodeOf}
 use Rattle.lines_told.specs.lines.Below.{memory_behind}
-use Rattle.lines_told.proofs.lines.Plays.{all-append}
+use Rattle.lines_told.proofs.lines.Told.{all-append}
 use Rattle.node_world.specs.Legal.{HaveLegalHistory, IsKeptBehind}
 use Rattle.node_world.proofs.FoundAsKept.{kept_behind}
 use Rattle.node_world.proofs.LegalPlays.{AskFew, AsksNone, bare_legal, nodes_legal, said_ask_few, still_ask_few}

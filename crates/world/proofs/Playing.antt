@@ -9,9 +9,8 @@ use Rattle.trace_model.specs.declared.line.Line.TheVariants as saying
 use Rattle.trace_model.specs.Lines.{MayBegin}
 use Rattle.lines_told.specs.lines.Below.{misread_below}
 use Rattle.lines_told.specs.lines.Plays.{AreFewPlays, rests_behind, rounds_to_rest}
-use Rattle.lines_told.proofs.lines.Plays.{all-append, few_with_round, few_with_said, none_said, played-append, played_more, rounds_for, said-append}
-use Rattle.lines_told.proofs.lines.Plays.{so_many_rounds}
-use Rattle.lines_told.proofs.lines.Resting.{at_most}
+use Rattle.lines_told.proofs.lines.Told.{all-append, at_most, few_with_round, few_with_said, none_said, played-append, played_more, rounds_for, said-append}
+use Rattle.lines_told.proofs.lines.Told.{so_many_rounds}
 use Rattle.world.specs.declared.fault.WorldFault.{WorldFault}
 use Rattle.world.specs.declared.fault.WorldFault.TheVariants as fault
 use Rattle.world.specs.declared.world_steps.Below.TheVariants.{Bare, Nodes}

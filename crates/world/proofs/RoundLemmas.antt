@@ -7,7 +7,7 @@ use Rattle.trace_model.specs.declared.line.Line.TheVariants as saying
 use Rattle.link_laws.specs.messages.Rest.{is_clear}
 use Rattle.history.specs.Histories.{entries_of}
 use Rattle.history.specs.Steps.{event_at}
-use Rattle.lines_told.proofs.lines.BareRounds.{takes_on}
+use Rattle.lines_told.proofs.lines.Told.{takes_on}
 use Rattle.world.specs.Lines.{HasCaused, told_on}
 use Rattle.world.proofs.Given.{sent_repeated, sent_after}
 use Rattle.world.proofs.LineLemmas.{caused}

@@ -11,8 +11,7 @@ use Rattle.history.specs.Damage.Verdict.{Same, LostFor, Undetected}
 use Rattle.history.specs.Histories.{Cause}
 use Rattle.history.specs.Histories.Outcome.{Refused}
 use Rattle.history.proofs.RsetsInBareWorlds.{few_after}
-use Rattle.lines_told.proofs.lines.Plays.{one_said, no_more_rounds, no_more_said, one_round}
-use Rattle.lines_told.proofs.lines.BareRounds.{takes_on}
+use Rattle.lines_told.proofs.lines.Told.{no_more_rounds, no_more_said, one_round, one_said, takes_on}
 use Rattle.world.proofs.Given.{causes_of-events}
 
 -- few RSETs are as few as this

@@ -7,7 +7,7 @@ pub use Rattle.history.specs.Histories.{History, Outcome, noted}
 pub use Rattle.history.specs.Histories.Cause.{Given, Readied, Taken, Ticked, WasLost, WasReset}
 pub use Rattle.history.specs.Histories.Outcome.{Caused}
 pub use Rattle.history.specs.Steps.{bare_link, end_of, entries_for, events_at, idle, link_after, link_after_all}
-pub use Rattle.lines_told.proofs.lines.BareRounds.{bare_round_lines, lines-append}
+pub use Rattle.lines_told.proofs.lines.Told.{bare_round_lines, lines-append}
 pub use Rattle.lines_told.specs.lines.Below.{bare_link_behind, told_below}
 pub use Rattle.lines_told.specs.lines.Plays.{IsPlayFor, Play, lines_played, lines_said, round_behind, round_on, rounds_played, taking_on}
 pub use Rattle.lines_told.specs.lines.Plays.Play.{Round, Said}

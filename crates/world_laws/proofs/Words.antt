@@ -13,17 +13,14 @@ pub use Rattle.history.specs.Histories.{Cause, Event, History, Outcome, Step as 
 pub use Rattle.history.specs.Histories.Cause.{Given, Readied, Taken, Ticked, WasLost, WasReset}
 pub use Rattle.history.specs.Histories.Outcome.{Caused, Refused}
 pub use Rattle.history.specs.Steps.{bare_link, end_of, entries_for, entry_of, event_at, event_of, events_at, idle, link_after, link_after_all}
-pub use Rattle.lines_told.proofs.fragments.Sends.{sent_same}
-pub use Rattle.lines_told.proofs.fragments.Stretches.{began, ended}
-pub use Rattle.lines_told.proofs.lines.BareRounds.{again, bare_played_rounds, bare_round, bare_round_goes, bare_round_lines, causes_on, lines-append}
-pub use Rattle.lines_told.proofs.lines.BareRounds.{link-append, round_causes, takes_on}
-pub use Rattle.lines_told.proofs.lines.Lines.{bare_lines, lines_may_be_played}
-pub use Rattle.lines_told.proofs.lines.NodeRounds.{none_taken, played_round, played_rounds, round_lines, takes_so}
-pub use Rattle.lines_told.proofs.lines.Plays.{all-append, played_more, plays_for, plays_more, round_first, rounds_for}
-pub use Rattle.lines_told.proofs.lines.Resting.{alike, bare_comes_to_rest, bare_rests, nodes_come_to_rest, nodes_rest}
-pub use Rattle.lines_told.proofs.messages.Law.{fragments_counted, got_by_controller, got_by_host, rest_at_controller, rest_at_host}
-pub use Rattle.lines_told.proofs.messages.Projected.{Known, after_events-append, allowed_parts, in_parts, known_after, open_up}
-pub use Rattle.lines_told.proofs.messages.Rest.{first_rest}
+pub use Rattle.lines_told.proofs.fragments.Becomes.{sent_same}
+pub use Rattle.lines_told.proofs.fragments.Law.{began, ended}
+pub use Rattle.lines_told.proofs.lines.Told.{again, alike, all-append, bare_comes_to_rest, bare_lines, bare_played_rounds, bare_rests, bare_round}
+pub use Rattle.lines_told.proofs.lines.Told.{bare_round_goes, bare_round_lines, causes_on, lines-append, lines_may_be_played, link-append, nodes_come_to_rest}
+pub use Rattle.lines_told.proofs.lines.Told.{nodes_rest, none_taken, played_more, played_round, played_rounds, plays_for, plays_more, round_causes, round_first}
+pub use Rattle.lines_told.proofs.lines.Told.{round_lines, rounds_for, takes_on, takes_so}
+pub use Rattle.lines_told.proofs.messages.Law.{Known, after_events-append, allowed_parts, first_rest, fragments_counted, got_by_controller, got_by_host}
+pub use Rattle.lines_told.proofs.messages.Law.{in_parts, known_after, open_up, rest_at_controller, rest_at_host}
 pub use Rattle.lines_told.specs.fragments.Rounds.{AreUndisturbed, BothTakeFragments, undelivered}
 pub use Rattle.lines_told.specs.lines.Below.{IsPlayedLine, bare_link_behind, is_settling, nodes_behind}
 pub use Rattle.lines_told.specs.lines.Plays.{IsPlayFor, Play, lines_played, lines_played_of, plays_of, plays_of_line, round_behind, round_in, round_on}

@@ -1,16 +1,457 @@
--- One end of a link has become e, has its turns and sends all that is due: how far this brings its own places, and those of the other
--- end. The controller's end is the near one.
-use Rattle.lines_told.proofs.Words.{AnswersOnly, Due, EndState, Fragment, List, Losses, NoRnr, NumberedShdlc, OnWire, Rr, Rr_due, S, Session, ShdlcLink}
-use Rattle.lines_told.proofs.Words.{ShdlcTurn, Some, Up, [], ap, arith, cases_lt, expected, false, few_turns, fragment_due, frame_due, frames_of, inl, inr}
-use Rattle.lines_told.proofs.Words.{length, length-append, lt-ltb, nat_lt, not, noted_out, or_right, refl, shdlc_becomes, shdlc_exchanged, shdlc_put_all}
-use Rattle.lines_told.proofs.Words.{shdlc_turned, slice_get, slice_get-append, suc, sym, true, zero, ℕ, ◌%◌, ◌++◌, ◌+◌, ◌<◌, ◌||◌, ◌∙◌, ◌∷◌, ◌≡◌, ◌≤◌, ◌⊎◌}
+-- One end of a link takes its turns and sends all that is due: how far this brings the places of both ends, and what stands on the wires.
+use Rattle.std.proofs.lemmas.List.{append-nil}
+use Rattle.lines_told.proofs.Words.{AnswersOnly, Bool, Control, Due, EndState, Fragment, I, IsPrefix, List, Losses, NoRnr, None, NumberedShdlc, OnWire, Rej_due}
+use Rattle.lines_told.proofs.Words.{Rnr_due, Rr, Rr_due, S, Session, ShdlcLink, ShdlcTurn, Some, Up, [], after_frames, aged_wire, ap, append_assoc, arith}
+use Rattle.lines_told.proofs.Words.{cases_lt, cond, control_due, counts_first, data_due, drop, expected, false, fetch_cases, fetched, fetched_answers}
+use Rattle.lines_told.proofs.Words.{few_turns, fits, fragment_due, frame_due, frames_of, inl, inr, is_act, is_rnr, is_rset, length, length-append, loses_aged}
+use Rattle.lines_told.proofs.Words.{lt-ltb, nat_lt, not, not_rset, noted_all, noted_loss, noted_out, or_parts, or_right, overflows, refl, sans, sends_keeps}
+use Rattle.lines_told.proofs.Words.{sends_noted, shdlc_becomes, shdlc_exchanged, shdlc_put, shdlc_put_all, shdlc_turned, slice_get, slice_get-append, suc, sym}
+use Rattle.lines_told.proofs.Words.{true, true≢false, with_frame, zero, ℕ, ◌%◌, ◌&&◌, ◌++◌, ◌+◌, ◌<◌, ◌||◌, ◌∙◌, ◌∷◌, ◌≡◌, ◌≤◌, ◌⊎◌}
 use Rattle.link_laws.proofs.places.Joined.{idle_after, left}
 use Rattle.link_laws.proofs.sessions.Quiet.{few_room}
-use Rattle.lines_told.proofs.fragments.Wires.{StandsIn, Stands, NoRnrBehind, in_more, behind_more}
-use Rattle.lines_told.proofs.fragments.Sends.{SentSame, sent_same, put_all_same, sent_stands, first_stands, fragment_stands, sent_no_rnr}
-use Rattle.lines_told.proofs.fragments.Turns.{Turned, turned_up}
-use Rattle.lines_told.proofs.fragments.Takes.{Answers, Brings, Differs, answers_no_act, brings_no_act}
-use Rattle.lines_told.proofs.fragments.Advances.{prefix_of, Grown, IsIdle, Answered, Sent, Counted, Advances}
+use Rattle.lines_told.proofs.fragments.Turns.{Answers, Brings, Differs, Turned, answers_no_act, brings_no_act, turned_up}
+
+-- ## Frames that stand on a wire, among the first so many of them or anywhere, as frames are put behind them, taken or grow older
+
+-- a frame like this is among the first k
+abbrev pub StandsIn : (Control → Type 0) → ℕ → List OnWire → Type 0
+StandsIn P k [] = ⊥
+StandsIn P zero (x ∷ xs) = ⊥
+StandsIn P (suc k) (x ∷ xs) = P x.frame ⊎ StandsIn P k xs
+
+-- a frame like this stands on the wire
+abbrev pub Stands : (Control → Type 0) → List OnWire → Type 0
+Stands P [] = ⊥
+Stands P (x ∷ xs) = P x.frame ⊎ Stands P xs
+
+-- no RNR stands behind the first k
+abbrev pub NoRnrBehind : ℕ → List OnWire → Type 0
+NoRnrBehind k [] = Unit {0}
+NoRnrBehind zero (x ∷ xs) = (is_rnr x.frame ≡ false) × NoRnrBehind zero xs
+NoRnrBehind (suc k) (x ∷ xs) = NoRnrBehind k xs
+
+-- ### Where a frame stands
+
+module _ (P : Control → Type 0) where
+  stands_in : (k : ℕ) (w : List OnWire) → StandsIn P k w → Stands P w
+  stands_in k [] h = absurd h
+  stands_in zero (x ∷ xs) h = absurd h
+  stands_in (suc k) (x ∷ xs) (inl h) = inl h
+  stands_in (suc k) (x ∷ xs) (inr h) = inr (stands_in k xs h)
+
+  pub in_all : (w : List OnWire) → Stands P w → StandsIn P (length w) w
+  in_all [] h = absurd h
+  in_all (x ∷ xs) (inl h) = inl h
+  in_all (x ∷ xs) (inr h) = inr (in_all xs h)
+
+  pub in_none : (w : List OnWire) → StandsIn P 0 w → ⊥
+  in_none [] h = h
+  in_none (x ∷ xs) h = h
+
+  pub in_more : (k m : ℕ) (w : List OnWire) → k ≤ m → StandsIn P k w → StandsIn P m w
+  in_more k m [] i h = absurd h
+  in_more zero m (x ∷ xs) i h = absurd h
+  in_more (suc k) zero (x ∷ xs) i h = absurd (omega (arith, i))
+  in_more (suc k) (suc m) (x ∷ xs) i (inl h) = inl h
+  in_more (suc k) (suc m) (x ∷ xs) i (inr h) = inr (in_more k m xs (omega (arith, i)) h)
+
+  -- the first frame is taken
+  pub in_rest : (k m : ℕ) (x : OnWire) (xs : List OnWire) → k ≤ m + 1 → StandsIn P k (x ∷ xs) → P x.frame ⊎ StandsIn P m xs
+  in_rest zero m x xs i h = absurd h
+  in_rest (suc k) m x xs i (inl h) = inl h
+  in_rest (suc k) m x xs i (inr h) = inr (in_more k m xs (omega (arith, i)) h)
+
+  in_push : (k : ℕ) (w : List OnWire) (y : OnWire) → StandsIn P k w → StandsIn P k (w ++ y ∷ [])
+  in_push k [] y h = absurd h
+  in_push zero (x ∷ xs) y h = absurd h
+  in_push (suc k) (x ∷ xs) y (inl h) = inl h
+  in_push (suc k) (x ∷ xs) y (inr h) = inr (in_push k xs y h)
+
+  stands_new : (w : List OnWire) (y : OnWire) → P y.frame → Stands P (w ++ y ∷ [])
+  stands_new [] y p = inl p
+  stands_new (x ∷ xs) y p = inr (stands_new xs y p)
+
+  -- it is no frame of activation
+  module _ (no_act : (c : Control) → is_act c ≡ true → P c → ⊥) where
+    in_later : (k : ℕ) (x : OnWire) (xs : List OnWire) → is_act x.frame ≡ true → StandsIn P k (x ∷ xs) → StandsIn P k xs
+    in_later zero x xs a h = absurd h
+    in_later (suc k) x xs a (inl h) = absurd (no_act x.frame a h)
+    in_later (suc k) x xs a (inr h) = in_more k (suc k) xs (omega arith) h
+
+    -- a wire that loses no frame but of activation
+    in_fits : (k : ℕ) (w : List OnWire) → overflows w ≡ false → StandsIn P k w → StandsIn P k (fits w)
+    in_fits k w none h = go (nat_lt 64 (length w)) w none h
+      where
+        first : (x : OnWire) (xs : List OnWire) (b : Bool) → is_act x.frame ≡ b → counts_first (x ∷ xs) ≡ false → StandsIn P k (x ∷ xs) → StandsIn P k xs
+        first x xs true q e g = in_later k x xs q g
+        first x xs false q e g = absurd (let z : true ≡ false = rw q at e in cc)
+
+        go : (b : Bool) (v : List OnWire) → (b && counts_first v) ≡ false → StandsIn P k v → StandsIn P k (cond b (drop 1 v) v)
+        go false v e g = g
+        go true [] e g = absurd g
+        go true (x ∷ xs) e g = first x xs (is_act x.frame) refl e g
+
+    -- one where no frame grows too old but of activation
+    pub in_aged : (k : ℕ) (w : List OnWire) → loses_aged (sans w) ≡ false → StandsIn P k w → StandsIn P k (aged_wire w)
+    in_aged k [] none h = absurd h
+    in_aged zero (x ∷ xs) none h = absurd h
+    in_aged (suc k) (x ∷ xs) none h = go (nat_lt x.age 4) (is_act x.frame) refl refl (in_aged k xs) h
+      where
+        rest : (a b : Bool) → nat_lt x.age 4 ≡ a → is_act x.frame ≡ b → ((a ≡ true) ⊎ (b ≡ true)) → loses_aged (sans xs) ≡ false
+        rest a true p q e = rw q at none
+        rest true false p q e = rw p at (let z : loses_aged (x ∷ sans xs) ≡ false = rw q at none in z)
+        rest false false p q (inl e) = absurd (true≢false (let z : false ≡ true = e in cc))
+        rest false false p q (inr e) = absurd (true≢false (let z : false ≡ true = e in cc))
+
+        go : (a b : Bool) → nat_lt x.age 4 ≡ a → is_act x.frame ≡ b → (loses_aged (sans xs) ≡ false → StandsIn P k xs → StandsIn P k (aged_wire xs))
+            → P x.frame ⊎ StandsIn P k xs → StandsIn P (suc k) (aged_wire (x ∷ xs))
+        go true b p q later (inl h) = rw p (inl h)
+        go true b p q later (inr h) = rw p (inr (later (rest true b p q (inl refl)) h))
+        go false true p q later (inl h) = absurd (no_act x.frame q h)
+        go false true p q later (inr h) = rw p (in_more k (suc k) (aged_wire xs) (omega arith) (later (rest false true p q (inr refl)) h))
+        go false false p q later h = absurd (let y : loses_aged (x ∷ sans xs) ≡ false = rw q at none in let z : true ≡ false = rw p at y in cc)
+
+-- ### Where no RNR stands
+
+pub behind_all : (w : List OnWire) → NoRnrBehind (length w) w
+behind_all [] = tt
+behind_all (x ∷ xs) = behind_all xs
+
+pub behind_more : (k m : ℕ) (w : List OnWire) → k ≤ m → NoRnrBehind k w → NoRnrBehind m w
+behind_more k m [] i h = tt
+behind_more zero zero (x ∷ xs) i h = h
+behind_more zero (suc m) (x ∷ xs) i h = behind_more zero m xs (omega arith) h.1
+behind_more (suc k) zero (x ∷ xs) i h = absurd (omega (arith, i))
+behind_more (suc k) (suc m) (x ∷ xs) i h = behind_more k m xs (omega (arith, i)) h
+
+-- the first frame is taken
+pub behind_rest : (k m : ℕ) (x : OnWire) (xs : List OnWire) → k ≤ m + 1 → NoRnrBehind k (x ∷ xs) → NoRnrBehind m xs
+behind_rest zero m x xs i h = behind_more zero m xs (omega arith) h.1
+behind_rest (suc k) m x xs i h = behind_more k m xs (omega (arith, i)) h
+
+pub behind_push : (k : ℕ) (w : List OnWire) (y : OnWire) → is_rnr y.frame ≡ false → NoRnrBehind k w → NoRnrBehind k (w ++ y ∷ [])
+behind_push zero [] y e h = (e, tt)
+behind_push (suc k) [] y e h = tt
+behind_push zero (x ∷ xs) y e h = (h.0, behind_push zero xs y e h.1)
+behind_push (suc k) (x ∷ xs) y e h = behind_push k xs y e h
+
+pub behind_fits : (k : ℕ) (w : List OnWire) → NoRnrBehind k w → NoRnrBehind k (fits w)
+behind_fits k w h = go (nat_lt 64 (length w)) w h
+  where
+    go : (b : Bool) (v : List OnWire) → NoRnrBehind k v → NoRnrBehind k (cond b (drop 1 v) v)
+    go false v g = g
+    go true [] g = tt
+    go true (x ∷ xs) g = behind_rest k k x xs (omega arith) g
+
+pub behind_aged : (k : ℕ) (w : List OnWire) → NoRnrBehind k w → NoRnrBehind k (aged_wire w)
+behind_aged k [] h = tt
+behind_aged zero (x ∷ xs) h = go (nat_lt x.age 4) refl (behind_aged zero xs h.1)
+  where
+    go : (b : Bool) → nat_lt x.age 4 ≡ b → NoRnrBehind zero (aged_wire xs) → NoRnrBehind zero (aged_wire (x ∷ xs))
+    go true p later = rw p (h.0, later)
+    go false p later = rw p later
+behind_aged (suc k) (x ∷ xs) h = go (nat_lt x.age 4) refl (behind_aged k xs h)
+  where
+    go : (b : Bool) → nat_lt x.age 4 ≡ b → NoRnrBehind k (aged_wire xs) → NoRnrBehind (suc k) (aged_wire (x ∷ xs))
+    go true p later = rw p later
+    go false p later = rw p (behind_more k (suc k) (aged_wire xs) (omega arith) later)
+
+-- ## How far the place a of a sender has come on its way to be acknowledged, from one moment of a link to a later one
+-- The sender is the controller's end.
+
+-- ### Fronts of lists
+
+pub prefix_of : {X : Type 0} {xs ys : List X} → xs ≡ ys → IsPrefix xs ys
+prefix_of {xs = xs} e = ([], append-nil xs ∙ e)
+
+pub prefix_then : {X : Type 0} (xs ys zs : List X) → IsPrefix xs ys → IsPrefix ys zs → IsPrefix xs zs
+prefix_then xs ys zs p q = (p.0 ++ q.0, sym (append_assoc xs p.0 q.0) ∙ (ap (λ l. l ++ q.0) p.1 ∙ q.1))
+
+pub prefix_length : {X : Type 0} (xs ys : List X) → IsPrefix xs ys → length xs ≤ length ys
+prefix_length {X} xs ys p = omega (arith, length-append xs p.0, ap (length {A = X}) p.1)
+
+-- of two fronts of a list the shorter one is a front of the other
+pub prefix_within : {X : Type 0} (xs ys zs : List X) → IsPrefix xs zs → IsPrefix ys zs → length xs ≤ length ys → IsPrefix xs ys
+prefix_within [] ys zs p q i = (ys, refl)
+prefix_within (x ∷ xs) [] zs p q i = absurd (omega (arith, i))
+prefix_within {X} (x ∷ xs) (y ∷ ys) zs p q i = go zs p q (λ us a b. prefix_within xs ys us a b (omega (arith, i)))
+  where
+    go : (us : List X) → IsPrefix (x ∷ xs) us → IsPrefix (y ∷ ys) us → ((vs : List X) → IsPrefix xs vs → IsPrefix ys vs → IsPrefix xs ys)
+        → IsPrefix (x ∷ xs) (y ∷ ys)
+    go [] a b later = absurd (let z = a.1 in cc)
+    go (u ∷ us) a b later =
+        let head : x ≡ y = (let e : x ∷ (xs ++ a.0) ≡ u ∷ us = a.1 in let f : y ∷ (ys ++ b.0) ≡ u ∷ us = b.1 in cc) in
+        let one : xs ++ a.0 ≡ us = (let e : x ∷ (xs ++ a.0) ≡ u ∷ us = a.1 in cc) in
+        let two : ys ++ b.0 ≡ us = (let f : y ∷ (ys ++ b.0) ≡ u ∷ us = b.1 in cc) in
+        let r = later us (a.0, one) (b.0, two) in
+        (r.0, let e = r.1 in cc)
+
+-- ### The place a
+
+-- it is acknowledged
+abbrev pub Grown : ℕ → ShdlcLink → Type 0
+Grown a l = a < l.controller.side.session.acked
+
+-- the sender has sent all that is due
+abbrev pub IsIdle : ShdlcLink → Type 0
+IsIdle l = frame_due l.controller.side ≡ None
+
+-- an answer is on its way to the sender, or the place is acknowledged
+abbrev pub Answered : ℕ → ShdlcLink → Type 0
+Answered a l = Stands (Answers a) l.to_controller ⊎ Grown a l
+
+-- the fragment is on its way from it, or was answered
+abbrev pub Sent : ℕ → ShdlcLink → Type 0
+Sent a l = Stands (Brings a) l.to_host ⊎ Answered a l
+
+-- from the timer k on, t ticks were counted, and none of them was the tenth
+pub record Counted (k t : ℕ) (n : ShdlcLink) : Type 0 where
+  pub timer : n.controller.side.timer ≡ k + t
+  pub below : 0 < t → n.controller.side.timer < 10
+
+-- From the one moment to the other the sender took c frames, the other end d, and the sender had t ticks.
+pub record Advances (a c d t : ℕ) (m n : ShdlcLink) : Type 0 where
+  pub acked : m.controller.side.session.acked ≤ n.controller.side.session.acked
+  pub out : length m.controller.side.session.out ≤ length n.controller.side.session.out
+  pub front : IsPrefix m.controller.side.session.out n.controller.side.session.out
+  pub rnr : (j k : ℕ) → j ≤ k + c → NoRnrBehind j m.to_controller → NoRnrBehind k n.to_controller
+  pub idle : IsIdle m ⊎ (0 < t) → IsIdle n
+  pub answered : (j k : ℕ) → j ≤ k + c → a ≤ m.controller.side.session.acked → StandsIn (Answers a) j m.to_controller
+      → StandsIn (Answers a) k n.to_controller ⊎ Grown a n
+  pub sent : (j k : ℕ) → j ≤ k + d → a ≤ m.controller.side.session.acked → StandsIn (Brings a) j m.to_host
+      → StandsIn (Brings a) k n.to_host ⊎ Answered a n
+  pub waits : a ≤ m.controller.side.session.acked → a < length m.controller.side.session.out → NoRnrBehind 0 m.to_controller → IsIdle m
+      → Counted m.controller.side.timer t n ⊎ Sent a n
+
+module _ {a c d t : ℕ} {m n : ShdlcLink} (h : Advances a c d t m n) where
+  pub grown_still : Grown a m → Grown a n
+  grown_still g = omega (arith, h.acked)
+
+  pub answered_still : a ≤ m.controller.side.session.acked → Answered a m → Answered a n
+  answered_still low (inl g) = go (h.answered k k (omega arith) low (in_all (Answers a) m.to_controller g))
+    where
+      k : ℕ
+      k = length m.to_controller
+
+      go : StandsIn (Answers a) k n.to_controller ⊎ Grown a n → Answered a n
+      go (inl e) = inl (stands_in (Answers a) k n.to_controller e)
+      go (inr e) = inr e
+  answered_still low (inr g) = inr (grown_still g)
+
+  pub sent_still : a ≤ m.controller.side.session.acked → Sent a m → Sent a n
+  sent_still low (inl g) = go (h.sent k k (omega arith) low (in_all (Brings a) m.to_host g))
+    where
+      k : ℕ
+      k = length m.to_host
+
+      go : StandsIn (Brings a) k n.to_host ⊎ Answered a n → Sent a n
+      go (inl e) = inl (stands_in (Brings a) k n.to_host e)
+      go (inr e) = inr e
+  sent_still low (inr g) = inr (answered_still low g)
+
+-- one after another
+pub advances_then : {a c d t c' d' t' : ℕ} {m n o : ShdlcLink} → Advances a c d t m n → Advances a c' d' t' n o → Advances a (c + c') (d + d') (t + t') m o
+advances_then {a} {c} {d} {t} {c'} {d'} {t'} {m} {n} {o} g h =
+    record {
+      acked = omega (arith, g.acked, h.acked);
+      out = omega (arith, g.out, h.out);
+      front = prefix_then m.controller.side.session.out n.controller.side.session.out o.controller.side.session.out g.front h.front;
+      rnr = λ j k i r. h.rnr (k + c') k (omega arith) (g.rnr j (k + c') (omega arith) r);
+      idle = λ e. idle e;
+      answered = λ j k i low s. answered k low (g.answered j (k + c') (omega arith) low s);
+      sent = λ j k i low s. sent k low (g.sent j (k + d') (omega arith) low s);
+      waits = λ low more rnr idle. waits low more rnr idle (g.waits low more rnr idle);
+    }
+  where
+    low_then : a ≤ m.controller.side.session.acked → a ≤ n.controller.side.session.acked
+    low_then low = omega (arith, g.acked)
+
+    idle : IsIdle m ⊎ (0 < t + t') → IsIdle o
+    idle (inl e) = h.idle (inl (g.idle (inl e)))
+    idle (inr e) = elim (cases_lt 0 t') [
+      | inl i ↦ h.idle (inr i)
+      | inr i ↦ h.idle (inl (g.idle (inr (omega arith))))
+    ]
+
+    answered : (k : ℕ) → a ≤ m.controller.side.session.acked → StandsIn (Answers a) (k + c') n.to_controller ⊎ Grown a n
+        → StandsIn (Answers a) k o.to_controller ⊎ Grown a o
+    answered k low (inl e) = h.answered (k + c') k (omega arith) (low_then low) e
+    answered k low (inr e) = inr (grown_still h e)
+
+    sent : (k : ℕ) → a ≤ m.controller.side.session.acked → StandsIn (Brings a) (k + d') n.to_host ⊎ Answered a n
+        → StandsIn (Brings a) k o.to_host ⊎ Answered a o
+    sent k low (inl e) = h.sent (k + d') k (omega arith) (low_then low) e
+    sent k low (inr e) = inr (answered_still h (low_then low) e)
+
+    waits : a ≤ m.controller.side.session.acked → a < length m.controller.side.session.out → NoRnrBehind 0 m.to_controller → IsIdle m
+        → Counted m.controller.side.timer t n ⊎ Sent a n → Counted m.controller.side.timer (t + t') o ⊎ Sent a o
+    waits low more rnr still (inr e) = inr (sent_still h (low_then low) e)
+    waits low more rnr still (inl e) =
+        go (h.waits (low_then low) (omega (arith, g.out)) (g.rnr 0 0 (omega arith) rnr) (g.idle (inl still)))
+      where
+        below : Counted n.controller.side.timer t' o → 0 < t + t' → (0 < t') ⊎ (t' ≤ 0) → o.controller.side.timer < 10
+        below k i (inl j) = k.below j
+        below k i (inr j) = omega (arith, k.timer, e.below (omega arith))
+
+        go : Counted n.controller.side.timer t' o ⊎ Sent a o → Counted m.controller.side.timer (t + t') o ⊎ Sent a o
+        go (inr s) = inr s
+        go (inl k) = inl (record { timer = omega (arith, k.timer, e.timer); below = λ i. below k i (cases_lt 0 t') })
+
+-- ## An end sends all that is due: what this leaves of the end, and what stands on the wire then
+
+-- ### What the end is then
+
+-- sending changes none of these
+pub record SentSame (e f : EndState) : Type 0 where
+  pub phase : f.phase ≡ e.phase
+  pub ready : f.ready ≡ e.ready
+  pub timer : f.timer ≡ e.timer
+  pub window : f.session.window ≡ e.session.window
+  pub acked : f.session.acked ≡ e.session.acked
+  pub out : f.session.out ≡ e.session.out
+  pub acc : f.session.acc ≡ e.session.acc
+
+pub sent_same : (n : ℕ) (e : EndState) → SentSame e (after_frames n e)
+sent_same zero e = record { phase = refl; ready = refl; timer = refl; window = refl; acked = refl; out = refl; acc = refl }
+sent_same (suc n) e = go (one e) (sent_same n (fetched e))
+  where
+    one : (e : EndState) → SentSame e (fetched e)
+    one e =
+        fetch_cases (λ f c. SentSame e f) e
+        (λ d ds p. record { phase = refl; ready = refl; timer = refl; window = refl; acked = refl; out = refl; acc = refl })
+        (λ p q. record { phase = refl; ready = refl; timer = refl; window = refl; acked = refl; out = refl; acc = refl })
+        (λ info p q. record { phase = refl; ready = refl; timer = refl; window = refl; acked = refl; out = refl; acc = refl })
+
+    go : {f g : EndState} → SentSame e f → SentSame f g → SentSame e g
+    go a b =
+        record {
+          phase = b.phase ∙ a.phase;
+          ready = b.ready ∙ a.ready;
+          timer = b.timer ∙ a.timer;
+          window = b.window ∙ a.window;
+          acked = b.acked ∙ a.acked;
+          out = b.out ∙ a.out;
+          acc = b.acc ∙ a.acc;
+        }
+
+-- ### What is left of the link
+
+put_same : (l : ShdlcLink) (c : Control) → ((shdlc_put l c).to_controller ≡ l.to_controller) × ((shdlc_put l c).host ≡ l.host)
+put_same l c = go (is_rset c) refl
+  where
+    go : (b : Bool) → is_rset c ≡ b → ((shdlc_put l c).to_controller ≡ l.to_controller) × ((shdlc_put l c).host ≡ l.host)
+    go true q = rw q (refl, refl)
+    go false q = rw q (refl, refl)
+
+pub put_all_same : (cs : List Control) (l : ShdlcLink) → ((shdlc_put_all l cs).to_controller ≡ l.to_controller) × ((shdlc_put_all l cs).host ≡ l.host)
+put_all_same [] l = (refl, refl)
+put_all_same (c ∷ cs) l =
+    let one = put_same l c in
+    let more = put_all_same cs (shdlc_put l c) in
+    (more.0 ∙ one.0, more.1 ∙ one.1)
+
+-- ### What stands on the wire
+
+-- what was lost stays lost as frames go out
+pub out_lost : (cs : List Control) (n : Losses) (l : ShdlcLink) → (noted_all n l cs).lost ≡ false → n.lost ≡ false
+out_lost [] n l v = v
+out_lost (c ∷ cs) n l v = (or_parts n.lost (overflows (with_frame l.to_host c)) (out_lost cs (noted_loss n l c) (shdlc_put l c) v)).0
+
+module _ (P : Control → Type 0) (no_act : (c : Control) → is_act c ≡ true → P c → ⊥) where
+  -- one more frame of a session is put there, and none is lost
+  pub put_stands : (k : ℕ) (n : Losses) (l : ShdlcLink) (c : Control) → is_rset c ≡ false → (noted_loss n l c).lost ≡ false → StandsIn P k l.to_host
+      → StandsIn P k (shdlc_put l c).to_host
+  put_stands k n l c plain none h =
+      rw plain
+      (in_fits P no_act k (with_frame l.to_host c) (or_parts n.lost (overflows (with_frame l.to_host c)) none).1
+      (in_push P k l.to_host (record { frame = c; age = 0; number = 0 }) h))
+
+  put_new : (n : Losses) (l : ShdlcLink) (c : Control) → is_rset c ≡ false → (noted_loss n l c).lost ≡ false → P c → Stands P (shdlc_put l c).to_host
+  put_new n l c plain none p =
+      let w : List OnWire = with_frame l.to_host c in
+      let all : StandsIn P (length w) w = in_all P w (stands_new P l.to_host (record { frame = c; age = 0; number = 0 }) p) in
+      rw plain (stands_in P (length w) (fits w) (in_fits P no_act (length w) w (or_parts n.lost (overflows w) none).1 all))
+
+  -- an end sends all that is due
+  sent_stands : (k m : ℕ) (n : Losses) (e : EndState) (l : ShdlcLink) → AnswersOnly e.due → (noted_all n l (frames_of m e)).lost ≡ false
+      → StandsIn P k l.to_host → StandsIn P k (shdlc_put_all l (frames_of m e)).to_host
+  sent_stands k m n e l answers none h =
+      (sends_noted (λ n e l. AnswersOnly e.due × (n.lost ≡ false → StandsIn P k l.to_host)) each m n e l (answers, λ v. h)).1 none
+    where
+      each : (n : Losses) (e : EndState) (l : ShdlcLink) (c : Control) → frame_due e ≡ Some c → AnswersOnly e.due × (n.lost ≡ false → StandsIn P k l.to_host)
+          → AnswersOnly (fetched e).due × ((noted_loss n l c).lost ≡ false → StandsIn P k (shdlc_put l c).to_host)
+      each n e l c is g = (
+        fetched_answers e g.0,
+        λ v. put_stands k n l c (not_rset c (inl (data_due e c g.0 is).0)) v (g.1 (or_parts n.lost (overflows (with_frame l.to_host c)) v).0),
+      )
+
+  -- the first frame that is due
+  first_stands : (m : ℕ) (n : Losses) (e : EndState) (l : ShdlcLink) (c : Control) → AnswersOnly e.due → (noted_all n l (frames_of (suc m) e)).lost ≡ false
+      → frame_due e ≡ Some c → P c → Stands P (shdlc_put_all l (frames_of (suc m) e)).to_host
+  first_stands m n e l c answers none is p =
+      let lost : (noted_all (noted_loss n l c) (shdlc_put l c) (frames_of m (fetched e))).lost ≡ false = rw is at none in
+      let kept : (noted_loss n l c).lost ≡ false = out_lost (frames_of m (fetched e)) (noted_loss n l c) (shdlc_put l c) lost in
+      let w : List OnWire = (shdlc_put l c).to_host in
+      let new : Stands P w = put_new n l c (not_rset c (inl (data_due e c answers is).0)) kept p in
+      let all : StandsIn P (length w) (shdlc_put_all (shdlc_put l c) (frames_of m (fetched e))).to_host =
+      sent_stands (length w) m (noted_loss n l c) (fetched e) (shdlc_put l c) (fetched_answers e answers) lost (in_all P w new) in
+      rw is (stands_in P (length w) (shdlc_put_all (shdlc_put l c) (frames_of m (fetched e))).to_host all)
+
+-- the fragment that is due, behind all answers
+fragment_stands : (P : Control → Type 0) → ((c : Control) → is_act c ≡ true → P c → ⊥) → (ds : List Due) (m : ℕ) (n : Losses) (e : EndState) (l : ShdlcLink)
+    (info : Fragment) → e.due ≡ ds → length ds < m → AnswersOnly e.due → (noted_all n l (frames_of m e)).lost ≡ false
+    → fragment_due e.session ≡ Some info → P (I (e.session.next % 8) (expected e.session) info) → Stands P (shdlc_put_all l (frames_of m e)).to_host
+fragment_stands P no_act [] zero n e l info q i answers none is p = absurd (omega (arith, i))
+fragment_stands P no_act [] (suc m) n e l info q i answers none is p =
+    first_stands P no_act m n e l (I (e.session.next % 8) (expected e.session) info) answers none (rw (q, is) refl) p
+fragment_stands P no_act (d ∷ ds) zero n e l info q i answers none is p = absurd (omega (arith, i))
+fragment_stands P no_act (d ∷ ds) (suc m) n e l info q i answers none is p =
+    let first : frame_due e ≡ Some (control_due e d) = rw q refl in
+    let next : fetched e ≡ record e { due = ds } = rw q refl in
+    let rest : AnswersOnly ds = rw next at (fetched_answers e answers) in
+    rw (first, next)
+    (fragment_stands P no_act ds m (noted_loss n l (control_due e d)) (record e { due = ds }) (shdlc_put l (control_due e d)) info refl (omega (arith, i)) rest
+    (rw (first, next) at none) is p)
+
+-- ### Where no RNR is due
+
+not_rnr : (e : EndState) (c : Control) → NoRnr e.due → AnswersOnly e.due → frame_due e ≡ Some c → is_rnr c ≡ false
+not_rnr e c none answers is =
+    fetch_cases (λ f o. o ≡ Some c → is_rnr c ≡ false) e (λ d ds p q. control d ds (rw p at none) (rw p at answers) q) (λ p q n. cc)
+    (λ info p q n. ap is_rnr (sym (some (I (e.session.next % 8) (expected e.session) info) c n))) is
+  where
+    some : (k c : Control) → Some k ≡ Some c → k ≡ c
+    some k c e = cc
+
+    control : (d : Due) (ds : List Due) → NoRnr (d ∷ ds) → AnswersOnly (d ∷ ds) → Some (control_due e d) ≡ Some c → is_rnr c ≡ false
+    control Rr_due ds h a q = ap is_rnr (sym (some (control_due e Rr_due) c q))
+    control Rej_due ds h a q = ap is_rnr (sym (some (control_due e Rej_due) c q))
+    control Rnr_due ds h a q = absurd h
+    control _ ds h a q = absurd a
+
+no_rnr_rest : (d : Due) (ds : List Due) → NoRnr (d ∷ ds) → NoRnr ds
+no_rnr_rest Rnr_due ds h = absurd h
+no_rnr_rest _ ds h = h
+
+fetched_no_rnr : (e : EndState) → NoRnr e.due → NoRnr (fetched e).due
+fetched_no_rnr e h = fetch_cases (λ f o. NoRnr f.due) e (λ d ds p. no_rnr_rest d ds (rw p at h)) (λ p q. h) (λ info p q. h)
+
+sent_no_rnr : (k m : ℕ) (e : EndState) (l : ShdlcLink) → AnswersOnly e.due → NoRnr e.due → NoRnrBehind k l.to_host
+    → NoRnrBehind k (shdlc_put_all l (frames_of m e)).to_host
+sent_no_rnr k m e l answers none h =
+    (sends_keeps (λ e l. AnswersOnly e.due × NoRnr e.due × NoRnrBehind k l.to_host) each m e l (answers, none, h)).2
+  where
+    each : (e : EndState) (l : ShdlcLink) (c : Control) → frame_due e ≡ Some c → AnswersOnly e.due × NoRnr e.due × NoRnrBehind k l.to_host
+        → AnswersOnly (fetched e).due × NoRnr (fetched e).due × NoRnrBehind k (shdlc_put l c).to_host
+    each e l c is g =
+        let plain : is_rset c ≡ false = not_rset c (inl (data_due e c g.0 is).0) in
+        let put : NoRnrBehind k (fits (with_frame l.to_host c)) =
+        behind_fits k (with_frame l.to_host c)
+        (behind_push k l.to_host (record { frame = c; age = 0; number = 0 }) (not_rnr e c g.1 g.0 is) g.2) in
+        (fetched_answers e g.0, fetched_no_rnr e g.1, rw plain put)
+
+-- ## One end of a link has become e, has its turns and sends all that is due: how far this brings its own places, and those of the other end
+-- The controller's end is the near one.
 
 -- all from the first place that isn't acknowledged on is to be sent, or that place alone
 pub record StartsAgain (s : Session) : Type 0 where

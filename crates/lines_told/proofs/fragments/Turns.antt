@@ -1,7 +1,175 @@
--- What the turns of its node leave of an end that is up.
-use Rattle.lines_told.proofs.Words.{AnswersOnly, Bool, Due, EndState, Fragment, List, NoRnr, Offer, Rnr_due, Rr_due, SetReady, ShdlcTurn, Up, [], answers_more}
-use Rattle.lines_told.proofs.Words.{ap, append-nil, append_assoc, false, offer_up, ready_cases, refl, shdlc_turn, shdlc_turned, subst, sym, turn-phase, ◌++◌}
-use Rattle.lines_told.proofs.Words.{◌∙◌, ◌∷◌, ◌≡◌}
+-- What an end that is up has become when it took a frame, and what the turns of its node leave of it.
+use Rattle.lines_told.proofs.Words.{AnswersOnly, Bool, Control, Counts, Due, EndState, Fragment, I, IsData, Kind, List, NoRnr, Offer, OnWire, Option, Pair, Rej}
+use Rattle.lines_told.proofs.Words.{Rej_due, Rnr, Rnr_due, Rr, Rr_due, Rset, S, Session, SetReady, ShdlcTurn, ShowsAct, Some, Srej, Up, [], accepted}
+use Rattle.lines_told.proofs.Words.{acknowledged, ahead, answers_more, ap, append-nil, append_assoc, arith, cases_lt, counts_le, eqb-false, eqb-true, false}
+use Rattle.lines_told.proofs.Words.{inl, inr, is_act, is_rnr, le-ltb, length, length-append, ltb-false, ltb-true, made_busy, max, nat_lt, offer_up, place_of}
+use Rattle.lines_told.proofs.Words.{ready_again, ready_cases, received, refl, rejected, repeated, shdlc_turn, shdlc_turned, subst, sym, taken, taken_I, taken_S}
+use Rattle.lines_told.proofs.Words.{true, turn-phase, ℕ, ◌%◌, ◌++◌, ◌+◌, ◌<◌, ◌==◌, ◌∙◌, ◌∷◌, ◌≡◌, ◌≤◌, ◌⊎◌}
+use Rattle.link_laws.proofs.places.Joined.{place_found}
+
+-- ## What an end that is up and ready has become when it took a frame of its session
+
+-- the frame tells that the place a is accepted, where its number is valid and none below a is told
+abbrev pub Answers : ℕ → Control → Type 0
+Answers a (I ns nr info) = (nr ≡ a % 8) → ⊥
+Answers a (S Rr nr) = (nr ≡ a % 8) → ⊥
+Answers a (S Rej nr) = (nr ≡ a % 8) → ⊥
+Answers a (S Rnr nr) = (nr ≡ a % 8) → ⊥
+Answers a _ = ⊥
+
+-- the frame brings the fragment at the place a
+abbrev pub Brings : ℕ → Control → Type 0
+Brings a (I ns nr info) = ns ≡ a % 8
+Brings a _ = ⊥
+
+pub answers_no_act : (a : ℕ) (c : Control) → is_act c ≡ true → Answers a c → ⊥
+answers_no_act a (I _ _ _) q h = let z : false ≡ true = q in cc
+answers_no_act a (S _ _) q h = let z : false ≡ true = q in cc
+answers_no_act a _ q h = h
+
+pub brings_no_act : (a : ℕ) (c : Control) → is_act c ≡ true → Brings a c → ⊥
+brings_no_act a (I _ _ _) q h = let z : false ≡ true = q in cc
+brings_no_act a _ q h = h
+
+-- a length accepted that isn't a, where it is told modulo 8
+abbrev pub Differs : ℕ → ℕ → Type 0
+Differs r a = (r % 8 ≡ a % 8) → ⊥
+
+-- the end e took the frame c and has become f
+pub record Took (e f : EndState) (c : Control) : Type 0 where
+  pub answers : AnswersOnly f.due
+  pub few : length f.due ≤ 1
+  pub no_rnr : NoRnr f.due
+  pub window : f.session.window ≡ e.session.window
+  pub out : f.session.out ≡ e.session.out
+  pub acked : e.session.acked ≤ f.session.acked
+  pub grows : (a : ℕ) → a ≤ e.session.acked → Answers a c → a < f.session.acked
+  pub stays : is_rnr c ≡ false → f.session.acked ≡ e.session.acked
+      → (f.timer ≡ e.timer) ⊎ ((f.session.next ≡ f.session.acked) × (f.session.peer_busy ≡ false))
+  pub placed : (a : ℕ) → a ≤ length e.session.acc → length e.session.acc ≤ a + 4 → Brings a c
+      → ((ds : List Due) × (f.due ≡ Rr_due ∷ ds)) × Differs (length f.session.acc) a
+
+-- what an end that is ready does with a fragment, by cases
+received_ready : (P : EndState → Type 0) (e : EndState) (ns : ℕ) (info : Fragment) → e.ready ≡ true
+    → (ahead e.session ns ≡ 0 → P (accepted e info))
+    → ((ahead e.session ns ≡ 0 → ⊥) → ahead e.session ns < 4 → P e)
+    → ((ahead e.session ns ≡ 0 → ⊥) → ahead e.session ns < 4 → P (record e { due = e.due ++ Rej_due ∷ []; session = record e.session { gap_open = true } }))
+    → ((ahead e.session ns ≡ 0 → ⊥) → 4 ≤ ahead e.session ns → P (repeated e))
+    → P (received e ns info)
+received_ready P e ns info ready takes same gap repeat =
+    go (ahead e.session ns == 0) (nat_lt (ahead e.session ns) 4) e.session.gap_open refl refl refl
+  where
+    go : (b c d : Bool) → (ahead e.session ns == 0) ≡ b → nat_lt (ahead e.session ns) 4 ≡ c → e.session.gap_open ≡ d → P (received e ns info)
+    go true c d q r t = rw (ready, q) (rw ready at takes (eqb-true (ahead e.session ns) 0 q))
+    go false true true q r t = rw (ready, q, r, t) (rw (ready, t) at (same (eqb-false (ahead e.session ns) 0 q) (ltb-true (ahead e.session ns) 4 r)))
+    go false true false q r t = rw (ready, q, r, t) (rw ready at (gap (eqb-false (ahead e.session ns) 0 q) (ltb-true (ahead e.session ns) 4 r)))
+    go false false d q r t = rw (ready, q, r) (rw ready at (repeat (eqb-false (ahead e.session ns) 0 q) (ltb-false (ahead e.session ns) 4 r)))
+
+-- a number at or above a that isn't a modulo 8 is above it
+above : (a n : ℕ) → a ≤ n → (n % 8 ≡ a % 8 → ⊥) → a < n
+above a n i h = elim (cases_lt a n) [
+  | inl k ↦ k
+  | inr k ↦ absurd (h (let e : n ≡ a = omega arith in ap (λ (m : ℕ). m % 8) e))
+]
+
+ack_timer : (e : EndState) (n : ℕ) → n ≡ e.session.acked → (acknowledged e n).timer ≡ e.timer
+ack_timer e n q = let b : nat_lt e.session.acked n ≡ false = le-ltb e.session.acked n (omega arith) in rw b refl
+
+-- RR leaves the timer as it runs, or all that isn't acknowledged is to be sent
+rr_timer : (e : EndState) (n : ℕ) → n ≡ e.session.acked → ((ready_again e n).timer ≡ e.timer) ⊎ (((ready_again e n).session.next ≡ n) × (false ≡ false))
+rr_timer e n q = go (nat_lt n (max e.session.next n)) refl
+  where
+    go : (b : Bool) → nat_lt n (max e.session.next n) ≡ b → ((ready_again e n).timer ≡ e.timer) ⊎ (((ready_again e n).session.next ≡ n) × (false ≡ false))
+    go true p = inl (rw p (ack_timer e n q))
+    go false p = inr (let g = ltb-false n (max e.session.next n) p in omega arith, refl)
+
+module _ (e : EndState) (ready : e.ready ≡ true) (due : e.due ≡ []) (up : e.phase ≡ Up) where
+  abbrev s : Session
+  s = e.session
+
+  -- a frame of a fragment
+  took_I : (p n : ℕ) (info : Fragment) → place_of s (n % 8) ≡ Some n → s.acked ≤ n → Took e (taken e (I (p % 8) (n % 8) info)) (I (p % 8) (n % 8) info)
+  took_I p n info place low =
+      taken_I (λ g. Took e g c) e (p % 8) (n % 8) n info up place
+      (received_ready (λ g. Took e g c) f (p % 8) info ready
+      (λ z. from (s.acc ++ info ∷ []) (e.due ++ Rr_due ∷ []) (Rr_due ∷ []) false (one Rr_due) tt (omega arith) tt
+      (λ a i j k. (([], refl), λ d. let more : length (s.acc ++ info ∷ []) ≡ length s.acc + 1 = length-append s.acc (info ∷ []) in omega arith)))
+      (λ z g. from s.acc e.due [] s.gap_open due tt (omega arith) tt (λ a i j k. absurd (omega arith)))
+      (λ z g. from s.acc (e.due ++ Rej_due ∷ []) (Rej_due ∷ []) true (one Rej_due) tt (omega arith) tt (λ a i j k. absurd (omega arith)))
+      (λ z g. from s.acc (e.due ++ Rr_due ∷ []) (Rr_due ∷ []) s.gap_open (one Rr_due) tt (omega arith) tt
+      (λ a i j k. (([], refl), λ d. z (omega arith)))))
+    where
+      c : Control
+      c = I (p % 8) (n % 8) info
+
+      f : EndState
+      f = acknowledged e n
+
+      one : (d : Due) → e.due ++ d ∷ [] ≡ d ∷ []
+      one d = ap (λ (l : List Due). l ++ d ∷ []) due
+
+      from : (acc : List Fragment) (ds zs : List Due) (gap : Bool) → ds ≡ zs → AnswersOnly zs → length zs ≤ 1 → NoRnr zs
+          → ((a : ℕ) → a ≤ length s.acc → length s.acc ≤ a + 4 → (p % 8) ≡ a % 8 → ((rest : List Due) × (zs ≡ Rr_due ∷ rest)) × Differs (length acc) a)
+          → Took e (record f { due = ds; session = record f.session { acc = acc; gap_open = gap } }) c
+      from acc ds zs gap q answers few none placed =
+          record {
+            answers = rw q answers;
+            few = rw q few;
+            no_rnr = rw q none;
+            window = refl;
+            out = refl;
+            acked = low;
+            grows = λ a i h. above a n (omega arith) h;
+            stays = λ r k. inl (ack_timer e n k);
+            placed = λ a i j k. let g = placed a i j k in ((g.0.0, q ∙ g.0.1), g.1);
+          }
+
+  -- a control frame
+  took_S : (k : Kind) (n : ℕ) → place_of s (n % 8) ≡ Some n → s.acked ≤ n → Took e (taken e (S k (n % 8))) (S k (n % 8))
+  took_S k n place low =
+      taken_S (λ g. Took e g (S k (n % 8))) e k (n % 8) n up place
+      (record {
+        rr = λ is. rw is (from Rr (ready_again e n) due refl refl low (λ a i h. above a n (omega arith) h) (λ r q. rr_timer e n q));
+        rej = λ is. rw is (from Rej (rejected e n) due refl refl low (λ a i h. above a n (omega arith) h) (λ r q. inr (refl, refl)));
+        rnr = λ is. rw is (from Rnr (made_busy e n) due refl refl low (λ a i h. above a n (omega arith) h) (λ r q. absurd (let z : true ≡ false = r in cc)));
+        srej = λ is. rw is (from Srej e due refl refl (omega arith) (λ a i h. absurd h) (λ r q. inl refl));
+      })
+    where
+      from : (k : Kind) (g : EndState) → g.due ≡ [] → g.session.window ≡ s.window → g.session.out ≡ s.out → s.acked ≤ g.session.acked
+          → ((a : ℕ) → a ≤ s.acked → Answers a (S k (n % 8)) → a < g.session.acked)
+          → (is_rnr (S k (n % 8)) ≡ false → g.session.acked ≡ s.acked
+          → (g.timer ≡ e.timer) ⊎ ((g.session.next ≡ g.session.acked) × (g.session.peer_busy ≡ false)))
+          → Took e g (S k (n % 8))
+      from k g none window out acked grows stays =
+          record {
+            answers = rw none tt;
+            few = rw none (omega arith);
+            no_rnr = rw none tt;
+            window = window;
+            out = out;
+            acked = acked;
+            grows = grows;
+            stays = stays;
+            placed = λ a i j h. absurd h;
+          }
+
+  -- a frame on its way to it
+  pub took : {r : Session} {x : OnWire} {here : List OnWire} {there : Option (List OnWire)} → IsData x.frame → Pair e.session r (x ∷ here) there
+      → Took e (taken e x.frame) x.frame
+  took {r} {x} {here} d h = go h.comes.marks h.comes.shows h.comes.counts
+    where
+      number : (n : ℕ) (ms : List Control) → Counts n (length r.acc) ms → e.session.acked ≤ n → place_of e.session (n % 8) ≡ Some n
+      number n ms counts low =
+          let high : n ≤ length r.acc = counts_le n (length r.acc) ms counts in
+          place_found e.session n low (omega (arith, h.mine.fits)) (omega (arith, h.mine.within, h.mine.most))
+
+      go : (ms : List Control) → ShowsAct (x ∷ here) ms → Counts e.session.acked (length r.acc) ms → Took e (taken e x.frame) x.frame
+      go [] shows counts = absurd (let k : IsData (Rset shows.0.0 shows.0.1) = rw shows.0.2 at d in k)
+      go (I p n info ∷ ms) shows counts = rw shows.0 (took_I p n info (number n ms counts.1 counts.0) counts.0)
+      go (S k n ∷ ms) shows counts = rw shows.0 (took_S k n (number n ms counts.1 counts.0) counts.0)
+      go _ shows counts = absurd counts
+
+-- ## What the turns of its node leave of an end that is up
 
 no_rnr_more : (ds : List Due) → NoRnr ds → NoRnr (ds ++ Rr_due ∷ [])
 no_rnr_more [] a = tt

@@ -11,7 +11,7 @@ use Rattle.lines_told.proofs.Words.{shdlc_turned, subst, sym, take_answer, taken
 use Rattle.lines_told.proofs.Words.{turned-phase, up_with, waiting_from, with_shdlc_ended, ℕ, ◌++◌, ◌+◌, ◌<◌, ◌==◌, ◌∙◌, ◌∷◌, ◌≡◌}
 use Rattle.shdlc_core.specs.declared.answers.LinkState.{LinkState}
 use Rattle.link_laws.specs.sessions.Sessions.IsShdlcStart.{BothUp, BothDown}
-use Rattle.lines_told.proofs.fragments.Sends.{sent_same, put_all_same}
+use Rattle.lines_told.proofs.fragments.Becomes.{put_all_same, sent_same}
 use Rattle.lines_told.proofs.fragments.NearSteps.{ended_wires}
 
 -- an end that is up may send

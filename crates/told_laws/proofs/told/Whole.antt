@@ -10,8 +10,7 @@ use Rattle.told_laws.proofs.Words.{◌≤◌}
 use Rattle.trace_model.specs.declared.line.Line.TheVariants as line
 use Rattle.told_laws.proofs.texts.ReadLemmas.{said_in}
 use Rattle.history.specs.Histories.{Step}
-use Rattle.lines_told.proofs.lines.Resting.{at_most, few_plays}
-use Rattle.lines_told.proofs.lines.Told.{behind-append, told_nodes}
+use Rattle.lines_told.proofs.lines.Told.{at_most, behind-append, few_plays, told_nodes}
 use Rattle.told_laws.proofs.told.Lines.{each_all, host_low}
 use Rattle.told_laws.proofs.told.Coming.{front_each, back_each}
 use Rattle.told_laws.proofs.told.BarePlays.{bare_told_in}

@@ -8,7 +8,7 @@ use Rattle.world_laws.proofs.Words.{core_ticks_if_waiting, core_ticks_or_cut, co
 use Rattle.world_laws.proofs.Words.{is_waiting, map, new_end, not, not-true, refl, reset_by, reset_refusal, reset_with, sent_same, subst, sym, tick_so, true}
 use Rattle.world_laws.proofs.Words.{window_of, ℕ, ◌&&◌, ◌++◌, ◌∙◌, ◌∷◌, ◌≡◌, ◌⊎◌}
 use Rattle.link_laws.proofs.sessions.Ties.{turned-phase}
-use Rattle.lines_told.proofs.fragments.Events.{tick_host}
+use Rattle.lines_told.proofs.fragments.Law.{tick_host}
 use Rattle.lines_told.proofs.fragments.Wide.{silent_host}
 
 -- an end whose node has lost power is down

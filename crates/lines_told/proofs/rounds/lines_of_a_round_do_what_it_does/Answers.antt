@@ -1,4 +1,4 @@
-use Rattle.lines_told.proofs.lines.NodeRounds.{takes_so, round_is, round_told}
+use Rattle.lines_told.proofs.lines.Told.{round_is, round_told, takes_so}
 use Rattle.lines_told.proofs.rounds.lines_of_a_round_do_what_it_does.Goals as goal
 
 pub returns-clause-end : goal.returns-clause-end

@@ -1,5 +1,4 @@
-use Rattle.lines_told.proofs.lines.NodeRounds.{round_behind_goes, played_rounds, sure_with_round}
-use Rattle.lines_told.proofs.lines.Told.{told_round, told_rounds, told_settling}
+use Rattle.lines_told.proofs.lines.Told.{played_rounds, round_behind_goes, sure_with_round, told_round, told_rounds, told_settling}
 use Rattle.lines_told.proofs.rounds.rounds_behind_plays_are_rounds_of_nodes.Goals as goal
 
 pub returns-clause-round : goal.returns-clause-round

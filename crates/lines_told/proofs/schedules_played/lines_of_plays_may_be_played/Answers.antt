@@ -1,4 +1,4 @@
-use Rattle.lines_told.proofs.lines.Lines.{round_known, may_play, sure_below, lines_may_be_played}
+use Rattle.lines_told.proofs.lines.Told.{lines_may_be_played, may_play, round_known, sure_below}
 use Rattle.lines_told.proofs.schedules_played.lines_of_plays_may_be_played.Goals as goal
 
 pub returns-clause-rounds : goal.returns-clause-rounds

@@ -1,4 +1,4 @@
-use Rattle.lines_told.proofs.lines.Resting.{at_most, rests_then, moves_before, nodes_come_to_rest}
+use Rattle.lines_told.proofs.lines.Told.{at_most, moves_before, nodes_come_to_rest, rests_then}
 use Rattle.lines_told.proofs.schedules_played.links_settle_soonest.Goals as goal
 
 pub returns-clause-most : goal.returns-clause-most

@@ -1,4 +1,4 @@
-use Rattle.lines_told.proofs.lines.Plays.{played_more, plays_more, played_alone}
+use Rattle.lines_told.proofs.lines.Told.{played_alone, played_more, plays_more}
 use Rattle.lines_told.proofs.schedules_played.plays_come_to_lines_one_after_another.Goals as goal
 
 pub returns-clause-play : goal.returns-clause-play

@@ -1,5 +1,4 @@
-use Rattle.lines_told.proofs.lines.Plays.{few_said, plays_for}
-use Rattle.lines_told.proofs.lines.Resting.{few_rounds, few_plays}
+use Rattle.lines_told.proofs.lines.Told.{few_plays, few_rounds, few_said, plays_for}
 use Rattle.lines_told.proofs.schedules_played.schedules_have_few_plays.Goals as goal
 
 pub returns-clause-said : goal.returns-clause-said

@@ -1,4 +1,4 @@
-use Rattle.lines_told.proofs.lines.Plays.{played_alone}
+use Rattle.lines_told.proofs.lines.Told.{played_alone}
 use Rattle.swp_tool.specs.Schedules.{schedule_in}
 use Rattle.swp_tool.proofs.Fitting.{history_played, only_history, whole_fits}
 use Rattle.swp_tool.proofs.played.a_schedule_has_one_history.Goals as goal

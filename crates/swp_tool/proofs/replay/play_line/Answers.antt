@@ -8,7 +8,7 @@ use Rattle.schedule_text.specs.Entries.{entry_line, entry_lines}
 use Rattle.lines_told.specs.lines.Below.{told_below, misread_below}
 use Rattle.lines_told.specs.lines.Plays.{Play, lines_played, plays_of, schedule_told}
 use Rattle.lines_told.specs.lines.Plays.Play.{Said}
-use Rattle.lines_told.proofs.lines.Plays.{no_more_rounds, one_said}
+use Rattle.lines_told.proofs.lines.Told.{no_more_rounds, one_said}
 use Rattle.world.specs.Worlds.{IsWorldAt, world_header}
 use Rattle.swp_tool.specs.declared.replay.Halt.{Halt}
 use Rattle.swp_tool.specs.Replays.{Runs, halt_of, HaltsOn}

@@ -4,7 +4,7 @@ use Rattle.world.proofs.Words.{Said, World}
 use Rattle.world.specs.declared.world_steps.Below.TheVariants.{Bare, Nodes}
 use Rattle.world.proofs.Below.{bare_faults, bare_may, bare_room, bare_stands, bare_sure, bare_tells, stands_nodes}
 use Rattle.world.proofs.Histories.{world_legal}
-use Rattle.lines_told.proofs.lines.Plays.{few_with_said}
+use Rattle.lines_told.proofs.lines.Told.{few_with_said}
 use Rattle.world.proofs.Playing.{line_fits, stands_with_line}
 use Rattle.world.proofs.world_steps.World.step.Goals as goal
 
