@@ -39,7 +39,7 @@ use Rattle.lines_told.specs.lines.Plays.Play.{Said, Round}
 use Rattle.lines_told.specs.lines.RoundLines.{IsRoundLine}
 use Rattle.lines_told.proofs.lines.Told.{after-append, few_said, lines-append, lines_may_be_played, played_more, plays_for, plays_more, round_first}
 use Rattle.lines_told.proofs.lines.Told.{round_known, sure_below}
-use Rattle.told_laws.proofs.told.Plays.{keeps_hosts}
+use Rattle.told_laws.proofs.told.BarePlays.{keeps_hosts}
 use Rattle.swp_tool.specs.Schedules.{Stop, Too_many, Schedule, nothing_read, with_played, ended}
 use Rattle.swp_tool.specs.Schedules.{misread_there, and_said, and_line, and_lines, schedule_in}
 use Rattle.swp_tool.specs.Transcripts.{link_steps_from, link_history, nodes_history, history_below, IsPlayedText}

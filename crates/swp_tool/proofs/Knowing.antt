@@ -6,8 +6,7 @@ use Rattle.std.specs.Str.Lines.{lines}
 use Rattle.trace_model.specs.declared.entry.Entry.{Entry}
 use Rattle.trace_model.specs.declared.line.Header.{Header}
 use Rattle.told_laws.specs.texts.Ranges.{IsNumber, IsEntry}
-use Rattle.told_laws.proofs.texts.CleanLemmas.{IsCleanLine, number_clean}
-use Rattle.told_laws.proofs.texts.ShownLemmas.{same_ended}
+use Rattle.told_laws.proofs.texts.ShownLemmas.{IsCleanLine, number_clean, same_ended}
 use Rattle.schedule_text.specs.Entries.{entry_lines}
 use Rattle.lines_told.specs.lines.Plays.{schedule_told}
 use Rattle.told_laws.proofs.told.Whole.{schedule_told_in}

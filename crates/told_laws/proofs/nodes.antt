@@ -1,15 +1,7 @@
-pub mod Sides
 pub mod Machines
-pub mod Ranges
-pub mod Linking
 pub mod Commands
-pub mod Deeds
 pub mod Hosts
 pub mod Works
-pub mod Worlds
 pub mod Happenings
-pub mod Histories
-pub mod Lines
-pub mod Bounds
 pub mod Rounds
 pub mod Schedules

@@ -1,11 +1,4 @@
-pub mod Ends
-pub mod Wires
-pub mod Linked
 pub mod Links
-pub mod Noting
 pub mod Notes
-pub mod Lines
-pub mod Plays
-pub mod Coming
 pub mod BarePlays
 pub mod Whole

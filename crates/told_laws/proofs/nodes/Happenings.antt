@@ -1,30 +1,282 @@
--- Whatever happens to a world of nodes keeps it, and what is noted of it, in range.
-use Rattle.told_laws.proofs.Words.{Activates, AllByRecursion, Arms, AsksReset, AtEnd, Bool, Boots, Broken, Comes, Controller, CutOff, Deed, Desk, End, Entry}
-use Rattle.told_laws.proofs.Words.{Gives, GoesOut, Happening, Host, Inits, IsCut, Link, List, Lose, Loses, Loss, Memory, Message, NextFrame, NoInput, NodeWorld}
-use Rattle.told_laws.proofs.Words.{None, Option, Orders, Reset, Resets, Running, Sends, Site, Some, Starts, Step, Takes, Tick, Ticks, TimePasses, Work, []}
-use Rattle.told_laws.proofs.Words.{activates, after_planned, aged, aged_entries, all_aged, all_changed, all_map, arith, at, beginning, begins_with, boot_found}
-use Rattle.told_laws.proofs.Words.{boot_writes, boot_written, boots, by_boot, by_coming, by_controller, by_controller_tick, by_host_tick, by_loss, by_memory}
-use Rattle.told_laws.proofs.Words.{by_power, by_running, by_test, comes_at, cond_both, controller_does, controller_ticks, controller_work, counts, each-append}
-use Rattle.told_laws.proofs.Words.{end_c, end_h, ending_of, entries_for, exchanged, false, first_lost, flat_map, frame_lost, frames_noted, happens}
-use Rattle.told_laws.proofs.Words.{happens_at_controller, has_input, host_cut, host_does, host_tick, host_ticks, hosts_tick, is_command_message, is_late_at}
-use Rattle.told_laws.proofs.Words.{is_waiting, link_after_controller, link_to, links_of, loses_power_at, map, memory_at, min, near_tick, new_desk, not, sending}
-use Rattle.told_laws.proofs.Words.{site_lost, steps, subst, ticked_so, ticks_at_controller, true, turns_at, with_memory, with_node, work_of, world_step}
-use Rattle.told_laws.proofs.Words.{world_ticks, ℕ, ◌&&◌, ◌++◌, ◌+◌, ◌<◌, ◌==◌, ◌∷◌, ◌≡◌, ◌≤◌}
+-- A world of nodes, whatever happens to it, stays in its range, and so does what is noted of it.
+use Rattle.told_laws.proofs.Words.{Activates, AllByRecursion, ArePipeRows, Arms, AsksReset, AtEnd, Bare, Bool, Boots, Broken, Comes, Controller, CutOff, Deed}
+use Rattle.told_laws.proofs.Words.{Desk, End, Ending, Entry, Gives, GoesOut, Happening, Host, Inits, IsCut, Link, LinkEnd, LinkInput, List, Lose, Loses, Loss}
+use Rattle.told_laws.proofs.Words.{Memory, Message, NextFrame, NoInput, NodeWorld, None, NumberedEnd, OnWire, Option, Orders, Plan, Port, Reset, Resets}
+use Rattle.told_laws.proofs.Words.{Running, Sends, Side, Site, Some, Start, Starts, Step, Stop, Stops, Take, Takes, Tick, Ticks, TimePasses, Work, []}
+use Rattle.told_laws.proofs.Words.{activates, after_controller, after_host, after_planned, aged, aged_entries, all_aged, all_changed, all_map, all_mapped}
+use Rattle.told_laws.proofs.Words.{arith, arrival, at, beginning, begins_with, boot_found, boot_writes, boot_written, boots, by_boot, by_coming, by_controller}
+use Rattle.told_laws.proofs.Words.{by_controller_tick, by_host, by_host_tick, by_list, by_loss, by_memory, by_option, by_power, by_running, by_test, changed_if}
+use Rattle.told_laws.proofs.Words.{comes_at, comes_to, cond_both, controller_does, controller_ticks, controller_work, counts, each-append, end_c, end_h}
+use Rattle.told_laws.proofs.Words.{ending_entries, ending_of, entries_for, eqb, exchanged, false, first_lost, flat_map, frame_lost, frames_noted, frames_out}
+use Rattle.told_laws.proofs.Words.{happens, happens_at_controller, has_input, host_cut, host_does, host_tick, host_ticks, host_work, hosts_tick, input_of}
+use Rattle.told_laws.proofs.Words.{is_command_message, is_late_at, is_waiting, link_after_controller, link_to, links_of, loses_power_at, map, memory_at, min}
+use Rattle.told_laws.proofs.Words.{near_end_in, near_tick, new_desk, new_link, not, number_of, port_at, port_for, refl, runs_on, sending, site_at, site_lost}
+use Rattle.told_laws.proofs.Words.{steps, subst, ticked_so, ticks_at_controller, took_low, took_with, true, turns_at, wires_for, with_memory, with_node}
+use Rattle.told_laws.proofs.Words.{with_site, work_of, world_step, world_ticks, ℕ, ◌&&◌, ◌++◌, ◌+◌, ◌<◌, ◌==◌, ◌∷◌, ◌≡◌, ◌≤◌}
 use Rattle.link_laws.specs.messages.Links.LinkEvent.{AtController}
-use Rattle.told_laws.proofs.told.Links.{IsLowWindow}
-use Rattle.told_laws.proofs.nodes.Sides.{IsMail, IsLineFrame}
-use Rattle.told_laws.proofs.nodes.Machines.{AreTurnsIn}
-use Rattle.told_laws.proofs.nodes.Ranges.{IsNotedIn, AreIn, each_in, in-append, all_in_more, all_entries_in}
-use Rattle.told_laws.proofs.told.Noting.{frames_on, noted_aged, noted_first}
-use Rattle.told_laws.proofs.told.Linked.{so_aged, so_lost}
-use Rattle.told_laws.proofs.nodes.Linking.{LinkIn, ComesIn, link_exchanged, link_has_input, link_steps}
-use Rattle.told_laws.proofs.nodes.Deeds.{IsInitIn, IsDeskIn, AreDeedsIn}
-use Rattle.told_laws.proofs.nodes.Works.{IsWorkIn, steps_in, begins_in}
-use Rattle.told_laws.proofs.nodes.Worlds.{IsNodeIn, IfNodeIn, IsSiteIn, IsWorldIn, IfTables, SitesHave, world_more, sites_more, site_changed, link_there}
-use Rattle.told_laws.proofs.nodes.Worlds.{noted_frames, turns_of, still_runs, work_begins, comes_input, IsStepIn, nothing_done, controller_step, host_step}
-use Rattle.told_laws.proofs.nodes.Worlds.{work_more}
+use Rattle.node_laws.proofs.telling.Events.{site_host, site_is}
+use Rattle.told_laws.proofs.nodes.Commands.{AreIn, AreNotedIn, AreTablesIn, ComesIn, IsNotedIn, LinkIn, NumberedIn, all_entries_in, all_in_more, each_in}
+use Rattle.told_laws.proofs.nodes.Commands.{in-append, link_exchanged, link_has_input, link_in_more, link_steps, no_link_in}
+use Rattle.told_laws.proofs.nodes.Hosts.{AreDeedsIn, IfBytes, IfInit, IsDeskIn, IsInitIn}
+use Rattle.told_laws.proofs.nodes.Machines.{AreTurnsIn, IsInputIn, IsLineFrame, IsMail, SideIn, out_in}
+use Rattle.told_laws.proofs.nodes.Works.{ArePortsIn, IsPortIn, IsWorkIn, begins_in, port_more, steps_in}
+use Rattle.told_laws.proofs.told.Links.{IsLowWindow, WireIs, so_aged, so_lost}
+use Rattle.told_laws.proofs.told.Notes.{AreFrames, frames_on, noted_aged, noted_first, noted_puts}
 
--- ## What comes to an end
+-- ## A world of nodes, whatever happens to it: its links and nodes, and what is noted, are in their ranges
+
+-- ### What is kept
+
+-- a node that runs, but for its tables
+pub record IsNodeIn (r : Running) : Type 0 where
+  pub number : r.core.node ≤ 7
+  pub command : IfBytes r.core.command
+  pub init : IfInit r.core.init
+  pub desks : AllByRecursion IsDeskIn r.desks
+
+abbrev pub IfNodeIn : Option Running → Type 0
+IfNodeIn None = Unit {0}
+IfNodeIn (Some r) = IsNodeIn r
+
+pub record IsSiteIn (n : ℕ) (s : Site) : Type 0 where
+  pub host : s.host ≤ 7
+  pub link : LinkIn false true n s.link
+  pub node : IfNodeIn s.node
+
+pub record IsWorldIn (n : ℕ) (w : NodeWorld) : Type 0 where
+  pub sites : AllByRecursion (IsSiteIn n) w.sites
+  pub controller : IfNodeIn w.controller
+
+-- the tables of a node that runs
+pub record HasTables (r : Running) : Type 0 where
+  pub tables : AreTablesIn r.core.tables
+  pub rows : ArePipeRows r.core.tables.rows
+
+abbrev pub IfTables : Option Running → Type 0
+IfTables None = Unit {0}
+IfTables (Some r) = HasTables r
+
+abbrev pub SitesHave : List Site → Type 0
+SitesHave sites = AllByRecursion (λ (s : Site). IfTables s.node) sites
+
+-- ### Bounds
+
+work_more : (b : Bool) (n k : ℕ) → n ≤ k → (w : Work) → IsWorkIn b n w → IsWorkIn b k w
+work_more b n k more w a =
+    record {
+      core = a.core;
+      ports = all_mapped Port (IsPortIn b n) (IsPortIn b k) w.ports (port_more b n k more) a.ports;
+      entries = all_in_more n k w.entries more a.entries;
+    }
+
+-- ### Lists
+
+site_in_more : (n k : ℕ) → n ≤ k → (s : Site) → IsSiteIn n s → IsSiteIn k s
+site_in_more n k more s h = record { host = h.host; link = link_in_more false true n k s.link more h.link; node = h.node }
+
+sites_more : (n k : ℕ) → n ≤ k → (sites : List Site) → AllByRecursion (IsSiteIn n) sites → AllByRecursion (IsSiteIn k) sites
+sites_more n k more sites h = all_mapped Site (IsSiteIn n) (IsSiteIn k) sites (site_in_more n k more) h
+
+pub world_more : (n k : ℕ) (w : NodeWorld) → n ≤ k → IsWorldIn n w → IsWorldIn k w
+world_more n k w more h = record { sites = sites_more n k more w.sites h.sites; controller = h.controller }
+
+site_changed : (n k : ℕ) → n ≤ k → (h : ℕ) (f : Site → Site) → ((s : Site) → IsSiteIn n s → IsSiteIn k (f s)) → (sites : List Site)
+    → AllByRecursion (IsSiteIn n) sites → AllByRecursion (IsSiteIn k) (with_site h f sites)
+site_changed n k more h f one sites a =
+    all_map (IsSiteIn n) (IsSiteIn k) (λ (s : Site). changed_if (s.host == h) f s) (λ s is. go (s.host == h) s is) sites a
+  where
+    go : (b : Bool) (s : Site) → IsSiteIn n s → IsSiteIn k (changed_if b f s)
+    go true s is = one s is
+    go false s is = site_in_more n k more s is
+
+pub link_there : (n : ℕ) (sites : List Site) (h : ℕ) → AllByRecursion (IsSiteIn n) sites → LinkIn false true n (link_to sites h)
+link_there n sites h a = by_option (site_at sites h)
+    (λ q. rw q (link_in_more false true 0 n (new_link Bare Bare) (omega arith) (no_link_in false true)))
+    (λ s q. rw q (site_is (IsSiteIn n) sites h s a q).link)
+
+-- ### Frames
+
+ending_noted : (b : Bool) (n : ℕ) (who : Side) (l : Link) (e : LinkEnd) (ending : Ending) → SideIn b n e → AreFrames IsLineFrame l.to_host
+    → AreNotedIn n (ending_entries who l e ending)
+ending_noted b n who l e GoesOut is h = noted_puts IsLineFrame IsMail IsMail n who (frames_out e) l (out_in b n e is) h
+ending_noted b n who l e CutOff is h = (tt, tt)
+
+-- the end of the link with a host is one of them
+port_found : (b : Bool) (n : ℕ) (ports : List Port) (h : ℕ) (p : Port) → ArePortsIn b n ports → port_at ports h ≡ Some p → IsPortIn b n p
+port_found b n [] h p a q = absurd (cc q)
+port_found b n (x ∷ ports) h p a q =
+    cond_both (eqb x.desk.host h) (Some x) (port_at ports h) (λ o. o ≡ Some p → IsPortIn b n p)
+    (λ _ z. let same : x ≡ p = cc in subst (IsPortIn b n) same a.0) (λ _ z. port_found b n ports h p a.1 z) q
+
+module _ (b : Bool) (n : ℕ) (k : Work) (a : IsWorkIn b n k) where
+  noted_frames : (who : Side) (h : ℕ) (l : Link) → h ≤ 7 → AreFrames IsLineFrame l.to_host → AreIn n (frames_noted who h l k)
+  noted_frames who h l small wire = by_option (port_at k.ports h)
+      (λ q. rw q tt)
+      (λ p q. rw q (all_entries_in h n (omega (arith, small)) (ending_entries who l p.side (ending_of k))
+      (ending_noted b n who l p.side (ending_of k) (port_found b n k.ports h p a.ports q).side wire)))
+
+  turns_of : (h : ℕ) → AreTurnsIn (turns_at k h)
+  turns_of h = by_option (port_at k.ports h) (λ q. rw q tt) (λ p q. rw q (port_found b n k.ports h p a.ports q).turns)
+
+  still_runs : IfNodeIn (runs_on k)
+  still_runs = cond_both k.cut None (Some (record { core = k.core; desks = map (λ (p : Port). p.desk) k.ports })) IfNodeIn (λ _. tt)
+      (λ _. record { number = a.core.node; command = a.core.command; init = a.core.init; desks = desks })
+    where
+      desks : AllByRecursion IsDeskIn (map (λ (p : Port). p.desk) k.ports)
+      desks = all_map (IsPortIn b n) IsDeskIn (λ (p : Port). p.desk) (λ p is. is.desk) k.ports a.ports
+
+-- ### Steps of a node
+
+-- what is known of the near ends of links
+number_low : (b : Bool) (n : ℕ) (h : NumberedEnd) → NumberedIn b n h → number_of h ≤ n
+number_low b n h is = let e = is.emitted in let t = is.took in omega (arith, e, t)
+
+near_in : (b c : Bool) (n : ℕ) (l : Link) (comes : Comes) → LinkIn b c n l → NumberedIn b n (near_end_in l comes)
+near_in b c n l NextFrame h = go l.to_controller refl
+  where
+    by : List OnWire → NumberedEnd
+    by [] = l.controller
+    by (x ∷ xs) = record l.controller { took = took_with l.controller.took x }
+
+    go : (w : List OnWire) → l.to_controller ≡ w → NumberedIn b n (by w)
+    go [] q = h.near
+    go (x ∷ xs) q =
+        let wire : WireIs IsLineFrame n (x ∷ xs) = subst (WireIs IsLineFrame n) q h.to_near in
+        record {
+          side = h.near.side;
+          emitted = h.near.emitted;
+          took = took_low n l.controller.took x h.near.took wire.frames.0.number;
+        }
+near_in b c n l _ h = h.near
+
+arrives_in : (b c : Bool) (n : ℕ) (who : Side) (l : Link) (comes : Comes) → LinkIn b c n l → AreNotedIn n (arrival who l comes)
+arrives_in b c n who l NextFrame h = by_list l.to_controller
+    (λ q. rw q tt)
+    (λ x xs q. rw q (let wire : WireIs IsLineFrame n (x ∷ xs) = subst (WireIs IsLineFrame n) q h.to_near in (wire.frames.0.frame, tt)))
+arrives_in b c n who l _ h = tt
+
+work_begins : (b : Bool) (n : ℕ) (r : Running) (plan : Option Plan) (near_ends : ℕ → NumberedEnd) (t : List Entry) → IsNodeIn r → HasTables r
+    → ((h : ℕ) → NumberedIn b n (near_ends h)) → AreIn n t → IsWorkIn b n (work_of r plan near_ends t)
+work_begins b n r plan near_ends t is has are noted = record {
+  core = record { node = is.number; tables = has.tables; rows = has.rows; command = is.command; init = is.init };
+  ports = all_map IsDeskIn (IsPortIn b n) (λ (d : Desk). port_for (near_ends d.host) d)
+      (λ d h. record { desk = h; side = (are d.host).side.side; session = number_low b n (near_ends d.host) (are d.host); turns = tt }) r.desks is.desks;
+  entries = noted;
+}
+
+wires_on : (b c : Bool) (n : ℕ) (l : Link) (comes : Comes) → LinkIn b c n l → AreFrames IsLineFrame (wires_for l comes).to_host
+wires_on b c n l (Starts value) h = tt
+wires_on b c n l Stops h = tt
+wires_on b c n l _ h = frames_on IsLineFrame n l.to_host h.to_far.frames
+
+-- what comes to an end is in its range
+comes_input : (b c : Bool) (n : ℕ) (l : Link) (comes : Comes) (i : LinkInput) → ComesIn b comes → LinkIn b c n l → input_of l comes ≡ Some i → IsInputIn b i
+comes_input b c n l NextFrame i may h q = go l.to_controller refl q
+  where
+    by : List OnWire → Option LinkInput
+    by [] = None
+    by (x ∷ xs) = Some (Take x.frame)
+
+    go : (w : List OnWire) → l.to_controller ≡ w → by w ≡ Some i → IsInputIn b i
+    go [] p z = absurd (cc z)
+    go (x ∷ xs) p z =
+        let wire : WireIs IsLineFrame n (x ∷ xs) = subst (WireIs IsLineFrame n) p h.to_near in
+        let same : Take x.frame ≡ i = cc in
+        subst (IsInputIn b) same wire.frames.0.frame
+comes_input b c n l (AsksReset window) i may h q = let same : Reset window ≡ i = cc in subst (IsInputIn b) same may
+comes_input b c n l (Starts value) i may h q = let same : Start value ≡ i = cc in subst (IsInputIn b) same may
+comes_input b c n l Stops i may h q = let same : Stop ≡ i = cc in subst (IsInputIn b) same tt
+comes_input b c n l NoInput i may h q = absurd (cc q)
+
+-- ### A step
+
+-- the world behind a step and what is noted of it
+pub record IsStepIn (n : ℕ) (p : NodeWorld × List Entry) : Type 0 where
+  pub world : IsWorldIn n p.0
+  pub noted : AreIn n p.1
+
+-- what a node does in a step keeps its range
+abbrev KeepsIn : Bool → ℕ → (Work → Work) → Type 0
+KeepsIn b n f = (v : Work) → IsWorkIn b n v → IsWorkIn b (n + 8) (f v)
+
+here_comes : (h : ℕ) (comes : Comes) (k : ℕ) → ComesIn false comes → ComesIn false (comes_to h comes k)
+here_comes h comes k may = cond_both (k == h) comes NoInput (ComesIn false) (λ _. may) (λ _. tt)
+
+module _ (n : ℕ) (w : NodeWorld) (is : IsWorldIn n w) where
+  after_step : (h : ℕ) (comes : Comes) (k : Work) → ComesIn false comes → IsWorkIn false (n + 8) k → IsStepIn (n + 13) (after_controller w h comes k)
+  after_step h comes k may a = record {
+    world = record {
+      sites = all_map (IsSiteIn n) (IsSiteIn (n + 13)) (link_after_controller h comes k)
+          (λ s x. record {
+            host = x.host;
+            link = link_steps false true n s.link (comes_to h comes s.host) (turns_at k s.host) (ending_of k) (here_comes h comes s.host may)
+                (turns_of false (n + 8) k a s.host) x.link;
+            node = x.node;
+          }) w.sites is.sites;
+      controller = still_runs false (n + 8) k a;
+    };
+    noted = all_in_more (n + 8) (n + 13) _ (omega arith)
+        (in-append (n + 8) k.entries _ a.entries
+        (each_in (n + 8) (IsSiteIn n) (λ (s : Site). frames_noted Controller s.host (wires_for s.link (comes_to h comes s.host)) k)
+        (λ s x. noted_frames false (n + 8) k a Controller s.host (wires_for s.link (comes_to h comes s.host)) x.host
+        (wires_on false true n s.link (comes_to h comes s.host) x.link)) w.sites is.sites));
+  }
+
+  nothing_done : IsStepIn (n + 13) (w, [])
+  nothing_done = record { world = world_more n (n + 13) w (omega arith) is; noted = tt }
+
+  controller_step : (h : ℕ) (comes : Comes) (f : Work → Work) → h ≤ 7 → ComesIn false comes → KeepsIn false n f → IfTables w.controller
+      → IsStepIn (n + 13) (controller_does w h comes f)
+  controller_step h comes f small may keeps has =
+      by_controller (IsStepIn (n + 13)) w h comes f nothing_done
+      (λ r q.
+      let near_ends : ℕ → NumberedEnd = λ k. near_end_in (link_to w.sites k) (comes_to h comes k) in
+      after_step h comes (controller_work w r h comes f) may
+      (keeps (work_of r w.memory.plan near_ends _)
+      (work_begins false n r w.memory.plan near_ends _ (subst IfNodeIn q is.controller) (subst IfTables q has)
+      (λ k. near_in false true n (link_to w.sites k) (comes_to h comes k) (link_there n w.sites k is.sites))
+      (all_entries_in h n (omega (arith, small)) (arrival Controller (link_to w.sites h) comes)
+      (arrives_in false true n Controller (link_to w.sites h) comes (link_there n w.sites h is.sites))))))
+
+  host_step : (h : ℕ) (comes : Comes) (f : Work → Work) → ComesIn true comes → KeepsIn true n f → SitesHave w.sites
+      → IsStepIn (n + 13) (host_does w h comes f)
+  host_step h comes f may keeps has =
+      by_host (IsStepIn (n + 13)) w h comes f nothing_done
+      (λ s r there q.
+      let here : IsSiteIn n s = site_is (IsSiteIn n) w.sites h s is.sites there in
+      let far : LinkIn true false n (exchanged s.link) = link_exchanged false true n s.link here.link in
+      let small = here.host in
+      let k : Work = host_work s r comes f in
+      let a : IsWorkIn true (n + 8) k =
+      keeps (work_of r s.memory.plan (λ j. near_end_in (exchanged s.link) comes) _)
+      (work_begins true n r s.memory.plan (λ j. near_end_in (exchanged s.link) comes) _ (subst IfNodeIn q here.node)
+      (subst IfTables q (site_is (λ (x : Site). IfTables x.node) w.sites h s has there))
+      (λ j. near_in true false n (exchanged s.link) comes far)
+      (all_entries_in s.host n (omega (arith, small)) (arrival Host (exchanged s.link) comes) (arrives_in true false n Host (exchanged s.link) comes far))) in
+      record {
+        world = record {
+          sites = site_changed n (n + 13) (omega arith) h (after_host comes k)
+              (λ x y. record {
+                host = y.host;
+                link = link_exchanged true false (n + 13) (happens_at_controller (exchanged x.link) (Step comes (turns_at k x.host) (ending_of k)))
+                    (link_steps true false n (exchanged x.link) comes (turns_at k x.host) (ending_of k) may (turns_of true (n + 8) k a x.host)
+                    (link_exchanged false true n x.link y.link));
+                node = still_runs true (n + 8) k a;
+              }) w.sites is.sites;
+          controller = is.controller;
+        };
+        noted = all_in_more (n + 8) (n + 13) _ (omega arith)
+            (in-append (n + 8) k.entries _ a.entries
+            (noted_frames true (n + 8) k a Host h (wires_for (exchanged s.link) comes) (host_low h s small there)
+            (wires_on true false n (exchanged s.link) comes far)));
+      })
+    where
+      host_low : (k : ℕ) (s : Site) → s.host ≤ 7 → site_at w.sites k ≡ Some s → k ≤ 7
+      host_low k s small q = let same = site_host w.sites k s q in omega (arith, small, same)
+
+-- ## Whatever happens to a world of nodes keeps it, and what is noted of it, in range
+
+-- ### What comes to an end
 
 -- tables of all nodes that run
 pub record WorldHas (w : NodeWorld) : Type 0 where
@@ -58,7 +310,7 @@ sending_in h m mail =
     cond_both (m.0 == 1 && is_command_message m.1) (Orders m.1 ∷ []) (Sends h m ∷ []) AreDeedsIn
     (λ _. (record { some = mail.some; bytes = mail.bytes; short = mail.short }, tt)) (λ _. (mail, tt))
 
--- ## Power and memories
+-- ### Power and memories
 
 module _ (n : ℕ) where
   cut_link : (s : Site) → IsSiteIn n s → IsSiteIn (n + 13) (record s { link = happens s.link (AtController (Step NoInput [] CutOff)) })
@@ -121,7 +373,7 @@ module _ (n : ℕ) where
           all_map (λ (h : ℕ). h ≤ 7) IsDeskIn new_desk (λ h low. record { host = low; creation = tt; errors = omega arith }) (links_of w k)
           (links_low w k small is)
 
--- ## Losses
+-- ### Losses
 
 counts_in : (why : Loss) (h : ℕ) (o : Option Running) → IfNodeIn o → IfNodeIn (counts why h o)
 counts_in (Broken fault) h None a = tt
@@ -164,7 +416,7 @@ lost_in n w e why small is =
         (so_lost IsLineFrame n (exchanged s.link) why (link_exchanged false true n s.link a.link))))
         (λ q. rw q (so_lost IsLineFrame n s.link why a.link))
 
--- ## Activation
+-- ### Activation
 
 -- a step of the controller leaves the nodes of hosts as they are
 abbrev IfTablesAt : Site → Type 0
@@ -209,7 +461,7 @@ module _ (n : ℕ) (w : NodeWorld) (is : IsWorldIn n w) (has : WorldHas w) where
           (λ v a. steps_in true (n + 13) (AtEnd h i) v input a) (near_leaves h power))
           (λ i q z. absurd (cc q)))
 
--- ## Time
+-- ### Time
 
 -- a change of links leaves the nodes of hosts as they are
 same_have : (f : Site → Link) (sites : List Site) → SitesHave sites → SitesHave (map (λ (s : Site). record s { link = f s }) sites)
@@ -342,7 +594,7 @@ ticks_in n w is has =
           (all_in_more ((n + 13) + 13) (n + 26) _ (omega arith) far.noted));
     }
 
--- ## One thing that happens
+-- ### One thing that happens
 
 -- what happens is in its range
 abbrev pub HappensIn : Happening → Type 0

@@ -1,24 +1,393 @@
--- What hosts do with a message is in its range.
-use Rattle.told_laws.proofs.Words.{AllByRecursion, AllByRecursion-get, ArePipeRows, Bool, Clear, Command, Commits, Core, Create, Deed, Delete, Ends, Err}
-use Rattle.told_laws.proofs.Words.{GoesOn, Init, InitFailed, InitMade, InitSame, IsByte, IsCommand, IsDynamic, IsEnd, IsEvent, IsResponse, IsSaidCommand, List}
-use Rattle.told_laws.proofs.Words.{Message, MessageFault, MessageKind, None, Ok, Option, Orders, PipeRow, Port, Result, Sends, Set, Some, [], and_parts}
-use Rattle.told_laws.proofs.Words.{answer_of, arith, body_in, cond, cond_both, each-append, end_of_node, end_view, eqb, false, finds_room, gates, header_of}
-use Rattle.told_laws.proofs.Words.{identity_served, instruction_in, is_command, is_dynamic, is_host, is_some, is_up, leb-true, length, link_served, ltb-true}
-use Rattle.told_laws.proofs.Words.{map, nat_le, nat_lt, option_map_or, ordered_holds, own_side, own_view, pid_of, pipe_at, refl, row_of-within, slice_get}
-use Rattle.told_laws.proofs.Words.{subst, true, ℕ, ◌%◌, ◌&&◌, ◌++◌, ◌+◌, ◌/◌, ◌<◌, ◌^◌, ◌∷◌, ◌≡◌, ◌≤◌}
-use Rattle.gate_answers.specs.declared.response.Response.TheVariants as response
-use Rattle.hcp_packet.specs.declared.MessageFault.TheVariants.{ReservedType as Reserved}
+-- What nodes, hosts among them, do with a message is in its range.
+use Rattle.told_laws.proofs.Words.{AllByRecursion, AllByRecursion-filter, AllByRecursion-get, ArePipeRows, Asks, Bool, Clear, Command, Commits, Core, Create}
+use Rattle.told_laws.proofs.Words.{Creation, Deed, Delete, Desk, Drops, Ends, Err, GoesOn, HciTables, Init, InitFailed, InitMade, InitSame, IsByte, IsCommand}
+use Rattle.told_laws.proofs.Words.{IsDynamic, IsEnd, IsEvent, IsResponse, IsSaidCommand, List, Message, MessageFault, MessageKind, None, Ok, Option, Orders}
+use Rattle.told_laws.proofs.Words.{PipeRow, Port, Result, Sends, Set, SetOpened, SetsErrors, Some, Tells, [], about_at, agreed, and_parts, answer_of}
+use Rattle.told_laws.proofs.Words.{answers_on, anyone, ap, arith, asks_for, body_in, by_option, by_test, code_of, commit_deeds, cond, cond_both}
+use Rattle.told_laws.proofs.Words.{controller_deeds, count_by-le-length, count_bytes, count_in, creation_deeds, creation_in, decision_deeds, drop, each-append}
+use Rattle.told_laws.proofs.Words.{end_of_node, end_view, ends_at, eqb, false, filter, finds_room, first_of, gates, goes_through, has_link, header_of}
+use Rattle.told_laws.proofs.Words.{identity_served, identity_unless, identity_value, instruction_in, is_command, is_command_message, is_dynamic, is_host}
+use Rattle.told_laws.proofs.Words.{is_opened, is_some, is_up, kind_deeds, leb-true, length, length-rows, link_deeds, link_served, link_unless, ltb-true, map}
+use Rattle.told_laws.proofs.Words.{nat_le, nat_lt, not, notice_deeds, opened_on, option_map_or, ordered_holds, own_gate, own_side, own_view, param_in, pid_of}
+use Rattle.told_laws.proofs.Words.{pipe_at, port_at, refl, relay_deeds, relayed_to, row_of-within, served_at, slice_get, subst, tests_to_get, tests_to_set}
+use Rattle.told_laws.proofs.Words.{tests_to_set_errors, told_hold, true, value_at, value_behind, view_for, view_of, ℕ, ◌%◌, ◌&&◌, ◌++◌, ◌+◌, ◌/◌, ◌<◌, ◌==◌}
+use Rattle.told_laws.proofs.Words.{◌^◌, ◌∷◌, ◌≡◌, ◌≤◌}
+use Rattle.gate_admin.proofs.CreationLemmas.{creation-recordable}
+use Rattle.gate_admin.specs.Decide.{answers, carried_out, clearing, closing, commits, commits_and_tells, creating, creation, decided, deleting, dest_in}
+use Rattle.gate_admin.specs.Decide.{ends_of, far_end, getting, opening, others_opened, setting, tests_of_pipe, tests_to_clear, tests_to_create, tests_to_delete}
+use Rattle.gate_admin.specs.Decide.{tests_to_open, tests_to_set_it, told_of_clearing, told_of_deletion, value_of}
+use Rattle.gate_admin.specs.View.{has, hosts_where, is_configured, mask_of}
+use Rattle.gate_admin.specs.declared.decision.Decision.{Decision}
+use Rattle.gate_admin.specs.declared.decision.Decision.TheVariants.{Answer, Ask, Commit}
+use Rattle.gate_admin.specs.declared.view.LinkView.{LinkView}
+use Rattle.gate_answers.specs.declared.response.Response.{Response}
 use Rattle.gate_loopback.specs.Loopback.{posts_back}
-use Rattle.node_machine.specs.HostReplies.{accepts, pipe_named_in, orders_of, is_same, learns, init_agreed, init_deeds, deleted_by, created_by, learned}
-use Rattle.node_machine.specs.HostReplies.{response_deeds, is_gate, gate_of_pipe, ordered_deeds, host_deeds}
-use Rattle.told_laws.proofs.told.Lines.{end_in, each_all}
-use Rattle.told_laws.proofs.nodes.Sides.{AreBytes, IsMail}
-use Rattle.told_laws.proofs.nodes.Ranges.{IsShortCommand}
-use Rattle.told_laws.proofs.nodes.Commands.{IsCommandIn, AreTablesIn, recordable_made}
-use Rattle.told_laws.proofs.nodes.Deeds.{IsSaying, answer_in, body_bytes, IsInitIn, IsDeskIn, IsDeedIn, AreDeedsIn, low, answers_in, commits_in, plain_in}
-use Rattle.told_laws.proofs.nodes.Deeds.{link_in, link_deeds_in, identity_in}
+use Rattle.hcp_packet.specs.declared.MessageFault.TheVariants.{ReservedType as Reserved}
+use Rattle.node_laws.proofs.links.Noticing.{nobody}
+use Rattle.node_laws.proofs.steps.StepWalks.{at_port}
+use Rattle.node_machine.specs.HostReplies.{accepts, created_by, deleted_by, gate_of_pipe, host_deeds, init_agreed, init_deeds, is_gate, is_same, learned}
+use Rattle.node_machine.specs.HostReplies.{learns, ordered_deeds, orders_of, pipe_named_in, response_deeds}
+use Rattle.tables_laws.proofs.gate.Decisions.{new_row, unless}
+use Rattle.told_laws.proofs.nodes.Commands.{AreTablesIn, IfMade, IsCommandIn, IsIn, IsShortCommand, index_in, recordable_made, value_read_in}
+use Rattle.told_laws.proofs.nodes.Machines.{AreBytes, IsMail}
+use Rattle.told_laws.proofs.told.BarePlays.{each_all, end_in}
+use Rattle.told_laws.proofs.told.Links.{drop_each}
+use Rattle.gate_answers.specs.declared.response.Response.TheVariants as response
 
--- ## Responses
+-- ## What nodes do with a message is in its range: what they send and tell are bytes, and what they commit can be told
+
+-- ### Messages
+
+-- the bytes of a message
+pub record IsSaying (message : List ℕ) : Type 0 where
+  pub some : 0 < length message
+  pub bytes : AreBytes message
+  pub short : length message ≤ 4096
+
+pub saying : (pipe : ℕ) (message : List ℕ) → pipe < 112 → IsSaying message → IsMail (pipe, message)
+saying pipe message low h = record { pipe = low; some = h.some; bytes = h.bytes; short = h.short }
+
+code_low : (r : Response) → code_of r < 64
+code_low response.Ok = omega arith
+code_low _ = omega arith
+
+pub answer_in : (r : Response) (value : List ℕ) → AreBytes value → length value ≤ 4095 → IsSaying (answer_of r value)
+answer_in r value h few = let low = code_low r in record { some = omega arith; bytes = (omega (arith, low), h); short = omega (arith, few) }
+
+body_bytes : (message : List ℕ) → AreBytes message → AreBytes (body_in message)
+body_bytes message h = drop_each IsByte 1 message h
+
+-- ### Creations and inits
+
+pub record IsCreationIn (c : Creation) : Type 0 where
+  pub command : IsCommandIn c.command
+  pub answer : IsSaying c.answer
+
+abbrev pub IfCreation : Option Creation → Type 0
+IfCreation None = Unit {0}
+IfCreation (Some c) = IsCreationIn c
+
+pub record IsInitIn (i : Init) : Type 0 where
+  pub identity : AreBytes i.identity × (length i.identity ≤ 4000)
+  pub pipes : AllByRecursion (λ (pipe : List ℕ). AreBytes pipe × (length pipe ≤ 4000)) i.pipes
+  pub few : length i.pipes ≤ 8
+
+-- what is kept of an end
+pub record IsDeskIn (d : Desk) : Type 0 where
+  pub host : d.host ≤ 7
+  pub creation : IfCreation (creation_in d.notice)
+  pub errors : d.errors < 65536
+
+-- ### Deeds
+
+-- a deed is in its range
+abbrev pub IsDeedIn : Deed → Type 0
+IsDeedIn (Commits c) = IsCommandIn c
+IsDeedIn (Sends to m) = IsMail m
+IsDeedIn (Asks to message c) = (to < 256) × IsSaying message × IsCreationIn c
+IsDeedIn (Tells to message) = IsSaying message
+IsDeedIn (Drops pid) = pid < 256
+IsDeedIn (SetsErrors errors) = errors < 65536
+IsDeedIn (Orders message) = IsSaying message
+IsDeedIn (GoesOn i) = IsInitIn i
+IsDeedIn (Ends e) = (n : ℕ) → IsIn n e
+IsDeedIn _ = Unit {0}
+
+abbrev pub AreDeedsIn : List Deed → Type 0
+AreDeedsIn deeds = AllByRecursion IsDeedIn deeds
+
+pub low : 1 < 112
+low = omega arith
+
+answers_in : (h pipe : ℕ) (message : List ℕ) → pipe < 112 → IsSaying message → AreDeedsIn (answers_on h pipe message)
+answers_in h pipe message p a = (saying pipe message p a, tt)
+
+commits_in : (room : Bool) (h pipe : ℕ) (c : Command) (answer : List ℕ) (behind : List Deed) → pipe < 112 → IsCommandIn c → IsSaying answer
+    → AreDeedsIn behind → AreDeedsIn (commit_deeds room h pipe c answer behind)
+commits_in true h pipe c answer behind p is a h2 = (is, (saying pipe answer p a, (tt, h2)))
+commits_in false h pipe c answer behind p is a h2 = answers_in h pipe (answer_of response.NotOk []) p (answer_in response.NotOk [] tt (omega arith))
+
+-- ### What the administration gate decides
+
+abbrev IsDecisionIn : Decision → Type 0
+IsDecisionIn (Answer answer) = IsSaying answer.items
+IsDecisionIn (Commit c answer tell notice) =
+    IsCommandIn c × IsSaying answer.items × AllByRecursion (λ (x : ℕ). IsSaying notice.items) (hosts_where (has tell))
+IsDecisionIn (Ask dest notice c answer) = (dest < 256) × IsSaying notice.items × IsCommandIn c × IsSaying answer.items
+
+none_told : (message : List ℕ) → AllByRecursion (λ (x : ℕ). IsSaying message) (hosts_where (has 0))
+none_told message = rw nobody tt
+
+tells_in : (c : Command) (told notice : List ℕ) → IsCommandIn c → IsSaying notice → IsDecisionIn (commits_and_tells c told notice)
+tells_in c [] notice is a = (is, answer_in response.Ok [] tt (omega arith), none_told [])
+tells_in c (x ∷ told) notice is a =
+    (is, answer_in response.Ok [] tt (omega arith), anyone (λ x. IsSaying notice) (λ x. a) (hosts_where (has (mask_of (x ∷ told)))))
+
+-- at most 110 pipes are opened
+others_low : (t : HciTables) (host pipe : ℕ) → ArePipeRows t.rows → others_opened t host pipe < 256
+others_low t host pipe rows =
+    cond_both (nat_lt pipe 2) 0 (option_map_or (λ (end : ℕ × ℕ). opened_on t.rows end.0 end.1 pipe) (far_end t host pipe) 0) (λ k. k < 256)
+    (λ _. omega arith) (λ _. by (far_end t host pipe))
+  where
+    by : (o : Option (ℕ × ℕ)) → option_map_or (λ (end : ℕ × ℕ). opened_on t.rows end.0 end.1 pipe) o 0 < 256
+    by None = omega arith
+    by (Some end) =
+        let long = length-rows pid_of 2 112 t.rows rows in
+        let few = count_by-le-length (λ (row : PipeRow). row.opened && ends_at row end.0 end.1 && not (row.pid == pipe)) t.rows in
+        omega (arith, long, few)
+
+host_bytes : (test : ℕ → Bool) → AreBytes (hosts_where test)
+unfolding hosts_where
+host_bytes test = AllByRecursion-filter IsByte test (1 ∷ 2 ∷ 3 ∷ 4 ∷ 5 ∷ 6 ∷ 7 ∷ [])
+    (omega arith, (omega arith, (omega arith, (omega arith, (omega arith, (omega arith, (omega arith, tt)))))))
+
+-- the bytes of a value, which is short
+abbrev IsValue : List ℕ → Type 0
+IsValue value = AreBytes value × (length value ≤ 4095)
+
+host_few : (test : ℕ → Bool) → length (hosts_where test) ≤ 7
+unfolding hosts_where
+host_few test = short test (1 ∷ 2 ∷ 3 ∷ 4 ∷ 5 ∷ 6 ∷ 7 ∷ [])
+  where
+    short : (p : ℕ → Bool) (xs : List ℕ) → length (filter p xs) ≤ length xs
+    short p [] = omega arith
+    short p (x ∷ xs) =
+        let rest = short p xs in
+        cond_both (p x) (x ∷ filter p xs) (filter p xs) (λ (ys : List ℕ). length ys ≤ length (x ∷ xs)) (λ _. omega (arith, rest)) (λ _. omega (arith, rest))
+
+value_in : (t : HciTables) (v : LinkView) (host param : ℕ) → AreTablesIn t → IsValue (value_of t v host param)
+value_in t v host param h =
+    cond_both (param == 2) (110 ∷ []) _ IsValue (λ _. ((omega arith, tt), omega arith))
+    (λ _. cond_both (param == 4) (0 ∷ hosts_where (is_configured v)) _ IsValue
+    (λ _. let few = host_few (is_configured v) in ((omega arith, host_bytes (is_configured v)), omega (arith, few)))
+    (λ _. cond_both _ (value_at t.values host 0 param) [] IsValue (λ _. value_read_in t.values host 0 param h.values) (λ _. (tt, omega arith))))
+
+row_in : (t : HciTables) (v : LinkView) (host : ℕ) (body : List ℕ) → host ≤ 7 → AreBytes body → first_of (tests_to_create t v host body) ≡ None
+    → IsCommandIn (Create (new_row t v host body)) × AreBytes (ends_of (new_row t v host body))
+row_in t v host body small bytes passed =
+    let made = recordable_made (Create (new_row t v host body)) (creation-recordable t v host body small passed) in
+    let upto = made.1 in
+    let a = index_in body 0 bytes in
+    let b = index_in body 1 bytes in
+    let c = index_in body 2 bytes in
+    let pid : (new_row t v host body).pid < 256 = omega (arith, upto) in (
+      record {
+        said = (refl, record { pid = pid; creator = omega (arith, small); creator_gate = a; dest = b; dest_gate = c });
+        short = tt;
+        made = made;
+      },
+      (omega (arith, small), (a, (b, (c, (pid, tt))))),
+    )
+
+plain_command : (c : Command) → IsSaidCommand c → IsShortCommand c → IfMade c → IsCommandIn c
+plain_command c said short made = record { said = said; short = short; made = made }
+
+few_behind : (bytes : List ℕ) → length bytes ≤ 4095 → length (drop 1 bytes) ≤ 4095
+few_behind [] few = few
+few_behind (x ∷ bytes) few = omega (arith, few)
+
+body_few : (message : List ℕ) → length message ≤ 4096 → length (body_in message) ≤ 4095
+body_few [] few = omega arith
+body_few (x ∷ message) few = omega (arith, few)
+
+module _ (t : HciTables) (v : LinkView) (host pipe : ℕ) (body : List ℕ) (tables : AreTablesIn t) (rows : ArePipeRows t.rows) (small : host ≤ 7)
+    (upto : pipe < 112) (bytes : AreBytes body) (few : length body ≤ 4095) where
+  host_byte : host < 256
+  host_byte = omega (arith, small)
+
+  refused : (r : Response) → IsDecisionIn (answers r [])
+  refused r = answer_in r [] tt (omega arith)
+
+  creates_in : first_of (tests_to_create t v host body) ≡ None → IsDecisionIn (creation (new_row t v host body))
+  creates_in passed =
+      let row = row_in t v host body small bytes passed in
+      cond_both (eqb (dest_in body) 0) (commits (Create (new_row t v host body)) _) _ IsDecisionIn
+      (λ _. (row.0, answer_in response.Ok (ends_of (new_row t v host body)) row.1 (omega arith), none_told []))
+      (λ _. (
+        index_in body 1 bytes,
+        record { some = omega arith; bytes = (omega arith, row.1); short = omega arith },
+        row.0,
+        answer_in response.Ok (ends_of (new_row t v host body)) row.1 (omega arith),
+      ))
+
+  carried_in : (instruction : ℕ) → IsDecisionIn (carried_out t v host pipe instruction body)
+  carried_in instruction =
+      cond_both (eqb instruction 3) (opening t host pipe body) _ IsDecisionIn
+      (λ _. unless IsDecisionIn (first_of (tests_to_open body)) _ refused
+      (λ _. cond_both (is_opened t host pipe) _ _ IsDecisionIn
+      (λ _. answer_in response.Ok (others_opened t host pipe ∷ []) (others_low t host pipe rows, tt) (omega arith))
+      (λ _. (
+        plain_command (SetOpened host pipe true) (host_byte, omega (arith, upto)) tt tt,
+        answer_in response.Ok (others_opened t host pipe ∷ []) (others_low t host pipe rows, tt) (omega arith),
+        none_told [],
+      ))))
+      (λ _. cond_both (eqb instruction 4) (closing host pipe body) _ IsDecisionIn
+      (λ _. unless IsDecisionIn (first_of (tests_to_open body)) _ refused
+      (λ _. (plain_command (SetOpened host pipe false) (host_byte, omega (arith, upto)) tt tt, answer_in response.Ok [] tt (omega arith), none_told [])))
+      (λ _. cond_both (eqb instruction 1) (setting v host body) _ IsDecisionIn
+      (λ _. unless IsDecisionIn (first_of (tests_to_set_it v host body)) _ refused
+      (λ _. (
+        plain_command (Set host 0 (param_in body) (record { items = value_behind body }))
+            (host_byte, omega arith, index_in body 0 bytes, each_all IsByte (value_behind body) (drop_each IsByte 1 body bytes)) (few_behind body few) tt,
+        answer_in response.Ok [] tt (omega arith),
+        none_told [],
+      )))
+      (λ _. cond_both (eqb instruction 2) (getting t v host body) _ IsDecisionIn
+      (λ _. unless IsDecisionIn (first_of (tests_to_get 0 body)) _ refused
+      (λ _. (let value = value_in t v host (param_in body) tables in answer_in response.Ok (value_of t v host (param_in body)) value.0 value.1)))
+      (λ _. cond_both (eqb instruction 16) (creating t v host body) _ IsDecisionIn
+      (λ _. unless IsDecisionIn (first_of (tests_to_create t v host body)) (creation (new_row t v host body)) refused creates_in)
+      (λ _. cond_both (eqb instruction 17) (deleting t v host body) _ IsDecisionIn
+      (λ _. unless IsDecisionIn (first_of (tests_to_delete t v host body)) _ refused
+      (λ _. tells_in (Delete (param_in body)) (told_of_deletion t v host (param_in body)) (19 ∷ param_in body ∷ [])
+      (plain_command (Delete (param_in body)) (index_in body 0 bytes) tt tt)
+      (record { some = omega arith; bytes = (omega arith, (index_in body 0 bytes, tt)); short = omega arith })))
+      (λ _. cond_both (eqb instruction 20) (clearing t v host body) _ IsDecisionIn
+      (λ _. unless IsDecisionIn (first_of (tests_to_clear t v host body)) _ refused
+      (λ _. tells_in (Clear host) (told_of_clearing t v host) (21 ∷ host ∷ []) (plain_command (Clear host) host_byte tt tt)
+      (record { some = omega arith; bytes = (omega arith, (host_byte, tt)); short = omega arith })))
+      (λ _. refused response.CommandNotSupported)))))))
+
+  decided_in : (instruction : ℕ) → IsDecisionIn (decided t v host pipe instruction body)
+  decided_in instruction =
+      unless IsDecisionIn (first_of (tests_of_pipe t host pipe instruction)) (carried_out t v host pipe instruction body) refused
+      (λ _. carried_in instruction)
+
+-- ### Other gates
+
+record IsServedIn (served : List ℕ × Option ℕ) : Type 0 where
+  pub message : IsSaying served.0
+  pub value : (errors : ℕ) → served.1 ≡ Some errors → errors < 65536
+
+plain_served : (message : List ℕ) → IsSaying message → IsServedIn (message, None)
+plain_served message a = record { message = a; value = λ errors is. absurd (cc is) }
+
+link_one : (o : Option Response) (otherwise : List ℕ × Option ℕ) → IsServedIn otherwise → IsServedIn (link_unless o otherwise)
+link_one (Some r) otherwise a = plain_served (answer_of r []) (answer_in r [] tt (omega arith))
+link_one None otherwise a = a
+
+link_in : (errors instruction : ℕ) (body : List ℕ) → errors < 65536 → AreBytes body → IsServedIn (link_served errors instruction body)
+link_in errors instruction body few bytes =
+    cond_both (eqb instruction 1) _ _ IsServedIn
+    (λ _. link_one (first_of (tests_to_set_errors body)) (answer_of response.Ok [], Some (count_in (value_behind body)))
+    (record { message = answer_in response.Ok [] tt (omega arith); value = λ k is. set_low k is }))
+    (λ _. cond_both (eqb instruction 2) _ _ IsServedIn
+    (λ _. link_one (first_of (tests_to_get 6 body)) (answer_of response.Ok (count_bytes errors), None)
+    (plain_served (answer_of response.Ok (count_bytes errors))
+    (answer_in response.Ok (count_bytes errors) (omega (arith, few), (omega arith, tt)) (omega arith))))
+    (λ _. plain_served (answer_of response.CommandNotSupported []) (answer_in response.CommandNotSupported [] tt (omega arith))))
+  where
+    rest : AreBytes (value_behind body)
+    rest = drop_each IsByte 1 body bytes
+
+    set_low : (k : ℕ) → Some (count_in (value_behind body)) ≡ Some k → k < 65536
+    set_low k is =
+        let same : count_in (value_behind body) ≡ k = cc in
+        let a = index_in (value_behind body) 0 rest in
+        let b = index_in (value_behind body) 1 rest in
+        omega (arith, same, a, b)
+
+identity_bytes : (param : ℕ) → IsValue (identity_value gates param)
+identity_bytes param =
+    cond_both (param == 1) (1 ∷ 0 ∷ 0 ∷ []) _ IsValue (λ _. ((omega arith, (omega arith, (omega arith, tt))), omega arith))
+    (λ _. cond_both (param == 2) (2 ∷ []) _ IsValue (λ _. ((omega arith, tt), omega arith))
+    (λ _. cond_both (param == 3) (1 ∷ 0 ∷ 0 ∷ []) _ IsValue (λ _. ((omega arith, (omega arith, (omega arith, tt))), omega arith))
+    (λ _. cond_both (param == 4) (83 ∷ 87 ∷ 80 ∷ 32 ∷ 72 ∷ 67 ∷ 73 ∷ []) _ IsValue
+    (λ _. ((omega arith, (omega arith, (omega arith, (omega arith, (omega arith, (omega arith, (omega arith, tt))))))), omega arith))
+    (λ _. cond_both (param == 5) (1 ∷ []) gates IsValue (λ _. ((omega arith, tt), omega arith)) (λ _. ((omega arith, (omega arith, tt)), omega arith))))))
+
+identity_one : (o : Option Response) (otherwise : List ℕ) → IsSaying otherwise → IsSaying (identity_unless o otherwise)
+identity_one (Some r) otherwise a = answer_in r [] tt (omega arith)
+identity_one None otherwise a = a
+
+identity_in : (instruction : ℕ) (body : List ℕ) → IsSaying (identity_served gates instruction body)
+identity_in instruction body =
+    cond_both (eqb instruction 1) _ _ IsSaying
+    (λ _. identity_one (first_of (tests_to_set 5 body)) (answer_of response.RegistryAccessDenied [])
+    (answer_in response.RegistryAccessDenied [] tt (omega arith)))
+    (λ _. cond_both (eqb instruction 2) _ _ IsSaying
+    (λ _. identity_one (first_of (tests_to_get 5 body)) (answer_of response.Ok (identity_value gates (param_in body)))
+    (let value = identity_bytes (param_in body) in answer_in response.Ok (identity_value gates (param_in body)) value.0 value.1))
+    (λ _. answer_in response.CommandNotSupported [] tt (omega arith)))
+
+link_deeds_in : (h pipe : ℕ) (served : List ℕ × Option ℕ) → pipe < 112 → IsServedIn served → AreDeedsIn (link_deeds h pipe served)
+link_deeds_in h pipe served p a = by_option served.1
+    (λ q. rw q (saying pipe served.0 p a.message, tt))
+    (λ errors q. rw q (a.value errors q, (saying pipe served.0 p a.message, tt)))
+
+-- ### A controller
+
+agreed_in : (flag : Bool) (c : Creation) → IsCreationIn c → AreDeedsIn (agreed flag c)
+agreed_in true c a = (tt, (a.command, (tt, (saying 1 c.answer low a.answer, (tt, tt)))))
+agreed_in false c a = (tt, (tt, (saying 1 (answer_of response.NotOk []) low (answer_in response.NotOk [] tt (omega arith)), tt)))
+
+decision_in : (core : Core) (h pipe : ℕ) (d : Decision) → pipe < 112 → IsDecisionIn d → AreDeedsIn (decision_deeds (own_view core) h pipe d)
+decision_in core h pipe (Answer answer) p a = answers_in h pipe answer.items p a
+decision_in core h pipe (Commit c answer tell notice) p a =
+    commits_in (finds_room core c) h pipe c answer.items _ p a.0 a.1 (told_hold IsDeedIn notice.items (hosts_where (has tell)) a.2)
+decision_in core h pipe (Ask dest notice c answer) p a = ((a.0, a.1, record { command = a.2; answer = a.3 }), tt)
+
+abbrev pub AreDesksIn : List Port → Type 0
+AreDesksIn ports = AllByRecursion (λ (p : Port). IsDeskIn p.desk) ports
+
+errors_at : (ports : List Port) (h : ℕ) → AreDesksIn ports → option_map_or (λ (p : Port). p.desk.errors) (port_at ports h) 0 < 65536
+errors_at ports h a = by_option (port_at ports h) (λ q. rw q (omega arith)) (λ p q. rw q (at_port (λ (p : Port). IsDeskIn p.desk) ports h p a q).errors)
+
+plain_in : (h : ℕ) (r : Response) (pipe : ℕ) → pipe < 112 → AreDeedsIn (answers_on h pipe (answer_of r []))
+plain_in h r pipe p = answers_in h pipe (answer_of r []) p (answer_in r [] tt (omega arith))
+
+module _ (core : Core) (ports : List Port) (h : ℕ) (m : Message) (tables : AreTablesIn core.tables) (rows : ArePipeRows core.tables.rows)
+    (a : AreDesksIn ports) (small : h ≤ 7) (s : IsMail m) where
+  p : m.0 < 112
+  p = s.pipe
+
+  drops_in : AreDeedsIn (Drops m.0 ∷ [])
+  drops_in = (omega (arith, p), tt)
+
+  served_in : (instruction : ℕ) (o : Option ℕ) → AreDeedsIn (served_at (own_view core) (view_for core.tables ports h) h m.0 instruction (body_in m.1) o)
+  served_in n None =
+      decision_in core h m.0 (decided core.tables (view_for core.tables ports h) h m.0 n (body_in m.1)) p
+      (decided_in core.tables (view_for core.tables ports h) h m.0 (body_in m.1) tables rows small p (body_bytes m.1 s.bytes) (body_few m.1 s.short) n)
+  served_in n (Some gate) =
+      cond_both (eqb gate 6) (link_deeds h m.0 (link_served (view_for core.tables ports h).errors n (body_in m.1))) _ AreDeedsIn
+      (λ _. link_deeds_in h m.0 (link_served (view_for core.tables ports h).errors n (body_in m.1)) p
+      (link_in (view_for core.tables ports h).errors n (body_in m.1) (errors_at ports h a) (body_bytes m.1 s.bytes)))
+      (λ _. cond_both (eqb gate 5) (answers_on h m.0 (identity_served gates n (body_in m.1))) _ AreDeedsIn
+      (λ _. answers_in h m.0 (identity_served gates n (body_in m.1)) p (identity_in n (body_in m.1)))
+      (λ _. plain_in h response.CommandNotSupported m.0 p))
+
+  noticed_in : (code : ℕ) (o : Option Port) → port_at ports h ≡ o → AreDeedsIn (notice_deeds (own_view core) code (about_at o))
+  noticed_in code None here = (omega arith, tt)
+  noticed_in code (Some q) here = by_option q.desk.notice
+      (λ is. rw is (omega arith, tt))
+      (λ n is. rw is (by_creation (creation_in (Some n)) (ap creation_in is)))
+    where
+      by_creation : (o : Option Creation) → creation_in q.desk.notice ≡ o → AreDeedsIn (creation_deeds (own_view core) code o)
+      by_creation None is = (tt, tt)
+      by_creation (Some c) is =
+          agreed_in _ c (subst IfCreation is (at_port (λ (x : Port). IsDeskIn x.desk) ports h q a here).creation)
+
+  kind_in : (x : Result (MessageKind × ℕ) MessageFault) → AreDeedsIn (kind_deeds (view_of core ports) h m x)
+  kind_in (Ok (IsCommand, n)) = by_test (m.0 == 1 && asks_for ports h)
+      (λ q. rw q drops_in)
+      (λ q. rw q (served_in n (cond (goes_through core.tables h m.0 n) (own_gate core.tables h m.0) None)))
+  kind_in (Ok (IsEvent, n)) = cond_both _ (Sends h m ∷ []) (Drops m.0 ∷ []) AreDeedsIn (λ _. (s, tt)) (λ _. drops_in)
+  kind_in (Ok (IsResponse, code)) = by_test (m.0 == 1) (λ q. rw q (noticed_in code (port_at ports h) refl)) (λ q. rw q drops_in)
+  kind_in (Err fault) = drops_in
+
+  relayed_in : (other : ℕ) (up : Bool) → AreDeedsIn (relay_deeds (has_link ports) h m other up)
+  relayed_in other true = (s, tt)
+  relayed_in other false =
+      cond_both (has_link ports h && is_command_message m.1) _ (Drops m.0 ∷ []) AreDeedsIn (λ _. plain_in h response.NotConnected m.0 p) (λ _. drops_in)
+
+  pub controller_in : AreDeedsIn (controller_deeds (view_of core ports) h m)
+  controller_in = by_option (relayed_to core.tables h m)
+      (λ is. rw is (by_test (has_link ports h) (λ q. rw q (kind_in (header_of m.1))) (λ q. rw q drops_in)))
+      (λ other is. rw is (relayed_in other (has_link ports other)))
+
+-- ## What hosts do with a message is in its range
+
+-- ### Responses
 
 abbrev IsCodeIn : Result (MessageKind × ℕ) MessageFault → Type 0
 IsCodeIn (Ok (IsResponse, code)) = code < 256
@@ -31,7 +400,7 @@ codes_in (first ∷ rest) =
     (λ _. cond_both (eqb (first / 64) 1) (Ok (IsEvent, first % 64)) _ IsCodeIn (λ _. tt)
     (λ _. cond_both (eqb (first / 64) 2) (Ok (IsResponse, first % 64)) (Err Reserved) IsCodeIn (λ _. omega arith) (λ _. tt)))
 
--- ## What a node keeps
+-- ### What a node keeps
 
 abbrev pub IfBytes : Option (List ℕ) → Type 0
 IfBytes None = Unit {0}
@@ -52,9 +421,9 @@ pub record IsCoreIn (core : Core) : Type 0 where
 pub own_end : (core : Core) (h : ℕ) → h ≤ 7 → IsEnd (end_of_node core h)
 own_end core h small = end_in h (own_side core) (omega (arith, small))
 
--- ## What a host commits
+-- ### What a host commits
 
-pub accepts_in : (core : Core) (c : Command) → IsCommandIn c → AreDeedsIn (accepts (own_view core) c)
+accepts_in : (core : Core) (c : Command) → IsCommandIn c → AreDeedsIn (accepts (own_view core) c)
 accepts_in core c is = commits_in (finds_room core c) core.node 1 c (answer_of response.Ok []) [] low is (answer_in response.Ok [] tt (omega arith)) tt
 
 named_in : (body : List ℕ) (row : PipeRow) → AreBytes body → pipe_named_in body ≡ Some row → IsSaidCommand (Create row)
@@ -75,7 +444,7 @@ learns_in core c said short =
     cond_both (is_command c && finds_room core c) (Commits c ∷ []) [] AreDeedsIn
     (λ e. (record { said = said; short = short; made = recordable_made c (and_parts (is_command c) (finds_room core c) e).0 }, tt)) (λ _. tt)
 
--- ## Init
+-- ### Init
 
 saying_of : (message : List ℕ) → 0 < length message → AreBytes message → length message ≤ 4096 → IsSaying message
 saying_of message some bytes short = record { some = some; bytes = bytes; short = short }
@@ -135,7 +504,7 @@ module _ (core : Core) (is : IsCoreIn core) where
       cond_both (eqb code 0) (init_agreed (own_view core) i value) (Ends (InitFailed (end_of_node core core.node) code) ∷ []) AreDeedsIn
       (λ _. agreed_init i value h) (λ _. ((λ n. (own_end core core.node is.node, byte)), tt))
 
-  -- ## Responses
+  -- ### Responses
 
   learned_in : (order value : List ℕ) → AreBytes order → AreBytes value → AreDeedsIn (learned (own_view core) order value)
   learned_in order value a b =
@@ -167,7 +536,7 @@ module _ (core : Core) (is : IsCoreIn core) where
             (init_in code value byte core.init is.init),
       )
 
-  -- ## Commands
+  -- ### Commands
 
   ordered_in : (errors pipe n : ℕ) (body : List ℕ) → errors < 65536 → pipe < 112 → AreBytes body → AreDeedsIn (ordered_deeds (own_view core) errors pipe n body)
   ordered_in errors pipe n body few p bytes = ordered_holds AreDeedsIn core errors pipe n body (record {
@@ -197,7 +566,7 @@ module _ (core : Core) (is : IsCoreIn core) where
       host_low : (x : ℕ) → is_host x ≡ true → x < 256
       host_low x q = let few = leb-true x 7 q in omega (arith, few)
 
-  -- ## Messages
+  -- ### Messages
 
   pub host_in : (p : Port) (m : Message) → IsDeskIn p.desk → IsMail m → AreDeedsIn (host_deeds (own_view core) (end_view p) m)
   host_in p m desk s = go (is_up p.side.shdlc.phase) (header_of m.1) refl refl

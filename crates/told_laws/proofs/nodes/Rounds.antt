@@ -1,17 +1,420 @@
--- A world of nodes stays in range over a round, in which at most four fragments more count as acknowledged at each end of its links, and at most
--- two RSETs more are made on each; so does what is noted of it.
-use Rattle.told_laws.proofs.Words.{AllByRecursion, AreAckedWithin, AreHosts, Bool, End, Entry, FewRsetsOnEach, Happening, IsFew, IsSound, List, MayHappen}
-use Rattle.told_laws.proofs.Words.{NodeWorld, Occurrence, Site, Takes, Ticks, [], all_happen, amid_round, ap, append-nil, append_assoc, arith, by_test}
-use Rattle.told_laws.proofs.Words.{can_happen, each_amid, each_longer, each_rounds, end_c, end_h, end_takes_all, ends_in_order, ends_take_all, entries_in}
-use Rattle.told_laws.proofs.Words.{false, few_behind_step, few_front, flat_map, flat_map-append, frames_at, length, refl, replicate, subst, suc, sym, true}
-use Rattle.told_laws.proofs.Words.{true≢false, world_round, world_step, zero, ℕ, ◌*◌, ◌++◌, ◌+◌, ◌∙◌, ◌∷◌, ◌≡◌, ◌≤◌}
-use Rattle.told_laws.proofs.told.Lines.{top}
-use Rattle.told_laws.proofs.nodes.Worlds.{IsSiteIn}
-use Rattle.told_laws.proofs.nodes.Happenings.{HappensIn}
-use Rattle.told_laws.proofs.nodes.Histories.{Stands, event_in, first_happens, none_happens, stands_more}
-use Rattle.told_laws.proofs.nodes.Bounds.{world_within, world_acked, acked_more}
+-- All that is told of a history of nodes, of its lines and of rounds is in its range, by bounds of RSETs and acknowledged fragments.
+use Rattle.std.proofs.lemmas.List.Elements.{recursion_from_All}
+use Rattle.told_laws.proofs.Words.{All, AllByRecursion, AllKeep, AreAckedWithin, AreHosts, AreSaidTables, AreTables, Bool, Boots, Contains, End, Entry}
+use Rattle.told_laws.proofs.Words.{FewRsets, FewRsetsOnEach, Full, Happening, HciTables, Header, IfRuns, IsByte, IsEndOf, IsFew, IsHost, IsNodeHeader}
+use Rattle.told_laws.proofs.Words.{IsNodeLineOf, IsNodeOf, IsSaidValue, IsSound, Line, Link, LinkEnd, LinkState, List, LostFor, MayAllHappen, MayHappen}
+use Rattle.told_laws.proofs.Words.{Message, NoCause, NodeWorld, None, NotUp, Occurrence, OnWire, Option, Refused, RegValue, Running, Same, Site, SiteKeeps}
+use Rattle.told_laws.proofs.Words.{Some, Takes, Ticks, TooLong, Undetected, Up, Verdict, [], all_happen, all_mapped, amid_round, ap, append-nil, append_assoc}
+use Rattle.told_laws.proofs.Words.{arith, as_noted, by_test, can_happen, commands_in, cond, cond_both, each-append, each_amid, each_longer, each_rounds, end_c}
+use Rattle.told_laws.proofs.Words.{end_h, end_takes_all, ends_in_order, ends_take_all, entries_in, false, few_behind_step, few_front, first_cause, first_none}
+use Rattle.told_laws.proofs.Words.{first_verdict, flat_map, flat_map-append, frame_of, frames_at, give_refusal, happenings, happens_by, header_hosts, if_empty}
+use Rattle.told_laws.proofs.Words.{if_not_sent, if_off, if_out_of_reach, if_waiting, inl, inr, is_running, length, length-replicate, length-rows, link_to}
+use Rattle.told_laws.proofs.Words.{lpdu_of, ltb-false, machine_in, nat_lt, need, node_fits, node_of, pid_of, place_of_value, refl, refusal_in, replicate}
+use Rattle.told_laws.proofs.Words.{reset_refusal, rsets_by, spare, static_place, subst, suc, sym, sync_host, taken_of, true, true≢false, unwrap_or, world_goes}
+use Rattle.told_laws.proofs.Words.{world_round, world_step, zero, ℕ, ◌*◌, ◌++◌, ◌+◌, ◌-◌, ◌<◌, ◌^◌, ◌∙◌, ◌∷◌, ◌≡◌, ◌≤◌}
+use Rattle.node_laws.specs.acked.InTurn.{IsAckedWithin}
+use Rattle.node_laws.specs.kept.Books.{AreToldBehind, IsTold}
+use Rattle.node_machine.specs.world.NodeLegal.{FindsCommands}
+use Rattle.told_laws.proofs.nodes.Commands.{AreIn, AreTablesIn, IsValueIn, LinkIn, all_in_more, in-append, line_lpdu, tables_read_in}
+use Rattle.told_laws.proofs.nodes.Happenings.{HappensIn, IfTables, IsSiteIn, IsWorldIn, WorldHas, happens_in, link_there, world_more}
+use Rattle.told_laws.proofs.nodes.Machines.{AreBytes, IsLineFrame, SideIn}
+use Rattle.told_laws.proofs.told.BarePlays.{IfCause, all_each, beyond_in, each_all, empty_in, frame_few, give_in, reset_in, top}
+use Rattle.told_laws.proofs.told.Links.{WireIs, so_within}
+use Rattle.trace_model.specs.declared.entry.Entry.TheVariants as entry
+use Rattle.trace_model.specs.declared.entry.NoCause.TheVariants as no
+use Rattle.trace_model.specs.declared.line.Line.TheVariants as line
 
--- ## Frames that are taken one after another
+-- ## The numbers of a world that is in range are bounded by its RSETs and acknowledged fragments, whatever it came through
+
+-- ### An end
+
+side_within : (b : Bool) (n m : ℕ) (e : LinkEnd) → SideIn b n e → e.shdlc.session.acked ≤ m → SideIn b m e
+side_within b n m e h low =
+    record {
+      role = h.role;
+      end = record { ranged = h.end.ranged; heard = record { acc = h.end.heard.acc; acked = low } };
+      sent = h.sent;
+      acts = h.acts;
+      got = h.got;
+    }
+
+-- ### A link
+
+link_within : (n m : ℕ) (l : Link) → LinkIn false true n l → FewRsets m l → IsAckedWithin m l → LinkIn false true m l
+link_within n m l h few acked =
+    so_within IsLineFrame n m l few (λ s. record { side = side_within false n m l.controller.side s.side acked.controller; calm = s.calm })
+    (λ s. record { side = side_within true n m l.host.side s.side acked.host; calm = s.calm }) h
+
+-- ### A world
+
+sites_within : (n m : ℕ) (sites : List Site) → AllByRecursion (IsSiteIn n) sites → FewRsetsOnEach m sites
+    → AllByRecursion (λ (s : Site). IsAckedWithin m s.link) sites → AllByRecursion (IsSiteIn m) sites
+sites_within n m [] h few acked = tt
+sites_within n m (s ∷ sites) h few acked = (
+  record { host = h.0.host; link = link_within n m s.link h.0.link few.0 acked.0; node = h.0.node },
+  sites_within n m sites h.1 few.1 acked.1,
+)
+
+world_within : (n m : ℕ) (w : NodeWorld) → IsWorldIn n w → FewRsetsOnEach m w.sites → AreAckedWithin m w → IsWorldIn m w
+world_within n m w h few acked = record { sites = sites_within n m w.sites h.sites few acked; controller = h.controller }
+
+-- no more fragments count as acknowledged
+sites_acked : (n : ℕ) (sites : List Site) → AllByRecursion (IsSiteIn n) sites → AllByRecursion (λ (s : Site). IsAckedWithin n s.link) sites
+sites_acked n [] h = tt
+sites_acked n (s ∷ sites) h =
+    (record { controller = h.0.link.near.side.side.end.heard.acked; host = h.0.link.far.side.side.end.heard.acked }, sites_acked n sites h.1)
+
+world_acked : (n : ℕ) (w : NodeWorld) → IsWorldIn n w → AreAckedWithin n w
+world_acked n w h = sites_acked n w.sites h.sites
+
+acked_longer : (n m : ℕ) (sites : List Site) → n ≤ m → AllByRecursion (λ (s : Site). IsAckedWithin n s.link) sites
+    → AllByRecursion (λ (s : Site). IsAckedWithin m s.link) sites
+acked_longer n m [] more h = tt
+acked_longer n m (s ∷ sites) more h =
+    let c = h.0.controller in
+    let f = h.0.host in
+    (record { controller = omega (arith, c, more); host = omega (arith, f, more) }, acked_longer n m sites more h.1)
+
+pub acked_more : (n m : ℕ) (w : NodeWorld) → n ≤ m → AreAckedWithin n w → AreAckedWithin m w
+acked_more n m w more h = acked_longer n m w.sites more h
+
+-- ## All that is told of a history of nodes is in its range
+
+-- ### Counts
+
+-- what a boot found and what ANY_OK counts is a number of a text
+abbrev pub IsCounted : Entry → Type 0
+IsCounted (entry.AnyOk node count) = count < 2 ^ 32
+IsCounted (entry.Booted node count) = count < 2 ^ 32
+IsCounted x = Unit {0}
+
+finds_few : (t : List Entry) (node k : ℕ) → length (commands_in t node) ≤ 2 ^ 32 - 1 → FindsCommands t node k → k < 2 ^ 32
+finds_few t node k few (inl all) = omega (arith, few, all)
+finds_few t node k few (inr but) = let one = but.0 in omega (arith, few, one)
+
+one_counted : (t : List Entry) (x : Entry) → ((n : ℕ) → length (commands_in t n) ≤ 2 ^ 32 - 1) → IsTold t x → IsCounted x
+one_counted t (entry.AnyOk node k) few told = omega (arith, told)
+one_counted t (entry.Booted node k) few told = finds_few t node k (few node) told
+one_counted t _ few told = tt
+
+all_counted : (es t : List Entry) → AreToldBehind t es → IsFew (t ++ es) → AllByRecursion IsCounted es
+all_counted [] t told few = tt
+all_counted (x ∷ es) t told few = (
+  one_counted t x (λ n. few t (x ∷ es) n refl) told.0,
+  all_counted es (t ++ x ∷ []) told.1 (subst IsFew (sym (append_assoc t (x ∷ []) es)) few),
+)
+
+-- ### Worlds
+
+-- the tables of a node that runs are sorted, and in their ranges
+pub record IsFull (r : Running) : Type 0 where
+  pub sorted : AreTables r.core.tables
+  pub tables : AreTablesIn r.core.tables
+
+abbrev pub IfFull : Option Running → Type 0
+IfFull None = Unit {0}
+IfFull (Some r) = IsFull r
+
+has_tables : (o : Option Running) → IfFull o → IfTables o
+has_tables None h = tt
+has_tables (Some r) h = record { tables = h.tables; rows = h.sorted.rows }
+
+-- one thing happens and then the others, or none can
+first_happens : (c : Happening) (causes : List Happening) (w : NodeWorld) → can_happen w c ≡ true
+    → all_happen w (c ∷ causes)
+    ≡ ((all_happen (world_step w c).0 causes).0, record { cause = c; entries = (world_step w c).1 } ∷ (all_happen (world_step w c).0 causes).1)
+first_happens c causes w q = rw q refl
+
+none_happens : (c : Happening) (causes : List Happening) (w : NodeWorld) → can_happen w c ≡ false → all_happen w (c ∷ causes) ≡ (w, [])
+none_happens c causes w q = rw q refl
+
+module _ (hosts : List ℕ) (are : AreHosts hosts) where
+  -- no number in the world is above n, nor are there more RSETs that its links made; what was noted may be greater, and is a number of a text
+  pub record Stands (n : ℕ) (t : List Entry) (w : NodeWorld) : Type 0 where
+    pub world : IsWorldIn n w
+    pub rsets : FewRsetsOnEach n w.sites
+    pub noted : AreIn top t
+    pub counted : AllByRecursion IsCounted t
+    pub keep : AllKeep hosts t w
+
+  full : (k n : ℕ) (hs content : List ℕ) (t : List Entry) (o : Option Running) → AreIn n t → IfRuns k hs content t o → IfFull o
+  full k n hs content t None noted runs = tt
+  full k n hs content t (Some r) noted runs =
+      record { sorted = runs.sorted; tables = subst AreTablesIn (sym runs.tables_are) (tables_read_in n k t noted) }
+
+  sites_full : (n : ℕ) (t : List Entry) (sites : List Site) → AreIn n t → AllByRecursion (SiteKeeps t) sites
+      → AllByRecursion (λ (s : Site). IfFull s.node) sites
+  sites_full n t [] noted h = tt
+  sites_full n t (s ∷ sites) noted h =
+      (full s.host n (s.host ∷ []) s.memory.content t s.node noted h.0.runs, sites_full n t sites noted h.1)
+
+  pub record AllFull (w : NodeWorld) : Type 0 where
+    pub controller : IfFull w.controller
+    pub sites : AllByRecursion (λ (s : Site). IfFull s.node) w.sites
+
+  pub all_full : (n : ℕ) (t : List Entry) (w : NodeWorld) → Stands n t w → AllFull w
+  all_full n t w s = record {
+    controller = full 0 top hosts w.memory.content t w.controller s.noted s.keep.controller.runs;
+    sites = sites_full top t w.sites s.noted s.keep.sites;
+  }
+
+  world_has : (w : NodeWorld) → AllFull w → WorldHas w
+  world_has w h = record {
+    controller = has_tables w.controller h.controller;
+    sites = all_mapped Site (λ (s : Site). IfFull s.node) (λ (s : Site). IfTables s.node) w.sites (λ s full. has_tables s.node full) h.sites;
+  }
+
+  -- ### Events
+
+  rsets_by_few : (c : Happening) → rsets_by c ≤ 26
+  rsets_by_few (Boots k) = omega arith
+  rsets_by_few _ = omega arith
+
+  event_in : (n : ℕ) (t : List Entry) (w : NodeWorld) (c : Happening) → HappensIn c → MayHappen w c → Stands n t w → n + 26 ≤ top
+      → IsFew (t ++ (world_step w c).1) → Stands (n + 26) (t ++ (world_step w c).1) (world_step w c).0
+  event_in n t w c is may s small few =
+      let step = happens_in n w c is s.world (world_has w (all_full n t w s)) in
+      let goes = world_goes hosts are t w c s.keep may (λ k. few t (world_step w c).1 k refl) in
+      record {
+        world = step.world;
+        rsets = each_longer (n + rsets_by c) (n + 26) (world_step w c).0.sites (let by = rsets_by_few c in omega (arith, by))
+            (few_behind_step n w c s.rsets);
+        noted = in-append top t (world_step w c).1 s.noted (all_in_more (n + 26) top (world_step w c).1 small step.noted);
+        counted = each-append IsCounted t (world_step w c).1 s.counted (all_counted (world_step w c).1 t goes.told few);
+        keep = goes.keep;
+      }
+
+  pub stands_more : (n k : ℕ) (t : List Entry) (w : NodeWorld) → n ≤ k → Stands n t w → Stands k t w
+  stands_more n k t w more s =
+      record {
+        world = world_more n k w more s.world;
+        rsets = each_longer n k w.sites more s.rsets;
+        noted = s.noted;
+        counted = s.counted;
+        keep = s.keep;
+      }
+
+  pub events_in : (causes : List Happening) (n : ℕ) (t : List Entry) (w : NodeWorld) → AllByRecursion HappensIn causes → MayAllHappen w causes → Stands n t w
+      → n + 26 * length causes ≤ top → IsFew (t ++ entries_in (all_happen w causes).1)
+      → Stands (n + 26 * length causes) (t ++ entries_in (all_happen w causes).1) (all_happen w causes).0
+  events_in [] n t w is may s small few =
+      let nil = append-nil t in
+      subst (λ u. Stands (n + 26 * 0) u w) (sym nil) (stands_more n (n + 26 * 0) t w (omega arith) s)
+  events_in (c ∷ causes) n t w is may s small few =
+      go (can_happen w c) refl (λ u m k g f low y. events_in causes m u k is.1 g f low y)
+    where
+      next : NodeWorld × List Entry
+      next = world_step w c
+
+      later : NodeWorld × List Occurrence
+      later = all_happen next.0 causes
+
+      k : ℕ
+      k = n + 26 * length (c ∷ causes)
+
+      Fine : NodeWorld × List Occurrence → Type 0
+      Fine p = Stands k (t ++ entries_in p.1) p.0
+
+      go : (b : Bool) → can_happen w c ≡ b
+          → ((u : List Entry) (m : ℕ) (v : NodeWorld) → MayAllHappen v causes → Stands m u v → m + 26 * length causes ≤ top
+          → IsFew (u ++ entries_in (all_happen v causes).1) → Stands (m + 26 * length causes) (u ++ entries_in (all_happen v causes).1) (all_happen v causes).0)
+          → Fine (all_happen w (c ∷ causes))
+      go true e rest =
+          let all_few : IsFew (t ++ (next.1 ++ entries_in later.1)) =
+          subst (λ (p : NodeWorld × List Occurrence). IsFew (t ++ entries_in p.1)) (first_happens c causes w e) few in
+          let apart : IsFew ((t ++ next.1) ++ entries_in later.1) = subst IsFew (sym (append_assoc t next.1 (entries_in later.1))) all_few in
+          let first = event_in n t w c is.0 may.0 s (omega (arith, small)) (few_front (t ++ next.1) (entries_in later.1) apart) in
+          let all = rest (t ++ next.1) (n + 26) next.0 may.1 first (omega (arith, small)) apart in
+          subst Fine (sym (first_happens c causes w e))
+          (stands_more ((n + 26) + 26 * length causes) k (t ++ (next.1 ++ entries_in later.1)) later.0 (omega arith)
+          (subst (λ u. Stands ((n + 26) + 26 * length causes) u later.0) (append_assoc t next.1 (entries_in later.1)) all))
+      go false e rest =
+          let nil = append-nil t in
+          subst Fine (sym (none_happens c causes w e)) (subst (λ u. Stands k u w) (sym nil) (stands_more n k t w (omega arith) s))
+
+-- ## What is told of the lines of a schedule of nodes is in its range
+
+-- ### Lines
+
+-- a host of the header
+link_low : (header : Header) → IsNodeHeader header → (e : End) → IsEndOf header e → e.link ≤ 7
+link_low header nodes e known = (subst IsHost known.2 (header_hosts header (inr nodes) known.0 e.link known.1)).1
+
+host_low : (header : Header) → IsNodeHeader header → (h : ℕ) → Contains header.hosts.items h → h ≤ 7
+host_low header nodes h known = (subst IsHost known.2 (header_hosts header (inr nodes) known.0 h known.1)).1
+
+pub number_low : (header : Header) → IsNodeHeader header → (k : ℕ) → IsNodeOf header.hosts.items k → k ≤ 7
+number_low header nodes k known = node_fits header.hosts.items k (header_hosts header (inr nodes)) known
+
+-- ### What a line causes
+
+-- a message that isn't refused isn't too long
+unrefused_short : (e : LinkEnd) (m : Message) → give_refusal e m ≡ None → length m.1 ≤ 4096
+unrefused_short e m q = go e.shdlc.phase refl
+  where
+    by_tests : (a b : Bool) → nat_lt 4096 (length m.1) ≡ a
+        → cond a (Some (TooLong (length m.1))) (cond b (Some (Full (need m.1) (spare e))) None) ≡ None → length m.1 ≤ 4096
+    by_tests true b z none = absurd (cc none)
+    by_tests false b z none = ltb-false 4096 (length m.1) z
+
+    go : (p : LinkState) → e.shdlc.phase ≡ p → length m.1 ≤ 4096
+    go Up z = by_tests (nat_lt 4096 (length m.1)) (nat_lt (spare e) (need m.1)) refl (rw z at q)
+    go _ z = absurd (let none : Some NotUp ≡ None = rw z at q in cc none)
+
+none_waits : (waits : Bool) (o : Option Refused) → if_waiting waits o ≡ None → o ≡ None
+none_waits b (Some NotUp) q = absurd (cc q)
+none_waits true None q = absurd (cc q)
+none_waits true (Some _) q = absurd (cc q)
+none_waits false None q = refl
+none_waits false (Some _) q = absurd (cc q)
+
+repeated_in : (c : Happening) → HappensIn c → (k : ℕ) → AllByRecursion HappensIn (replicate k c)
+repeated_in c is zero = tt
+repeated_in c is (suc k) = (is, repeated_in c is k)
+
+damaged_in : (e : End) → e.link ≤ 7 → (v : Option Verdict) → AllByRecursion HappensIn (happens_by e v)
+damaged_in e small None = tt
+damaged_in e small (Some Same) = (small, tt)
+damaged_in e small (Some (LostFor why)) = (small, tt)
+damaged_in e small (Some (Undetected read)) = tt
+
+pipes_in : (pipes : List (List ℕ)) → AllByRecursion (λ (pipe : List ℕ). (length pipe ≡ 3) × All IsByte pipe) pipes
+    → AllByRecursion (λ (pipe : List ℕ). AreBytes pipe × (length pipe ≤ 4000)) pipes
+pipes_in [] h = tt
+pipes_in (pipe ∷ pipes) h = let three = h.0.0 in ((all_each IsByte pipe h.0.1, omega (arith, three)), pipes_in pipes h.1)
+
+module _ (header : Header) (nodes : IsNodeHeader header) where
+  pub caused_in : (w : NodeWorld) (l : Line) → IsNodeLineOf header l → refusal_in w l ≡ None → AllByRecursion HappensIn (happenings w l)
+  caused_in w (line.Send e pid message) is none =
+      let sent = (first_none (if_off w (node_of e)) (if_not_sent w e (pid, message)) none).1 in
+      let refused = none_noted_send w e (pid, message) sent in (
+        (
+          link_low header nodes e is.known,
+          record {
+            pipe = is.pipe;
+            some = is.some;
+            bytes = all_each IsByte message is.bytes;
+            short = unrefused_short (machine_in w e) (pid, message) refused;
+          },
+        ),
+        tt,
+      )
+    where
+      none_noted_send : (v : NodeWorld) (x : End) (m : Message) → if_not_sent v x m ≡ None → give_refusal (machine_in v x) m ≡ None
+      none_noted_send v x m q = none_waits _ (give_refusal (machine_in v x) m) q
+  caused_in w (line.Deliver e count) is none = repeated_in (Takes e) (link_low header nodes e is.0) (taken_of count (frames_at w e))
+  caused_in w (line.Lose e) is none = (link_low header nodes e is, tt)
+  caused_in w (line.Damage e places) is none = damaged_in e (link_low header nodes e is.0) (first_verdict (frames_at w e) places.items)
+  caused_in w (line.Tick times) is none = repeated_in Ticks tt (unwrap_or times 1)
+  caused_in w (line.Reset e None) is none = ((link_low header nodes e is.0, tt), tt)
+  caused_in w (line.Reset e (Some window)) is none = ((link_low header nodes e is.0, is.1.1), tt)
+  caused_in w (line.Boot node) is none = (number_low header nodes node is, tt)
+  caused_in w (line.Cut node) is none = (number_low header nodes node is, tt)
+  caused_in w (line.Activate host sync power) is none =
+      let code = is.code in ((host_low header nodes host is.known, is.identifier, omega (arith, code)), tt)
+  caused_in w (line.Arm node nth fill) is none = (tt, tt)
+  caused_in w (line.Init e identity pipes) is none =
+      let long = is.long in (
+        (
+          link_low header nodes e is.known,
+          record {
+            identity = (all_each IsByte identity is.bytes, omega (arith, long));
+            pipes = pipes_in pipes.items (recursion_from_All _ pipes.items is.each);
+            few = is.few;
+          },
+        ),
+        tt,
+      )
+  caused_in w _ is none = tt
+
+  -- a line causes 100 events at most
+  wire_at : (n : ℕ) (w : NodeWorld) → IsWorldIn n w → (e : End) → WireIs IsLineFrame n (frames_at w e)
+  wire_at n w is e = by_test e.at_host (λ q. rw q l.to_far) (λ q. rw q l.to_near)
+    where
+      l : LinkIn false true n (link_to w.sites e.link)
+      l = link_there n w.sites e.link is.sites
+
+  few_taken : (count : Option ℕ) (w : List OnWire) → length w ≤ 64 → taken_of count w ≤ 64
+  few_taken None w few = few
+  few_taken (Some k) w few = omega (arith, few)
+
+  few_damaged : (e : End) (v : Option Verdict) → length (happens_by e v) ≤ 100
+  few_damaged e (Some Same) = omega arith
+  few_damaged e _ = omega arith
+
+  pub few_caused : (n : ℕ) (w : NodeWorld) (l : Line) → IsNodeLineOf header l → IsWorldIn n w → length (happenings w l) ≤ 100
+  few_caused n w (line.Deliver e count) is h =
+      let few = few_taken count (frames_at w e) (wire_at n w h e).few in
+      let long = length-replicate (taken_of count (frames_at w e)) (Takes e) in omega (arith, few, long)
+  few_caused n w (line.Damage e places) is h = few_damaged e (first_verdict (frames_at w e) places.items)
+  few_caused n w (line.Tick None) is h = omega arith
+  few_caused n w (line.Tick (Some times)) is h = let long = length-replicate times Ticks in let few = is.1 in omega (arith, few, long)
+  few_caused n w _ is h = omega arith
+
+-- ### Refusals
+
+first_in : (a b : Option NoCause) → IfCause a → IfCause b → IfCause (first_cause a b)
+first_in None b p q = q
+first_in (Some why) b p q = p
+
+off_in : (w : NodeWorld) (n : ℕ) → IfCause (if_off w n)
+off_in w n = cond_both (is_running w n) None (Some no.Off) IfCause (λ _. tt) (λ _. tt)
+
+waiting_in : (waits : Bool) (o : Option Refused) → IfCause (as_noted o) → IfCause (if_waiting waits o)
+waiting_in b (Some NotUp) h = tt
+waiting_in true None h = tt
+waiting_in true (Some _) h = tt
+waiting_in false None h = h
+waiting_in false (Some _) h = h
+
+sent_in : (w : NodeWorld) (e : End) (m : Message) → IfCause (if_not_sent w e m)
+sent_in w e m = waiting_in _ (give_refusal (machine_in w e) m) (give_in (machine_in w e) m)
+
+reach_in : (n : ℕ) (w : List OnWire) (places : List ℕ) → WireIs IsLineFrame n w → IfCause (if_out_of_reach w places)
+reach_in n [] places h = tt
+reach_in n (x ∷ xs) places h =
+    beyond_in (length (frame_of (lpdu_of x.frame))) places (frame_few (lpdu_of x.frame) (line_lpdu x.frame h.frames.0.frame).few)
+
+module _ (header : Header) (nodes : IsNodeHeader header) where
+  pub refused_in : (n : ℕ) (w : NodeWorld) (l : Line) → IsWorldIn n w → IfCause (refusal_in w l)
+  refused_in n w (line.Send e pid message) h =
+      first_in (if_off w (node_of e)) (if_not_sent w e (pid, message)) (off_in w (node_of e)) (sent_in w e (pid, message))
+  refused_in n w (line.Deliver e count) h =
+      first_in (if_off w (node_of e)) (if_empty (frames_at w e)) (off_in w (node_of e)) (empty_in (frames_at w e))
+  refused_in n w (line.Lose e) h =
+      first_in (if_off w (node_of e)) (if_empty (frames_at w e)) (off_in w (node_of e)) (empty_in (frames_at w e))
+  refused_in n w (line.Damage e places) h =
+      first_in (if_off w (node_of e)) (if_out_of_reach (frames_at w e) places.items) (off_in w (node_of e))
+      (reach_in n (frames_at w e) places.items (wire_at header nodes n w h e))
+  refused_in n w (line.Reset e window) h =
+      first_in (if_off w (node_of e)) (as_noted (reset_refusal (machine_in w e))) (off_in w (node_of e)) (reset_in (machine_in w e))
+  refused_in n w (line.Boot node) h = by_test (is_running w node) (λ q. rw q tt) (λ q. rw q tt)
+  refused_in n w (line.Cut node) h = off_in w node
+  refused_in n w (line.Activate host sync power) h = first_in (if_off w 0) (if_off w host) (off_in w 0) (off_in w host)
+  refused_in n w (line.Init e identity pipes) h =
+      first_in (if_off w (node_of e)) (if_not_sent w e (1, 3 ∷ [])) (off_in w (node_of e)) (sent_in w e (1, 3 ∷ []))
+  refused_in n w (line.Tables node) h = off_in w node
+  refused_in n w _ h = tt
+
+-- ### Tables
+
+pub said_tables : (t : HciTables) → AreTables t → AreTablesIn t → AreSaidTables t
+said_tables t sorted is =
+    let a = length-rows pid_of 2 112 t.rows sorted.rows in
+    let b = length-rows static_place 0 16 t.statics sorted.statics in
+    let c = length-rows place_of_value 2 16 t.values sorted.values.sorted in
+    let d = length-rows sync_host 1 8 t.syncs sorted.syncs in
+    record {
+      counts = (omega (arith, a), omega (arith, b), omega (arith, c), omega (arith, d));
+      pipes = each_all _ t.rows is.pipes;
+      statics = each_all _ t.statics is.statics;
+      values = each_all _ t.values (all_mapped RegValue IsValueIn IsSaidValue t.values (λ v h. h.0) is.values);
+      syncs = each_all _ t.syncs is.syncs;
+    }
+
+-- ## A world of nodes stays in range over a round, and so does what is noted of it
+
+-- ### Frames that are taken one after another
 
 -- the world where so many frames were taken
 abbrev after_taken : NodeWorld → End → ℕ → NodeWorld

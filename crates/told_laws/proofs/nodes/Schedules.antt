@@ -13,7 +13,7 @@ use Rattle.told_laws.proofs.Words.{steps_from, subst, suc, sym, tables_told, tak
 use Rattle.told_laws.proofs.Words.{world_round, zero, ℕ, ◌&&◌, ◌*◌, ◌++◌, ◌+◌, ◌∙◌, ◌∷◌, ◌≡◌, ◌≤◌}
 use Rattle.trace_model.specs.declared.entry.Entry.TheVariants as entry
 use Rattle.trace_model.specs.declared.line.Line.TheVariants as line
-use Rattle.told_laws.proofs.texts.ReadLemmas.{said_in}
+use Rattle.told_laws.proofs.texts.ShownLemmas.{said_in}
 use Rattle.node_machine.specs.world.Lines.LineOutcome.{WasRefused, Occurred}
 use Rattle.node_laws.proofs.kept.Ticking.{all_begin}
 use Rattle.node_laws.proofs.links.Worlds.{world_fine}
@@ -21,16 +21,11 @@ use Rattle.node_laws.proofs.bounds.Paying.{asking-append, asking_few}
 use Rattle.node_laws.proofs.schedules.Ranges.{hosts_are, in_range, playable, sent_by_hosts}
 use Rattle.node_laws.proofs.schedules.Few.{are_few}
 use Rattle.told_laws.specs.told.NodesTold.{line_told, nodes_told}
-use Rattle.told_laws.proofs.told.Lines.{each_all, IfCause, top}
-use Rattle.told_laws.proofs.told.Coming.{front_each, back_each}
-use Rattle.told_laws.proofs.told.Plays.{lines_from, played_from}
-use Rattle.told_laws.proofs.nodes.Ranges.{IsIn}
-use Rattle.told_laws.proofs.nodes.Linking.{new_link_in}
-use Rattle.told_laws.proofs.nodes.Worlds.{IsSiteIn}
-use Rattle.told_laws.proofs.nodes.Happenings.{HappensIn}
-use Rattle.told_laws.proofs.nodes.Histories.{IsCounted, IsFull, IfFull, AllFull, Stands, all_full, events_in, stands_more}
-use Rattle.told_laws.proofs.nodes.Rounds.{round_stands}
-use Rattle.told_laws.proofs.nodes.Lines.{number_low, caused_in, few_caused, refused_in, said_tables}
+use Rattle.told_laws.proofs.told.BarePlays.{IfCause, back_each, each_all, front_each, lines_from, played_from, top}
+use Rattle.told_laws.proofs.nodes.Commands.{IsIn, new_link_in}
+use Rattle.told_laws.proofs.nodes.Happenings.{HappensIn, IsSiteIn}
+use Rattle.told_laws.proofs.nodes.Rounds.{AllFull, IfFull, IsCounted, IsFull, Stands, all_full, caused_in, events_in, few_caused, number_low, refused_in}
+use Rattle.told_laws.proofs.nodes.Rounds.{round_stands, said_tables, stands_more}
 
 -- an entry is in its range, and what it counts is a number of a text
 abbrev IsToldIn : Entry → Type 0

@@ -15,14 +15,13 @@ use Rattle.hci_store.specs.Committing.{commit_writes}
 use Rattle.node_machine.specs.Parts.About.{Waits, Removed}
 use Rattle.node_machine.specs.Turns.{deeds_of, handles, holds_back, lets_go, have_turns, goes_through_ends, passes}
 use Rattle.node_laws.proofs.steps.StepWalks.{got_at, lets, unless}
-use Rattle.told_laws.proofs.told.Lines.{each_all}
-use Rattle.told_laws.proofs.nodes.Sides.{IsMail, AreMail}
-use Rattle.told_laws.proofs.nodes.Machines.{SideIn, side_more, side_turn, side_input, side_reset_at, IsTurnIn, AreTurnsIn, IsInputIn, IfSync, report_in}
-use Rattle.told_laws.proofs.nodes.Machines.{acked_in}
-use Rattle.told_laws.proofs.nodes.Ranges.{AreIn, each_in, in-append, all_in_more, AreNotedIn, all_entries_in, told_in_range}
-use Rattle.told_laws.proofs.nodes.Commands.{IsCommandIn, applied_in, rows_applied}
-use Rattle.told_laws.proofs.nodes.Deeds.{IsSaying, saying, answer_in, IfCreation, IsDeskIn, IsDeedIn, AreDeedsIn, low, controller_in}
-use Rattle.told_laws.proofs.nodes.Hosts.{IsCoreIn, own_end, host_in}
+use Rattle.told_laws.proofs.told.BarePlays.{each_all}
+use Rattle.told_laws.proofs.nodes.Machines.{AreMail, AreTurnsIn, IfSync, IsInputIn, IsMail, IsTurnIn, SideIn, acked_in, report_in, side_input, side_more}
+use Rattle.told_laws.proofs.nodes.Machines.{side_reset_at, side_turn}
+use Rattle.told_laws.proofs.nodes.Commands.{AreIn, AreNotedIn, IsCommandIn, all_entries_in, all_in_more, applied_in, each_in, in-append, rows_applied}
+use Rattle.told_laws.proofs.nodes.Commands.{told_in_range}
+use Rattle.told_laws.proofs.nodes.Hosts.{AreDeedsIn, IfCreation, IsCoreIn, IsDeedIn, IsDeskIn, IsSaying, answer_in, controller_in, host_in, low, own_end}
+use Rattle.told_laws.proofs.nodes.Hosts.{saying}
 
 -- ## A node at work
 

@@ -1,21 +1,469 @@
--- The ends of a bare link, and what is on its wires, are in their ranges.
-use Rattle.told_laws.proofs.Words.{ActTick, AllByRecursion, AllByRecursion-take, Asked, AsksReset, Bare, Bool, Control, Down, End, EndEvent, EndState}
-use Rattle.told_laws.proofs.Words.{FetchMessage, FewRsets, Give, Given, GoesOut, Hold, I, IsByte, Link, LinkEnd, LinkInput, LinkState, List, Lose, Message}
-use Rattle.told_laws.proofs.Words.{NextFrame, NoInput, None, Option, Readied, Refused, Reset, Rset, S, Some, Step, Take, Taken, Tick, Ticked, Ua, WasLost}
-use Rattle.told_laws.proofs.Words.{WasReset, [], activated, after_input, aged, all_frames, among, ap, arith, at, bare_link, becomes, by_list, by_test, cond}
-use Rattle.told_laws.proofs.Words.{drop, ended_by, exchanged, false, frames_out, give_refusal, given, had_tick, happens, happens_at_controller, has_input}
-use Rattle.told_laws.proofs.Words.{heard, if_up, in_front, is_faulty, is_open, is_some, length, length-append, link_after, map, moved, news, not, packet_bytes}
-use Rattle.told_laws.proofs.Words.{packet_count, packets_of, parts_of, put_down, refl, reset_by, reset_refusal, reset_with, sent_all, stopped, subst, suc, sym}
-use Rattle.told_laws.proofs.Words.{take, take_answer, taken, tick_answer, ticked, ticks_at_controller, took, true, turn, unless, window_of, with_ended, zero, ℕ}
-use Rattle.told_laws.proofs.Words.{◌++◌, ◌+◌, ◌<◌, ◌==◌, ◌∷◌, ◌≡◌, ◌≤◌}
+-- The frames of ends and wires, and a bare link with them, are in their ranges behind each thing that happens.
+use Rattle.told_laws.proofs.Words.{ActTick, AllByRecursion, AllByRecursion-get, AllByRecursion-take, Asked, AsksReset, Bare, Bool, Control, Down, Due, End}
+use Rattle.told_laws.proofs.Words.{EndEvent, EndIsLow, EndState, FetchMessage, FewRsets, Fragment, Give, Given, GoesOut, Hold, I, IsByte, Kind, Link, LinkEnd}
+use Rattle.told_laws.proofs.Words.{LinkInput, LinkState, List, Lose, Loss, Message, NextFrame, NoInput, None, NumberedEnd, OnWire, Option, Over, Readied}
+use Rattle.told_laws.proofs.Words.{Refused, Rej, Reset, Rnr, Rr, Rset, Runs, S, Session, Some, Spent, Srej, Step, Take, Taken, Tick, Ticked, Timed, Ua, Up}
+use Rattle.told_laws.proofs.Words.{Waiting, WasLost, WasReset, WireIsLow, [], acknowledged, activated, after_frames, after_input, aged, aged_wire, all_frames}
+use Rattle.told_laws.proofs.Words.{all_mapped, among, ap, arith, at, bare_link, becomes, by_list, by_option, by_test, common_steps, cond, control_due, drop}
+use Rattle.told_laws.proofs.Words.{each-append, ended_by, exchanged, expected, false, fetched, fits, fragment_due, frame_due, frames_of, frames_out}
+use Rattle.told_laws.proofs.Words.{give_refusal, given, had_tick, happens, happens_at_controller, has_input, heard, if_up, in_front, in_phase, is_faulty}
+use Rattle.told_laws.proofs.Words.{is_open, is_rset, is_some, is_up, length, length-append, link_after, ltb-false, ltb-true, map, moved, nat_lt, news, not}
+use Rattle.told_laws.proofs.Words.{packet_bytes, packet_count, packets_of, parts_of, place_of, put, put_all, put_down, put_out, received, received-sending}
+use Rattle.told_laws.proofs.Words.{refl, reset_by, reset_refusal, reset_with, runs_timer, sent_all, silent, slice_get, stopped, subst, suc, sym, take}
+use Rattle.told_laws.proofs.Words.{take_answer, taken, tick_answer, ticked, ticks_at_controller, timed, took, took_low, took_with, true, turn, unless}
+use Rattle.told_laws.proofs.Words.{window_of, with_controller, with_ended, with_ready, zero, ℕ, ◌%◌, ◌++◌, ◌+◌, ◌<◌, ◌==◌, ◌∷◌, ◌≡◌, ◌≤◌}
 use Rattle.history.specs.Histories.{Cause}
-use Rattle.told_laws.proofs.told.Ends.{IsFragment, IsFrame, Ranged, ranged_taken, ranged_ticked, ranged_reset, ranged_stopped, ranged_ready, ranged_out}
-use Rattle.told_laws.proofs.told.Ends.{ranged_after, frames_in, frames_few}
-use Rattle.told_laws.proofs.told.Wires.{drop_each, WireIs}
-use Rattle.told_laws.proofs.told.Linked.{LinkSo, left_with, no_wire, so_aged, so_becomes, so_ended, so_exchanged, so_left, so_longer, so_lost, so_more}
-use Rattle.told_laws.proofs.told.Linked.{so_within}
+use Rattle.shdlc_core.proofs.Timers.{grown_tries, timed-over}
+use Rattle.shdlc_core.specs.declared.answers.Due.TheVariants.{Rset as Rset_due, Ua as Ua_due}
 
--- ## Messages
+-- ## The frames of an SHDLC end are in their ranges, whatever comes to it
+
+-- ### Fragments and frames
+
+-- at most 29 bytes
+abbrev pub IsFragment : List ℕ → Type 0
+IsFragment info = AllByRecursion IsByte info × (length info ≤ 29)
+
+-- a frame of a bare link
+abbrev pub IsFrame : Control → Type 0
+IsFrame (I ns nr info) = (ns < 8) × (nr < 8) × IsFragment info
+IsFrame (S kind nr) = nr < 8
+IsFrame (Rset window caps) = IsByte window × IsByte caps
+IsFrame Ua = Unit {0}
+IsFrame _ = ⊥
+
+-- an end that has these fragments to send, this own window and so many tries
+pub record RangedFor (out : List Fragment) (own tries : ℕ) : Type 0 where
+  pub fragments : AllByRecursion IsFragment out
+  pub window : own ≤ 4
+  pub few : tries ≤ 5
+
+abbrev pub Ranged : EndState → Type 0
+Ranged e = RangedFor e.session.out e.own_window e.tries
+
+-- it has nothing to send, and so many tries
+fresh : (out : List Fragment) (own tries made : ℕ) → made ≤ 5 → RangedFor out own tries → RangedFor [] own made
+fresh out own tries made few h = record { fragments = tt; window = h.window; few = few }
+
+retried : (out : List Fragment) (own tries made : ℕ) → made ≤ 5 → RangedFor out own tries → RangedFor out own made
+retried out own tries made few h = record { fragments = h.fragments; window = h.window; few = few }
+
+-- ### Frames that come
+
+received-kept : (f : EndState) (ns : ℕ) (info : Fragment) → ((received f ns info).own_window ≡ f.own_window) × ((received f ns info).tries ≡ f.tries)
+received-kept f ns info = (grind (arith, common_steps), grind (arith, common_steps))
+
+fragment-up : (e : EndState) (ns nr : ℕ) (info : Fragment) (o : Option ℕ) → place_of e.session nr ≡ o → Ranged e → Ranged (taken (in_phase Up e) (I ns nr info))
+fragment-up e ns nr info None q h = rw q h
+fragment-up e ns nr info (Some x) q h =
+    let f = acknowledged (in_phase Up e) x in
+    let kept = received-kept f ns info in
+    rw q (record {
+      fragments = subst (AllByRecursion IsFragment) (sym (received-sending f ns info).0) h.fragments;
+      window = subst (λ w. w ≤ 4) (sym kept.0) h.window;
+      few = subst (λ t. t ≤ 5) (sym kept.1) (grown_tries e.session.acked x e.tries h.few);
+    })
+
+supervised-up : (e : EndState) (kind : Kind) (nr : ℕ) (o : Option ℕ) → place_of e.session nr ≡ o → Ranged e → Ranged (taken (in_phase Up e) (S kind nr))
+supervised-up e Srej nr p q h = h
+supervised-up e _ nr None q h = rw q h
+supervised-up e Rr nr (Some x) q h = rw q (retried _ _ e.tries _ (grown_tries e.session.acked x e.tries h.few) h)
+supervised-up e Rej nr (Some x) q h = rw q (retried _ _ e.tries _ (grown_tries e.session.acked x e.tries h.few) h)
+supervised-up e Rnr nr (Some x) q h = rw q (retried _ _ e.tries _ (omega arith) h)
+
+reset-taken : (e : EndState) (p : LinkState) (w caps : ℕ) (b : Bool) → (w == 0) ≡ b → Ranged e → Ranged (taken (in_phase p e) (Rset w caps))
+reset-taken e Up w caps true q h = rw q h
+reset-taken e Up w caps false q h = rw q (fresh _ _ e.tries _ (omega arith) h)
+reset-taken e Down w caps false q h = rw q (fresh _ _ e.tries _ (omega arith) h)
+reset-taken e _ w caps true q h = rw q h
+reset-taken e Waiting w caps false q h = rw q h
+
+take-in : (e : EndState) (p : LinkState) (c : Control) → Ranged e → Ranged (taken (in_phase p e) c)
+take-in e Up (I ns nr info) h = fragment-up e ns nr info _ refl h
+take-in e Up (S kind nr) h = supervised-up e kind nr _ refl h
+take-in e Waiting Ua h = fresh _ _ e.tries _ (omega arith) h
+take-in e p (Rset w caps) h = reset-taken e p w caps _ refl h
+take-in e Up _ h = h
+take-in e Waiting _ h = h
+take-in e Down _ h = h
+
+pub ranged_taken : (e : EndState) (c : Control) → Ranged e → Ranged (taken e c)
+ranged_taken e c h = take-in e e.phase c h
+
+-- ### Ticks
+
+tick-up : (e : EndState) (runs : Bool) (t : Timed) → runs_timer e.session ≡ runs → timed e ≡ t → Ranged e → Ranged (ticked (in_phase Up e))
+tick-up e false t r q h = rw r h
+tick-up e true Runs r q h = rw (r, q) h
+tick-up e true Over r q h = rw (r, q) (retried _ _ e.tries _ (timed-over e q) h)
+tick-up e true Spent r q h = rw (r, q) (fresh _ _ e.tries _ (omega arith) h)
+
+tick-waiting : (e : EndState) (t : Timed) → timed e ≡ t → Ranged e → Ranged (ticked (in_phase Waiting e))
+tick-waiting e Runs q h = rw q h
+tick-waiting e Over q h = rw q (retried _ _ e.tries _ (timed-over e q) h)
+tick-waiting e Spent q h = rw q (retried _ _ e.tries _ (omega arith) h)
+
+tick-in : (e : EndState) (p : LinkState) → Ranged e → Ranged (ticked (in_phase p e))
+tick-in e Up h = tick-up e _ _ refl refl h
+tick-in e Waiting h = tick-waiting e _ refl h
+tick-in e Down h = h
+
+pub ranged_ticked : (e : EndState) → Ranged e → Ranged (ticked e)
+ranged_ticked e h = tick-in e e.phase h
+
+-- after so many tries an end gives up, where it does
+abbrev pub IfTries : Option ℕ → Type 0
+IfTries None = Unit {0}
+IfTries (Some tries) = tries ≤ 5
+
+gives-waiting : (e : EndState) (t : Timed) → timed e ≡ t → Ranged e → IfTries (tick_answer (in_phase Waiting e)).gave_up
+gives-waiting e Spent q h = rw q h.few
+gives-waiting e _ q h = rw q tt
+
+gives-up : (e : EndState) (runs : Bool) (t : Timed) → runs_timer e.session ≡ runs → timed e ≡ t → IfTries (tick_answer (in_phase Up e)).gave_up
+gives-up e false t r q = rw r tt
+gives-up e true Runs r q = rw (r, q) tt
+gives-up e true _ r q = rw (r, q) tt
+
+gives-in : (e : EndState) (p : LinkState) → Ranged e → IfTries (tick_answer (in_phase p e)).gave_up
+gives-in e Up h = gives-up e _ _ refl refl
+gives-in e Waiting h = gives-waiting e _ refl h
+gives-in e Down h = tt
+
+pub few_tries : (e : EndState) → Ranged e → IfTries (tick_answer e).gave_up
+few_tries e h = gives-in e e.phase h
+
+-- ### What the node asks for
+
+reset-in : (e : EndState) (p : LinkState) (w : ℕ) → w ≤ 4 → Ranged e → Ranged (reset_with (in_phase p e) w)
+reset-in e Waiting w low h = h
+reset-in e _ w low h = record { fragments = tt; window = low; few = omega arith }
+
+pub ranged_reset : (e : EndState) (w : ℕ) → w ≤ 4 → Ranged e → Ranged (reset_with e w)
+ranged_reset e w low h = reset-in e e.phase w low h
+
+pub ranged_stopped : (e : EndState) → Ranged e → Ranged (stopped e)
+ranged_stopped e h = fresh _ _ e.tries _ (omega arith) h
+
+ready-in : (e : EndState) (before after answered : Bool) → e.ready ≡ before → e.session.answered_rnr ≡ answered → Ranged e → Ranged (with_ready e after)
+ready-in e true true a q r h = rw q h
+ready-in e false false a q r h = rw q h
+ready-in e true false a q r h = rw q h
+ready-in e false true true q r h = rw (q, r) h
+ready-in e false true false q r h = rw (q, r) h
+
+pub ranged_ready : (e : EndState) (after : Bool) → Ranged e → Ranged (with_ready e after)
+ranged_ready e after h = ready-in e e.ready after _ refl refl h
+
+pub ranged_out : (e : EndState) (fragments : List Fragment) → AllByRecursion IsFragment fragments → Ranged e → Ranged (put_out e fragments)
+ranged_out e fragments more h =
+    record { fragments = each-append IsFragment e.session.out fragments h.fragments more; window = h.window; few = h.few }
+
+-- ### What goes out
+
+control_frame : (e : EndState) (d : Due) → Ranged e → IsFrame (control_due e d)
+control_frame e Rset_due h = let w = h.window in (omega (arith, w), omega arith)
+control_frame e Ua_due h = tt
+control_frame e _ h = omega arith
+
+due_fragment : (s : Session) (info : Fragment) → fragment_due s ≡ Some info → slice_get s.out s.next ≡ Some info
+due_fragment s info q = grind (arith, common_steps)
+
+due_frame : (e : EndState) (due : List Due) (q : Option Fragment) (c : Control) → fragment_due e.session ≡ q → Ranged e
+    → frame_due (record e { due = due }) ≡ Some c → IsFrame c
+due_frame e (d ∷ due) q c f h is = let same : control_due e d ≡ c = cc in subst IsFrame same (control_frame e d h)
+due_frame e [] None c f h is = absurd (let z : None ≡ Some c = rw f at is in cc)
+due_frame e [] (Some info) c f h is =
+    let z : Some (I (e.session.next % 8) (expected e.session) info) ≡ Some c = rw f at is in
+    let same : I (e.session.next % 8) (expected e.session) info ≡ c = cc in
+    let frame : IsFrame (I (e.session.next % 8) (expected e.session) info) = (
+      omega arith,
+      omega arith,
+      AllByRecursion-get IsFragment e.session.out e.session.next info h.fragments (due_fragment e.session info f),
+    ) in
+    subst IsFrame same frame
+
+fetched-in : (e : EndState) (due : List Due) (q : Option Fragment) → e.due ≡ due → fragment_due e.session ≡ q → Ranged e → Ranged (fetched e)
+fetched-in e (d ∷ due) q p f h = rw p h
+fetched-in e [] None p f h = rw (p, f) h
+fetched-in e [] (Some info) p f h = rw (p, f) h
+
+ranged_fetched : (e : EndState) → Ranged e → Ranged (fetched e)
+ranged_fetched e h = fetched-in e e.due _ refl refl h
+
+pub ranged_after : (n : ℕ) (e : EndState) → Ranged e → Ranged (after_frames n e)
+ranged_after zero e h = h
+ranged_after (suc n) e h = ranged_after n (fetched e) (ranged_fetched e h)
+
+pub frames_in : (n : ℕ) (e : EndState) → Ranged e → AllByRecursion IsFrame (frames_of n e)
+frames_in zero e h = tt
+frames_in (suc n) e h = by_option (frame_due e)
+    (λ q. rw q tt)
+    (λ c q. rw q (due_frame e e.due (fragment_due e.session) c refl h q, frames_in n (fetched e) (ranged_fetched e h)))
+
+pub frames_few : (n : ℕ) (e : EndState) → length (frames_of n e) ≤ n
+frames_few zero e = omega arith
+frames_few (suc n) e = by_option (frame_due e) (λ q. rw q (omega arith)) (λ c q. rw q (omega (arith, frames_few n (fetched e))))
+
+-- ## The frames on a wire are in their ranges, whichever those are
+
+pub drop_each : {X : Type 0} (P : X → Type 0) (n : ℕ) (xs : List X) → AllByRecursion P xs → AllByRecursion P (drop n xs)
+drop_each P zero xs h = h
+drop_each P (suc n) [] h = tt
+drop_each P (suc n) (x ∷ xs) h = drop_each P n xs h.1
+
+pub record FrameIs (P : Control → Type 0) (n : ℕ) (x : OnWire) : Type 0 where
+  pub frame : P x.frame
+  pub number : x.number ≤ n
+
+pub record WireIs (P : Control → Type 0) (n : ℕ) (w : List OnWire) : Type 0 where
+  pub frames : AllByRecursion (FrameIs P n) w
+  pub few : length w ≤ 64
+
+module _ (P : Control → Type 0) where
+  frame_more : (n k : ℕ) → n ≤ k → (x : OnWire) → FrameIs P n x → FrameIs P k x
+  frame_more n k more x h = let l = h.number in record { frame = h.frame; number = omega (arith, l, more) }
+
+  wire_more : (n k : ℕ) (w : List OnWire) → n ≤ k → WireIs P n w → WireIs P k w
+  wire_more n k w more h = record { frames = all_mapped OnWire (FrameIs P n) (FrameIs P k) w (frame_more n k more) h.frames; few = h.few }
+
+  fewer : {X : Type 0} (xs : List X) → length (drop 1 xs) ≤ length xs
+  fewer [] = omega arith
+  fewer (x ∷ xs) = omega arith
+
+  one_less : {X : Type 0} (xs : List X) (n : ℕ) → n < length xs → length xs ≤ n + 1 → length (drop 1 xs) ≤ n
+  one_less [] n a b = omega (arith, a)
+  one_less (x ∷ xs) n a b = omega (arith, b)
+
+  wire_dropped : (n : ℕ) (w : List OnWire) → WireIs P n w → WireIs P n (drop 1 w)
+  wire_dropped n w h =
+      record { frames = drop_each (FrameIs P n) 1 w h.frames; few = let l = fewer w in let f = h.few in omega (arith, l, f) }
+
+  each_pushed : (n : ℕ) (w : List OnWire) (x : OnWire) → AllByRecursion (FrameIs P n) w → FrameIs P n x → AllByRecursion (FrameIs P n) (w ++ x ∷ [])
+  each_pushed n [] x h is = (is, tt)
+  each_pushed n (y ∷ w) x h is = (h.0, each_pushed n w x h.1 is)
+
+  -- the frames on a wire with one more
+  pushed_is : (n : ℕ) (w : List OnWire) (x : OnWire) → WireIs P n w → FrameIs P n x → AllByRecursion (FrameIs P n) (w ++ x ∷ [])
+  pushed_is n w x h is = each_pushed n w x h.frames is
+
+  wire_put : (n : ℕ) (w : List OnWire) (x : OnWire) → WireIs P n w → FrameIs P n x → WireIs P n (fits (w ++ x ∷ []))
+  wire_put n w x h is = by_test (nat_lt 64 (length (w ++ x ∷ [])))
+      (λ q. let more = ltb-true 64 (length (w ++ x ∷ [])) q in
+      let few = h.few in
+      rw q (record {
+        frames = drop_each (FrameIs P n) 1 (w ++ x ∷ []) (pushed_is n w x h is);
+        few = one_less (w ++ x ∷ []) 64 more (omega (arith, long, few));
+      }))
+      (λ q. let less = ltb-false 64 (length (w ++ x ∷ [])) q in rw q (record { frames = pushed_is n w x h is; few = less }))
+    where
+      long : length (w ++ x ∷ []) ≡ length w + 1
+      long = length-append w (x ∷ [])
+
+  each_aged : (n : ℕ) (w : List OnWire) → AllByRecursion (FrameIs P n) w → AllByRecursion (FrameIs P n) (aged_wire w)
+  each_aged n [] h = tt
+  each_aged n (x ∷ w) h = by_test (nat_lt x.age 4)
+      (λ q. rw q (record { frame = h.0.frame; number = h.0.number }, each_aged n w h.1))
+      (λ q. rw q (each_aged n w h.1))
+
+  aged_few : (w : List OnWire) → length (aged_wire w) ≤ length w
+  aged_few [] = omega arith
+  aged_few (x ∷ w) = by_test (nat_lt x.age 4) (λ q. rw q (omega (arith, aged_few w))) (λ q. rw q (omega (arith, aged_few w)))
+
+  wire_aged : (n : ℕ) (w : List OnWire) → WireIs P n w → WireIs P n (aged_wire w)
+  wire_aged n w h = record { frames = each_aged n w h.frames; few = let l = aged_few w in let f = h.few in omega (arith, l, f) }
+
+  -- no number on it is above another bound
+  each_within : (n m k : ℕ) (w : List OnWire) → k ≤ m → AllByRecursion (FrameIs P n) w → WireIsLow k w → AllByRecursion (FrameIs P m) w
+  each_within n m k [] more h low = tt
+  each_within n m k (x ∷ w) more h low =
+      (record { frame = h.0.frame; number = let a = low.0 in omega (arith, a, more) }, each_within n m k w more h.1 low.1)
+
+  wire_within : (n m k : ℕ) (w : List OnWire) → k ≤ m → WireIs P n w → WireIsLow k w → WireIs P m w
+  wire_within n m k w more h low = record { frames = each_within n m k w more h.frames low; few = h.few }
+
+-- ## A link whose ends are so and whose frames are such, and where no number is above a bound, whichever those are
+-- What it is behind each thing that happens to it.
+
+-- an end
+pub record NumberedSo (Q : LinkEnd → Type 0) (n : ℕ) (h : NumberedEnd) : Type 0 where
+  pub side : Q h.side
+  pub emitted : h.emitted ≤ n
+  pub took : h.took ≤ n
+
+-- the link, seen from one of its ends
+pub record LinkSo (P : Control → Type 0) (Q R : LinkEnd → Type 0) (n : ℕ) (l : Link) : Type 0 where
+  pub near : NumberedSo Q n l.controller
+  pub far : NumberedSo R n l.host
+  pub to_near : WireIs P n l.to_controller
+  pub to_far : WireIs P n l.to_host
+  pub resets : l.resets ≤ n
+
+-- the link where the controller's end has taken a frame, and these are left
+abbrev pub left_with : Link → OnWire → List OnWire → Link
+left_with l x xs =
+    let m : Link = with_ended (record l { to_controller = xs }) (is_some (ended_by l.controller.side (Take x.frame))) in
+    record m { controller = record m.controller { took = took_with l.controller.took x } }
+
+numbered_more : {Q S : LinkEnd → Type 0} (n k : ℕ) (h : NumberedEnd) → n ≤ k → (Q h.side → S h.side) → NumberedSo Q n h → NumberedSo S k h
+numbered_more n k h more becomes is =
+    let a = is.emitted in
+    let b = is.took in
+    record { side = becomes is.side; emitted = omega (arith, a, more); took = omega (arith, b, more) }
+
+numbered_within : {Q S : LinkEnd → Type 0} (n k r : ℕ) (h : NumberedEnd) → r ≤ k → (Q h.side → S h.side) → EndIsLow r h → NumberedSo Q n h
+    → NumberedSo S k h
+numbered_within n k r h more becomes low is =
+    let a = low.emitted in
+    let b = low.took in
+    record { side = becomes is.side; emitted = omega (arith, a, more); took = omega (arith, b, more) }
+
+module _ (P : Control → Type 0) where
+  -- nothing is on its way
+  pub no_wire : (n : ℕ) → WireIs P n []
+  no_wire n = record { frames = tt; few = omega arith }
+
+  -- ### Bounds
+
+  pub so_more : {Q R S T : LinkEnd → Type 0} (n k : ℕ) (l : Link) → n ≤ k → (Q l.controller.side → S l.controller.side) → (R l.host.side → T l.host.side)
+      → LinkSo P Q R n l → LinkSo P S T k l
+  so_more n k l more near far h =
+      let r = h.resets in
+      record {
+        near = numbered_more n k l.controller more near h.near;
+        far = numbered_more n k l.host more far h.far;
+        to_near = wire_more P n k l.to_controller more h.to_near;
+        to_far = wire_more P n k l.to_host more h.to_far;
+        resets = omega (arith, r, more);
+      }
+
+  -- no number is above a greater one
+  pub so_longer : {Q R : LinkEnd → Type 0} (n k : ℕ) (l : Link) → n ≤ k → LinkSo P Q R n l → LinkSo P Q R k l
+  so_longer n k l more h = so_more n k l more (λ s. s) (λ s. s) h
+
+  -- The numbers of a link are bounded by the RSETs that were made on it, whatever it came through.
+  pub so_within : {Q R S T : LinkEnd → Type 0} (n k : ℕ) (l : Link) → FewRsets k l → (Q l.controller.side → S l.controller.side)
+      → (R l.host.side → T l.host.side) → LinkSo P Q R n l → LinkSo P S T k l
+  so_within n k l few near far h =
+      let made = few.made in
+      let low : l.resets ≤ k = omega (arith, made) in
+      record {
+        near = numbered_within n k l.resets l.controller low near few.numbered.controller h.near;
+        far = numbered_within n k l.resets l.host low far few.numbered.host h.far;
+        to_near = wire_within P n k l.resets l.to_controller low h.to_near few.numbered.to_controller;
+        to_far = wire_within P n k l.resets l.to_host low h.to_far few.numbered.to_host;
+        resets = low;
+      }
+
+  -- ### What is changed
+
+  pub so_exchanged : {Q R : LinkEnd → Type 0} (n : ℕ) (l : Link) → LinkSo P Q R n l → LinkSo P R Q n (exchanged l)
+  so_exchanged n l h = record { near = h.far; far = h.near; to_near = h.to_far; to_far = h.to_near; resets = h.resets }
+
+  pub so_aged : {Q R : LinkEnd → Type 0} (n : ℕ) (l : Link) → LinkSo P Q R n l → LinkSo P Q R n (aged l)
+  so_aged n l h = record {
+    near = h.near;
+    far = h.far;
+    to_near = wire_aged P n l.to_controller h.to_near;
+    to_far = wire_aged P n l.to_host h.to_far;
+    resets = h.resets;
+  }
+
+  -- the near end has become e
+  pub so_with : {Q R S : LinkEnd → Type 0} (n : ℕ) (l : Link) (e : LinkEnd) → S e → LinkSo P Q R n l → LinkSo P S R n (with_controller l e)
+  so_with n l e is h = record {
+    near = record { side = is; emitted = h.near.emitted; took = h.near.took };
+    far = h.far;
+    to_near = h.to_near;
+    to_far = h.to_far;
+    resets = h.resets;
+  }
+
+  pub so_ended : {Q R : LinkEnd → Type 0} (n : ℕ) (l : Link) (ends : Bool) → LinkSo P Q R n l → LinkSo P Q R n (with_ended l ends)
+  so_ended n l false h = h
+  so_ended n l true h = record {
+    near = record { side = h.near.side; emitted = h.near.emitted; took = h.near.took };
+    far = h.far;
+    to_near = h.to_near;
+    to_far = h.to_far;
+    resets = h.resets;
+  }
+
+  pub so_silent : {Q R S : LinkEnd → Type 0} (n : ℕ) (l : Link) (e : LinkEnd) → S e → LinkSo P Q R n l → LinkSo P S R n (silent l e)
+  so_silent n l e is h =
+      let m = so_ended n l (is_up l.controller.side.shdlc.phase) h in
+      record {
+        near = record { side = is; emitted = m.near.emitted; took = m.near.took };
+        far = m.far;
+        to_near = no_wire n;
+        to_far = no_wire n;
+        resets = m.resets;
+      }
+
+  -- ### Frames go out
+
+  so_put : {Q R : LinkEnd → Type 0} (n : ℕ) (l : Link) (c : Control) → P c → LinkSo P Q R n l → LinkSo P Q R (n + 1) (put l c)
+  so_put {Q} {R} n l c is h = by_test (is_rset c)
+      (λ q. let r = h.resets in
+      let x : OnWire = record { frame = c; age = 0; number = l.resets + 1 } in
+      rw q (record {
+        near = record { side = up.near.side; emitted = omega (arith, r); took = up.near.took };
+        far = up.far;
+        to_near = up.to_near;
+        to_far = wire_put P (n + 1) l.to_host x up.to_far (record { frame = is; number = omega (arith, r) });
+        resets = omega (arith, r);
+      }))
+      (λ q. let x : OnWire = record { frame = c; age = 0; number = 0 } in
+      rw q (record {
+        near = up.near;
+        far = up.far;
+        to_near = up.to_near;
+        to_far = wire_put P (n + 1) l.to_host x up.to_far (record { frame = is; number = omega arith });
+        resets = up.resets;
+      }))
+    where
+      up : LinkSo P Q R (n + 1) l
+      up = so_longer n (n + 1) l (omega arith) h
+
+  so_puts : {Q R : LinkEnd → Type 0} (cs : List Control) (n : ℕ) (l : Link) → AllByRecursion P cs → LinkSo P Q R n l
+      → LinkSo P Q R (n + length cs) (put_all l cs)
+  so_puts [] n l is h = so_longer n (n + 0) l (omega arith) h
+  so_puts (c ∷ cs) n l is h =
+      so_longer ((n + 1) + length cs) (n + length (c ∷ cs)) (put_all (put l c) cs) (omega arith) (so_puts cs (n + 1) (put l c) is.1 (so_put n l c is.0 h))
+
+  -- the near end has become e, and all its frames went out
+  pub so_becomes : {Q R S : LinkEnd → Type 0} (n k : ℕ) (l : Link) (e : LinkEnd) → AllByRecursion P (frames_out e) → n + length (frames_out e) ≤ k
+      → S (sent_all e) → LinkSo P Q R n l → LinkSo P S R k (becomes l e)
+  so_becomes n k l e are few is h =
+      so_with k (put_all l (frames_out e)) (sent_all e) is
+      (so_longer (n + length (frames_out e)) k (put_all l (frames_out e)) few (so_puts (frames_out e) n l are h))
+
+  -- ### Frames come
+
+  pub so_left : {Q R : LinkEnd → Type 0} (n : ℕ) (l : Link) (x : OnWire) (xs : List OnWire) → l.to_controller ≡ x ∷ xs → LinkSo P Q R n l
+      → LinkSo P Q R n (left_with l x xs)
+  so_left {Q} {R} n l x xs q h =
+      let wire : WireIs P n (x ∷ xs) = subst (WireIs P n) q h.to_near in
+      let few = wire.few in
+      let left : LinkSo P Q R n (record l { to_controller = xs }) =
+      record { near = h.near; far = h.far; to_near = record { frames = wire.frames.1; few = omega (arith, few) }; to_far = h.to_far; resets = h.resets } in
+      let b : Bool = is_some (ended_by l.controller.side (Take x.frame)) in
+      let m : LinkSo P Q R n (with_ended (record l { to_controller = xs }) b) = so_ended n (record l { to_controller = xs }) b left in
+      record {
+        near = record { side = m.near.side; emitted = m.near.emitted; took = took_low n l.controller.took x h.near.took wire.frames.0.number };
+        far = m.far;
+        to_near = m.to_near;
+        to_far = m.to_far;
+        resets = m.resets;
+      }
+
+  pub so_lost : {Q R : LinkEnd → Type 0} (n : ℕ) (l : Link) (why : Loss) → LinkSo P Q R n l → LinkSo P Q R n (happens_at_controller l (Lose why))
+  so_lost n l why h =
+      record { near = h.near; far = h.far; to_near = wire_dropped P n l.to_controller h.to_near; to_far = h.to_far; resets = h.resets }
+
+-- ## The ends of a bare link, and what is on its wires, are in their ranges
+
+-- ### Messages
 
 -- a message that a line may send
 pub record IsTellable (m : Message) : Type 0 where
@@ -42,7 +490,7 @@ parts_in pipe (suc n) left low h = (
 pub fragments_in : (m : Message) → IsTellable m → AllByRecursion IsFragment (map packet_bytes (packets_of m.0 m.1))
 fragments_in m h = parts_in m.0 (packet_count (length m.1)) m.1 h.pipe h.bytes
 
--- ## An end
+-- ### An end
 
 -- a bare end that was given at most n messages in its session
 pub record EndIs (n : ℕ) (e : LinkEnd) : Type 0 where
@@ -129,7 +577,7 @@ end_held n e held h = record { bare = h.bare; acts = h.acts; few = h.few; ranged
 pub end_fetched : (n : ℕ) (e : LinkEnd) → EndIs n e → EndIs n (turn e FetchMessage)
 end_fetched n e h = record { bare = h.bare; acts = h.acts; few = h.few; ranged = h.ranged }
 
--- ## The link
+-- ### The link
 
 -- the link where no number is above n, and no more than so many messages were given to an end in its session
 abbrev pub LinkIs : ℕ → ℕ → Link → Type 0
@@ -164,7 +612,7 @@ link_input most n l i is h =
     let b : Bool = is_some (ended_by l.controller.side i) in
     link_becomes most n (with_ended l b) (after_input l.controller.side i) is (so_ended IsFrame n l b h)
 
--- ## What happens at one end
+-- ### What happens at one end
 
 link_taken : (most n : ℕ) (l : Link) → LinkIs most n l → LinkIs most (n + 12) (happens_at_controller l (Step NextFrame (FetchMessage ∷ []) GoesOut))
 link_taken most n l h = by_list l.to_controller
@@ -199,7 +647,7 @@ link_either most all n k l e x here h = by_test e.at_host
     (λ q. rw q (so_exchanged IsFrame k (happens_at_controller (exchanged l) x) (here (exchanged l) (so_exchanged IsFrame n l h))))
     (λ q. rw q (here l h))
 
--- ## Causes
+-- ### Causes
 
 -- what a cause says is in its range
 abbrev pub CanTell : Cause → Type 0

@@ -1,22 +1,104 @@
--- What is noted of an event of a bare link is in its range, but for the messages that came.
+-- What is noted of an input, of frames and of an event of a bare link is in its range, but for the messages that came.
 use Rattle.std.specs.Prelude.{is_some, not}
-use Rattle.told_laws.proofs.Words.{Acked, ActTick, AllByRecursion, AsksReset, Bool, Control, Controller, EndEvent, FetchMessage, Give, Given, GoesOut, Got}
-use Rattle.told_laws.proofs.Words.{HasTick, Hold, Host, Link, LinkEnd, LinkInput, List, Lose, Message, NamedEnd, NextFrame, NoInput, None, NumberedEnd, OnWire}
-use Rattle.told_laws.proofs.Words.{Option, Readied, Refused, Reset, Sent, Some, Take, Taken, Ticked, WasLost, WasReset, [], act_answer, after_input, aged}
-use Rattle.told_laws.proofs.Words.{aged_entries, all_mapped, anyone, arith, at, by_test, cond, each-append, ended_by, event_entries, event_of, exchanged}
-use Rattle.told_laws.proofs.Words.{frames_out, gave_up_by, give_refusal, here_entries, idle, number_of, puts_entries, refl, report, rest_entries, sent_unless}
-use Rattle.told_laws.proofs.Words.{step_entries, subst, sym, taken_entries, tick_answer, tick_entries, ticks_at_controller, told_of, took_low, took_with, turn}
-use Rattle.told_laws.proofs.Words.{turn_entries, turn_entry, whole_acked, with_ended, ℕ, ◌++◌, ◌+◌, ◌∷◌, ◌≡◌, ◌≤◌}
+use Rattle.told_laws.proofs.Words.{Acked, ActTick, Active, AllByRecursion, AsksReset, Bool, Control, Controller, Emit, EndEvent, FetchMessage, GaveUp, Give}
+use Rattle.told_laws.proofs.Words.{Given, GoesOut, Got, HasTick, Hold, Host, Link, LinkEnd, LinkInput, List, Lose, Loss, Lost, Message, NamedEnd, NextFrame}
+use Rattle.told_laws.proofs.Words.{NoInput, None, NumberedEnd, OnWire, Option, Readied, Refused, Report, Reset, Sent, Some, Take, Taken, Ticked, TooMany, Took}
+use Rattle.told_laws.proofs.Words.{WasLost, WasReset, [], act_answer, after_input, aged, aged_entries, all_map, all_mapped, anyone, arith, at, by_test, cond}
+use Rattle.told_laws.proofs.Words.{cond_both, drop, each-append, ended_by, event_entries, event_of, exchanged, false, far, first_lost, fits, frames_out}
+use Rattle.told_laws.proofs.Words.{gave_up_by, give_refusal, here_entries, idle, if_so, is_rset, length, map, nat_lt, number_of, option_to_list, pushed_out}
+use Rattle.told_laws.proofs.Words.{put, put_entries, puts_entries, refl, report, rest_entries, sent_unless, step_entries, subst, sym, taken_entries}
+use Rattle.told_laws.proofs.Words.{tick_answer, tick_entries, ticks_at_controller, told, told_of, took_low, took_with, true, turn, turn_entries, turn_entry}
+use Rattle.told_laws.proofs.Words.{whole_acked, wire_with, with_ended, ℕ, ◌++◌, ◌+◌, ◌∷◌, ◌≡◌, ◌≤◌}
+use Rattle.history.specs.Histories.{Cause}
 use Rattle.link_laws.proofs.machine.Sound.{whole_few}
 use Rattle.link_laws.specs.entries.Entries.{End, Entry}
-use Rattle.link_laws.specs.entries.Entries.Entry.{Up}
-use Rattle.history.specs.Histories.{Cause}
-use Rattle.told_laws.proofs.told.Ends.{IsFrame, IfTries, few_tries}
-use Rattle.told_laws.proofs.told.Links.{IsTellable, EndIs, LinkIs, CanTell, IsLowWindow, opens, end_took, end_ticked, end_reset, end_given, end_held}
-use Rattle.told_laws.proofs.told.Links.{end_fetched, link_more, link_ticked, out_is}
-use Rattle.told_laws.proofs.told.Linked.{left_with, so_aged, so_ended, so_exchanged, so_left}
-use Rattle.told_laws.proofs.told.Noting.{NotedBy, frames_on, noted_aged, noted_first, noted_puts, noted_told}
-use Rattle.told_laws.proofs.told.Wires.{WireIs}
+use Rattle.link_laws.specs.entries.Entries.Entry.{Down, Up}
+use Rattle.swp_base.specs.declared.link_terms.Cause.{Cause as EndedBy}
+use Rattle.told_laws.proofs.told.Links.{CanTell, EndIs, FrameIs, IfTries, IsFrame, IsLowWindow, IsTellable, LinkIs, WireIs, drop_each, end_fetched, end_given}
+use Rattle.told_laws.proofs.told.Links.{end_held, end_reset, end_ticked, end_took, few_tries, left_with, link_more, link_ticked, opens, out_is, so_aged}
+use Rattle.told_laws.proofs.told.Links.{so_ended, so_exchanged, so_left}
+
+-- ## What is noted of an input and of frames is in its range, whichever frames and messages may be
+
+-- a note has no number above n, a frame that may be, and a message that may be sent or may come
+abbrev pub NotedBy : (Control → Type 0) → (Message → Type 0) → (Message → Type 0) → ℕ → Entry → Type 0
+NotedBy P S G n (Up who k) = k ≤ n
+NotedBy P S G n (GaveUp who tries) = tries ≤ 5
+NotedBy P S G n (Acked who k count) = (k ≤ n) × (count ≤ n)
+NotedBy P S G n (Got who k m) = (k ≤ n) × G m
+NotedBy P S G n (Sent who k m) = (k ≤ n) × S m
+NotedBy P S G n (Emit who c) = P c
+NotedBy P S G n (Took who c) = P c
+NotedBy P S G n (Lost who c why) = P c
+NotedBy P S G n _ = Unit {0}
+
+abbrev pub AreFrames : (Control → Type 0) → List OnWire → Type 0
+AreFrames P w = AllByRecursion (λ (x : OnWire). P x.frame) w
+
+pub frames_on : (P : Control → Type 0) (n : ℕ) (w : List OnWire) → AllByRecursion (FrameIs P n) w → AreFrames P w
+frames_on P n w h = all_mapped OnWire (FrameIs P n) (λ (x : OnWire). P x.frame) w (λ x is. is.frame) h
+
+module _ (P : Control → Type 0) (S G : Message → Type 0) (n : ℕ) where
+  abbrev IsNotedOfNoting : Entry → Type 0
+  IsNotedOfNoting x = NotedBy P S G n x
+
+  abbrev AreNotedOfNoting : List Entry → Type 0
+  AreNotedOfNoting t = AllByRecursion IsNotedOfNoting t
+
+  -- ### Of an input
+
+  so_noted : (b : Bool) (e : Entry) → IsNotedOfNoting e → AreNotedOfNoting (if_so b e)
+  so_noted false e p = tt
+  so_noted true e p = (p, tt)
+
+  pub noted_told : (who : End) (k : ℕ) (r : Report) (acked : ℕ) → k ≤ n → acked ≤ n → IfTries r.gave_up → AllByRecursion G r.got
+      → AreNotedOfNoting (told who k r acked)
+  noted_told who k r acked low few tries got =
+      let a = each-append IsNotedOfNoting (if_so (nat_lt 0 r.acked) (Acked who k acked)) (map (Got who k) r.got)
+      (so_noted (nat_lt 0 r.acked) (Acked who k acked) (low, few)) (all_map G IsNotedOfNoting (Got who k) (λ m is. (low, is)) r.got got) in
+      let b = each-append IsNotedOfNoting (map (GaveUp who) (option_to_list r.gave_up)) _ (tried r.gave_up tries) a in
+      let c = each-append IsNotedOfNoting (if_so r.became_active (Active who)) _ (so_noted r.became_active (Active who) tt) b in
+      let d = each-append IsNotedOfNoting (if_so r.began (Up who k)) _ (so_noted r.began (Up who k) low) c in
+      each-append IsNotedOfNoting (map (Down who) (option_to_list r.ended)) _ (ended r.ended) d
+    where
+      tried : (o : Option ℕ) → IfTries o → AreNotedOfNoting (map (GaveUp who) (option_to_list o))
+      tried None h = tt
+      tried (Some t) h = (h, tt)
+
+      ended : (o : Option EndedBy) → AreNotedOfNoting (map (Down who) (option_to_list o))
+      ended None = tt
+      ended (Some t) = (tt, tt)
+
+  -- ### Of frames
+
+  pub noted_first : (who : End) (why : Loss) (w : List OnWire) → AreFrames P w → AreNotedOfNoting (first_lost who why w)
+  noted_first who why [] h = tt
+  noted_first who why (x ∷ xs) h = (h.0, tt)
+
+  pub noted_aged : (who : End) (w : List OnWire) → AreFrames P w → AreNotedOfNoting (aged_entries who w)
+  noted_aged who [] h = tt
+  noted_aged who (x ∷ xs) h = by_test (nat_lt x.age 4) (λ q. rw q (noted_aged who xs h.1)) (λ q. rw q (h.0, noted_aged who xs h.1))
+
+  pushed : (who : End) (w : List OnWire) → AreFrames P w → AreNotedOfNoting (pushed_out who w)
+  pushed who w h = cond_both (nat_lt 64 (length w)) (first_lost who TooMany w) [] AreNotedOfNoting (λ _. noted_first who TooMany w h) (λ _. tt)
+
+  fits_on : (w : List OnWire) → AreFrames P w → AreFrames P (fits w)
+  fits_on w h = cond_both (nat_lt 64 (length w)) (drop 1 w) w (AreFrames P) (λ _. drop_each (λ (x : OnWire). P x.frame) 1 w h) (λ _. h)
+
+  wire_after : (l : Link) (c : Control) → AreFrames P (wire_with l c) → AreFrames P (put l c).to_host
+  wire_after l c h = by_test (is_rset c)
+      (λ q. let z : AreFrames P (l.to_host ++ record { frame = c; age = 0; number = l.resets + 1 } ∷ []) = rw q at h in rw q (fits_on _ z))
+      (λ q. let z : AreFrames P (l.to_host ++ record { frame = c; age = 0; number = 0 } ∷ []) = rw q at h in rw q (fits_on _ z))
+
+  -- they go out
+  pub noted_puts : (who : End) (cs : List Control) (l : Link) → AllByRecursion P cs → AreFrames P l.to_host → AreNotedOfNoting (puts_entries who l cs)
+  noted_puts who [] l is h = tt
+  noted_puts who (c ∷ cs) l is h =
+      let more : AreFrames P (wire_with l c) = each-append (λ (x : OnWire). P x.frame) l.to_host _ h (is.0, tt) in
+      each-append IsNotedOfNoting (put_entries who l c) (puts_entries who (put l c) cs) (is.0, pushed (far who) (wire_with l c) more)
+      (noted_puts who cs (put l c) is.1 (wire_after l c more))
+
+-- ## What is noted of an event of a bare link is in its range, but for the messages that came
 
 -- of a message that came nothing is said
 abbrev AnyMessage : Message → Type 0
@@ -36,10 +118,10 @@ noted_more n k more (Got who j m) h = let a = h.0 in (omega (arith, more, a), tt
 noted_more n k more (Sent who j m) h = let a = h.0 in (omega (arith, more, a), h.1)
 noted_more n k more _ h = h
 
-pub all_more : (n k : ℕ) (t : List Entry) → n ≤ k → AreNoted n t → AreNoted k t
+all_more : (n k : ℕ) (t : List Entry) → n ≤ k → AreNoted n t → AreNoted k t
 all_more n k t more h = all_mapped Entry (IsNoted n) (IsNoted k) t (noted_more n k more) h
 
--- ## Of an input
+-- ### Of an input
 
 acked_low : (n : ℕ) (e : LinkEnd) → EndIs n e → whole_acked e ≤ n
 acked_low n e h = let w = whole_few e.sent e.shdlc.session.acked in let f = h.few in omega (arith, w, f)
@@ -58,7 +140,7 @@ noted_input n who h i a b is tries =
     noted_told IsFrame IsTellable AnyMessage n who (number_of h) (report h.side i) (whole_acked (after_input h.side i)) (number_low n h a b)
     (acked_low n (after_input h.side i) is) tries (anyone AnyMessage (λ m. tt) (report h.side i).got)
 
--- ## Of the frames that go out
+-- ### Of the frames that go out
 
 noted_out : (n k : ℕ) (who : End) (cs : List Control) (l : Link) → AllByRecursion IsFrame cs → LinkIs k k l → AreNoted n (puts_entries who l cs)
 noted_out n k who cs l is h = noted_puts IsFrame IsTellable AnyMessage n who cs l is (frames_on IsFrame k l.to_host h.to_far.frames)
@@ -67,7 +149,7 @@ noted_out n k who cs l is h = noted_puts IsFrame IsTellable AnyMessage n who cs 
 noted_rest : (n k : ℕ) (who : End) (l : Link) (e : LinkEnd) → EndIs k e → LinkIs k k l → AreNoted n (rest_entries who l e [] GoesOut)
 noted_rest n k who l e is h = noted_out n k who (frames_out e) l (out_is k e is) h
 
--- ## Steps
+-- ### Steps
 
 noted_sent : (n : ℕ) (who : End) (l : Link) (m : Message) → IsTellable m → LinkIs n n l → AreNoted (n + 1) (step_entries who l NoInput (Give m ∷ []) GoesOut)
 noted_sent n who l m is h =
@@ -126,7 +208,7 @@ noted_taken n who l h = go l.to_controller refl
               (so_left IsFrame n l x xs q h)),
         )
 
--- ## Events
+-- ### Events
 
 noted_at : (n : ℕ) (l : Link) (e : NamedEnd) (x : EndEvent) → ((who : End) (m : Link) → LinkIs n n m → AreNoted (n + 24) (here_entries who m x)) → LinkIs n n l
     → AreNoted (n + 24) (event_entries l (at e x))

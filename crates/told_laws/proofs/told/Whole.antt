@@ -8,13 +8,10 @@ use Rattle.told_laws.proofs.Words.{plays_of_line, refl, replicate, round_behind,
 use Rattle.told_laws.proofs.Words.{sure_below, sym, told_behind, told_below, told_of_line, told_of_lines, told_of_rounds, true, zero, ℕ, ◌++◌, ◌∙◌, ◌∷◌, ◌≡◌}
 use Rattle.told_laws.proofs.Words.{◌≤◌}
 use Rattle.trace_model.specs.declared.line.Line.TheVariants as line
-use Rattle.told_laws.proofs.texts.ReadLemmas.{said_in}
+use Rattle.told_laws.proofs.texts.ShownLemmas.{said_in}
 use Rattle.history.specs.Histories.{Step}
 use Rattle.lines_told.proofs.lines.Told.{at_most, behind-append, few_plays, told_nodes}
-use Rattle.told_laws.proofs.told.Lines.{each_all, host_low}
-use Rattle.told_laws.proofs.told.Coming.{front_each, back_each}
-use Rattle.told_laws.proofs.told.BarePlays.{bare_told_in}
-use Rattle.told_laws.proofs.told.Plays.{lines_from, played_from}
+use Rattle.told_laws.proofs.told.BarePlays.{back_each, bare_told_in, each_all, front_each, host_low, lines_from, played_from}
 use Rattle.told_laws.proofs.nodes.Schedules.{told_below_plays}
 
 module _ (header : Header) where

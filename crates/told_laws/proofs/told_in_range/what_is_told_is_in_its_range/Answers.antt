@@ -1,6 +1,5 @@
 use Rattle.told_laws.proofs.Words.{IsEntry, entries_told}
-use Rattle.told_laws.proofs.told.BarePlays.{bare_told_in}
-use Rattle.told_laws.proofs.told.Lines.{each_all}
+use Rattle.told_laws.proofs.told.BarePlays.{bare_told_in, each_all}
 use Rattle.told_laws.proofs.told_in_range.what_is_told_is_in_its_range.Goals as goal
 
 pub returns : goal.returns
