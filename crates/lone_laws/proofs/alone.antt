@@ -1,6 +1,4 @@
 pub mod Examples
-pub mod Ticks
-pub mod Unwritten
 pub mod Walks
 pub mod Wrong
 pub mod WrongMemories

@@ -8,7 +8,7 @@ use Rattle.trace_model.specs.declared.entry.Entry.{Entry}
 use Rattle.trace_model.specs.declared.entry.Entry.TheVariants as entry
 use Rattle.trace_model.specs.declared.line.End.{End}
 use Rattle.lone_laws.specs.alone.Ends.{EndForm, entry_written}
-use Rattle.lone_laws.proofs.alone.Unwritten.{IsUnwritten}
+use Rattle.lone_laws.proofs.alone.Walks.{IsUnwritten}
 use Rattle.one_end.specs.Running.{frames_written}
 
 pub none_written : (form : EndForm) (number : ℕ) (es : List Entry) → AllByRecursion IsUnwritten es → flat_map (entry_written form number) es ≡ []

@@ -25,8 +25,7 @@ use Rattle.lone_laws.specs.alone.Lone.{Lone, role_alone, lone_booted, lone_after
 use Rattle.lone_laws.specs.alone.Ends.{EndForm, end_causes, end_written, end_node}
 use Rattle.lone_laws.specs.alone.Memories.{IsTakenMemory, behind_boot}
 use Rattle.lone_laws.specs.alone.Runs.{IsAnsweredRun}
-use Rattle.lone_laws.proofs.answered.Ended.{answered_run}
-use Rattle.lone_laws.proofs.answered.Ready.{boots_silently, found_again}
+use Rattle.lone_laws.proofs.answered.Runs.{answered_run, boots_silently, found_again}
 use Rattle.one_end.specs.Standing.{booted_from, end_booted, IsRunOfBytes}
 use Rattle.one_end.specs.WholeRuns.{IsRunAlone}
 

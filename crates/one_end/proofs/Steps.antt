@@ -15,11 +15,11 @@ use Rattle.lone_laws.specs.alone.Lone.{Lone, LoneCause, lone_end, lone_input, no
 use Rattle.lone_laws.specs.alone.Lone.{lone_behind_step, role_alone}
 use Rattle.lone_laws.specs.alone.Lone.LoneCause.{FrameComes, FrameIsRefused, TickComes, ResetComes, StartComes, StopComes}
 use Rattle.lone_laws.specs.alone.Ends.{EndForm, entry_written, asks_reset}
-use Rattle.lone_laws.proofs.answered.Lasting.{step_is}
+use Rattle.lone_laws.proofs.answered.Knowing.{step_is}
 use Rattle.one_end.specs.Alone.{RunsAlone}
 use Rattle.one_end.specs.Running.{does_alone, frames_written}
 use Rattle.one_end.proofs.Answering.{over, StepsAlone}
-use Rattle.lone_laws.proofs.alone.Unwritten.{IsUnwritten, steps_unwritten}
+use Rattle.lone_laws.proofs.alone.Walks.{IsUnwritten, steps_unwritten}
 use Rattle.one_end.proofs.Muting.{none_written, emits_written}
 
 arrival_unwritten : (l : Lone) (c : LoneCause) → AllByRecursion IsUnwritten (lone_arrival l c)

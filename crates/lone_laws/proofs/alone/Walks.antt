@@ -1,16 +1,133 @@
--- What one walk over a history of a node alone finds says whether a fact of its answers holds.
-use Rattle.lone_laws.proofs.Words.{AnsweredAlone, AreInTurn, Ascending, AtEachLoneEvent, AtEachNoted, Bool, Core, Done, Due, Entry, Fact, Heard}
-use Rattle.lone_laws.proofs.Words.{HearsFirstAlone, Held, InTurn, IsDueAlone, IsHeldAlone, IsRepliedAlone, IsResetAlone, List, LoneEvent, None, Option}
-use Rattle.lone_laws.proofs.Words.{Replied, Short, Some, TurnsAscendAlone, [], both_are, core_since, entries_of_events_alone, false, first_lack_since}
-use Rattle.lone_laws.proofs.Words.{holds_in, is_asked_down, is_done_alone, is_fact, is_reset_alone, is_short_alone, lack_since, list_any, noted_since}
-use Rattle.lone_laws.proofs.Words.{reply_since, sync_due, true, ℕ, ◌++◌, ◌≡◌}
-use Rattle.trace_model.specs.declared.entry.Entry.TheVariants as entry
+-- What one walk over a history of a node alone finds says whether a fact of its answers holds; ticks are computed, and nothing is written
+-- in a step.
+use Rattle.lone_laws.proofs.Words.{AllByRecursion, AnsweredAlone, AreInTurn, Ascending, AtEachLoneEvent, AtEachNoted, Bool, Core, Cut, Deed, Done, Due, Emit}
+use Rattle.lone_laws.proofs.Words.{EndForm, Entry, Fact, FrameComes, FrameIsRefused, Heard, HearsFirstAlone, Held, InTurn, IsDueAlone, IsHeldAlone}
+use Rattle.lone_laws.proofs.Words.{IsRepliedAlone, IsResetAlone, List, LoneEvent, Lost, NodeInput, None, Noted, OnLine, Option, Port, Replied, Restarted, Sends}
+use Rattle.lone_laws.proofs.Words.{Short, Side, Some, StartComes, StopComes, TickComes, Took, TurnsAscendAlone, Work, [], both_are, core_since, deeds_of}
+use Rattle.lone_laws.proofs.Words.{end_causes, entries_of_events_alone, entry_of, entry_written, false, first_lack_since, holds_in, is_asked_down}
+use Rattle.lone_laws.proofs.Words.{is_done_alone, is_fact, is_reset_alone, is_short_alone, lack_since, list_any, noted_since, own_side, refl, replicate}
+use Rattle.lone_laws.proofs.Words.{reply_since, steps, sync_due, true, ℕ, ◌++◌, ◌∷◌, ◌≡◌}
+use Rattle.gate_admin.specs.View.{hosts_where}
+use Rattle.journal_laws.specs.Records.{found_from}
+use Rattle.link_laws.specs.entries.Entries.Entry.{Tick}
 use Rattle.node_laws.proofs.answers.OneFact.{AllOthers, OnlyFails, all_others_hold, answers_found, answers_wanted, at_each, first_found, first_so, first_wanted}
 use Rattle.node_laws.proofs.answers.OneFact.{heard_so, itself, none_behind, rise_ascends, same_at, same_behind, turns_rise}
 use Rattle.node_laws.proofs.answers.OneFact.Fact.{Reset}
-use Rattle.lone_laws.proofs.answered.Queued.{are_in_turn}
+use Rattle.node_laws.proofs.readings.Noting.{IsBeside, IsOwnNote, NotesSo, steps_note}
+use Rattle.node_laws.proofs.telling.Accounts.{AreMute, IsMute, IsPlain, deeds_mute}
+use Rattle.node_machine.specs.Parts.Deed.{Ends}
+use Rattle.pipe_table.specs.PipeRows.{lowest_free}
+use Rattle.swp_base.specs.Bits.{bits_of_byte}
+use Rattle.lone_laws.proofs.alone.Examples.{c1_record, clf, uicc}
+use Rattle.lone_laws.proofs.answered.Knowing.{are_in_turn}
+use Rattle.swp_base.specs.declared.link_terms.FrameFault.TheVariants as fault
+use Rattle.trace_model.specs.declared.entry.Entry.TheVariants as entry
 
--- ## Walks
+-- ## Which periods of a line are ticks, and in what order a byte brings what it brings: computed
+
+-- so many periods without bits
+abbrev quiet : ℕ → List ℕ
+quiet many = replicate many 85
+
+-- ### The 512th period
+
+not_the_511th : end_causes OnLine clf (quiet 511) ≡ []
+unfolding bits_of_byte found_from hosts_where lowest_free
+not_the_511th = refl
+
+the_512th : end_causes OnLine clf (quiet 512) ≡ TickComes ∷ []
+unfolding bits_of_byte found_from hosts_where lowest_free
+the_512th = refl
+
+-- ### What counts
+
+-- an invalid byte isn't the 512th period
+invalid_is_none : end_causes OnLine clf (quiet 511 ++ 1 ∷ []) ≡ []
+unfolding bits_of_byte found_from hosts_where lowest_free
+invalid_is_none = refl
+
+-- nor is it a tick where it comes behind that one, or before all
+invalid_behind : end_causes OnLine clf (quiet 512 ++ 1 ∷ []) ≡ TickComes ∷ []
+unfolding bits_of_byte found_from hosts_where lowest_free
+invalid_behind = refl
+
+invalid_first : end_causes OnLine clf (1 ∷ []) ≡ []
+unfolding bits_of_byte found_from hosts_where lowest_free
+invalid_first = refl
+
+-- a deactivation is a period, and the count goes on behind it
+not_yet_behind : end_causes OnLine clf (quiet 300 ++ 0 ∷ quiet 210) ≡ StopComes ∷ []
+unfolding bits_of_byte found_from hosts_where lowest_free
+not_yet_behind = refl
+
+goes_on_behind : end_causes OnLine clf (quiet 300 ++ 0 ∷ quiet 211) ≡ StopComes ∷ TickComes ∷ []
+unfolding bits_of_byte found_from hosts_where lowest_free
+goes_on_behind = refl
+
+-- ### The order in a byte: start, frame or refusal, deactivation, tick
+
+start_and_tick : end_causes OnLine uicc (quiet 511 ++ 64 ∷ []) ≡ StartComes 1 ∷ TickComes ∷ []
+unfolding bits_of_byte found_from hosts_where lowest_free
+start_and_tick = refl
+
+frame_and_tick : end_causes OnLine uicc (quiet 472 ++ c1_record) ≡ StartComes 1 ∷ FrameComes (193 ∷ []) ∷ TickComes ∷ []
+unfolding bits_of_byte found_from hosts_where lowest_free
+frame_and_tick = refl
+
+deactivation_and_tick : end_causes OnLine clf (quiet 511 ++ 0 ∷ []) ≡ StopComes ∷ TickComes ∷ []
+unfolding bits_of_byte found_from hosts_where lowest_free
+deactivation_and_tick = refl
+
+all_in_one : end_causes OnLine uicc (quiet 503 ++ (64 ∷ 84 ∷ 84 ∷ 84 ∷ 84 ∷ 84 ∷ 84 ∷ 64 ∷ 0 ∷ []))
+    ≡ StartComes 1 ∷ FrameIsRefused fault.Broken ∷ StopComes ∷ TickComes ∷ []
+unfolding bits_of_byte found_from hosts_where lowest_free
+all_in_one = refl
+
+-- ## In a step of a node nothing is written for what it notes: its frames go out behind it
+
+-- nothing is written for an entry
+abbrev pub IsUnwritten : Entry → Type 0
+IsUnwritten x = (form : EndForm) (number : ℕ) → entry_written form number x ≡ []
+
+own_unwritten : (who : Side) (h : ℕ) (x : Noted) → IsOwnNote who x → AllByRecursion IsUnwritten (entry_of h x)
+own_unwritten who h (Emit side frame) own = absurd own
+own_unwritten who h (Took side frame) own = absurd own
+own_unwritten who h (Lost side frame why) own = absurd own
+own_unwritten who h Tick own = absurd own
+own_unwritten who h (Restarted side) own = absurd own
+own_unwritten who h (Cut side) own = absurd own
+own_unwritten who h _ own = ((λ form number. refl), tt)
+
+beside_unwritten : (n : ℕ) (x : Entry) → IsBeside n x → IsUnwritten x
+beside_unwritten n (entry.Emit e lpdu) own = absurd own
+beside_unwritten n x own = λ form number. refl
+
+plain_unwritten : (x : Entry) → IsPlain x → IsUnwritten x
+plain_unwritten (entry.Emit e lpdu) own = absurd own
+plain_unwritten x own = λ form number. refl
+
+mute_unwritten : (deeds : List Deed) → AreMute deeds → AllByRecursion (NotesSo IsUnwritten) deeds
+mute_unwritten [] all = tt
+mute_unwritten (d ∷ deeds) all = (one d all.0, mute_unwritten deeds all.1) where
+  one : (d : Deed) → IsMute d → NotesSo IsUnwritten d
+  one (Sends to m) i = tt
+  one (Ends y) m = plain_unwritten y m
+  one _ m = tt
+
+any_ends : (ports : List Port) → AllByRecursion (λ (p : Port). Unit {0}) ports
+any_ends [] = tt
+any_ends (p ∷ ports) = (tt, any_ends ports)
+
+pub steps_unwritten : (input : NodeInput) (w : Work) → AllByRecursion IsUnwritten w.entries → AllByRecursion IsUnwritten (steps input w).entries
+steps_unwritten input w none =
+    (steps_note IsUnwritten w.core.node (own_side w.core) (λ h. Unit {0}) (λ h x at own. own_unwritten (own_side w.core) h x own)
+    (λ h pid message at form number. refl) (beside_unwritten w.core.node)
+    (λ core ports h m is. mute_unwritten (deeds_of core ports h m) (deeds_mute core ports h m)) input w
+    (record { number = refl; side = refl; ends = any_ends w.ports; so = none })).so
+
+-- ## What one walk over a history of a node alone finds says whether a fact of its answers holds
+
+-- ### Walks
 
 abbrev entries_of : LoneEvent → List Entry
 entries_of o = o.entries
@@ -32,7 +149,7 @@ agree_inside f g events same past back o front behind x at inside =
     same_behind f g (entries_of_events_alone past) o.entries front behind x
     (agree_here (λ t o. at_each itself f t o.entries) (λ t o. at_each itself g t o.entries) events same past back o at) inside
 
--- ## What is found, and what is wanted
+-- ### What is found, and what is wanted
 
 module _ (core : Core) (h : ℕ) where
   -- at a turn what lacks, and the answers behind it
@@ -61,7 +178,7 @@ module _ (core : Core) (h : ℕ) where
   held_so t (entry.Held e need spare) behind same = both_are _ _ same
   held_so t _ behind same = tt
 
-  -- ## Facts
+  -- ### Facts
 
   abbrev pub FactOf : Fact → List LoneEvent → Type 0
   FactOf InTurn events = AreInTurn (entries_of_events_alone events)

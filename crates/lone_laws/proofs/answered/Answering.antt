@@ -7,17 +7,13 @@ use Rattle.lone_laws.proofs.Words.{first_lack_since, handles, holds_back, lack_s
 use Rattle.lone_laws.proofs.Words.{noted_of, noted_since, noting, oldest, option_map_or, port_at, refl, reply_since, session_now, session_with, subst, sym}
 use Rattle.lone_laws.proofs.Words.{takes_up, true, turn_at, unhandled_in, waiting_at, with_desk, ℕ, ◌++◌, ◌∙◌, ◌∷◌, ◌≡◌, ◌≤◌}
 use Rattle.trace_model.specs.declared.entry.Entry.TheVariants as entry
-use Rattle.lone_laws.proofs.answered.Mine.{AnswersOwn, IsRepliedOwn}
+use Rattle.lone_laws.proofs.answered.Replying.{AnswersOwn, AreUntil, IsMuteEntry, IsRepliedOwn, deeds_answer, entries_of_deeds, mute_then, mutes_then}
+use Rattle.lone_laws.proofs.answered.Replying.{noted_answers, noted_as_reply, reply_told, session_of_end, turn_then}
 use Rattle.lone_laws.proofs.answered.Reading.{Read, left_is}
 use Rattle.lone_laws.proofs.answered.Turning.{IsHere, alone_here}
-use Rattle.lone_laws.proofs.answered.Lasting.{LoneKeeps}
-use Rattle.lone_laws.proofs.answered.Ordered.{begin_read, OrderAt, pass_noted, begun, ended, noted, entries_are, in_order}
-use Rattle.lone_laws.proofs.answered.Knowing.{KnowsAlone, knows_lasts}
-use Rattle.lone_laws.proofs.answered.Told.{entries_of_deeds, noted_as_reply, reply_told}
-use Rattle.lone_laws.proofs.answered.Replying.{session_of_end, IsMuteEntry, AreUntil, mute_then, mutes_then, turn_then, deeds_answer, noted_answers}
-use Rattle.lone_laws.proofs.answered.Errors.{ErrorsAre, IsSettled, errors_then, desk_errors, errors_with}
-use Rattle.lone_laws.proofs.answered.Replied.{found, KnowsAll, deeds_shape, lack_read, deeds_read, core_read, session_read, same_link, own_port, noted_so}
-use Rattle.lone_laws.proofs.answered.Replied.{errs_handled}
+use Rattle.lone_laws.proofs.answered.Knowing.{KnowsAlone, LoneKeeps, OrderAt, begin_read, begun, ended, entries_are, in_order, knows_lasts, noted, pass_noted}
+use Rattle.lone_laws.proofs.answered.Replied.{ErrorsAre, IsSettled, KnowsAll, core_read, deeds_read, deeds_shape, desk_errors, errors_then, errors_with}
+use Rattle.lone_laws.proofs.answered.Replied.{errs_handled, found, lack_read, noted_so, own_port, same_link, session_read}
 
 pub emits_mute : (f : End) (frames : List Control) → AllByRecursion IsMuteEntry (map (λ c. entry.Emit f (lpdu_of c)) frames)
 emits_mute f [] = tt

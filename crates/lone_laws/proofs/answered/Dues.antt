@@ -16,16 +16,14 @@ use Rattle.swp_act.specs.declared.Phase.TheVariants.{Inactive}
 use Rattle.swp_act.specs.declared.clf.ClfAct.{ClfAct}
 use Rattle.swp_act.specs.Activation.{clf_step}
 use Rattle.node_laws.proofs.worlds.Late.{uicc_sync}
-use Rattle.lone_laws.proofs.answered.Mine.{is_own_answer, is_own_cut, to_turn, AnswersOwn, IsDueOwn}
+use Rattle.lone_laws.proofs.answered.Replying.{AnswersOwn, AreUntil, IsDueOwn, IsMuteEntry, IsNotedSo, commit_told, deeds_answer, entries_of_deeds}
+use Rattle.lone_laws.proofs.answered.Replying.{is_own_answer, is_own_cut, noted_answers, noted_as_reply, to_turn}
 use Rattle.lone_laws.proofs.answered.Reading.{Read, Alone, core_is}
 use Rattle.lone_laws.proofs.answered.Coming.{comes_there, came_entries, pass_is}
 use Rattle.lone_laws.proofs.answered.Stepping.{lone_comes}
-use Rattle.lone_laws.proofs.answered.Lasting.{begins_alone, arrival_nothing}
-use Rattle.lone_laws.proofs.answered.Ordered.{begin_read, start, begun, ended, start_alone, pass_noted}
-use Rattle.lone_laws.proofs.answered.Roles.{kind_of}
-use Rattle.lone_laws.proofs.answered.Told.{entries_of_deeds, noted_as_reply, commit_told}
-use Rattle.lone_laws.proofs.answered.Replying.{IsMuteEntry, AreUntil, IsNotedSo, deeds_answer, noted_answers}
-use Rattle.lone_laws.proofs.answered.Errors.{notes_hold}
+use Rattle.lone_laws.proofs.answered.Knowing.{arrival_nothing, begin_read, begins_alone, begun, ended, pass_noted, start, start_alone}
+use Rattle.lone_laws.proofs.answered.Talking.{kind_of}
+use Rattle.lone_laws.proofs.answered.Replied.{notes_hold}
 use Rattle.lone_laws.proofs.answered.Answering.{none_until, emits_mute}
 use Rattle.lone_laws.proofs.answered.Keeping.{core_of, KeepsAll}
 use Rattle.swp_base.specs.declared.control_frames.Control.TheVariants as control

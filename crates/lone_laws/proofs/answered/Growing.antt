@@ -1,23 +1,233 @@
--- Each session of a node alone has a greater number than those before it.
-use Rattle.lone_laws.proofs.Words.{About, ActDue, ActFrame, AllByRecursion, AsksFor, Begins, Bool, Clt, Command, Commits, Control, Deed, Desk, EndState, Ends}
-use Rattle.lone_laws.proofs.Words.{FetchMessage, Give, Hold, I, IsAnswered, Lasts, LinkEnd, LinkInput, LinkState, List, Message, NodeInput, None, Orders, Port}
-use Rattle.lone_laws.proofs.Words.{Release, Releases, Renews, Rests, Rr_due, Rset, Rset_due, S, Sends, SetAside, SetsErrors, Shift, Some, Sound, Stays, Take}
-use Rattle.lone_laws.proofs.Words.{Tells, Turn, Ua, Waiting, Work, [], after_frames, after_input, after_sessions, after_turn, all_changed, all_come, all_map}
-use Rattle.lone_laws.proofs.Words.{all_owed, among, and_parts, anyone, ap, arith, aside_refusal, asked_at, began_by, body_of, by_list, by_option, by_test}
-use Rattle.lone_laws.proofs.Words.{commit, commit_writes, cond, control_due, done, drop, eqb, fails_within, false, fetch_cases, fetched, filter, flat_map}
-use Rattle.lone_laws.proofs.Words.{forgets, forgotten, frames_of, frames_out, give_refusal, got_at, inl, inr, is_forgotten, is_open, is_over, is_rset}
-use Rattle.lone_laws.proofs.Words.{is_waiting, length, map, most_frames, not, notified, noting, refl, rest_lasts, rsets_among, rsets_due, rsets_since, sent_all}
-use Rattle.lone_laws.proofs.Words.{steps, suc, sym, synced, take, take_answer, take_so, times_out, true, true≢false, turn, turn_at, with_desk, with_port}
-use Rattle.lone_laws.proofs.Words.{with_ready, without_notice, zero, ℕ, ◌++◌, ◌+◌, ◌-◌, ◌<◌, ◌∙◌, ◌∷◌, ◌≡◌, ◌≤◌, ◌⊎◌}
-use Rattle.trace_model.specs.declared.entry.Entry.TheVariants as entry
-use Rattle.shdlc_core.specs.declared.answers.LinkState.TheVariants.{Up}
-use Rattle.shdlc_core.specs.declared.answers.Due.{Due}
+-- Each session of a node alone has a greater number than those before it: behind each one that waits an RSET went out.
+use Rattle.lone_laws.proofs.Words.{About, Act, ActDue, ActEvent, ActFrame, ActStart, ActStop, ActTake, ActTick, AllByRecursion, Asked, AsksFor, Begins, Bool}
+use Rattle.lone_laws.proofs.Words.{Clt, Command, Commits, Control, Deed, Desk, EndState, Ends, FetchMessage, Fragment, Give, Hold, I, IsAnswered, Lasts}
+use Rattle.lone_laws.proofs.Words.{LinkEnd, LinkInput, LinkState, List, Message, NodeInput, None, Option, Orders, Port, Rej_due, Release, Releases, Renews}
+use Rattle.lone_laws.proofs.Words.{Reset, Rests, Rnr_due, Rr_due, Rset, Rset_due, S, Sends, SetAside, SetsErrors, Shift, Some, Sound, Start, Stays, Stop, Take}
+use Rattle.lone_laws.proofs.Words.{TakeUnknown, Tells, Tick, Turn, Ua, Ua_due, Waiting, Work, [], acknowledged, act_answer, activated, after_frames}
+use Rattle.lone_laws.proofs.Words.{after_input, after_sessions, after_turn, all_changed, all_come, all_map, all_owed, among, and_parts, anyone, ap, arith}
+use Rattle.lone_laws.proofs.Words.{aside_refusal, asked_at, began_by, body_of, by_list, by_option, by_test, commit, commit_writes, cond, control_due, done}
+use Rattle.lone_laws.proofs.Words.{drop, due_left, eqb, fails_within, false, fetch_cases, fetched, filter, flat_map, forgets, forgotten, frames_of, frames_out}
+use Rattle.lone_laws.proofs.Words.{give_refusal, got_at, heard, if_up, inl, inr, is_faulty, is_forgotten, is_open, is_over, is_rset, is_some, is_waiting}
+use Rattle.lone_laws.proofs.Words.{length, length-append, map, most_frames, moved, nat_lt, not, notified, noting, place_of, put_down, received, received_cases}
+use Rattle.lone_laws.proofs.Words.{refl, reset_refusal, reset_with, rest_lasts, role_after, rsets_among, rsets_due, rsets_since, runs_timer, sent_again}
+use Rattle.lone_laws.proofs.Words.{sent_all, steps, stopped, subst, suc, sym, synced, take, take_answer, take_so, taken, tick_answer, ticked, times_out, true}
+use Rattle.lone_laws.proofs.Words.{true≢false, turn, turn_at, waiting_from, window_of, with_act, with_desk, with_port, with_ready, without_notice, zero, ℕ}
+use Rattle.lone_laws.proofs.Words.{◌++◌, ◌+◌, ◌-◌, ◌<◌, ◌==◌, ◌∙◌, ◌∷◌, ◌≡◌, ◌≤◌, ◌⊎◌}
 use Rattle.link_laws.proofs.sessions.Sending.{at_most_one}
-use Rattle.node_machine.specs.Parts.About.{Waits, Removed}
+use Rattle.node_machine.specs.Parts.About.{Removed, Waits}
+use Rattle.shdlc_core.specs.declared.answers.Due.{Due}
+use Rattle.shdlc_core.specs.declared.answers.LinkState.TheVariants.{Down, Up}
+use Rattle.swp_base.specs.declared.control_frames.Kind.{Kind}
+use Rattle.swp_base.specs.declared.control_frames.Kind.TheVariants.{Rej, Rnr, Rr, Srej}
 use Rattle.lone_laws.proofs.answered.Coming.{IsLoneInput}
-use Rattle.lone_laws.proofs.answered.Numbers.{no_fewer, one_more, IsAsked, input_asked}
+use Rattle.trace_model.specs.declared.entry.Entry.TheVariants as entry
 
--- ## What a node does to its end
+-- ## The sessions of a node alone have growing numbers: behind each one that waits an RSET went out, or is about to
+
+-- ### Control frames that are due
+
+rset_last : (ds : List Due) → 1 ≤ rsets_among (ds ++ Rset_due ∷ [])
+rset_last [] = omega arith
+rset_last (Rset_due ∷ ds) = omega arith
+rset_last (_ ∷ ds) = rset_last ds
+
+no_fewer : (ds : List Due) (d : Due) → rsets_among ds ≤ rsets_among (ds ++ d ∷ [])
+no_fewer [] d = omega arith
+no_fewer (Rset_due ∷ ds) d = let z = no_fewer ds d in omega (arith, z)
+no_fewer (_ ∷ ds) d = no_fewer ds d
+
+one_more : (ds : List Due) (d : Due) → length (ds ++ d ∷ []) ≤ length ds + 1
+one_more ds d = let z = length-append ds (d ∷ []) in omega (arith, z)
+
+-- no more than one frame more is due than there were
+abbrev IsOneMore : EndState → EndState → Type 0
+IsOneMore e f = length f.due ≤ length e.due + 1
+
+same_more : (e f : EndState) → f ≡ e → IsOneMore e f
+same_more e f q = let z = ap (λ (s : EndState). length s.due) q in omega (arith, z)
+
+-- it doesn't wait, or an RSET is due
+abbrev Asks : EndState → Type 0
+Asks f = (is_waiting f ≡ false) ⊎ (1 ≤ rsets_among f.due)
+
+-- ### A frame
+
+up_I : (e : EndState) (ns nr : ℕ) (info : Fragment) → e.phase ≡ Up → is_waiting e ≡ false
+    → IsOneMore e (taken e (I ns nr info)) × (is_waiting (taken e (I ns nr info)) ≡ false)
+up_I e ns nr info up still = by_option (place_of e.session nr)
+    (λ q. let is : taken e (I ns nr info) ≡ e = rw (up, q) refl in (same_more e (taken e (I ns nr info)) is, ap is_waiting is ∙ still))
+    (λ x q. let is : taken e (I ns nr info) ≡ received (acknowledged e x) ns info = rw (up, q) refl in
+    let z = by x in ((let l = ap (λ (s : EndState). length s.due) is in let few = z.0 in omega (arith, l, few)), ap is_waiting is ∙ z.1)) where
+      Fine : EndState → Type 0
+      Fine f = IsOneMore e f × (is_waiting f ≡ false)
+
+      by : (x : ℕ) → Fine (received (acknowledged e x) ns info)
+      by x =
+          received_cases Fine (acknowledged e x) ns info (λ _. (one_more e.due Rr_due, still)) (λ _ _. (omega arith, still))
+          (λ _ _. (one_more e.due Rej_due, still)) (λ _ _. (one_more e.due Rr_due, still)) (one_more e.due Rnr_due, still)
+
+up_S : (e : EndState) (kind : Kind) (nr : ℕ) → e.phase ≡ Up → is_waiting e ≡ false
+    → IsOneMore e (taken e (S kind nr)) × (is_waiting (taken e (S kind nr)) ≡ false)
+up_S e kind nr up still = go kind (place_of e.session nr) refl where
+  same : (kind : Kind) → taken e (S kind nr) ≡ e → IsOneMore e (taken e (S kind nr)) × (is_waiting (taken e (S kind nr)) ≡ false)
+  same kind is = (same_more e (taken e (S kind nr)) is, ap is_waiting is ∙ still)
+
+  go : (kind : Kind) (o : Option ℕ) → place_of e.session nr ≡ o → IsOneMore e (taken e (S kind nr)) × (is_waiting (taken e (S kind nr)) ≡ false)
+  go Srej o q = same Srej (rw up refl)
+  go Rr None q = same Rr (rw (up, q) refl)
+  go Rej None q = same Rej (rw (up, q) refl)
+  go Rnr None q = same Rnr (rw (up, q) refl)
+  go _ (Some x) q = rw (up, q) (omega arith, refl)
+
+taken_more : (e : EndState) (c : Control) → IsOneMore e (taken e c)
+taken_more e c = go e.phase refl c where
+  same : (c : Control) → taken e c ≡ e → IsOneMore e (taken e c)
+  same c q = same_more e (taken e c) q
+
+  reset : (w caps : ℕ) (p : LinkState) → e.phase ≡ p → (b : Bool) → (w == 0) ≡ b → IsOneMore e (taken e (Rset w caps))
+  reset w caps Up p true q = same (Rset w caps) (rw (p, q) refl)
+  reset w caps Up p false q = rw (p, q) (omega arith)
+  reset w caps Waiting p false q = rw (p, q) (one_more e.due Ua_due)
+  reset w caps _ p true q = same (Rset w caps) (rw (p, q) refl)
+  reset w caps Down p false q = rw (p, q) (one_more e.due Ua_due)
+
+  go : (p : LinkState) → e.phase ≡ p → (c : Control) → IsOneMore e (taken e c)
+  go Up p (I ns nr info) = (up_I e ns nr info p (rw p refl)).0
+  go Up p (S kind nr) = (up_S e kind nr p (rw p refl)).0
+  go p q (Rset w caps) = reset w caps p q (w == 0) refl
+  go Waiting p Ua = rw p (omega arith)
+  go _ p c = same c (rw p refl)
+
+-- a frame makes no end wait
+taken_still : (e : EndState) (c : Control) → is_waiting e ≡ false → is_waiting (taken e c) ≡ false
+taken_still e c still = go e.phase refl c where
+  same : (c : Control) → taken e c ≡ e → is_waiting (taken e c) ≡ false
+  same c q = ap is_waiting q ∙ still
+
+  reset : (w caps : ℕ) (p : LinkState) → e.phase ≡ p → (b : Bool) → (w == 0) ≡ b → is_waiting (taken e (Rset w caps)) ≡ false
+  reset w caps Up p true q = same (Rset w caps) (rw (p, q) refl)
+  reset w caps Up p false q = rw (p, q) refl
+  reset w caps Waiting p b q = absurd (true≢false (sym (rw p refl) ∙ still))
+  reset w caps Down p true q = same (Rset w caps) (rw (p, q) refl)
+  reset w caps Down p false q = rw (p, q) refl
+
+  go : (p : LinkState) → e.phase ≡ p → (c : Control) → is_waiting (taken e c) ≡ false
+  go p q (Rset w caps) = reset w caps p q (w == 0) refl
+  go Up p (I ns nr info) = (up_I e ns nr info p still).1
+  go Up p (S kind nr) = (up_S e kind nr p still).1
+  go Waiting p c = absurd (true≢false (sym (rw p refl) ∙ still))
+  go _ p c = same c (rw p refl)
+
+-- ### A tick and a reset
+
+left_few : (p : LinkState) (ds : List Due) → length (due_left p ds) ≤ length ds
+left_few Up ds = omega arith
+left_few _ ds = omega arith
+
+waiting_more : (e : EndState) → IsOneMore e (waiting_from e)
+waiting_more e = let z = one_more (due_left e.phase e.due) Rset_due in let w = left_few e.phase e.due in omega (arith, z, w)
+
+ticked_so : (e : EndState) → IsOneMore e (ticked e) × (is_waiting e ≡ false → Asks (ticked e))
+ticked_so e = go e.phase (runs_timer e.session) (nat_lt (e.timer + 1) 10) (nat_lt e.tries 5) refl refl refl refl where
+  waits : e.phase ≡ Waiting → is_waiting e ≡ false → Asks (ticked e)
+  waits p still = absurd (true≢false (sym (rw p refl) ∙ still))
+
+  go : (p : LinkState) (r a b : Bool) → e.phase ≡ p → runs_timer e.session ≡ r → nat_lt (e.timer + 1) 10 ≡ a → nat_lt e.tries 5 ≡ b
+      → IsOneMore e (ticked e) × (is_waiting e ≡ false → Asks (ticked e))
+  go Down r a b p t u v = let is : ticked e ≡ e = rw p refl in (same_more e (ticked e) is, λ still. inl (ap is_waiting is ∙ still))
+  go Waiting r true b p t u v = ((rw (p, u) (omega arith)), waits p)
+  go Waiting r false true p t u v = ((rw (p, u, v) (one_more e.due Rset_due)), waits p)
+  go Waiting r false false p t u v = ((rw (p, u, v) (omega arith)), waits p)
+  go Up false a b p t u v = let is : ticked e ≡ e = rw (p, t) refl in (same_more e (ticked e) is, λ still. inl (ap is_waiting is ∙ still))
+  go Up true true b p t u v =
+      let is : ticked e ≡ record e { timer = e.timer + 1 } = rw (p, t, u) refl in
+      ((let z = ap (λ (s : EndState). length s.due) is in omega (arith, z)), λ still. inl (ap is_waiting is ∙ still))
+  go Up true false true p t u v =
+      let is : ticked e ≡ sent_again e = rw (p, t, u, v) refl in
+      ((let z = ap (λ (s : EndState). length s.due) is in omega (arith, z)), λ still. inl (ap is_waiting is ∙ still))
+  go Up true false false p t u v =
+      let is : ticked e ≡ waiting_from e = rw (p, t, u, v) refl in (
+        (let z = ap (λ (s : EndState). length s.due) is in let w = waiting_more e in omega (arith, z, w)),
+        λ still. inr (let z = ap (λ (s : EndState). rsets_among s.due) is in let w = rset_last (due_left e.phase e.due) in omega (arith, z, w)),
+      )
+
+reset_so : (s : EndState) (w : ℕ) → IsOneMore s (reset_with s w) × (is_waiting s ≡ false → Asks (reset_with s w))
+reset_so s w = go (is_waiting s) refl where
+  begun : EndState
+  begun = waiting_from (record s { own_window = w })
+
+  go : (b : Bool) → is_waiting s ≡ b → IsOneMore s (cond b s begun) × (is_waiting s ≡ false → Asks (cond b s begun))
+  go true q = (omega arith, λ still. absurd (true≢false (sym q ∙ still)))
+  go false q = (waiting_more (record s { own_window = w }), λ still. inr (rset_last (due_left s.phase s.due)))
+
+-- ### An end
+
+-- what an input makes of an end: no more than one frame more is due, and an end that begins to wait has an RSET to send
+abbrev IsAsked : EndState → LinkEnd → Type 0
+IsAsked e f = IsOneMore e f.shdlc × (is_waiting e ≡ false → Asks f.shdlc)
+
+moved_asked : (e : LinkEnd) (b : Bool) (s : EndState) → IsOneMore e.shdlc s × (is_waiting e.shdlc ≡ false → Asks s) → IsAsked e.shdlc (moved e b s)
+moved_asked e true s a = a
+moved_asked e false s a = a
+
+still_asked : (s : EndState) (e : LinkEnd) → e.shdlc ≡ s → IsAsked s e
+still_asked s e q = (same_more s e.shdlc q, λ still. inl (ap is_waiting q ∙ still))
+
+down_asked : (b : Bool) (e : LinkEnd) → IsAsked e.shdlc (put_down b e)
+down_asked false e = still_asked e.shdlc e refl
+down_asked true e = go e.shdlc.phase refl where
+  go : (p : LinkState) → e.shdlc.phase ≡ p → IsAsked e.shdlc (put_down true e)
+  go Down q = rw q (omega arith, λ still. inl still)
+  go _ q = rw q (omega arith, λ still. inl refl)
+
+act_shdlc : (o : Option Act) (e : LinkEnd) → (with_act o e).shdlc ≡ e.shdlc
+act_shdlc None e = refl
+act_shdlc (Some act) e = refl
+
+same_asked : (s : EndState) (e f : LinkEnd) → f.shdlc ≡ e.shdlc → IsAsked s e → IsAsked s f
+same_asked s e f q a = subst (λ x. IsOneMore s x × (is_waiting s ≡ false → Asks x)) (sym q) a
+
+activated_asked : (e : LinkEnd) (event : ActEvent) → IsAsked e.shdlc (activated e event)
+activated_asked e event =
+    same_asked e.shdlc (put_down (act_answer e.role event).ended_link e) (activated e event)
+    (act_shdlc (act_answer e.role event).send (record (put_down (act_answer e.role event).ended_link e) { role = role_after e.role event }))
+    (down_asked (act_answer e.role event).ended_link e)
+
+heard_asked : (e : LinkEnd) (c : Control) → IsAsked e.shdlc (heard e c)
+heard_asked e c = by_test (is_faulty (taken e.shdlc c).session)
+    (λ q. rw q (down_asked true e))
+    (λ q. rw q (moved_asked e (is_some (take_answer e.shdlc c).ended) (taken e.shdlc c)
+    (taken_more e.shdlc c, λ still. inl (taken_still e.shdlc c still))))
+
+open_asked : (e : LinkEnd) (c : Control) → IsAsked e.shdlc (cond (is_open e.role) (heard e c) e)
+open_asked e c = by_test (is_open e.role) (λ q. rw q (heard_asked e c)) (λ q. rw q (still_asked e.shdlc e refl))
+
+-- an end that starts anew or stops
+anew_asked : (s : EndState) (e : LinkEnd) (event : ActEvent) → e.shdlc ≡ stopped s → IsAsked s (activated e event)
+anew_asked s e event q =
+    let a = activated_asked e event in
+    let none = ap (λ (x : EndState). length x.due) q in
+    let few : length (activated e event).shdlc.due ≤ 1 = let z = a.0 in omega (arith, z, none) in
+    (let z = few in omega (arith, z), λ _. a.1 (ap is_waiting q))
+
+input_asked : (e : LinkEnd) (i : LinkInput) → IsLoneInput i → IsAsked e.shdlc (after_input e i)
+input_asked e (Take (ActFrame act again)) a = activated_asked e (ActTake act again)
+input_asked e (Take Clt) a = still_asked e.shdlc (after_input e (Take Clt)) refl
+input_asked e (Take c) a = open_asked e c
+input_asked e TakeUnknown a = still_asked e.shdlc (after_input e TakeUnknown) refl
+input_asked e Tick a = by_test (is_open e.role)
+    (λ q. rw q (moved_asked e (is_some (tick_answer e.shdlc).ended) (ticked e.shdlc) (ticked_so e.shdlc)))
+    (λ q. rw q (activated_asked e ActTick))
+input_asked e (Reset window) a = by_option (reset_refusal e)
+    (λ q. rw q (moved_asked e (is_some (if_up e.shdlc Asked)) (reset_with e.shdlc (window_of e window)) (reset_so e.shdlc (window_of e window))))
+    (λ why q. rw q (still_asked e.shdlc e refl))
+input_asked e (Start value) a = anew_asked e.shdlc (moved e true (stopped e.shdlc)) (ActStart value) refl
+input_asked e Stop a = anew_asked e.shdlc (moved e true (stopped e.shdlc)) ActStop refl
+input_asked e _ a = absurd a
+
+-- ## Each session of a node alone has a greater number than those before it
+
+-- ### What a node does to its end
 
 -- the frames that are due, and one more where RNR was answered
 abbrev pub most_due : EndState → ℕ
@@ -87,7 +297,7 @@ turn_turned s f (Hold held) a =
 turn_turned s f SetAside a = by_option (aside_refusal f) (λ q. rw q (record { waits = a.waits; asks = a.asks; few = a.few })) (λ why q. rw q a)
 turn_turned s f x a = same_turned s f (turn f x) refl a
 
--- ## A node in a step
+-- ### A node in a step
 
 module _ (s : LinkEnd) where
   abbrev Turned : Port → Type 0
@@ -164,7 +374,7 @@ module _ (s : LinkEnd) where
       (anyone AnyDeed (λ d. tt) (flat_map (synced w.core input) w.ports)) (anyone AnyDeed (λ d. tt) (all_owed left))
       (all_map Turned Turned without_notice without_turned left (all_map Turned Turned (forgets came.ports) (forgets_turned came.ports) came.ports a))
 
--- ## Frames that go out
+-- ### Frames that go out
 
 abbrev pub rsets_of : List Control → ℕ
 rsets_of frames = length (filter is_rset frames)
@@ -223,7 +433,7 @@ after_waits zero e = refl
 after_waits (suc n) e =
     after_waits n (fetched e) ∙ fetch_cases (λ f o. is_waiting f ≡ is_waiting e) e (λ d ds q. refl) (λ q r. refl) (λ info q r. refl)
 
--- ## Sessions that begin
+-- ### Sessions that begin
 
 no_input : (began : Bool) → began ≡ false → began ≡ true → ⊥
 no_input began q r = true≢false (sym r ∙ q)
@@ -277,7 +487,7 @@ since_more : (i : LinkInput) (rsets : ℕ) → rsets ≤ rsets_since i rsets
 since_more (Take c) rsets = by_test (is_rset c) (λ q. rw q (omega arith)) (λ q. rw q (omega arith))
 since_more _ rsets = omega arith
 
--- ## Between events
+-- ### Between events
 
 -- All that was due went out; the last session has no greater number than RSETs were put and taken, and a smaller one where the end waits.
 pub record IsNumbered (e : LinkEnd) (session rsets : ℕ) : Type 0 where

@@ -10,15 +10,12 @@ use Rattle.trace_model.specs.declared.entry.Entry.TheVariants as entry
 use Rattle.lone_laws.proofs.answered.Reading.{eqb_same, Read, Alone}
 use Rattle.lone_laws.proofs.answered.Coming.{IsLoneInput, pass_is, came_is, came_ports, came_entries}
 use Rattle.lone_laws.proofs.answered.Stepping.{lone_comes, passed}
-use Rattle.lone_laws.proofs.answered.Lasting.{LoneKeeps, begins_alone, arrival_nothing, side_is}
-use Rattle.lone_laws.proofs.answered.Ordered.{begin_read, start, begun, ended, start_alone, was_on}
-use Rattle.lone_laws.proofs.answered.Sessions.{AreSilent, Reads, reads_silent}
+use Rattle.lone_laws.proofs.answered.Knowing.{LoneKeeps, LoneTalks, arrival_nothing, begin_read, begins_alone, begun, ended, passing_known, side_is, start}
+use Rattle.lone_laws.proofs.answered.Knowing.{start_alone, was_on}
+use Rattle.lone_laws.proofs.answered.Talking.{AreSilent, Reads, reads_silent, talk_of_side}
 use Rattle.lone_laws.proofs.answered.Growing.{IsTurned, AreTurned, IsTurnedWork, IsNumbered, steps_turned, numbered_then}
-use Rattle.lone_laws.proofs.answered.Talking.{talk_of_side}
 use Rattle.lone_laws.proofs.answered.Rooms.{Talks, sent_same}
-use Rattle.lone_laws.proofs.answered.Knowing.{LoneTalks, passing_known}
-use Rattle.lone_laws.proofs.answered.Errors.{ErrorsAre, IsSettled, errors_then, desk_errors, told_settled}
-use Rattle.lone_laws.proofs.answered.Replied.{KnowsAll, same_port}
+use Rattle.lone_laws.proofs.answered.Replied.{ErrorsAre, IsSettled, KnowsAll, desk_errors, errors_then, same_port, told_settled}
 use Rattle.lone_laws.proofs.answered.Answering.{errs_more, all_at}
 
 abbrev pub errors_of : List Desk → ℕ

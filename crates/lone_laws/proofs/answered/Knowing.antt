@@ -1,26 +1,497 @@
--- What is known of a node alone at each turn of a step: what it keeps, its session and its blocks are read.
-use Rattle.lone_laws.proofs.Words.{AllByRecursion, AreFine, AreSendable, Core, Deed, End, Entry, FetchMessage, Hold, IsFine, IsFinePort, IsFineWork, IsTrueDesk}
-use Rattle.lone_laws.proofs.Words.{LastsOverTurns, LinkEnd, LinkInput, List, Lone, LoneCause, Message, None, Port, Reset, Running, Some, Sound, Start, Stop}
-use Rattle.lone_laws.proofs.Words.{Take, TakeUnknown, Tick, Work, [], after_input, all_come, all_do, all_done, all_done_fine, all_synced_hold, ap, append_assoc}
-use Rattle.lone_laws.proofs.Words.{began_by, by_test, came_fine, cond, deeds_fine, deeds_of, end_of_node, eqb, false, fine_at, handles, handles_fine}
-use Rattle.lone_laws.proofs.Words.{holds_back, holds_fine, lets, lets_fine, lone_arrival, lone_end, lone_input, lone_port, map, node_input, noting}
-use Rattle.lone_laws.proofs.Words.{option_map_or, own_side, port_at, refl, report, rsets_since, session_with, sound_input, subst, sym, syncs_in, takes_up}
-use Rattle.lone_laws.proofs.Words.{told_at, true, turn_at, waiting_at, whole_acked, with_desk, ℕ, ◌++◌, ◌<◌, ◌∙◌, ◌∷◌, ◌≡◌, ◌≤◌}
-use Rattle.trace_model.specs.declared.entry.Entry.TheVariants as entry
-use Rattle.lone_laws.proofs.answered.Own.{IsOwnDeed}
-use Rattle.lone_laws.proofs.answered.Reading.{Read, Alone}
-use Rattle.lone_laws.proofs.answered.Turning.{IsHere, alone_here, own_deeds, alone_handled, alone_held, alone_lasts}
-use Rattle.lone_laws.proofs.answered.Coming.{IsLoneInput, pass_is, came_is, came_port, came_ports, came_entries, own_side_end}
-use Rattle.lone_laws.proofs.answered.Stepping.{lone_comes, syncs_own}
-use Rattle.lone_laws.proofs.answered.Lasting.{LoneKeeps, begins_alone, arrival_nothing}
-use Rattle.lone_laws.proofs.answered.Ordered.{begin_read, start, begun, start_alone, begun_alone}
-use Rattle.lone_laws.proofs.answered.Roles.{kind_of, input_kind}
-use Rattle.lone_laws.proofs.answered.Sessions.{Talk, AreSilent, Reads, reads_silent}
+-- What is known of a node alone at each turn of a step: what it keeps is read, over all events, and messages have their turns in order.
+use Rattle.std.specs.Prelude.{None, Option, Some, is_none, is_some, min, ◌+◌, ◌⊎◌}
+use Rattle.lone_laws.proofs.Words.{AllByRecursion, AllByRecursion-append, AreFine, AreInTurn, AreNoTurns, ArePassed, AreSendable, AreTables, AtEachNoted}
+use Rattle.lone_laws.proofs.Words.{BeginWithTurn, Bool, ComesTo, Control, Core, Deed, Desk, End, Entry, FetchMessage, FrameComes, FrameIsRefused, Hold}
+use Rattle.lone_laws.proofs.Words.{IsBehind, IsFine, IsFinePort, IsFineWork, IsFirstThere, IsNoTurn, IsTrueDesk, IsTurnSo, JoinTwo, LastsOverTurns, LinkEnd}
+use Rattle.lone_laws.proofs.Words.{LinkInput, List, Lone, LoneCause, LoneEvent, Message, Port, Reset, Running, Sound, Start, Stop, Take, TakeUnknown, Tick}
+use Rattle.lone_laws.proofs.Words.{Work, [], after_input, all_come, all_do, all_done, all_done_fine, all_synced_hold, ap, append-nil, append_assoc, ap₂}
+use Rattle.lone_laws.proofs.Words.{before_entries, before_none, began_by, by_option, by_test, came_fine, changed_if, comes_lasts, comes_to_pass, cond}
+use Rattle.lone_laws.proofs.Words.{deeds_fine, deeds_of, does_by_power, does_with_input, emits_behind, end_of_node, entries_of_events_alone, eqb, false}
+use Rattle.lone_laws.proofs.Words.{fine_at, firsts_in_turn, frames_behind, goes_through_ends, handles, handles_fine, holds_back, holds_fine, holds_in}
+use Rattle.lone_laws.proofs.Words.{hosts_of_ends, inl, inr, is_at_rest, is_held_at, lets, lets_fine, link_of_turn, lone_arrival, lone_behind_step, lone_end}
+use Rattle.lone_laws.proofs.Words.{lone_events, lone_input, lone_port, lone_step, lone_work, lpdu_of, map, node_input, noted_before_pass, noted_of_refused}
+use Rattle.lone_laws.proofs.Words.{noting, oldest, option_map_or, own_side, passes, port_at, refl, report, rsets_since, session_with, side_behind, sound_input}
+use Rattle.lone_laws.proofs.Words.{steps, steps_are, subst, sym, syncs_in, takes_up, told_at, true, true≢false, turn_at, unhandled_in, waiting_at, whole_acked}
+use Rattle.lone_laws.proofs.Words.{with_desk, with_refusal, ℕ, ◌++◌, ◌<◌, ◌||◌, ◌∙◌, ◌∷◌, ◌≡◌, ◌≤◌}
+use Rattle.node_laws.proofs.passes.Passing.{leaves_behind}
+use Rattle.node_laws.specs.passes.Passing.{Stays}
+use Rattle.node_laws.specs.passes.Passing.ComesTo.{Begins}
+use Rattle.lone_laws.proofs.answered.Coming.{IsLoneInput, came_entries, came_is, came_port, came_ports, own_side_end, pass_is}
 use Rattle.lone_laws.proofs.answered.Growing.{IsNumbered, began_more}
-use Rattle.lone_laws.proofs.answered.Talking.{talk_of_side, told_reads, input_talk, input_grows, input_aside}
-use Rattle.lone_laws.proofs.answered.Rooms.{Talks, talks_note, talks_desk, talks_turn, talks_does}
+use Rattle.lone_laws.proofs.answered.Memories.{IsOwnDeed}
+use Rattle.lone_laws.proofs.answered.Reading.{Alone, AreNothing, Read, eqb_same, held_is, left_is, nothing_read, read-append, read_all, reads_of}
+use Rattle.lone_laws.proofs.answered.Talking.{AreSilent, Reads, Talk, input_aside, input_grows, input_kind, input_talk, kind_of, reads_silent, talk_of_side}
+use Rattle.lone_laws.proofs.answered.Talking.{told_reads}
+use Rattle.lone_laws.proofs.answered.Rooms.{Talks, talks_desk, talks_does, talks_note, talks_turn}
+use Rattle.lone_laws.proofs.answered.Stepping.{alone_begins, alone_steps, lone_comes, passed, syncs_own}
+use Rattle.lone_laws.proofs.answered.Turning.{IsHere, alone_at, alone_handled, alone_held, alone_here, alone_lasts, link_is, own_deeds, own_end}
+use Rattle.trace_model.specs.declared.entry.Entry.TheVariants as entry
 
--- ## Turns
+-- ## What holds of each event of a node alone holds of its history, and what holds of each turn of a pass of each entry
+
+-- ### Lists
+
+-- an element of two lists, one behind the other, is in the first or in the second
+pub record InFirst {X : Type 0} (a b front behind : List X) (x : X) : Type 0 where
+  pub rest : List X
+  pub first : a ≡ front ++ (x ∷ rest)
+  pub behind_is : behind ≡ rest ++ b
+
+pub record InSecond {X : Type 0} (a b front behind : List X) (x : X) : Type 0 where
+  pub more : List X
+  pub front_is : front ≡ a ++ more
+  pub second : b ≡ more ++ (x ∷ behind)
+
+pub split_at : {X : Type 0} (a b front behind : List X) (x : X) → a ++ b ≡ front ++ (x ∷ behind)
+    → InFirst a b front behind x ⊎ InSecond a b front behind x
+split_at [] b front behind x q = inr (record { more = front; front_is = refl; second = q })
+split_at (y ∷ a) b [] behind x q =
+    let same : y ≡ x = cc in
+    let rest : a ++ b ≡ behind = cc in
+    inl (record { rest = a; first = ap (λ z. z ∷ a) same; behind_is = sym rest })
+split_at (y ∷ a) b (z ∷ front) behind x q =
+    let same : y ≡ z = cc in
+    let rest : a ++ b ≡ front ++ (x ∷ behind) = cc in
+    elim (split_at a b front behind x rest) [
+      | inl f ↦ inl (record { rest = f.rest; first = ap (λ l. l ++ a) (ap (λ k. k ∷ []) same) ∙ ap (λ l. z ∷ l) f.first; behind_is = f.behind_is })
+      | inr s ↦ inr (record { more = s.more; front_is = ap (λ l. z ∷ l) s.front_is ∙ ap (λ k. k ∷ (a ++ s.more)) (sym same); second = s.second })
+    ]
+
+pub none_at : {X : Type 0} (P : X → Type 0) (front rest : List X) (x : X) → AllByRecursion P (front ++ (x ∷ rest)) → P x
+none_at P [] rest x a = a.0
+none_at P (y ∷ front) rest x a = none_at P front rest x a.1
+
+emits_turnless : (f : End) (frames : List Control) → AreNoTurns (map (λ c. entry.Emit f (lpdu_of c)) frames)
+emits_turnless f [] = tt
+emits_turnless f (c ∷ frames) = (refl, emits_turnless f frames)
+
+-- What holds of each entry of a pass, and of all that are no turns, holds of each entry of its event.
+module _ (Q : List Entry → Entry → List Entry → Type 0) (silent : (t : List Entry) (x : Entry) (behind : List Entry) → link_of_turn x ≡ None → Q t x behind)
+    (a m : List Entry) (f : End) (frames : List Control) (before : AreNoTurns a) where
+  abbrev emits : List Entry
+  emits = map (λ c. entry.Emit f (lpdu_of c)) frames
+
+  each_entry : ((front back : List Entry) (x : Entry) → m ≡ front ++ (x ∷ back) → Q (a ++ front) x (back ++ emits))
+      → (front behind : List Entry) (x : Entry) → (a ++ m) ++ emits ≡ front ++ (x ∷ behind) → Q front x behind
+  each_entry passed front behind x q = by_part (split_at a (m ++ emits) front behind x (sym (append_assoc a m emits) ∙ q)) where
+    by_rest : (s : InSecond a (m ++ emits) front behind x) → InFirst m emits s.more behind x ⊎ InSecond m emits s.more behind x → Q front x behind
+    by_rest s (inl g) =
+        let P : List Entry → Type 0 = λ l. Q l x behind in
+        subst P (sym s.front_is) (subst (Q (a ++ s.more) x) (sym g.behind_is) (passed s.more g.rest x g.first))
+    by_rest s (inr g) = silent front x behind (none_at (λ y. link_of_turn y ≡ None) g.more behind x (subst AreNoTurns g.second (emits_turnless f frames)))
+
+    by_part : InFirst a (m ++ emits) front behind x ⊎ InSecond a (m ++ emits) front behind x → Q front x behind
+    by_part (inl g) = silent front x behind (none_at (λ y. link_of_turn y ≡ None) front g.rest x (subst AreNoTurns g.first before))
+    by_part (inr s) = by_rest s (split_at m emits s.more behind x s.second)
+
+-- ### Histories
+
+module _ (P : List Entry → LoneEvent → Type 0) (K : List Entry → Lone → Type 0)
+    (step : (t : List Entry) (l : Lone) (c : LoneCause) → is_some l.node ≡ true → K t l
+    → P t (record { cause = c; entries = (lone_step l c).1 }) × K (t ++ (lone_step l c).1) (lone_step l c).0) where
+  pub at_each : (causes : List LoneCause) (t : List Entry) (l : Lone) → K t l → (past back : List LoneEvent) (o : LoneEvent)
+      → lone_events l causes ≡ past ++ (o ∷ back) → P (t ++ entries_of_events_alone past) o
+  at_each [] t l k [] back o q = absurd (cc q)
+  at_each [] t l k (p ∷ past) back o q = absurd (cc q)
+  at_each (c ∷ causes) t l k past back o q = by_power (λ u v k2 past2 q2. at_each causes u v k2 past2 back o q2) (is_some l.node) refl past q where
+    Later : Type 0
+    Later =
+        (u : List Entry) (v : Lone) → K u v → (past : List LoneEvent) → lone_events v causes ≡ past ++ (o ∷ back) → P (u ++ entries_of_events_alone past) o
+
+    first : LoneEvent
+    first = record { cause = c; entries = (lone_step l c).1 }
+
+    by_past : Later → P t first × K (t ++ (lone_step l c).1) (lone_step l c).0 → (past : List LoneEvent)
+        → (first ∷ lone_events (lone_step l c).0 causes) ≡ past ++ (o ∷ back) → P (t ++ entries_of_events_alone past) o
+    by_past later done [] z =
+        let same : first ≡ o = cc in
+        subst (λ l. P l o) (sym (append-nil t)) (subst (P t) same done.0)
+    by_past later done (p ∷ past) z =
+        let same : first ≡ p = cc in
+        let rest : lone_events (lone_step l c).0 causes ≡ past ++ (o ∷ back) = cc in
+        subst (λ (x : LoneEvent). P (t ++ (x.entries ++ entries_of_events_alone past)) o) same
+        (subst (λ l. P l o) (append_assoc t (lone_step l c).1 (entries_of_events_alone past))
+        (later (t ++ (lone_step l c).1) (lone_step l c).0 done.1 past rest))
+
+    by_power : Later → (b : Bool) → is_some l.node ≡ b → (past : List LoneEvent)
+        → cond b (first ∷ lone_events (lone_step l c).0 causes) [] ≡ past ++ (o ∷ back) → P (t ++ entries_of_events_alone past) o
+    by_power later true on past z = by_past later (step t l c on k) past z
+    by_power later false on [] z = absurd (cc z)
+    by_power later false on (p ∷ past) z = absurd (cc z)
+
+-- ## Where each message that has its turn is the first that came and had none, messages have their turns in the order in which they came
+
+-- what holds at each entry of events holds at each of their entries
+flat_at : (Q : List Entry → Entry → Type 0) (events : List LoneEvent) → AtEachNoted events (λ t x behind. Q t x)
+    → (front back : List Entry) (x : Entry) → entries_of_events_alone events ≡ front ++ (x ∷ back) → Q front x
+flat_at Q [] each [] back x q = absurd (cc q)
+flat_at Q [] each (y ∷ front) back x q = absurd (cc q)
+flat_at Q (o ∷ events) each front back x q =
+    by (split_at o.entries (entries_of_events_alone events) front back x q)
+    (flat_at (λ t y. Q (o.entries ++ t) y) events (λ past behind p f b y z w.
+    subst (λ t. Q t y) (append_assoc o.entries (entries_of_events_alone past) f) (each (o ∷ past) behind p f b y (ap (λ l. o ∷ l) z) w))) where
+      by : InFirst o.entries (entries_of_events_alone events) front back x ⊎ InSecond o.entries (entries_of_events_alone events) front back x
+          → ((f b : List Entry) (y : Entry) → entries_of_events_alone events ≡ f ++ (y ∷ b) → Q (o.entries ++ f) y) → Q front x
+      by (inl s) later = each [] events o front s.rest x refl s.first
+      by (inr s) later = subst (λ t. Q t x) (sym s.front_is) (later s.more back x s.second)
+
+-- So they have their turns in order.
+pub are_in_turn : (events : List LoneEvent) → AtEachNoted events (λ t x behind. IsFirstThere t x) → AreInTurn (entries_of_events_alone events)
+are_in_turn events each = firsts_in_turn (entries_of_events_alone events) (λ front back x at. flat_at IsFirstThere events each front back x at)
+
+-- ## Over the events of a node alone what it keeps is read, and what holds of each event holds of all
+
+-- ### Between events
+
+-- what a node that runs alone keeps, where r was read at the beginning, and these entries were noted since
+pub record LoneKeeps (r : Read) (t : List Entry) (l : Lone) (n : Running) : Type 0 where
+  pub desk : Desk
+  pub desks_are : n.desks ≡ desk ∷ []
+  pub host : desk.host ≡ l.link
+  pub none : desk.notice ≡ None
+  pub node : n.core.node ≡ l.number
+  pub command : n.core.command ≡ None
+  pub init : n.core.init ≡ None
+  pub good : eqb l.number 0 ≡ true → AreTables n.core.tables × JoinTwo n.core.tables.rows
+  pub read : read_all (lone_end l) r t ≡ record { core = n.core; left = l.side.got; held = desk.holds }
+
+-- where it runs
+abbrev pub IfKeeps : Read → List Entry → Lone → Type 0
+IfKeeps r t l = (n : Running) → l.node ≡ Some n → LoneKeeps r t l n
+
+-- ### A step
+
+pub arrival_nothing : (l : Lone) (c : LoneCause) → AreNothing (lone_end l) (lone_arrival l c)
+arrival_nothing l (FrameComes bytes) = ((λ z. refl), tt)
+arrival_nothing l _ = tt
+
+emits_nothing : (e f : End) (frames : List Control) → AreNothing e (map (λ c. entry.Emit f (lpdu_of c)) frames)
+emits_nothing e f [] = tt
+emits_nothing e f (c ∷ frames) = ((λ z. refl), emits_nothing e f frames)
+
+-- the node as its step begins
+abbrev pub begins_alone : (r : Read) (t : List Entry) (l : Lone) (n : Running) (i : LinkInput) (noted : List Entry) → AreNothing (lone_end l) noted
+    → LoneKeeps r t l n → Alone l.number l.link r t (lone_work l n i noted)
+begins_alone r t l n i noted nothing k =
+    let p : Port = lone_port l.side (session_with l i) k.desk in
+    record {
+      port = p;
+      ports_are = ap (map (lone_port l.side (session_with l i))) k.desks_are;
+      host = k.host;
+      none = k.none;
+      node = k.node;
+      command = k.command;
+      init = k.init;
+      good = k.good;
+      read =
+          read-append (lone_end l) r t noted
+          ∙ (ap (λ z. read_all (lone_end l) z noted) k.read ∙ nothing_read (lone_end l) noted nothing (reads_of n.core p));
+    }
+
+-- its end behind the step
+pub side_is : (r : Read) (t : List Entry) (l : Lone) (w : Work) (a : Alone l.number l.link r t w) → w.cut ≡ false → side_behind l w ≡ a.port.side
+side_is r t l w a on =
+    let own : eqb a.port.desk.host l.link ≡ true = ap (λ n. eqb n l.link) a.host ∙ eqb_same l.link in
+    rw on
+    (ap (λ ps. option_map_or (λ (p : Port). p.side) (port_at ps l.link) l.side) a.ports_are
+    ∙ ap (λ b. option_map_or (λ (p : Port). p.side) (cond b (Some a.port) None) l.side) own)
+
+pub step_is : (l : Lone) (n : Running) (c : LoneCause) (i : LinkInput) → l.node ≡ Some n → lone_input c ≡ Some i
+    → (let w : Work = steps (node_input l.link i) (lone_work l n i (lone_arrival l c)) in
+    lone_step l c ≡ (lone_behind_step l i w, w.entries ++ emits_behind l w))
+step_is l n c i runs comes = ap (does_by_power l c) runs ∙ ap (does_with_input l c n) comes
+
+-- the node behind a step of it
+keeps_work : (r : Read) (t : List Entry) (l : Lone) (i : LinkInput) (w : Work) → (w.cut ≡ false → Alone l.number l.link r t w)
+    → IfKeeps r (t ++ (w.entries ++ emits_behind l w)) (lone_behind_step l i w)
+keeps_work r t l i w all = by_test w.cut
+    (λ off. λ n runs. let gone : None ≡ Some n = sym (ap (λ b. cond b None (Some on_still)) off) ∙ runs in absurd (cc gone))
+    (λ on. λ n runs.
+    let a : Alone l.number l.link r t w = all on in
+    let is : record { core = w.core; desks = map (λ (p : Port). p.desk) w.ports } ≡ n =
+    (let some : Some (record { core = w.core; desks = map (λ (p : Port). p.desk) w.ports }) ≡ Some n =
+    sym (ap (λ b. cond b None (Some (record { core = w.core; desks = map (λ (p : Port). p.desk) w.ports }))) on) ∙ runs in cc) in
+    subst (LoneKeeps r (t ++ (w.entries ++ emits_behind l w)) (lone_behind_step l i w)) is (record {
+      desk = a.port.desk;
+      desks_are = ap (map (λ (p : Port). p.desk)) a.ports_are;
+      host = a.host;
+      none = a.none;
+      node = a.node;
+      command = a.command;
+      init = a.init;
+      good = a.good;
+      read =
+          ap (read_all (lone_end l) r) (sym (append_assoc t w.entries (emits_behind l w)))
+          ∙ (read-append (lone_end l) r (t ++ w.entries) (emits_behind l w)
+          ∙ (ap (λ z. read_all (lone_end l) z (emits_behind l w)) a.read
+          ∙ (nothing_read (lone_end l) (emits_behind l w) (emits_nothing (lone_end l) (lone_end l) _) (reads_of w.core a.port)
+          ∙ ap (λ (s : LinkEnd). record { core = w.core; left = s.got; held = a.port.desk.holds }) (sym (side_is r t l w a on)))));
+    })) where
+      on_still : Running
+      on_still = record { core = w.core; desks = map (λ (p : Port). p.desk) w.ports }
+
+-- a frame that is refused
+counted_keeps : (r : Read) (t : List Entry) (l : Lone) (n : Running) (es : List Entry) → AreNothing (lone_end l) es → LoneKeeps r t l n
+    → LoneKeeps r (t ++ es) (record l { node = Some (with_refusal l.link n) }) (with_refusal l.link n)
+counted_keeps r t l n es nothing k = go (eqb k.desk.host l.link) refl where
+  f : Desk → Desk
+  f d = record d { errors = min 65535 (d.errors + 1) }
+
+  same : (b : Bool) → ((changed_if b f k.desk).host ≡ k.desk.host) × ((changed_if b f k.desk).notice ≡ k.desk.notice)
+      × ((changed_if b f k.desk).holds ≡ k.desk.holds)
+  same true = (refl, refl, refl)
+  same false = (refl, refl, refl)
+
+  go : (b : Bool) → eqb k.desk.host l.link ≡ b → LoneKeeps r (t ++ es) (record l { node = Some (with_refusal l.link n) }) (with_refusal l.link n)
+  go b q = record {
+    desk = changed_if b f k.desk;
+    desks_are = ap (Rattle.node_machine.specs.Node.with_error l.link) k.desks_are ∙ ap (λ c. changed_if c f k.desk ∷ []) q;
+    host = (same b).0 ∙ k.host;
+    none = (same b).1 ∙ k.none;
+    node = k.node;
+    command = k.command;
+    init = k.init;
+    good = k.good;
+    read =
+        read-append (lone_end l) r t es
+        ∙ (ap (λ z. read_all (lone_end l) z es) k.read
+        ∙ (nothing_read (lone_end l) es nothing _ ∙ ap (λ z. record { core = n.core; left = l.side.got; held = z }) (sym (same b).2)));
+  }
+
+module _ (r : Read) where
+  pub keeps_step : (t : List Entry) (l : Lone) (c : LoneCause) → 1 ≤ l.link → l.link ≤ 7 → is_some l.node ≡ true → IfKeeps r t l
+      → IfKeeps r (t ++ (lone_step l c).1) (lone_step l c).0
+  keeps_step t l c some most runs keeps = by_option l.node
+      (λ off. absurd (true≢false (sym runs ∙ ap is_some off)))
+      (λ n on. by_input n on (lone_input c) refl) where
+        by_input : (n : Running) → l.node ≡ Some n → (o : Option LinkInput) → lone_input c ≡ o → IfKeeps r (t ++ (lone_step l c).1) (lone_step l c).0
+        by_input n on (Some i) comes =
+            let w : Work = lone_work l n i (lone_arrival l c) in
+            let v : Work = steps (node_input l.link i) w in
+            subst (λ (x : Lone × List Entry). IfKeeps r (t ++ x.1) x.0) (sym (step_is l n c i on comes))
+            (keeps_work r t l i v
+            (alone_steps l.number l.link some most r t i (lone_comes c i comes) w
+            (begins_alone r t l n i (lone_arrival l c) (arrival_nothing l c) (keeps n on))))
+        by_input n on None comes = refused c comes where
+          refused : (c : LoneCause) → lone_input c ≡ None → IfKeeps r (t ++ (lone_step l c).1) (lone_step l c).0
+          refused (FrameIsRefused fault) q =
+              subst (λ (x : Lone × List Entry). IfKeeps r (t ++ x.1) x.0) (sym (ap (does_by_power l (FrameIsRefused fault)) on))
+              (λ m is.
+              let same : with_refusal l.link n ≡ m = cc in
+              let es : List Entry = noted_of_refused l (FrameIsRefused fault) in
+              subst (LoneKeeps r (t ++ es) (record l { node = Some (with_refusal l.link n) })) same (counted_keeps r t l n es ((λ z. refl), tt) (keeps n on)))
+          refused _ q = absurd (cc q)
+
+-- ## Messages have their turns in order, and behind each event all have had them, or all before one that is held
+
+-- nothing has come to a node whose boot found this
+abbrev pub begin_read : Core → Read
+begin_read found = record { core = found; left = []; held = false }
+
+-- a message that has its turn is the first that came and had none, and one that is noted as held wasn't noted so
+abbrev pub OrderAt : List Entry → Entry → List Entry → Type 0
+OrderAt t (entry.Turn f pid message) behind = oldest (unhandled_in t f) ≡ Some (pid, message)
+OrderAt t (entry.Held f need spare) behind = holds_in t f ≡ false
+OrderAt t _ behind = Unit {0}
+
+pub order_silent : (t : List Entry) (x : Entry) (behind : List Entry) → link_of_turn x ≡ None → OrderAt t x behind
+order_silent t (entry.Turn f pid message) behind q = absurd (cc q)
+order_silent t (entry.Held f need spare) behind q = absurd (cc q)
+order_silent t _ behind q = tt
+
+-- a turn, or a message that is held, is at this end
+abbrev pub IsAtEnd : End → Entry → Type 0
+IsAtEnd e (entry.Turn f pid message) = f ≡ e
+IsAtEnd e (entry.Held f need spare) = f ≡ e
+IsAtEnd e _ = Unit {0}
+
+end_silent : (e : End) (x : Entry) → link_of_turn x ≡ None → IsAtEnd e x
+end_silent e (entry.Turn f pid message) q = absurd (cc q)
+end_silent e (entry.Held f need spare) q = absurd (cc q)
+end_silent e _ q = tt
+
+arrival_turnless : (l : Lone) (c : LoneCause) → AreNoTurns (lone_arrival l c)
+arrival_turnless l (FrameComes bytes) = (refl, tt)
+arrival_turnless l _ = tt
+
+nothing_there : (front back : List Entry) (x : Entry) → [] ≡ front ++ (x ∷ back) → ⊥
+nothing_there [] back x z = cc z
+nothing_there (y ∷ front) back x z = cc z
+
+rest_by : (ms : List Message) (b : Bool) → ms ≡ [] → (is_none (oldest ms) || b) ≡ true
+rest_by ms b q = ap (λ z. is_none (oldest z) || b) q
+
+rest_held : (ms : List Message) (b : Bool) → b ≡ true → (is_none (oldest ms) || b) ≡ true
+rest_held [] b q = refl
+rest_held (m ∷ ms) b q = q
+
+-- ### A step
+
+module _ (found : Core) (t : List Entry) (l : Lone) (some : 1 ≤ l.link) (most : l.link ≤ 7) (n : Running) (keeps : LoneKeeps (begin_read found) t l n)
+    (c : LoneCause) (i : LinkInput) (comes : lone_input c ≡ Some i) where
+  abbrev r : Read
+  r = begin_read found
+
+  -- as the step begins, as its pass begins, and behind it
+  abbrev pub start : Work
+  start = lone_work l n i (lone_arrival l c)
+
+  abbrev pub begun : Work
+  begun = comes_to_pass (node_input l.link i) start
+
+  abbrev pub ended : Work
+  ended = steps (node_input l.link i) start
+
+  pub start_alone : Alone l.number l.link r t start
+  start_alone = begins_alone r t l n i (lone_arrival l c) (arrival_nothing l c) keeps
+
+  begun_alone : begun.cut ≡ false → Alone l.number l.link r t begun
+  begun_alone = alone_begins l.number l.link some most r t i (lone_comes c i comes) start start_alone
+
+  ended_alone : ended.cut ≡ false → Alone l.number l.link r t ended
+  ended_alone = alone_steps l.number l.link some most r t i (lone_comes c i comes) start start_alone
+
+  begun_turnless : AreNoTurns begun.entries
+  begun_turnless =
+      subst AreNoTurns (sym (before_entries (node_input l.link i) start))
+      (AllByRecursion-append IsNoTurn (lone_arrival l c) (noted_before_pass (node_input l.link i) start) (arrival_turnless l c)
+      (before_none (node_input l.link i) start))
+
+  -- what is noted in the pass
+  pub record Passed : Type 0 where
+    pub more : List Entry
+    pub entries : ended.entries ≡ begun.entries ++ more
+    pub begin : BeginWithTurn more
+    pub each : (front back : List Entry) (x : Entry) → more ≡ front ++ (x ∷ back) → (begun.cut ≡ false) × IsTurnSo (ComesTo begun) begun front x back
+
+  pub pass_noted : Passed
+  pass_noted = go begun.cut refl where
+    go : (b : Bool) → begun.cut ≡ b → Passed
+    go true q = record {
+      more = [];
+      entries = ap (λ (w : Work). w.entries) (steps_are (node_input l.link i) start) ∙ (rw q (sym (append-nil begun.entries)));
+      begin = tt;
+      each = λ front back x z. absurd (nothing_there front back x z);
+    }
+    go false q =
+        let p : ArePassed (ComesTo begun) (hosts_of_ends begun.ports) begun (passes begun) = passed l.number l.link some most r t begun q in
+        record {
+          more = p.more;
+          entries = ap (λ (w : Work). w.entries) (steps_are (node_input l.link i) start) ∙ (rw q p.entries);
+          begin = p.begin;
+          each = λ front back x z. (q, p.each front back x z);
+        }
+
+  abbrev pub noted : List Entry
+  noted = ended.entries ++ emits_behind l ended
+
+  -- what holds of each turn holds of each entry of the event
+  pub entries_are : (Q : List Entry → Entry → List Entry → Type 0) → ((u : List Entry) (x : Entry) (behind : List Entry) → link_of_turn x ≡ None → Q u x behind)
+      → ((front back : List Entry) (x : Entry) → pass_noted.more ≡ front ++ (x ∷ back) → begun.cut ≡ false → IsTurnSo (ComesTo begun) begun front x back
+      → Q (begun.entries ++ front) x (back ++ emits_behind l ended))
+      → (front behind : List Entry) (x : Entry) → noted ≡ front ++ (x ∷ behind) → Q front x behind
+  entries_are Q silent turns front behind x q =
+      let p : Passed = pass_noted in
+      each_entry Q silent begun.entries p.more (lone_end l) (frames_behind l ended) begun_turnless
+      (λ f b y z. let s = p.each f b y z in turns f b y z s.0 s.1) front behind x (ap (λ es. es ++ emits_behind l ended) (sym p.entries) ∙ q)
+
+  -- ### Order
+
+  turn_order : (front back : List Entry) (x : Entry) → begun.cut ≡ false → IsTurnSo (ComesTo begun) begun front x back
+      → OrderAt (t ++ (begun.entries ++ front)) x (back ++ emits_behind l ended)
+  turn_order front back (entry.Turn f pid message) on a =
+      let u : Alone l.number l.link r t a.work = alone_at l.number l.link some most r t begun a.work (begun_alone on) a.keeps in
+      let here : IsHere u.port a.host (pid, message) a.messages = alone_here l.number l.link some most r t a.host
+      (pid, message) a.messages a.work u a.waiting in
+      let its : f ≡ lone_end l =
+      a.its_end ∙ own_end a.work.core l.number l.link a.host u.node (link_is l.number l.link some most r t a.host u.port u.host here.own) in
+      let left : unhandled_in (t ++ a.work.entries) (lone_end l) ≡ (pid, message) ∷ a.messages =
+      sym (left_is (lone_end l) (t ++ a.work.entries) r) ∙ (ap (λ (z : Read). z.left) u.read ∙ here.got) in
+      ap (λ z. oldest (unhandled_in (t ++ (begun.entries ++ front)) z)) its
+      ∙ (ap (λ es. oldest (unhandled_in (t ++ es) (lone_end l))) (sym a.entries) ∙ ap oldest left)
+  turn_order front back (entry.Held f need spare) on a =
+      let u : Alone l.number l.link r t a.work = alone_at l.number l.link some most r t begun a.work (begun_alone on) a.keeps in
+      let here : IsHere u.port a.host a.message a.messages = alone_here l.number l.link some most r t a.host a.message a.messages a.work u a.waiting in
+      let its : f ≡ lone_end l =
+      a.its_end ∙ own_end a.work.core l.number l.link a.host u.node (link_is l.number l.link some most r t a.host u.port u.host here.own) in
+      let holds : u.port.desk.holds ≡ false =
+      sym (ap (λ b. option_map_or (λ (p : Port). p.desk.holds) (cond b (Some u.port) None) false) here.own)
+      ∙ (sym (ap (λ ps. is_held_at ps a.host) u.ports_are) ∙ a.fresh) in
+      let held : holds_in (t ++ a.work.entries) (lone_end l) ≡ false =
+      sym (held_is (lone_end l) (t ++ a.work.entries) r) ∙ (ap (λ (z : Read). z.held) u.read ∙ holds) in
+      ap (λ z. holds_in (t ++ (begun.entries ++ front)) z) its ∙ (ap (λ es. holds_in (t ++ es) (lone_end l)) (sym a.entries) ∙ held)
+  turn_order front back _ on a = tt
+
+  pub in_order : (front behind : List Entry) (x : Entry) → noted ≡ front ++ (x ∷ behind) → OrderAt (t ++ front) x behind
+  in_order = entries_are (λ u x b. OrderAt (t ++ u) x b) (λ u x b q. order_silent (t ++ u) x b q) (λ f b y z on a. turn_order f b y on a)
+
+  -- ### The end of a turn
+
+  end_of_turn : (front back : List Entry) (x : Entry) → begun.cut ≡ false → IsTurnSo (ComesTo begun) begun front x back → IsAtEnd (lone_end l) x
+  end_of_turn front back (entry.Turn f pid message) on a =
+      let u : Alone l.number l.link r t a.work = alone_at l.number l.link some most r t begun a.work (begun_alone on) a.keeps in
+      let here : IsHere u.port a.host (pid, message) a.messages = alone_here l.number l.link some most r t a.host
+      (pid, message) a.messages a.work u a.waiting in
+      a.its_end ∙ own_end a.work.core l.number l.link a.host u.node (link_is l.number l.link some most r t a.host u.port u.host here.own)
+  end_of_turn front back (entry.Held f need spare) on a =
+      let u : Alone l.number l.link r t a.work = alone_at l.number l.link some most r t begun a.work (begun_alone on) a.keeps in
+      let here : IsHere u.port a.host a.message a.messages = alone_here l.number l.link some most r t a.host a.message a.messages a.work u a.waiting in
+      a.its_end ∙ own_end a.work.core l.number l.link a.host u.node (link_is l.number l.link some most r t a.host u.port u.host here.own)
+  end_of_turn front back _ on a = tt
+
+  pub at_own_end : (front behind : List Entry) (x : Entry) → noted ≡ front ++ (x ∷ behind) → IsAtEnd (lone_end l) x
+  at_own_end = entries_are (λ u x b. IsAtEnd (lone_end l) x) (λ u x b q. end_silent (lone_end l) x q) (λ f b y z on a. end_of_turn f b y on a)
+
+  -- ### Rest
+
+  begun_hosts : begun.cut ≡ false → hosts_of_ends begun.ports ≡ l.link ∷ []
+  begun_hosts on =
+      let a : Alone l.number l.link r t begun = begun_alone on in ap (map (λ (p : Port). p.desk.host)) a.ports_are ∙ ap (λ k. k ∷ []) a.host
+
+  pub was_on : ended.cut ≡ false → begun.cut ≡ false
+  was_on still = by_test begun.cut (λ q. q ∙ (sym (ap (λ (w : Work). w.cut) (steps_are (node_input l.link i) start) ∙ rw q q) ∙ still)) (λ q. q)
+
+  -- what the pass leaves at the end
+  pub left_so : ended.cut ≡ false → IsBehind (ComesTo begun) begun ended [] l.link []
+  left_so still =
+      let on : begun.cut ≡ false = was_on still in
+      let is : ended ≡ goes_through_ends (l.link ∷ []) begun =
+      steps_are (node_input l.link i) start ∙ (rw on (ap (λ hosts. goes_through_ends hosts begun) (begun_hosts on))) in
+      subst (λ w. IsBehind (ComesTo begun) begun w [] l.link []) (sym is)
+      (leaves_behind (ComesTo begun) (comes_lasts begun) [] l.link [] begun Begins on tt (sym (ap (λ (w : Work). w.cut) is) ∙ still))
+
+  rests_at : ended.cut ≡ false → (a : Alone l.number l.link r t ended) → (is_none (oldest a.port.side.got) || a.port.desk.holds) ≡ true
+  rests_at still a =
+      let b : IsBehind (ComesTo begun) begun ended [] l.link [] = left_so still in
+      let own : eqb a.port.desk.host l.link ≡ true = ap (λ k. eqb k l.link) a.host ∙ eqb_same l.link in
+      let got : waiting_at ended.ports l.link ≡ a.port.side.got =
+      ap (λ ps. waiting_at ps l.link) a.ports_are ∙ ap (λ z. option_map_or (λ (p : Port). p.side.got) (cond z (Some a.port) None) []) own in
+      let holds : is_held_at ended.ports l.link ≡ a.port.desk.holds =
+      ap (λ ps. is_held_at ps l.link) a.ports_are ∙ ap (λ z. option_map_or (λ (p : Port). p.desk.holds) (cond z (Some a.port) None) false) own in
+      go b.work b.own (waiting_at b.work.ports l.link) refl b.stays (sym got ∙ b.waits) (sym holds) where
+        go : (u : Work) (own : List Entry) (ms : List Message) → waiting_at u.ports l.link ≡ ms → Stays u ended l.link own (waiting_at u.ports l.link)
+            → a.port.side.got ≡ waiting_at u.ports l.link → a.port.desk.holds ≡ is_held_at ended.ports l.link
+            → (is_none (oldest a.port.side.got) || a.port.desk.holds) ≡ true
+        go u own [] q stays got holds = rest_by a.port.side.got a.port.desk.holds (got ∙ q)
+        go u own (m ∷ ms) q stays got holds =
+            let s = subst (Stays u ended l.link own) q stays in rest_held a.port.side.got a.port.desk.holds (holds ∙ s.2)
+
+  pub at_rest : ended.cut ≡ false → is_at_rest (lone_end l) (t ++ noted) ≡ true
+  at_rest still =
+      let a : Alone l.number l.link r t ended = ended_alone still in
+      let e : End = lone_end l in
+      let is : read_all e r (t ++ noted) ≡ reads_of ended.core a.port =
+      ap (read_all e r) (sym (append_assoc t ended.entries (emits_behind l ended)))
+      ∙ (read-append e r (t ++ ended.entries) (emits_behind l ended)
+      ∙ (ap (λ z. read_all e z (emits_behind l ended)) a.read
+      ∙ nothing_read e (emits_behind l ended) (emits_nothing e e (frames_behind l ended)) (reads_of ended.core a.port))) in
+      ap₂ (λ ms b. is_none (oldest ms) || b) (sym (left_is e (t ++ noted) r) ∙ ap (λ (z : Read). z.left) is)
+      (sym (held_is e (t ++ noted) r) ∙ ap (λ (z : Read). z.held) is)
+      ∙ rests_at still a
+
+-- ## What is known of a node alone at each turn of a step: what it keeps, its session and its blocks are read
+
+-- ### Turns
 
 both_hold : {X : Type 0} (P Q : X → Type 0) (xs : List X) → AllByRecursion P xs → AllByRecursion Q xs → AllByRecursion (λ x. P x × Q x) xs
 both_hold P Q [] a b = tt
@@ -86,7 +557,7 @@ module _ (number h : ℕ) (some : 1 ≤ h) (most : h ≤ 7) (s : ℕ) (r : Read)
     };
   }
 
--- ## A step
+-- ### A step
 
 -- what is known of the session of a node alone between events
 pub record LoneTalks (t : List Entry) (l : Lone) : Type 0 where

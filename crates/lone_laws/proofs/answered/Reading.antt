@@ -10,7 +10,7 @@ use Rattle.lone_laws.proofs.Words.{fold-append, give_refusal, given, holds_after
 use Rattle.lone_laws.proofs.Words.{port_at, refl, same_end, sym, told, true, true≢false, turn, turn_at, unhandled_after, unless, with_desk, with_port, ℕ, ◌++◌}
 use Rattle.lone_laws.proofs.Words.{◌∙◌, ◌∷◌, ◌≡◌}
 use Rattle.trace_model.specs.declared.entry.Entry.TheVariants as entry
-use Rattle.lone_laws.proofs.answered.Own.{IsOwnDeed}
+use Rattle.lone_laws.proofs.answered.Memories.{IsOwnDeed}
 
 -- a number is itself
 pub eqb_same : (n : ℕ) → eqb n n ≡ true

@@ -1,25 +1,375 @@
--- At each turn of a step a node alone replies to its message as is read.
-use Rattle.std.specs.Prelude.{Some, None, is_some, nat_lt}
-use Rattle.lone_laws.proofs.Words.{AllByRecursion-append, AreNoBoots, AreTables, Bool, Core, Deed, End, Entry, ErrorCount, FetchMessage, IsNoBoot, IsUpAt}
-use Rattle.lone_laws.proofs.Words.{IsUpNow, JoinTwo, List, Message, Port, Sends, Work, [], after_turn, all_done, ap, append_assoc, ap₂, by_test, changed_if}
-use Rattle.lone_laws.proofs.Words.{cond, core_since, deeds_for, deeds_note, deeds_of, end_of_node, end_of_node_alone, end_since, end_view, eqb, eqb-true}
-use Rattle.lone_laws.proofs.Words.{errors_after, errors_found, errors_set_by, errors_since, false, first_lack, handles, is_up, is_up_read, lack, lack_since}
-use Rattle.lone_laws.proofs.Words.{lacking, leads_to_link_gate, needs, noted_by_deeds, option_map_or, port_at, refl, reply_since, same_end, same_end_itself}
-use Rattle.lone_laws.proofs.Words.{session_now, spare, spare_since, spare_with_link, subst, sym, takes_entries, takes_up, true, view_with_link, waiting_at}
-use Rattle.lone_laws.proofs.Words.{with_port, ℕ, ◌&&◌, ◌++◌, ◌∙◌, ◌∷◌, ◌≡◌, ◌≤◌}
-use Rattle.trace_model.specs.declared.entry.Entry.TheVariants as entry
+-- At each turn of a step a node alone replies to its message as is read, and REC_ERROR is what is read.
+use Rattle.std.specs.Prelude.{None, Option, Some, is_some, nat_lt}
+use mathlib.Core.Bool.{and-false, and-true}
+use Rattle.lone_laws.proofs.Words.{AllByRecursion, AllByRecursion-append, AreNoBoots, AreTables, AreUnset, Bool, Command, Commits, Core, Creation, Deed, Drops}
+use Rattle.lone_laws.proofs.Words.{End, Entry, ErrorCount, FetchMessage, Give, HciTables, IsAnswered, IsNoBoot, IsUpAt, IsUpNow, JoinTwo, List, Message}
+use Rattle.lone_laws.proofs.Words.{NodeView, Noted, Port, Report, SaysOk, Sends, SetDeeds, SetsErrors, SetsNone, Side, Turn, Work, [], about_of, after_turn}
+use Rattle.lone_laws.proofs.Words.{all_done, answer_of, ap, append-nil, append_assoc, apply, ap₂, by_test, changed_if, cond, cons_option, controller_deeds}
+use Rattle.lone_laws.proofs.Words.{controller_sets, controller_unset, core_noted, core_since, core_with, creation_in, creation_of, deeds_far, deeds_for}
+use Rattle.lone_laws.proofs.Words.{deeds_near, deeds_note, deeds_of, done, end_c, end_h, end_of_node, end_of_node_alone, end_since, end_view, entries_for}
+use Rattle.lone_laws.proofs.Words.{entry_of, eqb, eqb-true, errors_after, errors_found, errors_set_by, errors_since, false, first_lack, fold, fold-append}
+use Rattle.lone_laws.proofs.Words.{handles, host_deeds, host_sets, host_unset, is_any_ok, is_asked_at, is_connected_at, is_link_gate, is_opened, is_up}
+use Rattle.lone_laws.proofs.Words.{is_up_read, lack, lack_since, lacking, leads_to_link_gate, list_any, needs, noted_by_deeds, option_and_then, option_map}
+use Rattle.lone_laws.proofs.Words.{option_map_or, own_gate, own_view, pipe_of, port_at, refl, reply_since, same_end, same_end_itself, session_now, spare}
+use Rattle.lone_laws.proofs.Words.{spare_since, spare_with, spare_with_link, subst, sym, takes_entries, takes_up, told, told_all, true, true≢false, turn_at}
+use Rattle.lone_laws.proofs.Words.{uncut, unless_cut, unwrap_or, view_of, view_with_link, waiting_at, with_command, with_port, ℕ, ◌&&◌, ◌++◌, ◌||◌, ◌∙◌, ◌∷◌}
+use Rattle.lone_laws.proofs.Words.{◌≡◌, ◌≤◌}
 use Rattle.node_laws.proofs.passes.Replying.{taken_at_once}
-use Rattle.lone_laws.proofs.answered.Reading.{eqb_same, Read, core_is, Alone}
-use Rattle.lone_laws.proofs.answered.Linked.{one_deeds, one_lack}
-use Rattle.lone_laws.proofs.answered.Turning.{own_end, IsHere, alone_here, link_is}
-use Rattle.lone_laws.proofs.answered.Ordered.{begin_read}
+use Rattle.node_laws.proofs.read_steps.Knowing.{same_deeds}
+use Rattle.node_laws.proofs.replies.Passes.{lack_alike}
+use Rattle.node_laws.proofs.views.Doing.SetDeeds.{IsDropped as IsDroppedSo, IsRefused as IsRefusedSo, IsSet as IsSetSo}
+use Rattle.node_laws.proofs.views.Lines.{where_same}
+use Rattle.node_laws.specs.read_steps.Alike.{KnowsTheSame}
+use Rattle.node_laws.specs.views.Views.{IsSameView}
+use Rattle.lone_laws.proofs.answered.Knowing.{KnowsAlone, begin_read}
+use Rattle.lone_laws.proofs.answered.Reading.{Alone, Read, core_is, eqb_same}
+use Rattle.lone_laws.proofs.answered.Replying.{IsLoneReply, IsNotedSo, TakesIt, answers_unbooted, controller_reply, deeds_answer, entries_of_deeds, host_reply}
+use Rattle.lone_laws.proofs.answered.Replying.{link_of_end, reply_noted, same_number, sent_alone, session_of_end}
 use Rattle.lone_laws.proofs.answered.Rooms.{Talks, spare_is}
-use Rattle.lone_laws.proofs.answered.Knowing.{KnowsAlone}
-use Rattle.lone_laws.proofs.answered.Shapes.{IsLoneReply, controller_reply, host_reply}
-use Rattle.lone_laws.proofs.answered.Told.{entries_of_deeds, link_of_end, same_number}
-use Rattle.lone_laws.proofs.answered.Replying.{session_of_end, TakesIt, IsNotedSo, reply_noted, deeds_answer, answers_unbooted}
-use Rattle.lone_laws.proofs.answered.Errors.{errs_all, errs-append, ErrorsAre, gate_read, desk_errors, FitsErrors, sets_there, controller_fits, host_fits}
-use Rattle.lone_laws.proofs.answered.Errors.{deeds_errs}
+use Rattle.lone_laws.proofs.answered.Replying.IsLoneReply.{IsCommit, IsDrop, IsHeard, IsNone, IsSend, IsSet}
+use Rattle.lone_laws.proofs.answered.Turning.{IsHere, alone_here, link_is, own_end}
+use Rattle.gate_answers.specs.declared.response.Response.TheVariants as response
+use Rattle.trace_model.specs.declared.entry.Entry.TheVariants as entry
+
+-- ## REC_ERROR of a node alone is what is read, over each message that it handles
+
+-- ### What is read
+
+abbrev pub errs_all : End → ErrorCount → List Entry → ErrorCount
+errs_all e x t = fold (errors_after e) x t
+
+pub errs-append : (e : End) (x : ErrorCount) (t u : List Entry) → errs_all e x (t ++ u) ≡ errs_all e (errs_all e x t) u
+errs-append e x t u = fold-append (errors_after e) x t u
+
+-- ### Where pipes lead
+
+module _ (number h : ℕ) where
+  abbrev its_end : End
+  its_end = end_of_node_alone number h
+
+  -- a controller's tables are read as those that it keeps
+  abbrev HasTables : ErrorCount → Core → Type 0
+  HasTables x c = (c.node ≡ number) × (eqb number 0 ≡ true → x.book.tables ≡ c.tables)
+
+  tables_noted : (y : Entry) (x : ErrorCount) (c : Core) → IsNoBoot y → HasTables x c → HasTables (errors_after its_end x y) (core_noted c y)
+  tables_noted (entry.Command n z) x c none a = (by_test (eqb n c.node) (λ q. rw q a.0) (λ q. rw q a.0), tables) where
+    tables : eqb number 0 ≡ true → (cond (eqb n 0) (with_command z x.book) x.book).tables ≡ (cond (eqb n c.node) (core_with c z) c).tables
+    tables zero =
+        by_test (eqb n 0)
+        (λ q. rw q (ap (λ t. apply t z) (a.1 zero)))
+        (λ q. rw q (a.1 zero)) ∙ ap (λ (k : ℕ). (cond (eqb n k) (core_with c z) c).tables) (sym (a.0 ∙ eqb-true number 0 zero))
+  tables_noted (entry.Booted n k) x c none a = absurd none
+  tables_noted (entry.Turn f pid message) x c none a = a
+  tables_noted (entry.Sent f n pid message) x c none a = a
+  tables_noted (entry.Lost f lpdu cause) x c none a = a
+  tables_noted _ x c none a = a
+
+  tables_all : (t : List Entry) (x : ErrorCount) (c : Core) → AreNoBoots t → HasTables x c → HasTables (errs_all its_end x t) (fold core_noted c t)
+  tables_all [] x c none a = a
+  tables_all (y ∷ t) x c none a = tables_all t (errors_after its_end x y) (core_noted c y) none.1 (tables_noted y x c none.0 a)
+
+  -- Where a pipe leads is read off the tables that the node keeps.
+  gate_read : (found : Core) (t : List Entry) (pid : ℕ) → found.node ≡ number → AreNoBoots t
+      → leads_to_link_gate (errs_all its_end (errors_found found) t).book.tables its_end pid
+      ≡ leads_to_link_gate (fold core_noted found t).tables its_end pid
+  gate_read found t pid node none = go (eqb number 0) refl where
+    go : (b : Bool) → eqb number 0 ≡ b
+        → leads_to_link_gate (errs_all its_end (errors_found found) t).book.tables its_end pid
+        ≡ leads_to_link_gate (fold core_noted found t).tables its_end pid
+    go true zero =
+        let read : HasTables (errs_all its_end (errors_found found) t) (fold core_noted found t) =
+        tables_all t (errors_found found) found none (node, λ _. refl) in
+        ap (λ d. leads_to_link_gate d its_end pid) (read.1 zero)
+    go false another =
+        at_host (errs_all its_end (errors_found found) t).book.tables ∙ sym (at_host (fold core_noted found t).tables) where
+          at_host : (d : HciTables) → leads_to_link_gate d its_end pid ≡ eqb pid 0
+          at_host d = ap (λ b. leads_to_link_gate d (cond b (end_c h) (end_h h)) pid) another
+
+-- ### What leaves it
+
+-- an entry leaves REC_ERROR, and is no boot
+abbrev pub IsSettled : End → Entry → Type 0
+IsSettled e y = ((x : ErrorCount) → (errors_after e x y).errors ≡ x.errors) × IsNoBoot y
+
+pub settled_errs : (e : End) (es : List Entry) → AllByRecursion (IsSettled e) es → (x : ErrorCount) → (errs_all e x es).errors ≡ x.errors
+settled_errs e [] a x = refl
+settled_errs e (y ∷ es) a x = settled_errs e es a.1 (errors_after e x y) ∙ a.0.0 x
+
+settled_unbooted : (e : End) (es : List Entry) → AllByRecursion (IsSettled e) es → AreNoBoots es
+settled_unbooted e [] a = tt
+settled_unbooted e (y ∷ es) a = (a.0.1, settled_unbooted e es a.1)
+
+-- REC_ERROR is read so, off entries in which the node doesn't boot again.
+pub record ErrorsAre (e : End) (begin : ErrorCount) (t : List Entry) (errors : ℕ) : Type 0 where
+  pub are : (errs_all e begin t).errors ≡ errors
+  pub unbooted : AreNoBoots t
+
+pub errors_then : (e : End) (begin : ErrorCount) (t es : List Entry) (errors : ℕ) → AllByRecursion (IsSettled e) es → ErrorsAre e begin t errors
+    → ErrorsAre e begin (t ++ es) errors
+errors_then e begin t es errors settled a = record {
+  are = ap (λ (r : ErrorCount). r.errors) (errs-append e begin t es) ∙ (settled_errs e es settled (errs_all e begin t) ∙ a.are);
+  unbooted = AllByRecursion-append IsNoBoot t es a.unbooted (settled_unbooted e es settled);
+}
+
+-- what holds of the entries of each note holds of all entries
+pub notes_hold : (P : Entry → Type 0) (h : ℕ) (xs : List Noted) → AllByRecursion (λ x. AllByRecursion P (entry_of h x)) xs
+    → AllByRecursion P (entries_for h xs)
+notes_hold P h [] a = tt
+notes_hold P h (x ∷ xs) a = AllByRecursion-append P (entry_of h x) (entries_for h xs) a.0 (notes_hold P h xs a.1)
+
+pub told_settled : (e : End) (h : ℕ) (who : Side) (n acked : ℕ) (rep : Report) → AllByRecursion (IsSettled e) (entries_for h (told who n rep acked))
+told_settled e h who n acked rep =
+    notes_hold (IsSettled e) h (told who n rep acked)
+    (told_all (λ x. AllByRecursion (IsSettled e) (entry_of h x)) who n acked (((λ x. refl), tt), tt) (((λ x. refl), tt), tt)
+    (λ k. (((λ x. refl), tt), tt)) (((λ x. refl), tt), tt) (λ m. (((λ x. refl), tt), tt)) (λ c. (((λ x. refl), tt), tt)) rep)
+
+-- ### What is kept
+
+abbrev pub desk_errors : List Port → ℕ
+desk_errors [] = 0
+desk_errors (p ∷ ports) = p.desk.errors
+
+pub errors_with : (k : ℕ) (f : Port → Port) → ((p : Port) → (f p).desk.errors ≡ p.desk.errors) → (ports : List Port)
+    → desk_errors (with_port k f ports) ≡ desk_errors ports
+errors_with k f keeps [] = refl
+errors_with k f keeps (p ∷ ports) = by_test (eqb p.desk.host k) (λ q. rw q (keeps p)) (λ q. rw q refl)
+
+-- ### A message that has its turn
+
+-- what a message sets at the one end of a node with this number
+abbrev sets_there : Core → End → Message → Option ℕ
+sets_there core e m = cond (leads_to_link_gate core.tables e m.0) (errors_set_by m.1) None
+
+-- what is done with a message fits what it sets: it sets nothing, or it is set and answered by ANY_OK, answered otherwise, or dropped
+data FitsErrors (ports : List Port) (k pid : ℕ) (deeds : List Deed) : Option ℕ → Type 0 where
+  SetsNothing : AreUnset deeds → FitsErrors ports k pid deeds None
+  SetsIt : (v : ℕ) → SetDeeds ports k pid v deeds → FitsErrors ports k pid deeds (Some v)
+
+fits_by : (ports : List Port) (k : ℕ) (m : Message) (deeds : List Deed) (here : Bool) (sets : Option ℕ)
+    → (SetsNone here sets → AreUnset deeds) → ((v : ℕ) → here ≡ true → sets ≡ Some v → SetDeeds ports k m.0 v deeds)
+    → FitsErrors ports k m.0 deeds (cond here sets None)
+fits_by ports k m deeds true None unset set = SetsNothing (unset refl)
+fits_by ports k m deeds true (Some v) unset set = SetsIt v (set v refl refl)
+fits_by ports k m deeds false sets unset set = SetsNothing (unset refl)
+
+-- of a controller
+controller_fits : (core : Core) (ports : List Port) (k number h : ℕ) (m : Message) → eqb number 0 ≡ true → k ≡ h
+    → FitsErrors ports k m.0 (controller_deeds (view_of core ports) k m) (sets_there core (end_of_node_alone number h) m)
+controller_fits core ports k number h m zero same =
+    let e : End = end_of_node_alone number h in
+    let here : leads_to_link_gate core.tables e m.0 ≡ is_link_gate (own_gate core.tables k m.0) =
+    ap (λ b. leads_to_link_gate core.tables (cond b (end_c h) (end_h h)) m.0) zero
+    ∙ ap (λ z. is_link_gate (own_gate core.tables z m.0)) (sym same) in
+    subst (FitsErrors ports k m.0 (controller_deeds (view_of core ports) k m)) (sym (ap (λ b. cond b (errors_set_by m.1) None) here))
+    (fits_by ports k m (controller_deeds (view_of core ports) k m) (is_link_gate (own_gate core.tables k m.0)) (errors_set_by m.1)
+    (controller_unset core ports k m) (λ v leads sets. controller_sets core ports k m v leads sets))
+
+-- and of a host
+host_fits : (core : Core) (ports : List Port) (p : Port) (k number h : ℕ) (m : Message) → eqb number 0 ≡ false → core.node ≡ k → port_at ports k ≡ Some p
+    → FitsErrors ports k m.0 (host_deeds (own_view core) (end_view p) m) (sets_there core (end_of_node_alone number h) m)
+host_fits core ports p k number h m another node here =
+    let e : End = end_of_node_alone number h in
+    let zero : leads_to_link_gate core.tables e m.0 ≡ eqb m.0 0 =
+    ap (λ b. leads_to_link_gate core.tables (cond b (end_c h) (end_h h)) m.0)
+    another in
+    subst (FitsErrors ports k m.0 (host_deeds (own_view core) (end_view p) m)) (sym (ap (λ b. cond b (errors_set_by m.1) None) zero))
+    (fits_by ports k m (host_deeds (own_view core) (end_view p) m) (eqb m.0 0) (errors_set_by m.1) (host_unset core p m)
+    (λ v leads sets. subst (λ n. SetDeeds ports n m.0 v (host_deeds (own_view core) (end_view p) m)) node
+    (host_sets core ports p m v (subst (λ n. port_at ports n ≡ Some p) (sym node) here) leads sets)))
+
+-- ### Its deeds
+
+same_both : {X : Type 0} (b : Bool) (x : X) → cond b x x ≡ x
+same_both true x = refl
+same_both false x = refl
+
+and_no : (a b : Bool) → b ≡ false → (a && b) ≡ false
+and_no true b q = q
+and_no false b q = refl
+
+module _ (e : End) where
+  sent_unset : (session : Option ℕ) (to : ℕ) (m : Message) (z : ErrorCount) → z.sets ≡ None → (errs_all e z (sent_alone e session to m)).errors ≡ z.errors
+  sent_unset session to m z none = by (eqb to e.link) session where
+    by : (b : Bool) (s : Option ℕ) → (errs_all e z (cond b (option_map_or (λ n. entry.Sent e n m.0 m.1 ∷ []) s []) [])).errors ≡ z.errors
+    by true None = refl
+    by true (Some n) = ap (λ o. cond (same_end e e && is_any_ok m.1) (unwrap_or o z.errors) z.errors) none ∙ same_both (same_end e e && is_any_ok m.1) z.errors
+    by false s = refl
+
+  sent_other : (session : Option ℕ) (to : ℕ) (m : Message) (z : ErrorCount) → is_any_ok m.1 ≡ false → (errs_all e z (sent_alone e session to m)).errors ≡
+      z.errors
+  sent_other session to m z other = by (eqb to e.link) session where
+    by : (b : Bool) (s : Option ℕ) → (errs_all e z (cond b (option_map_or (λ n. entry.Sent e n m.0 m.1 ∷ []) s []) [])).errors ≡ z.errors
+    by true None = refl
+    by true (Some n) = ap (λ b. cond b (unwrap_or z.sets z.errors) z.errors) (and_no (same_end e e) (is_any_ok m.1) other)
+    by false s = refl
+
+  sent_ok : (n : ℕ) (to pid v : ℕ) (z : ErrorCount) → eqb to e.link ≡ true → z.sets ≡ Some v
+      → (errs_all e z (sent_alone e (Some n) to (pid, answer_of response.Ok []))).errors ≡ v
+  sent_ok n to pid v z there set =
+      ap (λ b. (errs_all e z (cond b (entry.Sent e n pid (answer_of response.Ok []) ∷ []) [])).errors) there
+      ∙ (ap (λ b. cond (b && true) (unwrap_or z.sets z.errors) z.errors) (same_end_itself e) ∙ ap (λ o. unwrap_or o z.errors) set)
+
+  -- deeds that set nothing, where no command that sets it waits for its answer
+  unset_errs : (core : Core) (session : Option ℕ) (deeds : List Deed) → IsLoneReply deeds → AreUnset deeds → (z : ErrorCount) → z.sets ≡ None
+      → (errs_all e z (entries_of_deeds core e session deeds)).errors ≡ z.errors
+  unset_errs core session _ (IsSend to m) unset z none =
+      ap (λ es. (errs_all e z es).errors) (append-nil (sent_alone e session to m)) ∙ sent_unset session to m z none
+  unset_errs core session _ (IsCommit c to m) unset z none =
+      let y : ErrorCount = errors_after e z (entry.Command core.node c) in
+      let last : List Entry = entry.AnyOk core.node _ ∷ [] in
+      ap (λ (x : ErrorCount). x.errors) (errs-append e y (sent_alone e session to m) last) ∙ sent_unset session to m y refl
+  unset_errs core session _ (IsSet v to m) unset z none = absurd unset.0
+  unset_errs core session _ _ unset z none = refl
+
+-- ### What is kept after them
+
+kept_turn : (to : ℕ) (x : Turn) (u : Work) → desk_errors (turn_at to x u).ports ≡ desk_errors u.ports
+kept_turn to x u = errors_with to (after_turn x) (λ p. refl) u.ports
+
+kept_commit : (c : Command) (u : Work) → (done 0 (Commits c) u).cut ≡ false → desk_errors (done 0 (Commits c) u).ports ≡ desk_errors u.ports
+kept_commit c u still = by_test (Rattle.node_laws.specs.passes.Noting.goes_in c u) (λ q. rw q refl) (λ q. rw q refl)
+
+module _ (k : ℕ) (u : Work) (on : u.cut ≡ false) where
+  one_done : (d : Deed) → (done k d u).cut ≡ false → all_done k (d ∷ []) u ≡ done k d u
+  one_done d q = uncut (all_done k []) (done k d u) q
+
+  unset_kept : (deeds : List Deed) → IsLoneReply deeds → AreUnset deeds → (all_done k deeds u).cut ≡ false
+      → desk_errors (all_done k deeds u).ports ≡ desk_errors u.ports
+  unset_kept _ IsNone unset still = refl
+  unset_kept _ (IsDrop pid) unset still = ap (λ (w : Work). desk_errors w.ports) (one_done (Drops pid) on)
+  unset_kept _ (IsSend to m) unset still = ap (λ (w : Work). desk_errors w.ports) (one_done (Sends to m) on) ∙ kept_turn to (Give m) u
+  unset_kept _ (IsCommit c to m) unset still = go (done k (Commits c) u).cut refl where
+    w : Work
+    w = done k (Commits c) u
+
+    D : List Deed
+    D = Sends to m ∷ SaysOk ∷ []
+
+    go : (b : Bool) → w.cut ≡ b → desk_errors (all_done k (Commits c ∷ D) u).ports ≡ desk_errors u.ports
+    go true q =
+        let gone : (all_done k (Commits c ∷ D) u).cut ≡ true = ap (λ (x : Work). x.cut) (off w q) ∙ q in absurd (true≢false (sym gone ∙ still)) where
+          off : (x : Work) → x.cut ≡ true → unless_cut (all_done k D) x ≡ x
+          off x z = rw z refl
+    go false q =
+        let first : all_done k (Commits c ∷ D) u ≡ all_done k D w = uncut (all_done k D) w q in
+        let second : all_done k D w ≡ all_done k (SaysOk ∷ []) (done k (Sends to m) w) = uncut (all_done k (SaysOk ∷ [])) (done k (Sends to m) w) q in
+        let third : all_done k (SaysOk ∷ []) (done k (Sends to m) w) ≡ done k SaysOk (done k (Sends to m) w) =
+        uncut (all_done k []) (done k SaysOk (done k (Sends to m) w)) q in
+        ap (λ (x : Work). desk_errors x.ports) (first ∙ (second ∙ third)) ∙ (kept_turn to (Give m) w ∙ kept_commit c u q)
+  unset_kept _ (IsSet v to m) unset still = absurd unset.0
+  unset_kept _ IsHeard unset still =
+      ap (λ (w : Work). desk_errors w.ports) (one_done IsAnswered on)
+      ∙ errors_with k (λ p. record p { desk = record p.desk { notice = None } }) (λ p. refl) u.ports
+
+  set_kept : (v to : ℕ) (m : Message) (p : Port) → u.ports ≡ p ∷ [] → eqb p.desk.host k ≡ true
+      → desk_errors (all_done k (SetsErrors v ∷ Sends to m ∷ []) u).ports ≡ v
+  set_kept v to m p ports own =
+      let g : Port → Port = λ q. record q { desk = record q.desk { errors = v } } in
+      let w : Work = done k (SetsErrors v) u in
+      let first : all_done k (SetsErrors v ∷ Sends to m ∷ []) u ≡ all_done k (Sends to m ∷ []) w = uncut (all_done k (Sends to m ∷ [])) w on in
+      let second : all_done k (Sends to m ∷ []) w ≡ done k (Sends to m) w = uncut (all_done k []) (done k (Sends to m) w) on in
+      ap (λ (x : Work). desk_errors x.ports) (first ∙ second)
+      ∙ (kept_turn to (Give m) w ∙ ap desk_errors (ap (with_port k g) ports ∙ ap (λ b. changed_if b g p ∷ []) own))
+
+  -- What is read behind deeds that fit what their message sets is what is kept behind them.
+  deeds_errs : (e : End) (core : Core) (p : Port) (ports : List Port) (pid : ℕ) (deeds : List Deed) (z : ErrorCount) → IsLoneReply deeds
+      → u.ports ≡ p ∷ [] → eqb p.desk.host k ≡ true → eqb k e.link ≡ true → (IsUpAt ports k → p.side.shdlc.phase ≡ IsUpNow)
+      → z.errors ≡ desk_errors u.ports → FitsErrors ports k pid deeds z.sets → (all_done k deeds u).cut ≡ false
+      → (errs_all e z (entries_of_deeds core e (session_of_end p) deeds)).errors ≡ desk_errors (all_done k deeds u).ports
+  deeds_errs e core p ports pid deeds z shape one own there up same fits still = by z.sets refl fits where
+    by : (o : Option ℕ) → z.sets ≡ o → FitsErrors ports k pid deeds o
+        → (errs_all e z (entries_of_deeds core e (session_of_end p) deeds)).errors ≡ desk_errors (all_done k deeds u).ports
+    by None q (SetsNothing unset) =
+        unset_errs e core (session_of_end p) deeds shape unset z q ∙ (same ∙ sym (unset_kept deeds shape unset still))
+    by (Some v) q (SetsIt _ (IsSetSo is_up_there is)) =
+        let m : Message = (pid, answer_of response.Ok []) in
+        let D : List Deed = SetsErrors v ∷ Sends k m ∷ [] in
+        let session : session_of_end p ≡ Some p.session = ap (λ s. cond (is_up s) (Some p.session) None) (up is_up_there) in
+        ap (λ d. (errs_all e z (entries_of_deeds core e (session_of_end p) d)).errors) is
+        ∙ (ap (λ o. (errs_all e z (sent_alone e o k m ++ [])).errors) session
+        ∙ (ap (λ es. (errs_all e z es).errors) (append-nil (sent_alone e (Some p.session) k m))
+        ∙ (sent_ok e p.session k pid v z there q ∙ (sym (set_kept v k m p one own) ∙ ap (λ d. desk_errors (all_done k d u).ports) (sym is)))))
+    by (Some v) q (SetsIt _ (IsRefusedSo is_up_there is)) =
+        let m : Message = (pid, answer_of response.PipeNotOpened []) in
+        ap (λ d. (errs_all e z (entries_of_deeds core e (session_of_end p) d)).errors) is
+        ∙ (ap (λ es. (errs_all e z es).errors) (append-nil (sent_alone e (session_of_end p) k m))
+        ∙ (sent_other e (session_of_end p) k m z refl
+        ∙ (same ∙ (sym (unset_kept (Sends k m ∷ []) (IsSend k m) (tt, tt) (subst (λ d. (all_done k d u).cut ≡ false) is still))
+        ∙ ap (λ d. desk_errors (all_done k d u).ports) (sym is)))))
+    by (Some v) q (SetsIt _ (IsDroppedSo is)) =
+        ap (λ d. (errs_all e z (entries_of_deeds core e (session_of_end p) d)).errors) is
+        ∙ (same ∙ (sym (unset_kept (Drops pid ∷ []) (IsDrop pid) (tt, tt) (subst (λ d. (all_done k d u).cut ≡ false) is still))
+        ∙ ap (λ d. desk_errors (all_done k d u).ports) (sym is)))
+
+-- ## A node with one link goes by what is said of such a node, and does by that what it does
+
+module _ (core : Core) (p : Port) (h : ℕ) (host : p.desk.host ≡ h) where
+  here : eqb p.desk.host h ≡ true
+  here = ap (λ n. eqb n h) host ∙ eqb_same h
+
+  -- a test of the one end
+  one_test : (f : Port → Bool) (k : ℕ) → option_map_or f (port_at (p ∷ []) k) false ≡ (eqb h k && f p)
+  one_test f k = by_test (eqb p.desk.host k) (λ q. rw q refl) (λ q. rw q refl) ∙ ap (λ n. eqb n k && f p) host
+
+  one_spare : (k : ℕ) → spare_with (p ∷ []) k ≡ spare_with_link h (spare p.side) k
+  one_spare k = by_test (eqb p.desk.host k) (λ q. rw q refl) (λ q. rw q refl) ∙ ap (λ n. cond (eqb n k) (spare p.side) 0) host
+
+  one_lack : (ns : List (ℕ × ℕ)) → lack (p ∷ []) ns ≡ first_lack (spare_with_link h (spare p.side)) ns
+  one_lack ns = lack_alike (spare_with (p ∷ [])) (spare_with_link h (spare p.side)) one_spare ns
+
+  module _ (none : p.desk.notice ≡ None) where
+    abbrev machine : NodeView
+    machine = view_of core (p ∷ [])
+
+    abbrev said : NodeView
+    said = view_with_link core h (end_view p) (spare p.side)
+
+    connected_is : (k : ℕ) → option_map_or (is_connected_at core.tables) (port_at (p ∷ []) k) false
+        ≡ (eqb h k && (is_up p.side.shdlc.phase && is_opened core.tables k 1))
+    connected_is k = one_test (is_connected_at core.tables) k ∙ by_test ((eqb h k))
+        (λ z. ap (λ x. eqb h k && at x) (host ∙ eqb-true h k z))
+        (λ z. ap (λ b. b && at p.desk.host) z ∙ sym (ap (λ b. b && at k) z)) where
+          at : ℕ → Bool
+          at x = is_up p.side.shdlc.phase && is_opened core.tables x 1
+
+    nobody : is_asked_at p ≡ false
+    nobody = ap (λ n. is_asked_at (record p { desk = record p.desk { notice = n } })) none
+
+    same_links : IsSameView (machine.links h) (said.links h)
+    same_links = record {
+      hosts = where_same (λ k. option_map_or (λ (x : Port). true) (port_at (p ∷ []) k) false) (λ k. eqb h k)
+          (λ k. one_test (λ x. true) k ∙ and-true (eqb h k));
+      connected = where_same (λ k. option_map_or (is_connected_at core.tables) (port_at (p ∷ []) k) false)
+          (λ k. eqb h k && (is_up p.side.shdlc.phase && is_opened core.tables k 1)) connected_is;
+      noticed = where_same (λ k. option_map_or (λ (x : Port). is_some x.desk.notice) (port_at (p ∷ []) k) false) (λ k. false)
+          (λ k. one_test (λ x. is_some x.desk.notice) k ∙ (ap (λ n. eqb h k && is_some n) none ∙ and-false (eqb h k)));
+      asked = where_same (λ k. option_map_or is_asked_at (port_at (p ∷ []) k) false) (λ k. false)
+          (λ k. one_test is_asked_at k ∙ (ap (λ b. eqb h k && b) nobody ∙ and-false (eqb h k)));
+      waiting = λ pid.
+          ap (λ n. list_any (λ q. eqb q pid) (cons_option (option_and_then (λ (c : Creation). pipe_of c.command) (creation_in n)) [])) none;
+      errors = ap (λ b. option_map_or (λ (x : Port). x.desk.errors) (cond b (Some p) None) 0) here;
+    }
+
+    knows : KnowsTheSame machine said h
+    knows = record {
+      tables = refl;
+      room = λ x. refl;
+      links = one_test (λ x. is_up x.side.shdlc.phase);
+      asks = ap (λ n. option_map_or (λ (c : Creation). eqb c.asker h) (creation_in n) false || false) none;
+      view = λ up. same_links;
+      notice = by_test (eqb p.desk.host h) (λ q. rw q (ap (λ n. option_map creation_of (about_of n)) none)) (λ q. rw q refl);
+    }
+
+    ends_are : machine.ends h ≡ said.ends h
+    ends_are = ap (λ b. option_map end_view (cond b (Some p) None)) here ∙ sym (ap (λ b. cond b (Some (end_view p)) None) (eqb_same h))
+
+    one_deeds : (m : Message) → deeds_of core (p ∷ []) h m ≡ deeds_for (view_with_link core h (end_view p) (spare p.side)) h m
+    one_deeds m = by_test ((eqb core.node 0))
+        (λ q. deeds_near machine h m q ∙ (same_deeds machine said h knows m ∙ sym (deeds_near said h m q)))
+        (λ q. deeds_far machine h m q
+        ∙ (ap (λ o. option_map_or (λ e. host_deeds (own_view core) e m) o []) ends_are ∙ sym (deeds_far said h m q)))
+
+-- ## At each turn of a step a node alone replies to its message as is read
 
 -- what lacks is decided by what is spare
 lack_same : (p q : Port) → p.desk.host ≡ q.desk.host → spare p.side ≡ spare q.side → (ns : List (ℕ × ℕ)) → lack (p ∷ []) ns ≡ lack (q ∷ []) ns
@@ -46,7 +396,7 @@ module _ (rest : Core) (number h : ℕ) (some : 1 ≤ h) (most : h ≤ 7) (s : �
     pub known : KnowsAlone number h s (begin_read found) t w
     pub errs : ErrorsAre e (errors_found found) (t ++ w.entries) (desk_errors w.ports)
 
-  -- ## What is read
+  -- ### What is read
 
   module _ (w : Work) (a : KnowsAll w) where
     abbrev pub alone : Alone number h (begin_read found) t w
@@ -72,7 +422,7 @@ module _ (rest : Core) (number h : ℕ) (some : 1 ≤ h) (most : h ≤ 7) (s : �
         talks.talk.session
         ∙ (ap (λ j. cond (is_up talks.port.side.shdlc.phase) (Some j) None) (sym talks.same) ∙ ap session_of_end same_port)
 
-    pub up_is : is_up_read all number h ≡ is_up its_port.side.shdlc.phase
+    up_is : is_up_read all number h ≡ is_up its_port.side.shdlc.phase
     up_is = ap (λ f. is_some (session_now all f number)) (same_number number h) ∙ (ap is_some session_read ∙ by (is_up its_port.side.shdlc.phase)) where
       by : (b : Bool) → is_some (cond b (Some its_port.session) None) ≡ b
       by true = refl
@@ -103,7 +453,7 @@ module _ (rest : Core) (number h : ℕ) (some : 1 ≤ h) (most : h ≤ 7) (s : �
           ∙ (ap (λ n. lack (its_port ∷ []) (needs n (deeds_of w.core w.ports k m))) (sym same)
           ∙ ap (λ ps. lack ps (needs k (deeds_of w.core w.ports k m))) (sym alone.ports_are)))
 
-  -- ## A message that has its turn
+  -- ### A message that has its turn
 
   pub deeds_shape : (k : ℕ) (m : Message) (w : Work) (a : Alone number h (begin_read found) t w) → eqb a.port.desk.host k ≡ true
       → IsLoneReply (deeds_of w.core w.ports k m)
@@ -130,7 +480,7 @@ module _ (rest : Core) (number h : ℕ) (some : 1 ≤ h) (most : h ≤ 7) (s : �
 
     module _ (w : Work) (a : KnowsAll w) (on : w.cut ≡ false) (k : ℕ) (m : Message) (messages : List Message)
         (waits : waiting_at w.ports k ≡ m ∷ messages) where
-      abbrev pub al : Alone number h (begin_read found) t w
+      abbrev al : Alone number h (begin_read found) t w
       al = a.known.keeps
 
       abbrev pub own_port : Port
@@ -179,15 +529,15 @@ module _ (rest : Core) (number h : ℕ) (some : 1 ≤ h) (most : h ≤ 7) (s : �
       noted_so room =
           reply_noted number h k u q on u_ports al.node al.host its_end_is D (deeds_shape k m w al at_here.own) takes_it (room_then (needs k D) room)
 
-      -- ## REC_ERROR
+      -- ### REC_ERROR
 
       abbrev pub x : ErrorCount
       x = errs_all e (errors_found found) (t ++ w.entries)
 
-      abbrev pub z : ErrorCount
+      abbrev z : ErrorCount
       z = errs_all e (errors_found found) (t ++ u.entries)
 
-      abbrev pub turned : Entry
+      abbrev turned : Entry
       turned = entry.Turn (end_of_node w.core k) m.0 m.1
 
       z_is : z ≡ errors_after e x turned

@@ -1,17 +1,347 @@
--- What a node alone notes of a message that has its turn is the reply that is read.
-use Rattle.lone_laws.proofs.Words.{AllByRecursion, AreNoBoots, Bool, Command, Commits, Core, Deed, Drops, End, Entry, Give, IsAnswered, IsDown, IsNoBoot}
-use Rattle.lone_laws.proofs.Words.{IsUpNow, IsWaitingNow, LinkState, List, Message, None, Option, Port, SaysOk, Sends, SetsErrors, Some, Work, Write, []}
-use Rattle.lone_laws.proofs.Words.{all_done, ap, ap₂, body_of, by_test, changed_if, commit_writes, cond, core_with, count_of, done, end_of, end_of_node}
-use Rattle.lone_laws.proofs.Words.{end_of_node_alone, entries_for, eqb, eqb-true, false, filter, give_refusal, goes_in, is_up, keeps, lack, list_any}
-use Rattle.lone_laws.proofs.Words.{loses_power, needs, noted_at, noted_by_deeds, noted_of, noting, option_map_or, own_side, port_at, refl, sent_unless}
-use Rattle.lone_laws.proofs.Words.{stays_cut, subst, sym, to_command, true, true≢false, uncut, unless_cut, with_port, ℕ, ◌++◌, ◌||◌, ◌∙◌, ◌∷◌, ◌≡◌}
-use Rattle.trace_model.specs.declared.entry.Entry.TheVariants as entry
-use Rattle.lone_laws.proofs.answered.Mine.{is_own_answer, is_own_turn, is_own_cut, to_turn, AnswersOwn}
+-- What a node alone notes of a message that has its turn is the reply that is read: all is its own, of few shapes, and as for any node.
+use Rattle.lone_laws.proofs.Words.{AllByRecursion, Answer, AnswersSo, AreNoBoots, AreOwn, Ask, Bool, Clear, Command, Commit, Commits, Control, Core, Create}
+use Rattle.lone_laws.proofs.Words.{Creation, Decision, Deed, Delete, Desk, Drops, End, Entry, FrameComes, Give, IsAnswered, IsDown, IsDueAlone, IsNoBoot, IsOwn}
+use Rattle.lone_laws.proofs.Words.{IsRepliedAlone, IsUpNow, IsWaitingNow, JoinTwo, LinkInput, LinkState, LinkView, List, Lone, LoneCause, LoneEvent, Message}
+use Rattle.lone_laws.proofs.Words.{NodeInput, None, Option, Port, Running, SaysOk, Sends, SetsErrors, Some, Tells, Work, Write, [], accepts, all_append}
+use Rattle.lone_laws.proofs.Words.{all_done, answer_of, ap, ap₂, asked_at, before_turn, body_in, body_of, by_option, by_test, changed_if, commit_deeds}
+use Rattle.lone_laws.proofs.Words.{commit_writes, cond, controller_deeds, controller_holds, core_noted, core_since, core_with, count_of, creation_in, decided}
+use Rattle.lone_laws.proofs.Words.{decided_tells_others, decision_deeds, done, end_of, end_of_node, end_of_node_alone, end_of_number, end_view, entries_for}
+use Rattle.lone_laws.proofs.Words.{entries_of_reply, eq-eqb, eqb, eqb-true, false, filter, finds_room, fold, gates, give_refusal, goes_in, has, host_deeds}
+use Rattle.lone_laws.proofs.Words.{host_holds, hosts_where, if◌then◌else◌, inl, inr, is_answer_of, is_cut_of, is_turn_of, is_up, keeps, lack, lack_since}
+use Rattle.lone_laws.proofs.Words.{link_deeds, list_any, lone_arrival, lone_end, lone_port, lone_work, loses_power, lpdu_of, map, needs, next_count, node_of}
+use Rattle.lone_laws.proofs.Words.{not, noted_at, noted_by_deeds, noted_of, noted_since, noting, option_map_or, ordered_deeds, ordered_holds, own_side}
+use Rattle.lone_laws.proofs.Words.{own_view, port_at, refl, reply_since, sent_in_session, sent_unless, session_with, stays_cut, steps, subst, sym, sync_due}
+use Rattle.lone_laws.proofs.Words.{take_while-cons, telling_count, to_command, true, true≢false, uncut, unless_cut, view_for, view_of, with_port, ℕ, ◌++◌, ◌||◌}
+use Rattle.lone_laws.proofs.Words.{◌∙◌, ◌∷◌, ◌≡◌}
+use Rattle.gate_identity.specs.Identity.{identity_served}
+use Rattle.gate_link.specs.Link.{link_served}
+use Rattle.node_laws.proofs.power.Steps.{AreEnds, Fine, IsEndOf, Runs, steps_fine}
+use Rattle.node_laws.proofs.telling.Accounts.{AreUncut}
+use Rattle.lone_laws.proofs.answered.Memories.{TellsNobody, asks_nobody, tells_nobody}
 use Rattle.lone_laws.proofs.answered.Reading.{eqb_same}
 use Rattle.lone_laws.proofs.answered.Turning.{own_end}
-use Rattle.lone_laws.proofs.answered.Told.{entries_of_deeds, link_of_end}
-use Rattle.lone_laws.proofs.answered.Shapes.{IsLoneReply}
-use Rattle.lone_laws.proofs.answered.Shapes.IsLoneReply.{IsNone, IsDrop, IsSend, IsCommit, IsSet, IsHeard}
+use Rattle.gate_answers.specs.declared.response.Response.TheVariants as response
+use Rattle.trace_model.specs.declared.entry.Entry.TheVariants as entry
+
+-- ## All that a node alone notes is its own, so its answers are read as those of a node among others
+
+-- ### Answers of any node
+
+-- an entry is an answer of a node: it commits, sends, counts, asks, drops, or ends an init
+abbrev pub is_own_answer : Entry → Bool
+is_own_answer (entry.Command n command) = true
+is_own_answer (entry.Sent e n pid message) = true
+is_own_answer (entry.AnyOk n count) = true
+is_own_answer (entry.Ask host message) = true
+is_own_answer (entry.Dropped e pid) = true
+is_own_answer (entry.InitSame e) = true
+is_own_answer (entry.InitMade e count) = true
+is_own_answer (entry.InitFailed e code) = true
+is_own_answer _ = false
+
+-- a message has its turn
+abbrev pub is_own_turn : Entry → Bool
+is_own_turn (entry.Turn e pid message) = true
+is_own_turn _ = false
+
+-- the power goes
+abbrev pub is_own_cut : Entry → Bool
+is_own_cut (entry.Cut n) = true
+is_own_cut _ = false
+
+-- these entries up to the next turn
+abbrev pub to_turn : List Entry → List Entry
+to_turn [] = []
+to_turn (x ∷ entries) = if is_own_turn x then [] else x ∷ to_turn entries
+
+-- the node answers so until its next turn
+abbrev pub AnswersOwn : List Entry → List Entry → Type 0
+AnswersOwn entries answers =
+    filter is_own_answer (to_turn entries) ≡ (if list_any is_own_cut (to_turn entries) then to_command answers else answers)
+
+-- a message that has its turn is replied to so
+abbrev pub IsRepliedOwn : Core → ℕ → List Entry → Entry → List Entry → Type 0
+IsRepliedOwn found h t (entry.Turn e pid message) behind =
+    (lack_since found h t (pid, message) ≡ None)
+    × AnswersOwn behind (noted_since found h t (reply_since found h t (pid, message)))
+IsRepliedOwn found h t _ behind = Unit {0}
+
+-- before the first turn in an event it answers what is due
+abbrev pub IsDueOwn : Core → ℕ → List Entry → LoneEvent → Type 0
+IsDueOwn found h t o = AnswersOwn o.entries (noted_since found h t (sync_due (core_since found t) h o.cause))
+
+-- ### Entries of one node
+
+module _ (n : ℕ) where
+  agree : (x : Entry) → IsOwn n x → (is_answer_of n x ≡ is_own_answer x) × (is_turn_of n x ≡ is_own_turn x) × (is_cut_of n x ≡ is_own_cut x)
+  agree (entry.Command m c) own = (eq-eqb m n own, refl, refl)
+  agree (entry.Sent e m pid message) own = (eq-eqb (node_of e) n own, refl, refl)
+  agree (entry.AnyOk m count) own = (eq-eqb m n own, refl, refl)
+  agree (entry.Ask host message) own = (eq-eqb 0 n own, refl, refl)
+  agree (entry.Dropped e pid) own = (eq-eqb (node_of e) n own, refl, refl)
+  agree (entry.InitSame e) own = (eq-eqb (node_of e) n own, refl, refl)
+  agree (entry.InitMade e count) own = (eq-eqb (node_of e) n own, refl, refl)
+  agree (entry.InitFailed e code) own = (eq-eqb (node_of e) n own, refl, refl)
+  agree (entry.Turn e pid message) own = (refl, eq-eqb (node_of e) n own, refl)
+  agree (entry.Cut m) own = (refl, refl, eq-eqb m n own)
+  agree x own = (refl, refl, refl)
+
+  before_same : (es : List Entry) → AreOwn n es → before_turn n es ≡ to_turn es
+  before_same [] own = refl
+  before_same (x ∷ es) own =
+      take_while-cons (λ y. not (is_turn_of n y)) x es
+      ∙ (ap (λ b. cond (not b) (x ∷ before_turn n es) []) (agree x own.0).1 ∙ by (is_own_turn x) (before_same es own.1)) where
+        by : (b : Bool) → before_turn n es ≡ to_turn es → cond (not b) (x ∷ before_turn n es) [] ≡ cond b [] (x ∷ to_turn es)
+        by true later = refl
+        by false later = ap (λ l. x ∷ l) later
+
+  filter_same : (es : List Entry) → AreOwn n es → filter (is_answer_of n) es ≡ filter is_own_answer es
+  filter_same [] own = refl
+  filter_same (x ∷ es) own = ap₂ (λ b l. cond b (x ∷ l) l) (agree x own.0).0 (filter_same es own.1)
+
+  pub cut_same : (es : List Entry) → AreOwn n es → list_any (is_cut_of n) es ≡ list_any is_own_cut es
+  cut_same [] own = refl
+  cut_same (x ∷ es) own = ap₂ (λ b c. b || c) (agree x own.0).2 (cut_same es own.1)
+
+  turn_own : (es : List Entry) → AreOwn n es → AreOwn n (to_turn es)
+  turn_own [] own = tt
+  turn_own (x ∷ es) own = by_test (is_own_turn x) (λ q. rw q tt) (λ q. rw q (own.0, turn_own es own.1))
+
+  answers_are : (es answers : List Entry) → AreOwn n es → AnswersOwn es answers → AnswersSo n es answers
+  answers_are es answers own a =
+      let before : before_turn n es ≡ to_turn es = before_same es own in
+      let all : AreOwn n (to_turn es) = turn_own es own in
+      ap (filter (is_answer_of n)) before
+      ∙ (filter_same (to_turn es) all
+      ∙ (a ∙ sym (ap (λ b. cond b (to_command answers) answers) (ap (list_any (is_cut_of n)) before ∙ cut_same (to_turn es) all))))
+
+  pub own_behind : (front behind : List Entry) (x : Entry) → AreOwn n (front ++ (x ∷ behind)) → AreOwn n behind
+  own_behind [] behind x own = own.1
+  own_behind (y ∷ front) behind x own = own_behind front behind x own.1
+
+pub replied_is : (found : Core) (h : ℕ) (t : List Entry) (x : Entry) (behind : List Entry) → AreOwn found.node behind
+    → IsRepliedOwn found h t x behind → IsRepliedAlone found h t x behind
+replied_is found h t (entry.Turn e pid message) behind own a =
+    (a.0, answers_are found.node behind (noted_since found h t (reply_since found h t (pid, message))) own a.1)
+replied_is found h t _ behind own a = tt
+
+pub due_is : (found : Core) (h : ℕ) (t : List Entry) (o : LoneEvent) → AreOwn found.node o.entries → IsDueOwn found h t o → IsDueAlone found h t o
+due_is found h t o own a = answers_are found.node o.entries (noted_since found h t (sync_due (core_since found t) h o.cause)) own a
+
+-- ### A step
+
+module _ (l : Lone) (its : eqb l.number 0 ≡ false → l.number ≡ l.link) where
+  end_own : node_of (lone_end l) ≡ l.number
+  end_own = by_test (eqb l.number 0) (λ q. rw q (sym (eqb-true l.number 0 q))) (λ q. rw q (sym (its q)))
+
+  end_is : IsEndOf l.number l.link
+  end_is = by_test (eqb l.number 0) (λ q. rw q (sym (eqb-true l.number 0 q))) (λ q. rw q (sym (its q)))
+
+  arrival_own : (c : LoneCause) → AreOwn l.number (lone_arrival l c)
+  arrival_own (FrameComes bytes) = (end_own, tt)
+  arrival_own _ = tt
+
+  arrival_uncut : (c : LoneCause) → AreUncut (lone_arrival l c)
+  arrival_uncut (FrameComes bytes) = (tt, tt)
+  arrival_uncut _ = tt
+
+  frames_own : (frames : List Control) → AreOwn l.number (map (λ c. entry.Emit (lone_end l) (lpdu_of c)) frames)
+  frames_own [] = tt
+  frames_own (c ∷ frames) = (end_own, frames_own frames)
+
+  fine_own : (w : Work) → Fine l.number w → AreOwn l.number w.entries
+  fine_own w (inl r) = r.own
+  fine_own w (inr lost) =
+      subst (AreOwn l.number) (sym lost.entries) (all_append (IsOwn l.number) lost.front (entry.Cut l.number ∷ []) lost.own (refl, tt))
+
+  -- all that it notes in a step is its own
+  pub step_own : (n : Running) (d : Desk) → n.desks ≡ d ∷ [] → d.host ≡ l.link → n.core.node ≡ l.number → (c : LoneCause) (i : LinkInput)
+      → (input : NodeInput) (frames : List Control)
+      → AreOwn l.number ((steps input (lone_work l n i (lone_arrival l c))).entries ++ map (λ c. entry.Emit (lone_end l) (lpdu_of c)) frames)
+  step_own n d desks host number c i input frames =
+      all_append (IsOwn l.number) (steps input begun).entries (map (λ c. entry.Emit (lone_end l) (lpdu_of c)) frames)
+      (fine_own (steps input begun) (steps_fine l.number input begun runs)) (frames_own frames)
+    where
+      begun : Work
+      begun = lone_work l n i (lone_arrival l c)
+
+      runs : Runs l.number begun
+      runs = record {
+        on = refl;
+        number = number;
+        ends = subst (λ ds. AreEnds l.number (map (lone_port l.side (session_with l i)) ds)) (sym desks)
+            (subst (IsEndOf l.number) (sym host) end_is, tt);
+        own = arrival_own c;
+        uncut = arrival_uncut c;
+      }
+
+-- ## What a node with one link does with a message: nothing, or one message is dropped or sent, behind a command or REC_ERROR, if at all
+
+pub data IsLoneReply : List Deed → Type 0 where
+  IsNone : IsLoneReply []
+  IsDrop : (pid : ℕ) → IsLoneReply (Drops pid ∷ [])
+  IsSend : (to : ℕ) (m : Message) → IsLoneReply (Sends to m ∷ [])
+  IsCommit : (c : Command) (to : ℕ) (m : Message) → IsLoneReply (Commits c ∷ Sends to m ∷ SaysOk ∷ [])
+  IsSet : (v to : ℕ) (m : Message) → IsLoneReply (SetsErrors v ∷ Sends to m ∷ [])
+  IsHeard : IsLoneReply (IsAnswered ∷ [])
+
+commit_reply : (b : Bool) (h pipe : ℕ) (c : Command) (answer notice : List ℕ) (hosts : List ℕ) → AllByRecursion (λ (y : ℕ). ⊥) hosts
+    → IsLoneReply (commit_deeds b h pipe c answer (map (λ told. Tells told notice) hosts))
+commit_reply true h pipe c answer notice [] a = IsCommit c h (pipe, answer)
+commit_reply false h pipe c answer notice [] a = IsSend h (pipe, answer_of response.NotOk [])
+commit_reply b h pipe c answer notice (y ∷ hosts) a = absurd a.0
+
+decision_reply : (core : Core) (h pipe : ℕ) (d : Decision) → TellsNobody d → IsLoneReply (decision_deeds (own_view core) h pipe d)
+decision_reply core h pipe (Answer answer) a = IsSend h (pipe, answer.items)
+decision_reply core h pipe (Commit c answer tell notice) a =
+    commit_reply (finds_room core c) h pipe c answer.items notice.items (hosts_where (has tell)) a
+decision_reply core h pipe (Ask dest notice c answer) a = absurd a
+
+link_reply : (h pipe : ℕ) (answer : List ℕ × Option ℕ) → IsLoneReply (link_deeds h pipe answer)
+link_reply h pipe answer = by_option answer.1 (λ q. rw q (IsSend h (pipe, answer.0))) (λ v q. rw q (IsSet v h (pipe, answer.0)))
+
+pub controller_reply : (core : Core) (p : Port) (h : ℕ) (m : Message) → p.desk.host ≡ h → p.desk.notice ≡ None → JoinTwo core.tables.rows
+    → IsLoneReply (controller_deeds (view_of core (p ∷ [])) h m)
+controller_reply core p h m host none two =
+    let v : LinkView = view_for core.tables (p ∷ []) h in
+    controller_holds IsLoneReply core (p ∷ []) h m (record {
+      drops = λ pid none. IsDrop pid;
+      goes_on = λ to off. IsSend to m;
+      goes_back = λ n event. IsSend h m;
+      refuses = λ r off free. IsSend h (m.0, answer_of r []);
+      names = λ n served gate. IsSend h (m.0, identity_served gates n (body_in m.1));
+      counts = λ errors n served gate. link_reply h m.0 (link_served errors n (body_in m.1));
+      decides = λ n served gate.
+          let d : Decision = decided core.tables v h m.0 n (body_in m.1) in
+          decision_reply core h m.0 d
+          (tells_nobody core.tables p h host d (decided_tells_others core.tables v h m.0 n (body_in m.1) two) (asks_nobody core.tables p h host m.0 n
+          (body_in m.1)));
+      hears = λ q reply here asked. IsHeard;
+      agrees = λ flag q c reply here asked room. absurd (unasked q c here asked);
+    })
+  where
+    same : (q : Port) → port_at (p ∷ []) h ≡ Some q → p ≡ q
+    same q here = go (eqb p.desk.host h) here where
+      go : (b : Bool) → cond b (Some p) None ≡ Some q → p ≡ q
+      go true z = cc
+      go false z = absurd (cc z)
+
+    unasked : (q : Port) (c : Creation) → port_at (p ∷ []) h ≡ Some q → asked_at q ≡ Some c → ⊥
+    unasked q c here asked =
+        let gone : None ≡ Some c = sym (ap creation_in (sym (ap (λ (x : Port). x.desk.notice) (same q here)) ∙ none)) ∙ asked in cc gone
+
+accepts_reply : (core : Core) (c : Command) → IsLoneReply (accepts (own_view core) c)
+accepts_reply core c = by_test (finds_room core c)
+    (λ q. rw q (IsCommit c core.node (1, answer_of response.Ok [])))
+    (λ q. rw q (IsSend core.node (1, answer_of response.NotOk [])))
+
+ordered_reply : (core : Core) (errors pipe n : ℕ) (body : List ℕ) → IsLoneReply (ordered_deeds (own_view core) errors pipe n body)
+ordered_reply core errors pipe n body = ordered_holds IsLoneReply core errors pipe n body (record {
+  none = IsNone;
+  refuses = λ r. IsSend core.node (1, answer_of r []);
+  creates = λ row named welcome. accepts_reply core (Create row);
+  deletes = λ pid kept. accepts_reply core (Delete pid);
+  clears = λ x host. accepts_reply core (Clear x);
+  counts = λ link. link_reply core.node 0 (link_served errors n body);
+  names = λ off. IsSend core.node (pipe, identity_served gates n body);
+})
+
+pub host_reply : (core : Core) (p : Port) (m : Message) → core.command ≡ None → IsLoneReply (host_deeds (own_view core) (end_view p) m)
+host_reply core p m none = host_holds IsLoneReply core p m (record {
+  none = IsNone;
+  drops = IsDrop m.0;
+  goes = IsSend core.node m;
+  ordered = λ n is. ordered_reply core p.desk.errors m.0 n (body_in m.1);
+  heard = λ code order is. let gone : None ≡ Some order = sym none ∙ is in absurd (cc gone);
+})
+
+-- ## What is noted of the deeds of a node alone, one after another, are the entries of a reply of such a node among others
+
+-- What deeds note of a node that keeps this, one after another, where its end has this session: as they are done, the count is the journal's.
+abbrev pub entries_of_deeds : Core → End → Option ℕ → List Deed → List Entry
+entries_of_deeds core e_of_told session [] = []
+entries_of_deeds core e_of_told session (Commits c ∷ deeds) = entry.Command core.node c ∷ entries_of_deeds (core_with core c) e_of_told session deeds
+entries_of_deeds core e_of_told session (Sends to m ∷ deeds) =
+    cond (eqb to e_of_told.link) (option_map_or (λ n. entry.Sent e_of_told n m.0 m.1 ∷ []) session []) [] ++ entries_of_deeds core e_of_told session deeds
+entries_of_deeds core e_of_told session (SaysOk ∷ deeds) = entry.AnyOk core.node (count_of core.journal) ∷ entries_of_deeds core e_of_told session deeds
+entries_of_deeds core e_of_told session (Drops pid ∷ deeds) = entry.Dropped e_of_told pid ∷ entries_of_deeds core e_of_told session deeds
+entries_of_deeds core e_of_told session (_ ∷ deeds) = entries_of_deeds core e_of_told session deeds
+
+pub link_of_end : (number h : ℕ) → (end_of_node_alone number h).link ≡ h
+link_of_end number h = by_test (eqb number 0) (λ q. rw q refl) (λ q. rw q refl)
+
+pub same_number : (number h : ℕ) → end_of_number number h ≡ end_of_node_alone number h
+same_number number h = by_test (eqb number 0) (λ q. rw q refl) (λ q. rw q refl)
+
+module _ (number h : ℕ) (session : Option ℕ) where
+  abbrev e_of_told : End
+  e_of_told = end_of_node_alone number h
+
+  abbrev sessions : ℕ → Option ℕ
+  sessions k = cond (eqb k h) session None
+
+  abbrev sent : ℕ → Message → List Entry
+  sent to m = cond (eqb to e_of_told.link) (option_map_or (λ n. entry.Sent e_of_told n m.0 m.1 ∷ []) session []) []
+
+  sent_is : (to : ℕ) (m : Message) → sent_in_session number sessions to m ≡ sent to m
+  sent_is to m =
+      by_test (eqb to h)
+      (λ q. rw q (ap (λ (f : End). option_map_or (λ n. entry.Sent f n m.0 m.1 ∷ []) session [])
+      (ap (end_of_number number) (eqb-true to h q) ∙ same_number number h)))
+      (λ q. rw q refl)
+      ∙ sym (ap (λ k. cond (eqb to k) (option_map_or (λ n. entry.Sent e_of_told n m.0 m.1 ∷ []) session []) []) (link_of_end number h))
+
+  -- a message that is sent changes nothing of what is kept, and tells no count
+  sent_told : (core : Core) (to : ℕ) (m : Message) (es : List Entry) → map (telling_count core) (sent to m ++ es) ≡ sent to m ++ map (telling_count core) es
+  sent_told core to m es = by (eqb to e_of_told.link) session where
+    by : (b : Bool) (s : Option ℕ) → map (telling_count core) (cond b (option_map_or (λ n. entry.Sent e_of_told n m.0 m.1 ∷ []) s []) [] ++ es)
+        ≡ cond b (option_map_or (λ n. entry.Sent e_of_told n m.0 m.1 ∷ []) s []) [] ++ map (telling_count core) es
+    by true None = refl
+    by true (Some n) = refl
+    by false s = refl
+
+  sent_kept : (core : Core) (to : ℕ) (m : Message) (es : List Entry) → core_since core (sent to m ++ es) ≡ core_since core es
+  sent_kept core to m es = by (eqb to e_of_told.link) session where
+    by : (b : Bool) (s : Option ℕ)
+        → core_since core (cond b (option_map_or (λ n. entry.Sent e_of_told n m.0 m.1 ∷ []) s []) [] ++ es) ≡ core_since core es
+    by true None = refl
+    by true (Some n) = refl
+    by false s = refl
+
+  -- so the entries of a reply are told
+  abbrev pub noted_as_reply : Core → ℕ → List Deed → List Entry
+  noted_as_reply core count deeds =
+      let entries : List Entry = entries_of_reply number sessions h count deeds in map (telling_count (core_since core entries)) entries
+
+  module _ (core : Core) (node : core.node ≡ number) where
+    sends_told : (to : ℕ) (m : Message) → (let es : List Entry = sent_in_session number sessions to m ++ [] in map (telling_count (core_since core es)) es)
+        ≡ sent to m ++ []
+    sends_told to m =
+        ap (λ s. map (telling_count (core_since core (s ++ []))) (s ++ [])) (sent_is to m) ∙ sent_told (core_since core (sent to m ++ [])) to m []
+
+    own_commit : (c : Command) → core_noted core (entry.Command number c) ≡ core_with core c
+    own_commit c = ap (λ b. cond b (core_with core c) core) (ap (eqb number) node ∙ eqb_same number)
+
+    -- a reply of a node alone
+    pub reply_told : (count : ℕ) (deeds : List Deed) → IsLoneReply deeds → noted_as_reply core count deeds ≡ entries_of_deeds core e_of_told session deeds
+    reply_told count _ (IsDrop pid) = ap (λ (f : End). entry.Dropped f pid ∷ []) (same_number number h)
+    reply_told count _ (IsSend to m) = sends_told to m
+    reply_told count _ (IsSet v to m) = sends_told to m
+    reply_told count _ (IsCommit c to m) =
+        let last : List Entry = entry.AnyOk number (next_count count) ∷ [] in
+        ap (λ s. map (telling_count (fold core_noted (core_noted core (entry.Command number c)) (s ++ last))) (entry.Command number c ∷ (s ++ last)))
+        (sent_is to m)
+        ∙ (ap (λ d. map (telling_count (core_since d (sent to m ++ last))) (entry.Command number c ∷ (sent to m ++ last))) (own_commit c)
+        ∙ (ap (λ d. map (telling_count d) (entry.Command number c ∷ (sent to m ++ last))) (sent_kept (core_with core c) to m last)
+        ∙ (ap (λ es. entry.Command number c ∷ es) (sent_told (core_with core c) to m last)
+        ∙ ap (λ k. entry.Command k c ∷ (sent to m ++ entry.AnyOk k (count_of (core_with core c).journal) ∷ [])) (sym node))))
+    reply_told count _ _ = refl
+
+    -- a commit that is due
+    pub commit_told : (count : ℕ) (c : Command) → noted_as_reply core count (Commits c ∷ []) ≡ entries_of_deeds core e_of_told session (Commits c ∷ [])
+    commit_told count c = ap (λ k. entry.Command k c ∷ []) (sym node)
+
+-- ## What a node alone notes of a message that has its turn is the reply that is read
 
 -- the session of an end, while it is up
 abbrev pub session_of_end : Port → Option ℕ
@@ -33,7 +363,7 @@ module _ (number h : ℕ) where
   abbrev e : End
   e = end_of_node_alone number h
 
-  pub sent_read : (core : Core) (p : Port) (to : ℕ) (m : Message) → core.node ≡ number → p.desk.host ≡ h → TakesIt p to m
+  sent_read : (core : Core) (p : Port) (to : ℕ) (m : Message) → core.node ≡ number → p.desk.host ≡ h → TakesIt p to m
       → option_map_or (noted_of core (Give m)) (port_at (p ∷ []) to) [] ≡ sent_alone e (session_of_end p) to m
   sent_read core p to m node host takes = go (eqb p.desk.host to) refl where
     go : (b : Bool) → eqb p.desk.host to ≡ b → option_map_or (noted_of core (Give m)) (cond b (Some p) None) [] ≡ sent_alone e (session_of_end p) to m
@@ -57,7 +387,7 @@ module _ (number h : ℕ) where
         absurd (true≢false (sym (ap₂ eqb host same ∙ eqb_same h) ∙ q)))
         (λ z. sym (ap (λ b. cond b (option_map_or (λ n. entry.Sent e n m.0 m.1 ∷ []) (session_of_end p) []) []) z))
 
-  -- ## A reply
+  -- ### A reply
 
   -- What deeds noted is the reply that is read; where the power went, it is the command in whose writes it went, and its loss.
   abbrev pub IsNotedSo : Bool → List Entry → List Entry → Type 0
@@ -177,7 +507,7 @@ module _ (number h : ℕ) where
         (set_noted v to m (takes to m room))
     reply_noted _ IsHeard takes room = quiet_noted IsAnswered on (ap (λ b. cond b [] []) on)
 
--- ## Answers until the next turn
+-- ### Answers until the next turn
 
 -- an entry is no answer, no turn and no loss of power
 abbrev pub IsMuteEntry : Entry → Type 0
@@ -214,7 +544,7 @@ answer_then x es answers cut is off on a = (
 abbrev pub IsAnswerEntry : Entry → Type 0
 IsAnswerEntry x = (is_own_answer x ≡ true) × (is_own_turn x ≡ false) × (is_own_cut x ≡ false)
 
-pub answers_then : (xs es : List Entry) → AllByRecursion IsAnswerEntry xs → AreUntil [] false es → AreUntil xs false (xs ++ es)
+answers_then : (xs es : List Entry) → AllByRecursion IsAnswerEntry xs → AreUntil [] false es → AreUntil xs false (xs ++ es)
 answers_then [] es are a = a
 answers_then (x ∷ xs) es are a = answer_then x (xs ++ es) xs false are.0.0 are.0.1 are.0.2 (answers_then xs es are.1 a)
 

@@ -13,11 +13,10 @@ use Rattle.node_laws.proofs.passes.InSteps.{IsOfStep, step_keeps}
 use Rattle.lone_laws.proofs.answered.Reading.{Alone}
 use Rattle.lone_laws.proofs.answered.Coming.{came_entries, came_is}
 use Rattle.lone_laws.proofs.answered.Stepping.{lone_comes}
-use Rattle.lone_laws.proofs.answered.Lasting.{begins_alone, arrival_nothing}
-use Rattle.lone_laws.proofs.answered.Ordered.{begin_read, start, ended}
-use Rattle.lone_laws.proofs.answered.Told.{same_number}
+use Rattle.lone_laws.proofs.answered.Knowing.{arrival_nothing, begin_read, begins_alone, ended, start}
+use Rattle.lone_laws.proofs.answered.Replying.{same_number}
 use Rattle.lone_laws.proofs.answered.Keeping.{core_of, KeepsAll}
-use Rattle.lone_laws.proofs.answered.Errors.{notes_hold}
+use Rattle.lone_laws.proofs.answered.Replied.{notes_hold}
 use Rattle.node_laws.proofs.worlds.Ages.{act_asked, asked, frame_asked, tick_asked, up_asked}
 
 -- an entry tells of no reset that was asked for

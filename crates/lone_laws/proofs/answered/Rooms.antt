@@ -10,11 +10,9 @@ use Rattle.lone_laws.proofs.Words.{◌∙◌, ◌∷◌, ◌≡◌}
 use Rattle.trace_model.specs.declared.entry.Entry.TheVariants as entry
 use Rattle.link_laws.proofs.sessions.Ties.{after_frames-phase}
 use Rattle.link_laws.specs.machine.Machine.Refused.{NotUp}
-use Rattle.lone_laws.proofs.answered.Own.{IsOwnDeed}
-use Rattle.lone_laws.proofs.answered.Roles.{kind_of}
+use Rattle.lone_laws.proofs.answered.Memories.{IsOwnDeed}
+use Rattle.lone_laws.proofs.answered.Talking.{AreSilent, Reads, kind_of, reads_sent, reads_silent, spare_in, talk_of_side}
 use Rattle.lone_laws.proofs.answered.Turning.{own_end}
-use Rattle.lone_laws.proofs.answered.Sessions.{AreSilent, Reads, reads_silent, reads_sent, spare_in}
-use Rattle.lone_laws.proofs.answered.Talking.{talk_of_side}
 
 -- ## A turn of its node
 

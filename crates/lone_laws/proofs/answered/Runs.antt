@@ -1,32 +1,171 @@
--- Over a whole run of a node alone its memory holds its commands, or all but the last one where its power went in that one's writes.
-use Rattle.lone_laws.proofs.Words.{AllByRecursion, AreTables, Bool, Command, Control, Core, CountsAll, Deed, End, Entry, FetchMessage, FindsAllButLast}
-use Rattle.lone_laws.proofs.Words.{FindsBehind, FrameComes, FrameIsRefused, HciTables, Hold, IsHeldBehind, IsReadyMemory, IsRecordable, IsSome, LinkInput, List}
-use Rattle.lone_laws.proofs.Words.{Lone, LoneCause, LoneEvent, MayBeDone, Memory, Message, None, Option, Port, Running, Some, WaitsAt, Work, [], after_commands}
-use Rattle.lone_laws.proofs.Words.{after_planned, after_writes, all_come, all_done, ap, append-nil, append_assoc, arith, boot_writes, by_option, by_test, close}
-use Rattle.lone_laws.proofs.Words.{close-close, comes_to_pass, commands_of_entries, cond, count, count_of, counted, current, deeds_of, does_by_power}
-use Rattle.lone_laws.proofs.Words.{emits_behind, end_of_node, entries_of_events_alone, eqb, fails_within, false, format_writes, formatted, found, frames_behind}
-use Rattle.lone_laws.proofs.Words.{goes_through_ends, good_found, handles, handles_sees, have_turns, holds_back, hosts_of_ends, inl, inr, is_held, is_some}
-use Rattle.lone_laws.proofs.Words.{lack, length, lets_go, lone_after, lone_arrival, lone_behind_step, lone_booted, lone_end, lone_events, lone_input, lone_step}
-use Rattle.lone_laws.proofs.Words.{lone_work, lpdu_of, map, min, needs, node_input, noted_of_refused, noting, one_may, option_map_or, passes, plainly_come}
-use Rattle.lone_laws.proofs.Words.{plainly_desk, plainly_noting, plainly_then, plainly_turn, planned_cut, planned_whole, port_at, refl, runs_on, session_with}
-use Rattle.lone_laws.proofs.Words.{sound_has_no_fault, started_state, state_of, steps, steps_are, subst, sym, syncs_in, syncs_one, tables_of, true, true≢false}
-use Rattle.lone_laws.proofs.Words.{turn_at, waiting_at, with_desk, with_refusal, ℕ, ◌++◌, ◌+◌, ◌-◌, ◌^◌, ◌∙◌, ◌∷◌, ◌≡◌, ◌≤◌, ◌⊎◌}
-use Rattle.trace_model.specs.declared.entry.Entry.TheVariants as entry
+-- Over a whole run of a node alone its memory holds its commands, a boot makes it ready, and the run answers every message.
+use Rattle.std.proofs.lemmas.Bool.Decides.{nat_tests}
+use Rattle.std.specs.Prelude.{IsSome, None, Option, Some}
+use Rattle.lone_laws.proofs.Words.{AllByRecursion, AnsweredAlone, AreTables, Bool, CanCompact, Command, Control, Core, Counts, CountsAll, Deed, End, EndForm}
+use Rattle.lone_laws.proofs.Words.{Entry, FetchMessage, FindsAllButLast, FindsBehind, FindsSame, FindsTables, FrameComes, FrameIsRefused, HciTables, Hold}
+use Rattle.lone_laws.proofs.Words.{HoldsTables, IsHeldBehind, IsKeptIn, IsReadyMemory, IsRecordable, IsSound, IsTakenMemory, IsTrue, LinkInput, List, Lone}
+use Rattle.lone_laws.proofs.Words.{LoneCause, LoneEvent, MayBeDone, Memory, Message, Port, Running, Says, State, WaitsAt, Work, [], after_commands}
+use Rattle.lone_laws.proofs.Words.{after_planned, after_writes, all_come, all_done, all_recordable, ap, append-nil, append_assoc, ap₂, are_bodies, are_commands}
+use Rattle.lone_laws.proofs.Words.{arith, behind_boot, boot_writes, by_option, by_test, close, close-close, comes_to_pass, commands_of_entries, compact_count}
+use Rattle.lone_laws.proofs.Words.{compact_writes, compacted, cond, count, count_of, counted, current, deeds_of, does_by_power, emits_behind, end_causes}
+use Rattle.lone_laws.proofs.Words.{end_history, end_node, end_of_node, end_written, entries_of_events_alone, eqb, eqb-true, fails_within, false, format_writes}
+use Rattle.lone_laws.proofs.Words.{formatted, found, frames_behind, goes_through_ends, good_found, handles, handles_sees, have_turns, holds_back}
+use Rattle.lone_laws.proofs.Words.{holds_snapshot, holds_still, hosts_of_ends, inl, inr, is_held, is_none, is_some, journal, lack, length, lets_go, lone_after}
+use Rattle.lone_laws.proofs.Words.{lone_arrival, lone_behind_step, lone_booted, lone_end, lone_events, lone_input, lone_step, lone_work, lpdu_of, map, min}
+use Rattle.lone_laws.proofs.Words.{needs, new_desk, no_records_then, node_input, noted_of_refused, noting, one_may, option_map_or, passes, plainly_come}
+use Rattle.lone_laws.proofs.Words.{plainly_desk, plainly_noting, plainly_then, plainly_turn, planned_cut, planned_whole, port_at, records, refl, runs_on}
+use Rattle.lone_laws.proofs.Words.{says_formatted, session_with, snapshot_bodies, snapshot_fits, snapshot_of, some_other, sound_has_no_fault, started_state}
+use Rattle.lone_laws.proofs.Words.{state_of, steps, steps_are, subst, sym, syncs_in, syncs_one, tables_of, true, true≢false, turn_at, waiting_at, with_desk}
+use Rattle.lone_laws.proofs.Words.{with_refusal, ℕ, ◌++◌, ◌+◌, ◌-◌, ◌<◌, ◌==◌, ◌^◌, ◌||◌, ◌∙◌, ◌∷◌, ◌≡◌, ◌≤◌, ◌⊎◌}
+use Rattle.hci_store.specs.Starting.{migrated, migration_writes, ready_state}
 use Rattle.journal_laws.specs.declared.banks.Side.{Side}
-use Rattle.node_machine.specs.Orders.{IsOnOrder}
 use Rattle.node_laws.proofs.kept.Stepping.{OneOrNone, controller_may, host_may}
+use Rattle.node_machine.specs.Orders.{IsOnOrder}
+use Rattle.lone_laws.specs.alone.Runs.{IsAnsweredRun}
 use Rattle.lone_laws.proofs.answered.Coming.{IsLoneInput, pass_is}
-use Rattle.lone_laws.proofs.answered.Lasting.{LoneKeeps, arrival_nothing, begins_alone, step_is}
-use Rattle.lone_laws.proofs.answered.Finding.{FindsIf, KnowsIf, fault_none, finds_counting, knows_formatted, left_formatted}
-use Rattle.lone_laws.proofs.answered.Memories.{FindsLess, FindsMore, Holds, HoldsOrLoses, IsLoneDeed, all_hold, commands_more, plainly_holds, then_hold}
-use Rattle.lone_laws.proofs.answered.Ordered.{begin_read}
+use Rattle.lone_laws.proofs.answered.Memories.{FindsIf, FindsLess, FindsMore, Holds, HoldsOrLoses, IsLoneDeed, KnowsIf, all_hold, commands_more, fault_none}
+use Rattle.lone_laws.proofs.answered.Memories.{finds_counting, knows_formatted, knows_from, left_formatted, plainly_holds, then_hold}
+use Rattle.lone_laws.proofs.answered.Knowing.{LoneKeeps, arrival_nothing, begin_read, begins_alone, step_is}
 use Rattle.lone_laws.proofs.answered.Reading.{Alone, Read}
 use Rattle.lone_laws.proofs.answered.Replied.{deeds_shape}
-use Rattle.lone_laws.proofs.answered.Shapes.{IsLoneReply}
-use Rattle.lone_laws.proofs.answered.Shapes.IsLoneReply.{IsNone, IsCommit, IsSet}
+use Rattle.lone_laws.proofs.answered.Replying.{IsLoneReply}
+use Rattle.lone_laws.proofs.answered.Replying.IsLoneReply.{IsCommit, IsNone, IsSet}
 use Rattle.lone_laws.proofs.answered.Stepping.{alone_begins, lone_comes}
-use Rattle.lone_laws.proofs.answered.Whole.{Between, begin_between, booted_core, each_step}
 use Rattle.lone_laws.proofs.answered.Turning.{alone_handled, alone_here, link_is}
+use Rattle.lone_laws.proofs.answered.Whole.{Between, begin_between, booted_core, each_step, lone_answered}
+use Rattle.nv_journal.proofs.Compacting as compacting
+use Rattle.trace_model.specs.declared.entry.Entry.TheVariants as entry
+
+-- ## A boot makes a memory ready: what the next boot finds there is what it found
+
+first_version : (v : ℕ) → IsTrue (v == 1 || v == 2) → (v == 2) ≡ false → v ≡ 1
+first_version v known older = grind (arith, nat_tests)
+
+module _ (content : List ℕ) (taken : IsTakenMemory content) where
+  abbrev s : State
+  s = state_of content
+
+  abbrev t : HciTables
+  t = close (tables_of content)
+
+  abbrev bodies : List (List ℕ)
+  bodies = snapshot_bodies t
+
+  -- each record counts, or the memory is written anew
+  abbrev pub MayCount : Type 0
+  MayCount = ((journal content).head.version ≡ 1) ⊎ CountsAll content
+
+  both : IsSound (journal content) × (are_commands (records content) ≡ true)
+  both = fault_none content taken.sound
+
+  says : Says content s
+  says = record { size = taken.size; state_is = refl; sound = both.0 }
+
+  holds : HoldsTables content t
+  holds = record { commands = both.1; tables_are = sym (close-close (tables_of content)) }
+
+  fine : AreTables t × IsRecordable t
+  fine = good_found content
+
+  -- a boot that knows this of the memory finds the same
+  record Leaves (new : List ℕ) (j : State) : Type 0 where
+    knows : KnowsIf MayCount new j t
+    count_is : count_of j ≡ count content
+
+  leaves_formatted : current content ≡ None → Leaves (after_writes format_writes content) formatted
+  leaves_formatted none = record {
+    knows = knows_from MayCount (after_writes format_writes content) formatted t (says_formatted content s says none) refl refl (λ e. omega arith)
+        (holds_still content (after_writes format_writes content) t holds (no_records_then content s says none));
+    count_is = counted content s formatted says (ap (λ o. option_map_or (λ _. s) o formatted) (sym none));
+  }
+
+  leaves_as_is : IsSome (current content) → (s.version == 2) ≡ true → Leaves content s
+  leaves_as_is some second = record {
+    knows = knows_from MayCount content s t says some version counts holds;
+    count_is = refl;
+  } where
+    version : s.version ≡ 2
+    version = eqb-true s.version 2 second
+
+    counts : MayCount → s.snapshot ≤ s.base + s.many
+    counts (inl first) = absurd (omega (arith, first, version))
+    counts (inr all) = all
+
+  leaves_anew : IsSome (current content) → (s.version == 2) ≡ false → Leaves (after_writes (compact_writes s bodies) content) (compacted s bodies)
+  leaves_anew some older = record {
+    knows = knows_from MayCount (after_writes (compact_writes s bodies) content) (compacted s bodies) t (compacting.says_after content bodies s says can)
+        (some_other (current content) some) refl (λ e. omega arith)
+        (holds_snapshot (after_writes (compact_writes s bodies) content) t fine.1 fine.0 (compacting.records_after content bodies s says can));
+    count_is = compact_count s bodies;
+  } where
+    next : s.generation < 4294967295
+    next = taken.next (first_version s.version both.0.known older)
+
+    can : CanCompact s bodies
+    can = record {
+      in_use = some;
+      generation = omega (arith, next);
+      short = are_bodies (snapshot_of t) (all_recordable t fine.1 fine.0);
+      room = snapshot_fits t fine.1 fine.0;
+    }
+
+  leaves : (o : Option Side) → current content ≡ o
+      → Leaves (after_writes (option_map_or (λ _. []) o format_writes ++ migration_writes (option_map_or (λ _. s) o formatted) t) content)
+      (migrated (option_map_or (λ _. s) o formatted) t)
+  leaves None none = leaves_formatted none
+  leaves (Some side) is = by_test (s.version == 2) (λ second. rw second (leaves_as_is some second)) (λ older. rw older (leaves_anew some older)) where
+    some : IsSome (current content)
+    some = subst IsSome (sym is) refl
+
+  left : Leaves (behind_boot content) (ready_state content)
+  left = leaves (current content) refl
+
+  pub is_ready : IsReadyMemory (behind_boot content)
+  is_ready = record {
+    size = left.knows.finds.size;
+    sound = sound_has_no_fault (behind_boot content) left.knows.finds.holds.commands left.knows.finds.sound;
+    version = left.knows.finds.version;
+  }
+
+  pub finds_same : FindsSame content (behind_boot content)
+  finds_same = record {
+    tables_are = left.knows.finds.holds.tables_are ∙ close-close (tables_of content);
+    count_is = ap count_of left.knows.state_is ∙ left.count_is;
+    fault_is = is_ready.sound ∙ sym taken.sound;
+  }
+
+  pub counts_all : MayCount → CountsAll (behind_boot content)
+  counts_all e = (left.knows.finds.counts e).all
+
+  -- ### The next boot
+
+  some_now : IsSome (state_of (behind_boot content)).in_use
+  some_now = subst (λ (j : State). IsSome j.in_use) (sym left.knows.state_is) left.knows.in_use
+
+  pub boots_silently : boot_writes (behind_boot content) ≡ []
+  boots_silently = by (state_of (behind_boot content)).in_use some_now where
+    by : (o : Option Side) → IsSome o → option_map_or (λ _. []) o format_writes ≡ []
+    by None some = absurd (true≢false (sym some))
+    by (Some side) some = refl
+
+  started_now : started_state (state_of (behind_boot content)) ≡ ready_state content
+  started_now = by (state_of (behind_boot content)) some_now ∙ left.knows.state_is where
+    by : (j : State) → IsSome j.in_use → started_state j ≡ j
+    by j some = at j.in_use some where
+      at : (o : Option Side) → IsSome o → option_map_or (λ _. j) o formatted ≡ j
+      at None some = absurd (true≢false (sym some))
+      at (Some side) some = refl
+
+  pub found_again : (number : ℕ) (hosts : List ℕ)
+      → found number hosts (behind_boot content)
+      ≡ record (found number hosts content) { core = record (found number hosts content).core { journal = ready_state content } }
+  found_again number hosts =
+      ap₂ (λ (j : State) (u : HciTables). record {
+        core = record { node = number; journal = j; tables = u; command = None; init = None };
+        desks = map new_desk hosts;
+      }) started_now finds_same.tables_are
+
+-- ## Over a whole run of a node alone its memory holds its commands, or all but the last one where its power went in that one's writes
 
 lone_deeds : (deeds : List Deed) → IsLoneReply deeds → AllByRecursion IsLoneDeed deeds
 lone_deeds _ IsNone = tt
@@ -34,7 +173,7 @@ lone_deeds _ (IsCommit c to m) = (tt, (tt, (tt, tt)))
 lone_deeds _ (IsSet v to m) = (tt, (tt, tt))
 lone_deeds _ _ = (tt, tt)
 
--- ## Turns
+-- ### Turns
 
 module _ (rest : Core) (number h : ℕ) (some : 1 ≤ h) (most : h ≤ 7) (its : eqb number 0 ≡ false → number ≡ h) (s : ℕ) (t : List Entry)
     (E : Type 0) (tables : HciTables) (many : ℕ) (before : List Command) (old : Memory) where
@@ -121,7 +260,7 @@ module _ (rest : Core) (number h : ℕ) (some : 1 ≤ h) (most : h ≤ 7) (its :
       hosts = ap hosts_of_ends a.ports_are ∙ ap (λ n. n ∷ []) a.host
 
   -- a step
-  pub step_holds : (i : LinkInput) → IsLoneInput i → (w : Work) → Has w → Of w → Fine (steps (node_input h i) w)
+  step_holds : (i : LinkInput) → IsLoneInput i → (w : Work) → Has w → Of w → Fine (steps (node_input h i) w)
   step_holds i may w g a =
       subst Fine (sym (steps_are input w))
       (then_hold E tables many before old passes (comes_to_pass input w) (subst Fine (sym is) first) (λ z. pass_holds (comes_to_pass input w) z (begun z.on)))
@@ -156,7 +295,7 @@ module _ (rest : Core) (number h : ℕ) (some : 1 ≤ h) (most : h ≤ 7) (its :
           all_hold E tables many before old 0 (syncs_in input w) (Some w.core.journal) w.core.command w.core.init (all_come input w) come refl lone
           (one_may w.core (syncs_in input w) w.core.command w.core.init one (on_none w a))
 
--- ## Events
+-- ### Events
 
 arrival_none : (l : Lone) (c : LoneCause) → commands_of_entries (lone_arrival l c) ≡ []
 arrival_none l (FrameComes bytes) = refl
@@ -167,19 +306,19 @@ emits_none e [] = refl
 emits_none e (c ∷ frames) = emits_none e frames
 
 -- what a node that runs has between events
-pub record Remembers (E : Type 0) (tables : HciTables) (many : ℕ) (t : List Entry) (m : Memory) (n : Running) : Type 0 where
+record Remembers (E : Type 0) (tables : HciTables) (many : ℕ) (t : List Entry) (m : Memory) (n : Running) : Type 0 where
   pub knows : KnowsIf E m.content n.core.journal n.core.tables
   pub sorted : AreTables n.core.tables
   pub recordable : IsRecordable n.core.tables
   pub tables_are : n.core.tables ≡ after_commands tables (commands_of_entries t)
   pub count_is : E → count_of n.core.journal ≡ min (many + length (commands_of_entries t)) (2 ^ 32 - 1)
 
-abbrev pub RemembersBy : Type 0 → HciTables → ℕ → List Entry → Memory → Option Running → Type 0
+abbrev RemembersBy : Type 0 → HciTables → ℕ → List Entry → Memory → Option Running → Type 0
 RemembersBy E tables many t m (Some n) = Remembers E tables many t m n
 RemembersBy E tables many t m None =
     FindsMore E tables many (commands_of_entries t) m.content ⊎ FindsLess E tables many (commands_of_entries t) m.content
 
-abbrev pub AllRemembered : Type 0 → HciTables → ℕ → List Entry → Lone → Type 0
+abbrev AllRemembered : Type 0 → HciTables → ℕ → List Entry → Lone → Type 0
 AllRemembered E tables many t l = RemembersBy E tables many t l.memory l.node
 
 module _ (E : Type 0) (tables : HciTables) (many : ℕ) where
@@ -287,7 +426,7 @@ module _ (E : Type 0) (tables : HciTables) (many : ℕ) where
         let same : (lone_step l c).0 ≡ l = ap (λ (x : Lone × List Entry). x.0) (ap (does_by_power l c) off) in
         ap (λ (x : Lone). lone_after x causes) same ∙ off_stays causes l off
 
-    pub run_remembers : (causes : List LoneCause) (t : List Entry) (l : Lone) → Between rest number h t l → AllRemembered E tables many t l
+    run_remembers : (causes : List LoneCause) (t : List Entry) (l : Lone) → Between rest number h t l → AllRemembered E tables many t l
         → AllRemembered E tables many (t ++ entries_of_events_alone (lone_events l causes)) (lone_after l causes)
     run_remembers [] t l k b = subst (λ x. AllRemembered E tables many x l) (sym (append-nil t)) b
     run_remembers (c ∷ causes) t l k b = by_test (is_some l.node)
@@ -307,7 +446,7 @@ module _ (E : Type 0) (tables : HciTables) (many : ℕ) where
           none_of None q = refl
           none_of (Some n) q = absurd (true≢false q)
 
--- ## Its beginning
+-- ### Its beginning
 
 -- what is ready is found
 module _ (first : List ℕ) where
@@ -317,7 +456,7 @@ module _ (first : List ℕ) where
   abbrev pub start : HciTables
   start = close (tables_of first)
 
-  pub found_first : IsReadyMemory first → FindsIf Counted first start (count first)
+  found_first : IsReadyMemory first → FindsIf Counted first start (count first)
   found_first ready =
       let both = fault_none first ready.sound in
       record {
@@ -353,7 +492,7 @@ module _ (number h : ℕ) (m : Memory) (ready : IsReadyMemory m.content) where
   f : FindsIf E content tables (count content)
   f = found_first content ready
 
-  pub boot_remembers : AllRemembered E tables (count content) [] (lone_booted number h m)
+  boot_remembers : AllRemembered E tables (count content) [] (lone_booted number h m)
   boot_remembers = by_plan (fails_within (length (boot_writes content)) m.plan) refl where
     count_so : count_of (started_state (state_of content)) ≡ count content
     count_so =
@@ -429,3 +568,53 @@ run_held number h some most its m ready causes =
     held_behind m.content (entries_of_events_alone (lone_events (lone_booted number h m) causes)) (lone_after (lone_booted number h m) causes)
     (run_remembers (Counted m.content) (start m.content) (count m.content) (booted_core number h some most its m) number h some most its causes []
     (lone_booted number h m) (begin_between number h some most its m) (boot_remembers number h m ready))
+
+-- ## A whole run over a memory that a boot left answers every message, and the memory keeps its commands
+
+pub end_answered : (form : EndForm) (is_clf : Bool) (m : Memory) (bytes : List ℕ)
+    → AnsweredAlone (found (cond is_clf 0 2) (2 ∷ []) m.content).core 2 (end_history form (end_node is_clf m) bytes)
+end_answered form true m bytes =
+    lone_answered 0 2 (omega arith) (omega arith) (λ q. absurd (true≢false q)) m (end_causes form (end_node true m) bytes)
+end_answered form false m bytes = lone_answered 2 2 (omega arith) (omega arith) (λ q. refl) m (end_causes form (end_node false m) bytes)
+
+pub end_held : (form : EndForm) (is_clf : Bool) (m : Memory) → IsReadyMemory m.content → (bytes : List ℕ)
+    → IsHeldBehind m.content (commands_of_entries (entries_of_events_alone (end_history form (end_node is_clf m) bytes)))
+    (lone_after (end_node is_clf m) (end_causes form (end_node is_clf m) bytes))
+end_held form true m ready bytes =
+    run_held 0 2 (omega arith) (omega arith) (λ q. absurd (true≢false q)) m ready (end_causes form (end_node true m) bytes)
+end_held form false m ready bytes = run_held 2 2 (omega arith) (omega arith) (λ q. refl) m ready (end_causes form (end_node false m) bytes)
+
+-- ### In terms of the memory before the boot
+
+module _ (old first : List ℕ) (same : FindsSame old first) (carries : CountsAll old → CountsAll first) where
+  finds_of : (commands : List Command) (content : List ℕ) → FindsBehind first commands content → FindsBehind old commands content
+  finds_of commands content f = record {
+    finds = subst (λ t. FindsTables content (after_commands t commands)) same.tables_are f.finds;
+    counts = λ all. subst (λ many. Counts content (min (many + length commands) (2 ^ 32 - 1))) same.count_is (f.counts (carries all));
+  }
+
+  kept_of : (stopped : Bool) (commands : List Command) (content : List ℕ) → IsKeptIn stopped first commands content → IsKeptIn stopped old commands content
+  kept_of false commands content f = finds_of commands content f
+  kept_of true commands content (inl f) = inl (finds_of commands content f)
+  kept_of true commands content (inr f) = inr (record { front = f.front; last = f.last; are = f.are; finds = finds_of f.front content f.finds })
+
+pub answered_run : (old new : List ℕ) (stopped : Bool) (form : EndForm) (is_clf : Bool) (bytes written : List ℕ) → IsTakenMemory old → (m : Memory)
+    → m.content ≡ behind_boot old → end_written form (end_node is_clf m) bytes ≡ written
+    → (lone_after (end_node is_clf m) (end_causes form (end_node is_clf m) bytes)).memory.content ≡ new
+    → is_none (lone_after (end_node is_clf m) (end_causes form (end_node is_clf m) bytes)).node ≡ stopped
+    → IsAnsweredRun old new stopped form is_clf bytes written
+answered_run old new stopped form is_clf bytes written taken m content_is wrote now power =
+    let last : Lone = lone_after (end_node is_clf m) (end_causes form (end_node is_clf m) bytes) in
+    let commands : List Command = commands_of_entries (entries_of_events_alone (end_history form (end_node is_clf m) bytes)) in
+    let held : IsKeptIn (is_none last.node) m.content commands last.memory.content =
+    end_held form is_clf m (subst IsReadyMemory (sym content_is) (is_ready old taken)) bytes in
+    let kept : IsKeptIn stopped (behind_boot old) commands new =
+    subst (λ first. IsKeptIn stopped first commands new) content_is
+    (subst (λ content. IsKeptIn stopped m.content commands content) now (subst (λ b. IsKeptIn b m.content commands last.memory.content) power held)) in
+    record {
+      memory = m;
+      same = subst (FindsSame old) (sym content_is) (finds_same old taken);
+      wrote = wrote;
+      answered = end_answered form is_clf m bytes;
+      kept = kept_of old (behind_boot old) (finds_same old taken) (λ all. counts_all old taken (inr all)) stopped commands new kept;
+    }

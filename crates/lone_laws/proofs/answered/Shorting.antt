@@ -9,10 +9,9 @@ use Rattle.lone_laws.proofs.Words.{ℕ, ◌++◌, ◌||◌, ◌∙◌, ◌∷◌
 use Rattle.trace_model.specs.declared.entry.Entry.TheVariants as entry
 use Rattle.node_laws.specs.passes.Passing.{Stays}
 use Rattle.lone_laws.proofs.answered.Reading.{eqb_same, Read, Alone, left_is}
-use Rattle.lone_laws.proofs.answered.Sessions.{IsSilent, AreSilent, sessions_same, spares_same}
-use Rattle.lone_laws.proofs.answered.Ordered.{begin_read, begun, ended, was_on, left_so}
-use Rattle.lone_laws.proofs.answered.Errors.{errs_all, errs-append, IsSettled, settled_errs}
-use Rattle.lone_laws.proofs.answered.Replied.{KnowsAll}
+use Rattle.lone_laws.proofs.answered.Talking.{AreSilent, IsSilent, sessions_same, spares_same}
+use Rattle.lone_laws.proofs.answered.Knowing.{begin_read, begun, ended, left_so, was_on}
+use Rattle.lone_laws.proofs.answered.Replied.{IsSettled, KnowsAll, errs-append, errs_all, settled_errs}
 use Rattle.lone_laws.proofs.answered.Answering.{all_at, its_lack}
 use Rattle.lone_laws.proofs.answered.Keeping.{core_of, KeepsAll, all_passing}
 

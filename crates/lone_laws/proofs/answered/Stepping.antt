@@ -6,7 +6,7 @@ use Rattle.lone_laws.proofs.Words.{all_come, all_do, all_done, and_from, append-
 use Rattle.lone_laws.proofs.Words.{end_of_node_alone, false, flat_map, hosts_of_ends, input_at, le-leb, lone_input, lpdu_input, node_input, passes, refl}
 use Rattle.lone_laws.proofs.Words.{report, steps, steps_are, subst, sym, synced, syncs_in, through, true, true≢false, unless_cut, ℕ, ◌∙◌, ◌∷◌, ◌≡◌, ◌≤◌}
 use Rattle.node_laws.specs.passes.Passing.ComesTo.{Begins}
-use Rattle.lone_laws.proofs.answered.Own.{IsOwnDeed}
+use Rattle.lone_laws.proofs.answered.Memories.{IsOwnDeed}
 use Rattle.lone_laws.proofs.answered.Reading.{Read, Alone, alone_does}
 use Rattle.lone_laws.proofs.answered.Turning.{alone_at}
 use Rattle.lone_laws.proofs.answered.Coming.{IsLoneInput, alone_comes, pass_is}

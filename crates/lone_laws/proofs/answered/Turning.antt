@@ -4,7 +4,7 @@ use Rattle.lone_laws.proofs.Words.{Work, [], after_turn, all_do, ap, by_test, ch
 use Rattle.lone_laws.proofs.Words.{eqb-true, false, handles, holds_back, lets, noting, option_map_or, port_at, refl, same_end, same_end_itself, subst, sym}
 use Rattle.lone_laws.proofs.Words.{takes_entries, takes_up, true, waiting_at, with_desk, with_port, ℕ, ◌++◌, ◌∙◌, ◌∷◌, ◌≡◌, ◌≤◌}
 use Rattle.trace_model.specs.declared.entry.Entry.TheVariants as entry
-use Rattle.lone_laws.proofs.answered.Own.{IsOwnDeed, AreOwnDeeds, controller_own, host_own}
+use Rattle.lone_laws.proofs.answered.Memories.{AreOwnDeeds, IsOwnDeed, controller_own, host_own}
 use Rattle.lone_laws.proofs.answered.Reading.{Read, read_all, reads_of, Alone, read_more, alone_turn, alone_does, alone_as}
 
 -- ## Its end

@@ -1,42 +1,170 @@
--- Every history of a node alone answers as is read.
-use Rattle.std.specs.Prelude.{◌+◌, min, not, Option, Some, None, is_some, is_none, length}
+-- Every history of a node alone answers as is read: turns stand in order, and power that is lost is noted.
+use Rattle.std.specs.List.{filter_map}
+use Rattle.std.specs.Prelude.{None, Option, Some, is_none, is_some, length, min, not, ◌+◌}
 use Rattle.lone_laws.proofs.Words.{AllByRecursion, AllByRecursion-append, AnsweredAlone, AreInTurn, AreNoTurns, AreOwn, AreTables, AreTables-apply}
-use Rattle.lone_laws.proofs.Words.{AreTables-close, AreTables-none, AtEachLoneEvent, AtEachNoted, Bool, Command, Core, Desk, End, Entry, ErrorCount}
-use Rattle.lone_laws.proofs.Words.{FrameIsRefused, HciTables, HearsFirstAlone, IsCommand, IsDueAlone, IsFirstThere, IsHeldAlone, IsNoBoot, IsRepliedAlone}
-use Rattle.lone_laws.proofs.Words.{IsResetAlone, JoinTwo, JoinTwo-after, JoinTwo-closed, LinkInput, List, Lone, LoneCause, LoneEvent, Memory, Running}
-use Rattle.lone_laws.proofs.Words.{TurnsAscendAlone, Work, [], ap, applied, apply, ap₂, arith, boot_writes, by_option, by_test, changed_if, close, command_of}
-use Rattle.lone_laws.proofs.Words.{command_read, cond, does_by_power, emits_behind, entries_of_events_alone, eqb, errors_found, fails_within, false, fold}
-use Rattle.lone_laws.proofs.Words.{fold-append, found, frames_behind, goes_through_end, holds_after, is_answer_of, is_at_rest, is_cut_of, is_done_alone}
-use Rattle.lone_laws.proofs.Words.{is_left_lacking, is_short_alone, link_of_turn, list_any, lone_arrival, lone_behind_step, lone_booted, lone_end, lone_events}
-use Rattle.lone_laws.proofs.Words.{lone_input, lone_step, lone_work, lost_as, map, new_desk, new_sound, no_tables, node_input, noted_of_refused, oldest}
-use Rattle.lone_laws.proofs.Words.{option_map_or, records, refl, role_alone, runs_behind, same_end_itself, spelled_by, subst, sym, tables_of, true, true≢false}
-use Rattle.lone_laws.proofs.Words.{unhandled_after, was_refused, with_error, with_refusal, ℕ, ◌&&◌, ◌++◌, ◌||◌, ◌∙◌, ◌∷◌, ◌≡◌, ◌≤◌}
-use Rattle.trace_model.specs.declared.entry.Entry.TheVariants as entry
-use Rattle.swp_base.specs.declared.link_terms.FrameFault.TheVariants as fault
-use Rattle.swp_base.specs.declared.link_terms.FrameFault.{FrameFault}
+use Rattle.lone_laws.proofs.Words.{AreTables-close, AreTables-none, AtEachLoneEvent, AtEachNoted, AtEnd, Bool, Command, Commits, Control, Core, Deed, Desk, End}
+use Rattle.lone_laws.proofs.Words.{Entry, ErrorCount, FetchMessage, FrameComes, FrameIsRefused, HciTables, HearsFirstAlone, Hold, IsAscending, IsCommand}
+use Rattle.lone_laws.proofs.Words.{IsDueAlone, IsFirstThere, IsHeldAlone, IsNoBoot, IsRepliedAlone, IsResetAlone, JoinTwo, JoinTwo-after, JoinTwo-closed, Lasts}
+use Rattle.lone_laws.proofs.Words.{LinkInput, List, Lone, LoneCause, LoneEvent, Memory, NodeInput, Port, Running, Sends, TimePasses, Turn, TurnsAscendAlone}
+use Rattle.lone_laws.proofs.Words.{Work, [], after_sessions, all_come, all_owed, anyone, ap, applied, apply, ap₂, arith, body_of, boot_writes, by_option}
+use Rattle.lone_laws.proofs.Words.{by_test, changed_if, close, command_of, command_read, commit_writes, cond, cons_option, deed_notes, does_by_power, done}
+use Rattle.lone_laws.proofs.Words.{emits_behind, end_of_node, entries_of_events_alone, eqb, errors_found, fails_within, false, flat_map, fold, fold-append}
+use Rattle.lone_laws.proofs.Words.{forgets, forgotten, found, frames_behind, goes_through_end, holds_after, if◌then◌else◌, is_answer_of, is_at_rest, is_cut_of}
+use Rattle.lone_laws.proofs.Words.{is_done_alone, is_left_lacking, is_short_alone, keeps, link_of_turn, list_any, lone_arrival, lone_behind_step, lone_booted}
+use Rattle.lone_laws.proofs.Words.{lone_end, lone_events, lone_input, lone_step, lone_work, loses_power, lost_as, lpdu_of, map, new_desk, new_sound, no_tables}
+use Rattle.lone_laws.proofs.Words.{node_input, node_of, noted_by_deed, noted_of, noted_of_refused, noting, oldest, option_map_or, port_at, records, refl}
+use Rattle.lone_laws.proofs.Words.{rest_lasts, role_alone, runs_behind, same_end_itself, spelled_by, steps, subst, sym, synced, tables_of, times_out, true}
+use Rattle.lone_laws.proofs.Words.{true≢false, turn_at, turn_link, unhandled_after, was_refused, with_error, with_refusal, without_notice, ℕ, ◌&&◌, ◌++◌, ◌==◌}
+use Rattle.lone_laws.proofs.Words.{◌||◌, ◌∙◌, ◌∷◌, ◌≡◌, ◌≤◌}
 use Rattle.link_laws.specs.messages.Links.Loss.{Broken}
-use Rattle.lone_laws.proofs.answered.Mine.{cut_same, due_is, own_behind, replied_is, step_own}
-use Rattle.lone_laws.proofs.answered.Reading.{eqb_same}
-use Rattle.lone_laws.proofs.answered.Lasting.{LoneKeeps, IfKeeps, step_is, keeps_step}
-use Rattle.lone_laws.proofs.answered.Events.{at_each, none_at}
-use Rattle.lone_laws.proofs.answered.Powers.{cut_noted, any_more}
-use Rattle.lone_laws.proofs.answered.Ordered.{OrderAt, begin_read, ended, at_rest, at_own_end, in_order, order_silent}
-use Rattle.lone_laws.proofs.answered.Sessions.{no_session_now, Reads, reads_silent}
-use Rattle.lone_laws.proofs.answered.Talking.{talk_of_side}
-use Rattle.lone_laws.proofs.answered.Errors.{errs_all, errs-append}
-use Rattle.lone_laws.proofs.answered.Answering.{replied_silent, answered_in_step}
-use Rattle.lone_laws.proofs.answered.Keeping.{core_of, errors_of, KeepsAll, all_passing, keeps_behind}
-use Rattle.lone_laws.proofs.answered.Shorting.{short_behind}
+use Rattle.node_laws.proofs.worlds.Late.{AreUnanswered, AreUnheard, IsParted, first_heard, parted_for, step_parted}
+use Rattle.swp_base.specs.declared.link_terms.FrameFault.{FrameFault}
+use Rattle.lone_laws.proofs.answered.Answering.{answered_in_step, replied_silent}
 use Rattle.lone_laws.proofs.answered.Dues.{due_in_step}
+use Rattle.lone_laws.proofs.answered.Replied.{errs-append, errs_all}
+use Rattle.lone_laws.proofs.answered.Knowing.{IfKeeps, IsAtEnd, LoneKeeps, OrderAt, are_in_turn, at_each, at_own_end, at_rest, begin_read, ended, in_order}
+use Rattle.lone_laws.proofs.answered.Knowing.{keeps_step, none_at, order_silent, step_is}
+use Rattle.lone_laws.proofs.answered.Keeping.{KeepsAll, all_passing, core_of, errors_of, keeps_behind}
+use Rattle.lone_laws.proofs.answered.Replying.{cut_same, due_is, is_own_cut, own_behind, replied_is, step_own}
+use Rattle.lone_laws.proofs.answered.Reading.{eqb_same}
 use Rattle.lone_laws.proofs.answered.Resets.{reset_in_step}
-use Rattle.lone_laws.proofs.answered.Queued.{are_in_turn}
-use Rattle.lone_laws.proofs.answered.Rising.{heard_in_step, own_ascend}
+use Rattle.lone_laws.proofs.answered.Talking.{Reads, no_session_now, reads_silent, talk_of_side}
+use Rattle.lone_laws.proofs.answered.Shorting.{short_behind}
+use Rattle.swp_base.specs.declared.link_terms.FrameFault.TheVariants as fault
+use Rattle.trace_model.specs.declared.entry.Entry.TheVariants as entry
+
+-- ## A node that has lost its power in a step has noted it
+
+-- where its power has gone, that was noted
+abbrev IsCutNoted : Work → Type 0
+IsCutNoted w = w.cut ≡ true → list_any is_own_cut w.entries ≡ true
+
+or_still : (c r s : Bool) → (r ≡ true → s ≡ true) → (c || r) ≡ true → (c || s) ≡ true
+or_still true r s f q = refl
+or_still false r s f q = f q
+
+or_right : (c s : Bool) → s ≡ true → (c || s) ≡ true
+or_right true s q = refl
+or_right false s q = q
+
+any_more : (a b : List Entry) → list_any is_own_cut a ≡ true → list_any is_own_cut (a ++ b) ≡ true
+any_more [] b q = absurd (true≢false (sym q))
+any_more (x ∷ a) b q = or_still (is_own_cut x) (list_any is_own_cut a) (list_any is_own_cut (a ++ b)) (any_more a b) q
+
+any_behind : (a b : List Entry) → list_any is_own_cut b ≡ true → list_any is_own_cut (a ++ b) ≡ true
+any_behind [] b q = q
+any_behind (x ∷ a) b q = or_right (is_own_cut x) (list_any is_own_cut (a ++ b)) (any_behind a b q)
+
+noting_noted : (es : List Entry) (w : Work) → IsCutNoted w → IsCutNoted (noting es w)
+noting_noted es w a q = any_more w.entries es (a q)
+
+turn_noted : (h : ℕ) (x : Turn) (w : Work) → IsCutNoted w → IsCutNoted (turn_at h x w)
+turn_noted h x w a q = any_more w.entries (option_map_or (noted_of w.core x) (port_at w.ports h) []) (a q)
+
+-- more is noted, and the power stays as it is
+more_noted : (w v : Work) (es : List Entry) → v.cut ≡ w.cut → v.entries ≡ w.entries ++ es → IsCutNoted w → IsCutNoted v
+more_noted w v es cut entries a q = subst (λ l. list_any is_own_cut l ≡ true) (sym entries) (any_more w.entries es (a (sym cut ∙ q)))
+
+deed_noted : (h : ℕ) (d : Deed) (w : Work) → (done h d w).cut ≡ w.cut → IsCutNoted w → IsCutNoted (done h d w)
+deed_noted h d w cut a = more_noted w (done h d w) (noted_by_deed h d w) cut (deed_notes h d w) a
+
+cut_deed : (h : ℕ) (d : Deed) (w : Work) → Unit {0} → IsCutNoted w → IsCutNoted (done h d w)
+cut_deed h (Commits c) w may a = by_test (fails_within (length (commit_writes w.core.journal w.core.tables (body_of c))) w.plan)
+    (λ is. rw is (λ q. any_behind (w.entries ++ entry.Command w.core.node c ∷ []) (entry.Cut w.core.node ∷ []) refl))
+    (λ is. rw is (more_noted w (by false) (entry.Command w.core.node c ∷ []) refl refl a)) where
+      begun : Work
+      begun = noting (entry.Command w.core.node c ∷ []) w
+
+      by : Bool → Work
+      by true = loses_power (commit_writes w.core.journal w.core.tables (body_of c)) begun
+      by false = keeps c (commit_writes w.core.journal w.core.tables (body_of c)) begun
+cut_deed h (Sends to m) w may a = deed_noted h (Sends to m) w refl a
+cut_deed h d w may a = deed_noted h d w refl a
+
+cut_lasts : Lasts IsCutNoted (λ d. Unit {0}) (λ h m. Unit {0})
+cut_lasts = record {
+  does = cut_deed;
+  turn_told = λ h m w c a. noting_noted (entry.Turn (end_of_node w.core h) m.0 m.1 ∷ []) w a;
+  held_told = λ h need spare w a. noting_noted (entry.Held (end_of_node w.core h) need spare ∷ []) w a;
+  fetched = λ h w a. turn_noted h FetchMessage w a;
+  held = λ h flag w a. turn_noted h (Hold flag) w a;
+  marked = λ h flag w a q. a q;
+  come = λ h w a. anyone (λ m. Unit {0}) (λ m. tt) _;
+  causes = λ h m w c a. anyone (λ d. Unit {0}) (λ d. tt) _;
+}
+
+-- So it is behind each step of a node whose power was on.
+cut_noted : (input : NodeInput) (w : Work) → w.cut ≡ false → IsCutNoted (steps input w)
+cut_noted input w on =
+    let came : Work = times_out input (all_come input w) in
+    let left : List Port = map (forgets came.ports) came.ports in
+    rest_lasts IsCutNoted (λ d. Unit {0}) (λ h m. Unit {0}) cut_lasts (forgotten came.ports) (flat_map (synced w.core input) w.ports) (all_owed left)
+    (record came { core = after_sessions came.core came.ports; ports = map without_notice left })
+    (anyone (λ d. Unit {0}) (λ d. tt) _) (anyone (λ d. Unit {0}) (λ d. tt) _) (anyone (λ d. Unit {0}) (λ d. tt) _)
+    (λ q. absurd (true≢false (sym q ∙ still input)))
+  where
+    still : (input : NodeInput) → (times_out input (all_come input w)).cut ≡ false
+    still (AtEnd k i) = on
+    still TimePasses = on
+
+-- ## In an event of a node alone turns stand in the order of their links, since it has one, and nothing comes behind an answer
+
+-- ### Turns
+
+above : (k : ℕ) (ks : List ℕ) (x : ℕ) → x ≡ k → AllByRecursion (λ j. j ≡ k) ks → AllByRecursion (λ j. x ≤ j) ks
+above k [] x is all = tt
+above k (j ∷ ks) x is all = let same = all.0 in (omega (arith, is, same), above k ks x is all.1)
+
+same_ascend : (k : ℕ) (ks : List ℕ) → AllByRecursion (λ j. j ≡ k) ks → IsAscending ks
+same_ascend k [] all = tt
+same_ascend k (j ∷ ks) all = (above k ks j all.0 all.1, same_ascend k ks all.1)
+
+links_are : (n : ℕ) (e : End) (es : List Entry) → ((front behind : List Entry) (x : Entry) → es ≡ front ++ (x ∷ behind) → IsAtEnd e x)
+    → AllByRecursion (λ k. k ≡ e.link) (filter_map (turn_link n) es)
+links_are n e [] each = tt
+links_are n e (x ∷ es) each = one x (each [] es x refl) (links_are n e es (λ f b y q. each (x ∷ f) b y (ap (λ l. x ∷ l) q))) where
+  at : (f : End) → f ≡ e → AllByRecursion (λ k. k ≡ e.link) (filter_map (turn_link n) es)
+      → AllByRecursion (λ k. k ≡ e.link) (cons_option (if node_of f == n then Some f.link else None) (filter_map (turn_link n) es))
+  at f is later = by_test (node_of f == n) (λ q. rw q (ap (λ (g : End). g.link) is, later)) (λ q. rw q later)
+
+  one : (x : Entry) → IsAtEnd e x → AllByRecursion (λ k. k ≡ e.link) (filter_map (turn_link n) es)
+      → AllByRecursion (λ k. k ≡ e.link) (filter_map (turn_link n) (x ∷ es))
+  one (entry.Turn f pid message) is later = at f is later
+  one (entry.Held f need spare) is later = at f is later
+  one x is later = later
+
+-- where each is at one end
+own_ascend : (e : End) (es : List Entry) → ((front behind : List Entry) (x : Entry) → es ≡ front ++ (x ∷ behind) → IsAtEnd e x) → (n : ℕ)
+    → IsAscending (filter_map (turn_link n) es)
+own_ascend e es each n = same_ascend e.link (filter_map (turn_link n) es) (links_are n e es each)
+
+-- ### What comes
+
+arrival_unanswered : (l : Lone) (c : LoneCause) → AreUnanswered (lone_arrival l c)
+arrival_unanswered l (FrameComes bytes) = (refl, tt)
+arrival_unanswered l _ = tt
+
+emits_unheard : (e : End) (frames : List Control) → AreUnheard (map (λ c. entry.Emit e (lpdu_of c)) frames)
+emits_unheard e [] = tt
+emits_unheard e (c ∷ frames) = (refl, emits_unheard e frames)
+
+-- in a step whose frames go out
+heard_in_step : (l : Lone) (c : LoneCause) (input : NodeInput) (w : Work) → w.entries ≡ lone_arrival l c → (e : End) (frames : List Control)
+    → (front behind : List Entry) (x : Entry) → (steps input w).entries ++ map (λ c. entry.Emit e (lpdu_of c)) frames ≡ front ++ (x ∷ behind)
+    → HearsFirstAlone x behind
+heard_in_step l c input w begins e frames front behind x q n =
+    let emits : List Entry = map (λ c. entry.Emit e (lpdu_of c)) frames in
+    let parted : IsParted ((steps input w).entries ++ emits) =
+    step_parted input w emits (subst AreUnanswered (sym begins) (arrival_unanswered l c)) (emits_unheard e frames) in
+    first_heard n ((steps input w).entries ++ emits) front behind x (parted_for n ((steps input w).entries ++ emits) parted) q
+
+-- ## Every history of a node alone answers as is read
 
 is_first : (t : List Entry) (x : Entry) (behind : List Entry) → OrderAt t x behind → IsFirstThere t x
 is_first t (entry.Turn f pid message) behind a = a
 is_first t _ behind a = tt
 
--- ## What holds of an event
+-- ### What holds of an event
 
 pub record EventFacts (F : Core) (h : ℕ) (t : List Entry) (o : LoneEvent) : Type 0 where
   pub turns : (front behind : List Entry) (x : Entry) → o.entries ≡ front ++ (x ∷ behind)
@@ -68,7 +196,7 @@ not_true : (b : Bool) → not b ≡ true → b ≡ true → ⊥
 not_true true q r = true≢false (sym q)
 not_true false q r = true≢false (sym r)
 
--- ## A step
+-- ### A step
 
 module _ (rest : Core) (t : List Entry) (l : Lone) (some : 1 ≤ l.link) (most : l.link ≤ 7) (its : eqb l.number 0 ≡ false → l.number ≡ l.link) (n : Running)
     (on : l.node ≡ Some n) (k : KeepsAll rest t l n) (c : LoneCause) (i : LinkInput) (comes : lone_input c ≡ Some i) where
@@ -120,7 +248,7 @@ module _ (rest : Core) (t : List Entry) (l : Lone) (some : 1 ≤ l.link) (most :
       absurd (cc gone))
       (λ z. z)
 
-  pub input_step : EventFacts G l.link t (record { cause = c; entries = (lone_step l c).1 })
+  input_step : EventFacts G l.link t (record { cause = c; entries = (lone_step l c).1 })
       × ((m : Running) → (lone_step l c).0.node ≡ Some m → KeepsAll rest (t ++ (lone_step l c).1) (lone_step l c).0 m)
       × ((m : Running) → (lone_step l c).0.node ≡ Some m → is_at_rest (lone_end (lone_step l c).0) (t ++ (lone_step l c).1) ≡ true)
       × ((lone_step l c).0.number ≡ l.number) × ((lone_step l c).0.link ≡ l.link)
@@ -141,7 +269,7 @@ module _ (rest : Core) (t : List Entry) (l : Lone) (some : 1 ≤ l.link) (most :
         refl,
       )
 
--- ## A frame that is refused
+-- ### A frame that is refused
 
 refused_true : (f : FrameFault) → was_refused (lost_as (Broken f)) ≡ true
 refused_true (fault.Length bits) = refl
@@ -205,7 +333,7 @@ module _ (rest : Core) (t : List Entry) (l : Lone) (n : Running) (on : l.node �
         (subst (AllByRecursion (λ y. is_answer_of n y ≡ false)) q (refl, tt))));
   }
 
-  pub refused_step : 1 ≤ l.link → l.link ≤ 7 → is_at_rest e t ≡ true
+  refused_step : 1 ≤ l.link → l.link ≤ 7 → is_at_rest e t ≡ true
       → EventFacts J l.link t (record { cause = FrameIsRefused f; entries = (lone_step l (FrameIsRefused f)).1 })
       × ((m : Running) → (lone_step l (FrameIsRefused f)).0.node ≡ Some m
       → KeepsAll rest (t ++ (lone_step l (FrameIsRefused f)).1) (lone_step l (FrameIsRefused f)).0 m)
@@ -229,7 +357,7 @@ module _ (rest : Core) (t : List Entry) (l : Lone) (n : Running) (on : l.node �
         refl,
       )
 
--- ## Each event
+-- ### Each event
 
 module _ (rest : Core) (number h : ℕ) (some : 1 ≤ h) (most : h ≤ 7) (its : eqb number 0 ≡ false → number ≡ h) where
   abbrev F : Core
@@ -267,11 +395,11 @@ module _ (rest : Core) (number h : ℕ) (some : 1 ≤ h) (most : h ≤ 7) (its :
       by_cause (FrameIsRefused f) q = refused_step rest t l n on (b.all n on) f some_l most_l (b.rests n on)
       by_cause _ q = absurd (cc q)
 
-  pub each_event : (causes : List LoneCause) (t : List Entry) (l : Lone) → Between rest number h t l
+  each_event : (causes : List LoneCause) (t : List Entry) (l : Lone) → Between rest number h t l
       → (past back : List LoneEvent) (o : LoneEvent) → lone_events l causes ≡ past ++ (o ∷ back) → EventFacts F h (t ++ entries_of_events_alone past) o
   each_event causes t l b = at_each (EventFacts F h) (Between rest number h) each_step causes t l b
 
--- ## The beginning
+-- ### The beginning
 
 fine_one : (t : HciTables) (o : Option Command) → ((c : Command) → o ≡ Some c → IsCommand c) → AreTables t × JoinTwo t.rows
     → AreTables (option_map_or (apply t) o t) × JoinTwo (option_map_or (apply t) o t).rows
@@ -341,30 +469,30 @@ module _ (number h : ℕ) (some : 1 ≤ h) (most : h ≤ 7) (its : eqb number 0 
   pub begin_between : Between booted_core number h [] l
   begin_between = record { number_is = refl; link_is = refl; all = begin_all; rests = λ n on. refl }
 
-  pub lone_facts : (causes : List LoneCause) (past back : List LoneEvent) (o : LoneEvent) → lone_events l causes ≡ past ++ (o ∷ back)
+  lone_facts : (causes : List LoneCause) (past back : List LoneEvent) (o : LoneEvent) → lone_events l causes ≡ past ++ (o ∷ back)
       → EventFacts booted_core h (entries_of_events_alone past) o
   lone_facts causes = each_event booted_core number h some most its causes [] l begin_between
 
-  pub lone_replied : (causes : List LoneCause) → AtEachNoted (lone_events l causes) (IsRepliedAlone booted_core h)
+  lone_replied : (causes : List LoneCause) → AtEachNoted (lone_events l causes) (IsRepliedAlone booted_core h)
   lone_replied causes past back o front behind x q z = ((lone_facts causes past back o q).turns front behind x z).0
 
-  pub lone_held : (causes : List LoneCause) → AtEachNoted (lone_events l causes) (IsHeldAlone booted_core h)
+  lone_held : (causes : List LoneCause) → AtEachNoted (lone_events l causes) (IsHeldAlone booted_core h)
   lone_held causes past back o front behind x q z = ((lone_facts causes past back o q).turns front behind x z).1
 
-  pub lone_done : (causes : List LoneCause) → AtEachLoneEvent (lone_events l causes) (λ t o. is_done_alone booted_core h t o ≡ true)
+  lone_done : (causes : List LoneCause) → AtEachLoneEvent (lone_events l causes) (λ t o. is_done_alone booted_core h t o ≡ true)
   lone_done causes past back o q = (lone_facts causes past back o q).done
 
-  pub lone_short : (causes : List LoneCause) → AtEachLoneEvent (lone_events l causes) (λ t o. is_short_alone booted_core h t o ≡ true)
+  lone_short : (causes : List LoneCause) → AtEachLoneEvent (lone_events l causes) (λ t o. is_short_alone booted_core h t o ≡ true)
   lone_short causes past back o q = (lone_facts causes past back o q).short
 
-  pub lone_reset : (causes : List LoneCause) → AtEachLoneEvent (lone_events l causes) (IsResetAlone booted_core h)
+  lone_reset : (causes : List LoneCause) → AtEachLoneEvent (lone_events l causes) (IsResetAlone booted_core h)
   lone_reset causes past back o q = (lone_facts causes past back o q).reset
 
-  pub lone_in_turn : (causes : List LoneCause) → AreInTurn (entries_of_events_alone (lone_events l causes))
+  lone_in_turn : (causes : List LoneCause) → AreInTurn (entries_of_events_alone (lone_events l causes))
   lone_in_turn causes =
       are_in_turn (lone_events l causes) (λ past back o front behind x q z. (lone_facts causes past back o q).first front behind x z)
 
-  pub lone_due : (causes : List LoneCause) → AtEachLoneEvent (lone_events l causes) (IsDueAlone booted_core h)
+  lone_due : (causes : List LoneCause) → AtEachLoneEvent (lone_events l causes) (IsDueAlone booted_core h)
   lone_due causes past back o q = (lone_facts causes past back o q).due
 
   -- Every message that comes to a node alone is answered, and nothing else is.

@@ -1,4 +1,4 @@
-use Rattle.lone_laws.proofs.answered.Ready.{counts_all, finds_same, is_ready}
+use Rattle.lone_laws.proofs.answered.Runs.{counts_all, finds_same, is_ready}
 use Rattle.lone_laws.proofs.answers_alone.a_boot_makes_a_memory_ready.Goals as goal
 
 pub returns-clause-ready : goal.returns-clause-ready

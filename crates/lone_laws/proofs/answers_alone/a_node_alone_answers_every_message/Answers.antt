@@ -1,4 +1,4 @@
-use Rattle.lone_laws.proofs.answered.Ended.{end_answered}
+use Rattle.lone_laws.proofs.answered.Runs.{end_answered}
 use Rattle.lone_laws.proofs.answered.Whole.{lone_answered}
 use Rattle.lone_laws.proofs.answers_alone.a_node_alone_answers_every_message.Goals as goal
 

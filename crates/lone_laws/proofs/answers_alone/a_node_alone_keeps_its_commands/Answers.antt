@@ -1,5 +1,4 @@
-use Rattle.lone_laws.proofs.answered.Ended.{end_held}
-use Rattle.lone_laws.proofs.answered.Runs.{run_held}
+use Rattle.lone_laws.proofs.answered.Runs.{end_held, run_held}
 use Rattle.lone_laws.proofs.answers_alone.a_node_alone_keeps_its_commands.Goals as goal
 
 pub returns-clause-held : goal.returns-clause-held
