@@ -1,4 +1,2 @@
-pub mod Settling
 pub mod RoundCauses
-pub mod AnyHost
 pub mod Examples

@@ -1,10 +1,3 @@
 pub mod Resting
-pub mod Sessions
-pub mod Nodes
-pub mod Occurring
-pub mod Bare
-pub mod BareNoted
 pub mod NotedQuiet
-pub mod Played
 pub mod Examples
-pub mod Bringing

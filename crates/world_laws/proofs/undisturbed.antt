@@ -1,17 +1,6 @@
-pub mod Losing
-pub mod Events
-pub mod Begun
 pub mod Runs
-pub mod Noted
-pub mod Ready
-pub mod Causes
-pub mod Busy
 pub mod Bare
-pub mod Taking
-pub mod Ticking
-pub mod NodeRounds
 pub mod Nodes
-pub mod Steps
 pub mod Holding
 pub mod Keeping
 pub mod Unheld

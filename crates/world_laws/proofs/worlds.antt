@@ -1,12 +1,4 @@
-pub mod WorldRest
 pub mod Endings
-pub mod Rounds
-pub mod WorldLaw
 pub mod WorldRounds
-pub mod Replayed
-pub mod TakenInRounds
-pub mod CausesOfRounds
-pub mod FewOnWires
 pub mod FewCauses
 pub mod Examples
-pub mod NotedFragments

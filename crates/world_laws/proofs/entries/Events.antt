@@ -1,26 +1,236 @@
--- What is noted of each event of a link, and of a whole run, holds the frames that are sent then and the messages that come.
-use Rattle.world_laws.proofs.Words.{Activate, AllAllowed, AllKeepPower, AtController, AtHost, Bare, Bool, CanStart, Control, Controller, CoreAtController}
-use Rattle.world_laws.proofs.Words.{CoreAtHost, CoreEndEvent, CoreLink, CoreLinkEvent, CoreTick, CoreTickWithout, CoreTurn, EndEvent, EndStep, GoesOut, Good}
-use Rattle.world_laws.proofs.Words.{HasItsTick, Host, IsAllowed, IsBare, IsEvent, IsLine, IsNode, IsStart, IsUicc, Link, LinkEnd, LinkEvent, List, Node}
-use Rattle.world_laws.proofs.Words.{NoneIsCut, NumberedEnd, Option, Reached, Role, SafeLink, Starts, StartsSo, Ticks, TicksWithout, [], aged, aged_entries}
-use Rattle.world_laws.proofs.Words.{all_at_controller, all_here-append, all_step, allowed, ap, append_assoc, can_start, clf_starts, core_after, core_aged}
+-- What is noted of ticks, of each event and of a whole run holds the frames that are sent then and the messages that come.
+use Rattle.std.specs.Prelude.{is_some}
+use Rattle.world_laws.proofs.Words.{ActTick, Activate, Activation, AllAllowed, AllKeepPower, AreOwn, AreSendableTurns, AtController, AtHost, Bare, Bool}
+use Rattle.world_laws.proofs.Words.{CanStart, Control, Controller, CoreActs, CoreAreTurns, CoreAtController, CoreAtHost, CoreEndEvent, CoreLink, CoreLinkEvent}
+use Rattle.world_laws.proofs.Words.{CoreTick, CoreTickWithout, CoreTurn, CutOff, EndEvent, EndState, EndStep, Ending, GoesOut, Good, HasItsTick, HasTick, Host}
+use Rattle.world_laws.proofs.Words.{IsAllowed, IsBare, IsDown, IsEvent, IsLine, IsNode, IsOwn, IsStart, IsUicc, Link, LinkEnd, LinkEvent, List, Lose, Mid, Node}
+use Rattle.world_laws.proofs.Words.{None, NoneIsCut, Now, NumberedEnd, Option, Reached, Rests, Role, SafeLink, Some, Starts, StartsSo, Step, Tells, Ticks}
+use Rattle.world_laws.proofs.Words.{TicksWithout, Turn, Turns, [], act_answer, act_mid, activated, after_input, aged, aged_entries, all_at_controller}
+use Rattle.world_laws.proofs.Words.{all_here-append, all_step, allowed, ap, append-nil, append_assoc, by_test, can_start, clf_starts, core_after, core_aged}
 use Rattle.world_laws.proofs.Words.{core_all, core_all_here, core_event, core_events, core_exchanged, core_happens, core_happens_here, core_here, core_of}
-use Rattle.world_laws.proofs.Words.{core_starts, core_tick, core_tick_rest, core_ticks_if_waiting, core_ticks_or_cut, emitted, emitted_event, emitted_here}
-use Rattle.world_laws.proofs.Words.{emitted_if_waiting, emitted_tick, emitted_turns, entries, entries_of_events, event_entries, event_step, exchanged, false}
-use Rattle.world_laws.proofs.Words.{first_entries, frames_by, frames_heard, from_controller, from_host, got, got_event, got_here, got_turns, gots_noted}
-use Rattle.world_laws.proofs.Words.{happens, happens_at_controller, here_entries, inl, inr, is_bare, lpdus_heard, map, reached_more, refl, reports_to}
-use Rattle.world_laws.proofs.Words.{rest_both, rests_of, safe_aged, safe_exchanged, safe_reached, safe_turns, seen, start_good, start_reached, started_clf}
-use Rattle.world_laws.proofs.Words.{step_own, step_tick, subst, sym, tapped, tapped_lpdus, tells_same, tick_entries, tick_if_waiting, tick_or_cut}
-use Rattle.world_laws.proofs.Words.{ticks_at_controller, trace, true, ◌++◌, ◌∙◌, ◌∷◌, ◌≡◌}
-use Rattle.link_laws.specs.entries.Entries.{Entry}
+use Rattle.world_laws.proofs.Words.{core_starts, core_tick, core_tick_rest, core_tick_rests, core_ticks_here, core_ticks_if_waiting, core_ticks_or_cut}
+use Rattle.world_laws.proofs.Words.{core_turned, core_turns, emitted, emitted_event, emitted_here, emitted_if_waiting, emitted_tick, emitted_turns, ended_by}
+use Rattle.world_laws.proofs.Words.{entries, entries_of_events, event_entries, event_step, exchanged, false, first_entries, frames_by, frames_heard, frames_now}
+use Rattle.world_laws.proofs.Words.{frames_of, frames_out, from_controller, from_host, got, got_event, got_here, got_turns, gots_noted, happens}
+use Rattle.world_laws.proofs.Words.{happens_at_controller, here_entries, inl, inr, is_bare, is_clf, is_open, lpdus_heard, map, map-append, mid_moved}
+use Rattle.world_laws.proofs.Words.{most_frames, moved, opened, option_to_list, own_here, own_turns, reached_more, refl, reports_to, rest_both, rest_entries}
+use Rattle.world_laws.proofs.Words.{rests, rests_of, safe_aged, safe_exchanged, safe_reached, safe_turns, seen, sent_then, shdlc_moved, start_good}
+use Rattle.world_laws.proofs.Words.{start_reached, started_clf, step_own, step_tick, subst, sym, tapped, tapped_lpdus, tells_same, tick_answer, tick_closed}
+use Rattle.world_laws.proofs.Words.{tick_closes, tick_entries, tick_if_waiting, tick_open, tick_or_cut, tick_role, ticked, ticked_keeps, ticks_at_controller}
+use Rattle.world_laws.proofs.Words.{told_of, trace, true, true≢false, turned, turns_mid, with_ended, ℕ, ◌++◌, ◌∙◌, ◌∷◌, ◌≡◌}
+use Rattle.link_laws.specs.entries.Entries.{End, Entry}
 use Rattle.link_laws.specs.entries.Entries.Entry.{Tick}
+use Rattle.link_laws.specs.sessions.Sessions.ShdlcEndEvent.{Cut, Reset, Stop}
+use Rattle.world_laws.proofs.entries.Noting.{NoCut, Notes, StepNotes, cut_noted, here_notes, no_cut_parts, notes_input, notes_then, own_notes, silent_aged}
+use Rattle.world_laws.proofs.entries.Noting.{silent_none}
+use Rattle.world_laws.proofs.entries.Sending.{AreWritten, BothWritten, all_read, both-append, both_by, out_is, out_written, written-append}
 use Rattle.world_laws.proofs.fragments.Runs.{reported}
-use Rattle.world_laws.proofs.entries.Reading.{AreWritten, written-append, BothWritten, both-append, both_by, all_read}
-use Rattle.world_laws.proofs.entries.Noting.{Notes, notes_then, silent_none, silent_aged, NoCut, no_cut_parts, here_notes}
-use Rattle.world_laws.proofs.entries.Ticking.{turns-append, frames_by-append, reports_to-append, power-append, turns_bring_none, all_notes, TickNotes}
-use Rattle.world_laws.proofs.entries.Ticking.{tick_notes, tick_power}
 
--- ## Lists of events over fragments
+-- ## What is noted of a tick, and of what a node does in it, holds the frames that are sent then
+
+-- ### Lists of events
+
+turns-append : (c : CoreLink) (es fs : List CoreEndEvent) → emitted_turns c (es ++ fs) ≡ emitted_turns c es ++ emitted_turns (core_all_here c es) fs
+turns-append c [] fs = refl
+turns-append c (e ∷ es) fs =
+    let d : CoreLink = core_happens_here c e in
+    ap (λ z. emitted_here c e ++ z) (turns-append d es fs)
+    ∙ sym (append_assoc (emitted_here c e) (emitted_turns d es) (emitted_turns (core_all_here d es) fs))
+
+got-append : (c : CoreLink) (es fs : List CoreEndEvent) → got_turns c (es ++ fs) ≡ got_turns c es ++ got_turns (core_all_here c es) fs
+got-append c [] fs = refl
+got-append c (e ∷ es) fs =
+    let d : CoreLink = core_happens_here c e in
+    ap (λ z. got_here c e ++ z) (got-append d es fs) ∙ sym (append_assoc (got_here c e) (got_turns d es) (got_turns (core_all_here d es) fs))
+
+frames_by-append : (b : Bool) (cs ds : List Control) → frames_by b (cs ++ ds) ≡ frames_by b cs ++ frames_by b ds
+frames_by-append b cs ds = map-append (λ c. (b, c)) cs ds
+
+reports_to-append : (b : Bool) (ms ns : List (ℕ × ℕ × List ℕ)) → reports_to b (ms ++ ns) ≡ reports_to b ms ++ reports_to b ns
+reports_to-append b ms ns = map-append (λ m. record { to_clf = b; session = m.0; pipe = m.1; body = m.2 }) ms ns
+
+power-append : (es fs : List CoreEndEvent) → AllKeepPower es → AllKeepPower fs → AllKeepPower (es ++ fs)
+power-append [] fs a b = b
+power-append (e ∷ es) fs a b = (a.0, power-append es fs a.1 b)
+
+-- a node's turns bring no message
+turns_bring_none : (es : List CoreEndEvent) (c : CoreLink) → CoreAreTurns es → got_turns c es ≡ []
+turns_bring_none [] c a = refl
+turns_bring_none (Turns ts ∷ es) c a = turns_bring_none es (core_happens_here c (Turns ts)) a.1
+turns_bring_none (CoreActs acts ts ∷ es) c a = turns_bring_none es (core_happens_here c (CoreActs acts ts)) a.1
+turns_bring_none (Reset w ts ∷ es) c a = turns_bring_none es (core_happens_here c (Reset w ts)) a.1
+turns_bring_none (Cut ∷ es) c a = turns_bring_none es (core_happens_here c Cut) a.1
+turns_bring_none (Stop ∷ es) c a = turns_bring_none es (core_happens_here c Stop) a.1
+turns_bring_none (_ ∷ es) c a = absurd a.0
+
+-- ### What a node does in a tick
+
+all_notes : {kf : ℕ} (who : End) (es : List EndEvent) (l : Link) → AreOwn l es → Tells l.controller → SafeLink 0 kf (core_of l)
+    → NoCut (entries_of_events who l es) → StepNotes who l (core_all l es) (entries_of_events who l es)
+all_notes who [] l a h s q = record { notes = record { frames = refl; gots = refl }; power = tt; written = tt }
+all_notes {kf} who (e ∷ es) l a h s q =
+    let b : Bool = is_clf who in
+    let rest : Rests l.controller.side.shdlc = rests_of 0 kf (core_of l) s in
+    let step = own_here l e a.0 a.1 h rest in
+    let m : Link = happens_at_controller l e in
+    let t : List Entry = here_entries who l e in
+    let u : List Entry = entries_of_events who m es in
+    let parts = no_cut_parts t u q in
+    let P : CoreLink → Type 0 = λ c. SafeLink 0 kf c in
+    let turns = own_turns l e rest a.0 a.1 in
+    let one = first e a.0 a.1 parts.0 in
+    let more = all_notes {kf = kf} who es m a.2 step.tells (subst P (sym step.core) (safe_turns kf (core_here l e) (core_of l) turns s)) parts.1 in
+    let fs = emitted_turns (core_of l) (core_here l e) in
+    let gs = got_turns (core_of l) (core_here l e) in
+    let n = notes_then t u (frames_by b fs) (frames_by b (emitted_turns (core_of m) (core_all m es))) (reports_to b gs)
+    (reports_to b (got_turns (core_of m) (core_all m es))) one.notes more.notes in
+    record {
+      notes = record {
+        frames = n.frames ∙ (sym (frames_by-append b fs (emitted_turns (core_of m) (core_all m es)))
+            ∙ ap (frames_by b) (ap (λ c. fs ++ emitted_turns c (core_all m es)) step.core ∙ sym (turns-append (core_of l) (core_here l e) (core_all m es))));
+        gots = n.gots ∙ (sym (reports_to-append b gs (got_turns (core_of m) (core_all m es)))
+            ∙ ap (reports_to b) (ap (λ c. gs ++ got_turns c (core_all m es)) step.core ∙ sym (got-append (core_of l) (core_here l e) (core_all m es))));
+      };
+      power = power-append (core_here l e) (core_all m es) one.power more.power;
+      written = subst AreWritten (ap (λ c. fs ++ emitted_turns c (core_all m es)) step.core ∙ sym (turns-append (core_of l) (core_here l e) (core_all m es)))
+          (written-append fs (emitted_turns (core_of m) (core_all m es)) one.written more.written);
+    }
+  where
+    first : (e : EndEvent) → IsOwn e → IsAllowed l e → NoCut (here_entries who l e) → StepNotes who l (core_here l e) (here_entries who l e)
+    first (Lose why) o i p = absurd o
+    first (Step comes ts ending) o i p = own_notes who l comes ts ending o i.1.0 h p
+
+-- ### A tick
+
+-- what is noted of the tick of the controller's end
+record TickNotes (who : End) (l : Link) (node : Node) : Type 0 where
+  pub ends : node.ending ≡ GoesOut
+  pub notes : Notes (tick_entries who l node) (frames_by (is_clf who) (emitted_tick (core_of l) (core_tick l.controller.side node.turns node.ending)
+      ++ emitted_turns (core_ticks_or_cut (core_tick l.controller.side node.turns node.ending) (core_of l))
+      (core_tick_rest l.controller.side node.turns node.ending))) []
+  pub written : AreWritten (emitted_tick (core_of l) (core_tick l.controller.side node.turns node.ending)
+      ++ emitted_turns (core_ticks_or_cut (core_tick l.controller.side node.turns node.ending) (core_of l))
+      (core_tick_rest l.controller.side node.turns node.ending))
+
+tick_sends : (who : End) (l : Link) (ts : List Turn) → AreSendableTurns ts → Tells l.controller → Rests l.controller.side.shdlc
+    → (emitted_tick (core_of l) (core_tick l.controller.side ts GoesOut)
+    ++ emitted_turns (core_ticks_or_cut (core_tick l.controller.side ts GoesOut) (core_of l)) (core_tick_rest l.controller.side ts GoesOut)
+    ≡ frames_out (turned (after_input l.controller.side HasTick) ts))
+    × AreWritten (frames_out (turned (after_input l.controller.side HasTick) ts))
+tick_sends who l ts a h r = go (is_open e.role) refl
+  where
+    e : LinkEnd
+    e = l.controller.side
+
+    c : CoreLink
+    c = core_of l
+
+    sent : Option (List CoreTurn) → List CoreEndEvent → List Control
+    sent t us = emitted_tick c t ++ emitted_turns (core_ticks_or_cut t c) us
+
+    Goal : Type 0
+    Goal =
+        (sent (core_tick e ts GoesOut) (core_tick_rest e ts GoesOut) ≡ frames_out (turned (after_input e HasTick) ts))
+        × AreWritten (frames_out (turned (after_input e HasTick) ts))
+
+    made : (f : LinkEnd) (o : Option Activation) → after_input e HasTick ≡ f → Mid o (turned f ts) → AreWritten (frames_out (turned (after_input e HasTick) ts))
+    made f o q m = subst (λ g. AreWritten (frames_out (turned g ts))) (sym q) (out_written o (turned f ts) m)
+
+    sent_as : (t : Option (List CoreTurn)) (us : List CoreEndEvent) → core_tick e ts GoesOut ≡ t → core_tick_rest e ts GoesOut ≡ us
+        → sent (core_tick e ts GoesOut) (core_tick_rest e ts GoesOut) ≡ sent t us
+    sent_as t us p q = ap (λ z. sent z (core_tick_rest e ts GoesOut)) p ∙ ap (sent t) q
+
+    go : (o : Bool) → is_open e.role ≡ o → Goal
+    go true o =
+        let t = tick_open e o in
+        let b : Bool = is_some (tick_answer e.shdlc).ended in
+        let f : LinkEnd = moved e b (ticked e.shdlc) in
+        let us : List CoreTurn = core_turns f ts in
+        let now : Now f = mid_moved e b (ticked e.shdlc) h.now (ticked_keeps e.shdlc h.now.idle) (opened e.role ((ticked e.shdlc).phase ≡ IsDown) o) in
+        let tm = turns_mid None f ts a now in
+        let s : EndState = core_turned (ticked e.shdlc) us in
+        let is : (turned f ts).shdlc ≡ s = tm.is ∙ ap (λ z. core_turned z us) (shdlc_moved e b (ticked e.shdlc)) in
+        let first : core_tick e ts GoesOut ≡ Some us = rw o refl ∙ ap (λ (g : LinkEnd). Some (core_turns g ts)) t.0 in
+        let rest : core_tick_rest e ts GoesOut ≡ [] = rw o refl in (
+          sent_as (Some us) [] first rest
+              ∙ (append-nil (sent_then (ticked e.shdlc) us)
+              ∙ (sym (out_is None (turned f ts) s tm.mid.acts is) ∙ ap (λ g. frames_out (turned g ts)) (sym t.0))),
+          made f None t.0 tm.mid,
+        )
+    go false o =
+        let t = tick_closed e o in
+        let f : LinkEnd = activated e ActTick in
+        let act : Option Activation = (act_answer e.role ActTick).send in
+        let down : (act_answer e.role ActTick).ended_link ≡ true → e.shdlc.phase ≡ IsDown = λ z. absurd (true≢false (sym z ∙ tick_closes e.role o)) in
+        let mid = act_mid e ActTick h.now r.due down (λ z. h.now.closed (tick_role e.role z)) in
+        let us : List CoreTurn = core_turns f ts in
+        let tm = turns_mid act f ts a mid.mid in
+        let s : EndState = core_turned e.shdlc us in
+        let is : (turned f ts).shdlc ≡ s = tm.is ∙ ap (λ z. core_turned z us) mid.same in
+        let first : core_tick e ts GoesOut ≡ Some [] = rw o refl in
+        let rest : core_tick_rest e ts GoesOut ≡ CoreActs (option_to_list act) us ∷ [] =
+        acts_rest o ∙ ap (λ (g : LinkEnd). CoreActs (option_to_list act) (core_turns g ts) ∷ []) t.0 in
+        let p = h.now.closed o in
+        let quiet : frames_of most_frames (ticked e.shdlc) ≡ [] =
+        ap (frames_of most_frames) (still p) ∙ (let q = rests e.shdlc p r in rw q refl) in (
+          sent_as (Some []) (CoreActs (option_to_list act) us ∷ []) first rest
+              ∙ (ap (λ z. z ++ emitted_turns (core_ticks_here c []) (CoreActs (option_to_list act) us ∷ [])) quiet
+              ∙ (ap (λ z. emitted_turns z (CoreActs (option_to_list act) us ∷ [])) (core_tick_rests c p r)
+              ∙ (append-nil (frames_now act ++ sent_then e.shdlc us)
+              ∙ (sym (out_is act (turned f ts) s tm.mid.acts is) ∙ ap (λ g. frames_out (turned g ts)) (sym t.0))))),
+          made f act t.0 tm.mid,
+        )
+      where
+        still : e.shdlc.phase ≡ IsDown → ticked e.shdlc ≡ e.shdlc
+        still p = rw p refl
+
+        acts_rest : is_open e.role ≡ false → core_tick_rest e ts GoesOut
+            ≡ CoreActs (option_to_list (act_answer e.role ActTick).send) (core_turns (after_input e HasTick) ts) ∷ []
+        acts_rest o = rw o refl
+
+tick_notes : (who : End) (l : Link) (node : Node) → AreSendableTurns node.turns → Tells l.controller → Rests l.controller.side.shdlc
+    → NoCut (tick_entries who l node) → TickNotes who l node
+tick_notes who l node a h r q = go node.ending refl
+  where
+    e : LinkEnd
+    e = l.controller.side
+
+    k : Link
+    k = with_ended l (is_some (ended_by e HasTick))
+
+    f : LinkEnd
+    f = after_input e HasTick
+
+    of : Ending → Node
+    of ending = record { turns = node.turns; ending = ending }
+
+    Q : Ending → Type 0
+    Q ending = NoCut (tick_entries who l (of ending))
+
+    by : (ending : Ending) → Q ending → TickNotes who l (of ending)
+    by CutOff p =
+        absurd (cut_noted who k f node.turns (no_cut_parts (told_of who l.controller HasTick) (rest_entries who k f node.turns CutOff) p).1)
+    by GoesOut p =
+        let n = notes_input who l.controller HasTick k f node.turns in
+        let sends = tick_sends who l node.turns a h r in
+        record {
+          ends = refl;
+          notes = record { frames = n.frames ∙ ap (frames_by (is_clf who)) (sym sends.0); gots = n.gots };
+          written = subst AreWritten (sym sends.0) sends.1;
+        }
+
+    go : (ending : Ending) → node.ending ≡ ending → TickNotes who l node
+    go ending p = by node.ending q
+
+-- what a tick that isn't cut off is over fragments
+tick_power : (e : LinkEnd) (ts : List Turn) (ending : Ending) → ending ≡ GoesOut → HasItsTick (core_tick e ts ending)
+    × AllKeepPower (core_tick_rest e ts ending)
+tick_power e ts CutOff q = cc
+tick_power e ts GoesOut q = by_test (is_open e.role) (λ o. (rw o tt, rw o tt)) (λ o. (rw o tt, rw o (tt, tt)))
+
+-- ## What is noted of each event of a link, and of a whole run, holds the frames that are sent then and the messages that come
+
+-- ### Lists of events over fragments
 
 emitted-append : (c : CoreLink) (es fs : List CoreLinkEvent) → emitted c (es ++ fs) ≡ emitted c es ++ emitted (core_after c es) fs
 emitted-append c [] fs = refl
@@ -77,7 +287,7 @@ power_there : (es : List CoreEndEvent) → AllKeepPower es → NoneIsCut (map Co
 power_there [] a = tt
 power_there (e ∷ es) a = (a.0, power_there es a.1)
 
--- ## Events at one end
+-- ### Events at one end
 
 -- what is noted of an event, which is that of these over fragments
 record EventNotes (l : Link) (es : List CoreLinkEvent) (t : List Entry) : Type 0 where
@@ -124,7 +334,7 @@ at_host l e a g r q =
       written = subst BothWritten (sym (emitted_there_all (core_here k e) (core_of l))) (both_by false (emitted_turns (core_of k) (core_here k e)) n.written);
     }
 
--- ## Ticks
+-- ### Ticks
 
 written_parts : (cs ds : List Control) → AreWritten (cs ++ ds) → AreWritten cs × AreWritten ds
 written_parts [] ds a = (tt, a)
@@ -368,7 +578,7 @@ event_notes l (Activate power c id h) a g r q =
           (both-append (emitted (core_of l) es) (emitted (core_of near) fs) one.written two.written);
     }
 
--- ## Runs
+-- ### Runs
 
 run_notes : (events : List LinkEvent) (l : Link) → AllAllowed l events → Good l → Reached (core_of l) → NoCut (entries l events)
     → EventNotes l (core_events l events) (entries l events)

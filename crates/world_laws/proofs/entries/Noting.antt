@@ -15,8 +15,7 @@ use Rattle.link_laws.specs.machine.Machine.{Refused}
 use Rattle.link_laws.proofs.messages.ActsInOrder.{LinkInOrder, IsPolite, polite_of}
 use Rattle.link_laws.specs.entries.Entries.{End, Entry}
 use Rattle.link_laws.specs.entries.Entries.Entry.{Up, Down, Emit}
-use Rattle.world_laws.proofs.entries.Reading.{AreWritten}
-use Rattle.world_laws.proofs.entries.Sending.{numbered, got_now, Sends, take_sends, idle_sends, reset_sends, restart_sends}
+use Rattle.world_laws.proofs.entries.Sending.{AreWritten, Sends, got_now, idle_sends, numbered, reset_sends, restart_sends, take_sends}
 
 -- ## Entries
 

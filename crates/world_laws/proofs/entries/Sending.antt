@@ -1,19 +1,171 @@
--- What an end puts on the link in a step, and what it gets, over messages and over fragments.
+-- Each frame that an end puts on a link is read again from its LPDU, and what an end puts there and gets, over messages and over fragments.
 use Rattle.std.proofs.Common.{option_to_list}
 use Rattle.world_laws.proofs.Words.{Act, ActEvent, ActTake, Activation, AreSendableTurns, Asked, Bool, Clt, ComesFirst, Control, CoreActs, CoreDeliver}
-use Rattle.world_laws.proofs.Words.{CoreEndEvent, CoreIgnore, CoreLink, CoreLose, CoreReset, CoreStop, CoreTurn, CoreTurns, EndState, Fragment, Heard, IsData}
-use Rattle.world_laws.proofs.Words.{IsDown, IsUpNow, IsWaitingNow, Link, LinkEnd, LinkState, List, Message, None, Now, OnWire, Option, Rset, Some, Take, Tells}
-use Rattle.world_laws.proofs.Words.{Turn, Ua, [], act_answer, act_mid, activated, ap, append-nil, are_taken, brought_by, by_test, core_number_of, core_of}
-use Rattle.world_laws.proofs.Words.{core_silent, core_take, core_turned, core_turns, counted_is, drop, emitted_here, emitted_turns, false, frames_now}
-use Rattle.world_laws.proofs.Words.{frames_out, given_by, good_of, got_by, got_here, got_turns, got_with, heard_end, heard_is, if_up, inl, inr, is_act}
-use Rattle.world_laws.proofs.Words.{is_faulty, is_open, is_rset, is_shdlc, is_some, length, map, messages_got, mid_counted, mid_moved, moved, news}
-use Rattle.world_laws.proofs.Words.{no_fault_first, not, number_of, opened, packets_in, passes, polite, refl, reset_by, reset_keeps, reset_refusal, reset_tells}
-use Rattle.world_laws.proofs.Words.{reset_with, restart_mid, role_after, role_closes, sent_then, shdlc_moved, stopped, subst, suc, sym, take_answer, taken}
-use Rattle.world_laws.proofs.Words.{took, took_closed, took_open, took_with, true, true≢false, turned, turns_mid, zero, ℕ, ◌++◌, ◌+◌, ◌==◌, ◌∙◌, ◌∷◌, ◌≡◌, ◌⊎◌}
-use Rattle.world_laws.proofs.entries.Reading.{AreWritten, out_is, out_written}
-use Rattle.world_laws.proofs.fragments.Taking.{Accepted, takes_data, accepts_none}
+use Rattle.world_laws.proofs.Words.{CoreEndEvent, CoreIgnore, CoreLink, CoreLose, CoreReset, CoreStop, CoreTurn, CoreTurns, Due, EndState, Fragment, Heard, I}
+use Rattle.world_laws.proofs.Words.{IsData, IsDown, IsUpNow, IsWaitingNow, Link, LinkEnd, LinkState, List, Message, Mid, None, Now, Ok, OnWire, Option, Rej}
+use Rattle.world_laws.proofs.Words.{Rnr, Rr, Rset, Rset_due, S, Some, Srej, Take, Tells, Turn, Ua, Ua_due, [], act_answer, act_mid, activated, among, among_now}
+use Rattle.world_laws.proofs.Words.{ap, append-nil, are_taken, arith, brought_by, by_option, by_test, control_due, control_of, core_number_of, core_of}
+use Rattle.world_laws.proofs.Words.{core_silent, core_take, core_turned, core_turns, counted_is, drop, due_now, emitted_here, emitted_turns, expected, false}
+use Rattle.world_laws.proofs.Words.{fetch_cases, fetched, fragment_due-within, fragments_of, frame_due, frames_by, frames_now, frames_of, frames_out}
+use Rattle.world_laws.proofs.Words.{frames_read, given_by, good_of, got_by, got_here, got_turns, got_with, heard_end, heard_is, i_frame, if_up, inl, inr}
+use Rattle.world_laws.proofs.Words.{is_act, is_faulty, is_open, is_rset, is_shdlc, is_some, le-leb, le-ltb, length, length-take, lpdu_of, lpdu_row, lpdu_row_of}
+use Rattle.world_laws.proofs.Words.{map, messages_got, mid_counted, mid_moved, most_frames, moved, nat_le, nat_lt, news, no_fault_first, not, number_of, opened}
+use Rattle.world_laws.proofs.Words.{packet_bytes, packet_count, packets_in, packets_of, parts_of, passes, polite, refl, reset_by, reset_keeps, reset_refusal}
+use Rattle.world_laws.proofs.Words.{reset_tells, reset_with, restart_mid, role_after, role_closes, sent_then, shdlc_moved, slice_get, stopped, subst, suc, sym}
+use Rattle.world_laws.proofs.Words.{take_answer, taken, took, took_closed, took_open, took_with, true, true≢false, turned, turns_mid, zero, ℕ, ◌%◌, ◌*◌, ◌++◌}
+use Rattle.world_laws.proofs.Words.{◌+◌, ◌-◌, ◌/◌, ◌<◌, ◌==◌, ◌∙◌, ◌∷◌, ◌≡◌, ◌≤◌, ◌⊎◌}
+use Rattle.swp_base.specs.declared.control_frames.Act.TheVariants.{PowerMode, Ready, SyncId}
+use Rattle.world_laws.proofs.fragments.Taking.{Accepted, accepts_none, takes_data}
 
--- ## What comes with a frame
+-- ## Each frame that an end puts on a link is read again from its LPDU
+
+-- numbers below 8, and from 1 to 29 bytes in an I frame
+abbrev pub IsWritten : Control → Type 0
+IsWritten (I ns nr info) = (ns < 8) × (nr < 8) × (1 ≤ length info) × (length info ≤ 29)
+IsWritten (S kind nr) = nr < 8
+IsWritten _ = Unit {0}
+
+abbrev pub AreWritten : List Control → Type 0
+AreWritten [] = Unit {0}
+AreWritten (c ∷ cs) = IsWritten c × AreWritten cs
+
+pub written-append : (cs ds : List Control) → AreWritten cs → AreWritten ds → AreWritten (cs ++ ds)
+written-append [] ds a b = b
+written-append (c ∷ cs) ds a b = (a.0, written-append cs ds a.1 b)
+
+-- ### One frame
+
+eight : (P : ℕ → Type 0) → P 0 → P 1 → P 2 → P 3 → P 4 → P 5 → P 6 → P 7 → (n : ℕ) → n < 8 → P n
+eight P a b c d e f g h zero i = a
+eight P a b c d e f g h (suc zero) i = b
+eight P a b c d e f g h (suc (suc zero)) i = c
+eight P a b c d e f g h (suc (suc (suc zero))) i = d
+eight P a b c d e f g h (suc (suc (suc (suc zero)))) i = e
+eight P a b c d e f g h (suc (suc (suc (suc (suc zero))))) i = f
+eight P a b c d e f g h (suc (suc (suc (suc (suc (suc zero)))))) i = g
+eight P a b c d e f g h (suc (suc (suc (suc (suc (suc (suc zero))))))) i = h
+eight P a b c d e f g h (suc (suc (suc (suc (suc (suc (suc (suc n)))))))) i = absurd (omega (arith, i))
+
+pub read_again : (c : Control) → IsWritten c → control_of (lpdu_of c) ≡ Ok c
+read_again (S Rr nr) w = eight (λ n. control_of (lpdu_of (S Rr n)) ≡ Ok (S Rr n)) refl refl refl refl refl refl refl refl nr w
+read_again (S Rej nr) w = eight (λ n. control_of (lpdu_of (S Rej n)) ≡ Ok (S Rej n)) refl refl refl refl refl refl refl refl nr w
+read_again (S Rnr nr) w = eight (λ n. control_of (lpdu_of (S Rnr n)) ≡ Ok (S Rnr n)) refl refl refl refl refl refl refl refl nr w
+read_again (S Srej nr) w = eight (λ n. control_of (lpdu_of (S Srej n)) ≡ Ok (S Srej n)) refl refl refl refl refl refl refl refl nr w
+read_again (Act Ready true) w = refl
+read_again (Act Ready false) w = refl
+read_again (Act (PowerMode power) true) w = refl
+read_again (Act (PowerMode power) false) w = refl
+read_again (Act (SyncId id) true) w = let q : 256 * (id / 256) + id % 256 ≡ id = omega arith in rw q refl
+read_again (Act (SyncId id) false) w = let q : 256 * (id / 256) + id % 256 ≡ id = omega arith in rw q refl
+read_again (I ns nr info) w =
+    let b : ℕ = 0x80 + 8 * ns + nr in
+    let low : nat_le 0x80 b ≡ true = le-leb 0x80 b (omega arith) in
+    let high : nat_le b 0xBF ≡ true = le-leb b 0xBF (omega (arith, w.0, w.1)) in
+    let row : lpdu_row_of b ≡ Some (lpdu_row 0x80 0xBF 2 30 i_frame) = rw (low, high) refl in
+    let short : nat_lt (length (b ∷ info)) 2 ≡ false = le-ltb (length (b ∷ info)) 2 (omega (arith, w.2)) in
+    let long : nat_lt 30 (length (b ∷ info)) ≡ false = le-ltb 30 (length (b ∷ info)) (omega (arith, w.3)) in
+    let first : (b - 0x80) / 8 ≡ ns = omega (arith, w.1) in
+    let second : (b - 0x80) % 8 ≡ nr = omega (arith, w.1) in
+    rw (row, short, long, first, second) refl
+read_again _ w = refl
+
+-- ### The frames of an end
+
+-- a fragment of a message
+abbrev pub IsShort : Fragment → Type 0
+IsShort info = (1 ≤ length info) × (length info ≤ 29)
+
+abbrev pub AreShort : List Fragment → Type 0
+AreShort [] = Unit {0}
+AreShort (x ∷ xs) = IsShort x × AreShort xs
+
+short-append : (xs ys : List Fragment) → AreShort xs → AreShort ys → AreShort (xs ++ ys)
+short-append [] ys a b = b
+short-append (x ∷ xs) ys a b = (a.0, short-append xs ys a.1 b)
+
+short_parts : (pipe n : ℕ) (left : List ℕ) → AreShort (map packet_bytes (parts_of pipe n left))
+short_parts pipe zero left = tt
+short_parts pipe (suc n) left =
+    let q = length-take 28 left in ((omega arith, omega (arith, q)), short_parts pipe n (drop 28 left))
+
+short_fragments : (ms : List Message) → AreShort (fragments_of ms)
+short_fragments [] = tt
+short_fragments (m ∷ ms) =
+    short-append (map packet_bytes (packets_of m.0 m.1)) (fragments_of ms) (short_parts m.0 (packet_count (length m.1)) m.1) (short_fragments ms)
+
+short_at : (xs : List Fragment) (i : ℕ) (x : Fragment) → AreShort xs → slice_get xs i ≡ Some x → IsShort x
+short_at [] i x a q = cc
+short_at (y ∷ xs) zero x a q = let e : y ≡ x = (let z : Some y ≡ Some x = q in cc) in subst IsShort e a.0
+short_at (y ∷ xs) (suc i) x a q = short_at xs i x a.1 q
+
+control_written : (e : EndState) (d : Due) → IsWritten (control_due e d)
+control_written e Rset_due = tt
+control_written e Ua_due = tt
+control_written e _ = omega arith
+
+record Next (e : EndState) (c : Control) : Type 0 where
+  written : IsWritten c
+  short : AreShort (fetched e).session.out
+
+next_written : (e : EndState) (c : Control) → AreShort e.session.out → frame_due e ≡ Some c → Next e c
+next_written e c a is =
+    let P : EndState → Option Control → Type 0 = λ f o. o ≡ Some c → IsWritten c × AreShort f.session.out in
+    let h = fetch_cases P e
+    (λ d ds p n. (subst IsWritten (same (control_due e d) c n) (control_written e d), a))
+    (λ p q n. cc)
+    (λ info p q n.
+    let s = short_at e.session.out e.session.next info a (fragment_due-within e.session info q).1 in
+    (subst IsWritten (same (I (e.session.next % 8) (expected e.session) info) c n) (omega arith, omega arith, s.0, s.1), a)) is in
+    record { written = h.0; short = h.1 }
+  where
+    same : (k m : Control) → Some k ≡ Some m → k ≡ m
+    same k m q = cc
+
+frames_written : (n : ℕ) (e : EndState) → AreShort e.session.out → AreWritten (frames_of n e)
+frames_written zero e a = tt
+frames_written (suc n) e a = by_option (frame_due e)
+    (λ q. rw q tt)
+    (λ c q. let h = next_written e c a q in rw q (h.written, frames_written n (fetched e) h.short))
+
+acts_written : (o : Option Activation) → AreWritten (frames_now o)
+acts_written None = tt
+acts_written (Some act) = (tt, tt)
+
+-- what goes out of an end with this frame of activation
+pub out_is : (o : Option Activation) (g : LinkEnd) (s : EndState) → g.acts ≡ due_now o → g.shdlc ≡ s → frames_out g ≡ frames_now o ++ frames_of most_frames s
+out_is o g s acts is =
+    ap (λ a. among 0 a (frames_of most_frames g.shdlc)) acts
+    ∙ (ap (λ f. among 0 (due_now o) (frames_of most_frames f)) is ∙ among_now o (frames_of most_frames s))
+
+-- what goes out of an end over messages
+pub out_written : (o : Option Activation) (g : LinkEnd) → Mid o g → AreWritten (frames_out g)
+out_written o g h =
+    let short : AreShort g.shdlc.session.out = subst AreShort (sym h.says.out) (short_fragments g.sent) in
+    subst AreWritten (sym (out_is o g g.shdlc h.acts refl))
+    (written-append (frames_now o) (frames_of most_frames g.shdlc) (acts_written o) (frames_written most_frames g.shdlc short))
+
+-- ### Both sides
+
+abbrev pub BothWritten : List (Bool × Control) → Type 0
+BothWritten [] = Unit {0}
+BothWritten (f ∷ fs) = IsWritten f.1 × BothWritten fs
+
+pub both-append : (fs gs : List (Bool × Control)) → BothWritten fs → BothWritten gs → BothWritten (fs ++ gs)
+both-append [] gs a b = b
+both-append (f ∷ fs) gs a b = (a.0, both-append fs gs a.1 b)
+
+pub both_by : (b : Bool) (cs : List Control) → AreWritten cs → BothWritten (frames_by b cs)
+both_by b [] a = tt
+both_by b (c ∷ cs) a = (a.0, both_by b cs a.1)
+
+-- they are read again
+pub all_read : (fs : List (Bool × Control)) → BothWritten fs → frames_read (map (λ f. (f.0, lpdu_of f.1)) fs) ≡ fs
+all_read [] a = refl
+all_read (f ∷ fs) a = rw (read_again f.1 a.0, all_read fs a.1) refl
+
+-- ## What an end puts on the link in a step, and what it gets, over messages and over fragments
+
+-- ### What comes with a frame
 
 -- messages with the number of their session
 abbrev pub numbered : ℕ → List Message → List (ℕ × ℕ × List ℕ)
@@ -56,7 +208,7 @@ handshake e c d = go e.phase refl c d
     go p q _ d = absurd (d tt)
 
 -- the news of a frame that can be joined is what the fragment brings that is accepted
-pub news_is : (e : EndState) (c : Control) → is_faulty (taken e c).session ≡ false
+news_is : (e : EndState) (c : Control) → is_faulty (taken e c).session ≡ false
     → news e.session (taken e c) ≡ brought e.session.acc (take_answer e c).accepted
 news_is e c sound = kinds c sound
   where
@@ -96,7 +248,7 @@ news_is e c sound = kinds c sound
     kinds Ua sound = let h = handshake e Ua (λ d. d) in quiet Ua h.0 h.1
     kinds c sound = joined c tt sound
 
--- ## A frame is taken
+-- ### A frame is taken
 
 abbrev pub got_now : Link → OnWire → List (ℕ × ℕ × List ℕ)
 got_now l x = numbered (number_of (record l.controller { took = took_with l.controller.took x })) (got_by l.controller.side (Take x.frame))
@@ -107,7 +259,7 @@ pub record Sends (l : Link) (es : List CoreEndEvent) (out : List Control) (told 
   pub gets : got_turns (core_of l) es ≡ told
   pub written : AreWritten out
 
-pub sends_same : (l : Link) (es fs : List CoreEndEvent) (out : List Control) (gets : List (ℕ × ℕ × List ℕ)) → es ≡ fs → Sends l fs out gets
+sends_same : (l : Link) (es fs : List CoreEndEvent) (out : List Control) (gets : List (ℕ × ℕ × List ℕ)) → es ≡ fs → Sends l fs out gets
     → Sends l es out gets
 sends_same l es fs out gets q s =
     record { frames = ap (emitted_turns (core_of l)) q ∙ s.frames; gets = ap (got_turns (core_of l)) q ∙ s.gets; written = s.written }
@@ -260,7 +412,7 @@ take_sends l ts x xs a comes = go x.frame refl
         (mid_counted None e (e.passed_over + 1) comes.tells.now) (ap (λ y. numbered n (got_by e (Take y))) (sym q)))
     go _ q = shdlc (is_open e.role) refl (ap is_shdlc q) (ap is_act q)
 
--- ## Turns, resets and activation
+-- ### Turns, resets and activation
 
 pub idle_sends : (l : Link) (ts : List Turn) → AreSendableTurns ts → Tells l.controller
     → Sends l (CoreTurns (core_turns l.controller.side ts) ∷ []) (frames_out (turned l.controller.side ts)) []

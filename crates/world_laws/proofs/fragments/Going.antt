@@ -1,15 +1,416 @@
--- An end has its turns, and then all that is due goes out: what the tap knows then.
-use Rattle.world_laws.proofs.Words.{Bool, Control, Due, EndState, Fragment, I, Kind, LinkState, List, None, NumberedShdlc, OnWire, Rr, Rr_due, S, SafeLink}
-use Rattle.world_laws.proofs.Words.{Session, ShdlcLink, ShdlcTurn, Some, TapState, Up, [], after_frames, ap, append-nil, append_assoc, arith, at_most_one}
-use Rattle.world_laws.proofs.Words.{by_option, changed, control_due, controls, controls_same, expected, false, fetch_cases, fetched, fragment_due, frame_due}
-use Rattle.world_laws.proofs.Words.{frames_in_order, frames_of, hears_all, length, length-append, map, map-append, most_frames, no_session, of_up, phase_known}
-use Rattle.world_laws.proofs.Words.{put_all-append, put_out, ready_by, refl, room, sent_next, shdlc_becomes, shdlc_number_of, shdlc_put, shdlc_put_all}
-use Rattle.world_laws.proofs.Words.{shdlc_turn, shdlc_turned, subst, suc, sym, take-append-le, tap_hears, tap_tells, tells_all, zero, ℕ, ◌%◌, ◌++◌, ◌+◌, ◌∙◌}
-use Rattle.world_laws.proofs.Words.{◌∷◌, ◌≡◌, ◌≤◌}
+-- What a tap that has heard all frames so far knows of both ends, after a frame of an end, and as all that is due goes out.
+use Rattle.std.proofs.lemmas.Bool.{lt-ltb}
+use Rattle.std.proofs.lemmas.Option.{slice_get_within}
+use Rattle.world_laws.proofs.Words.{Base, Below, Bool, Control, Down, Due, EndState, Fragment, I, Kind, LinkState, List, None, NumberedShdlc, OnWire, Rr}
+use Rattle.world_laws.proofs.Words.{Rr_due, S, SafeLink, Session, ShdlcLink, ShdlcTurn, Some, TapSide, TapState, Up, [], adds, after_frames, ap, append-nil}
+use Rattle.world_laws.proofs.Words.{append_assoc, arith, at_most_one, by_option, cases_eq, changed, cond, control_due, controls, controls_same, counted_at}
+use Rattle.world_laws.proofs.Words.{ended_session, eq-eqb, expected, false, fetch_cases, fetched, fits, fragment_due, fragment_due-within, frame_due}
+use Rattle.world_laws.proofs.Words.{frames_in_order, frames_of, hears_all, inl, inr, is_in_session, length, length-append, length-take-le, listed_at, map}
+use Rattle.world_laws.proofs.Words.{map-append, max, most_frames, nat_lt, ne_eqb, new_session, no_session, none_ended, of_begin, of_end, of_none, of_up}
+use Rattle.world_laws.proofs.Words.{of_update, phase_known, put_all-append, put_out, ready_by, refl, room, sent_next, shdlc_becomes, shdlc_number_of, shdlc_put}
+use Rattle.world_laws.proofs.Words.{shdlc_put_all, shdlc_session_of, shdlc_turn, shdlc_turned, slice_get, subst, suc, sym, take, take-append-le, tap_hears}
+use Rattle.world_laws.proofs.Words.{tap_tells, tells_all, tells_more, told_by, true, with_fragment, with_number, zero, ℕ, ◌%◌, ◌++◌, ◌+◌, ◌<◌, ◌==◌, ◌∙◌, ◌∷◌}
+use Rattle.world_laws.proofs.Words.{◌≡◌, ◌≤◌, ◌⊎◌}
 use Rattle.link_laws.proofs.places.Joined.{after_frames_idle, fetched_idle}
 use Rattle.link_laws.specs.sessions.Sessions.ShdlcTurn.{Offer, SetReady}
-use Rattle.world_laws.proofs.fragments.Sides.{Knows, KnowsLink, SameLists, Alike, alike_update, alike_none, tracks_on, tracks_far}
-use Rattle.world_laws.proofs.fragments.Frames.{can_send, Goes, goes_fragment, answer_says, knows_wire}
+pub use Rattle.world_laws.specs.fragments.Knowing.{ever_sent}
+use Rattle.world_laws.proofs.fragments.Wires.{NoUa, is_ua, no_ua-fits, no_ua-push}
+
+-- ## What a tap that has heard all frames of a link so far knows of its two ends
+
+-- What the tap knows of the end n with what it has of its side s, and f and t are those of the other side.
+pub record Tracks (bare : Bool) (s t : TapSide) (n f : NumberedShdlc) (to_n : List OnWire) : Type 0 where
+  -- its last RSET was heard
+  pub asked : s.asked ≡ n.emitted
+  -- the number of the side is that of the end, but of one that is Down and took an RSET without an answer
+  pub from : n.emitted ≤ s.number
+  pub upto : s.number ≤ shdlc_number_of n
+  pub now : (n.side.phase ≡ Down → ⊥) → s.number ≡ shdlc_number_of n
+  pub took : n.took ≤ f.emitted
+  -- only a bare link has a session with number 0
+  pub named : (bare ≡ true) ⊎ ((n.side.phase ≡ Down → ⊥) → 0 < s.number)
+  -- no session of the end has a greater number
+  pub past : Below (s.number + 1) n.past
+  -- the count of the side is how many fragments the end has accepted in its session
+  pub count : s.count ≡ length (shdlc_session_of n s.number).acc
+  -- at the number of the other side its list is what the end has ever sent in the session with that number
+  pub list : listed_at s t.number ≡ ever_sent (shdlc_session_of n t.number)
+  pub low : s.listed ≤ t.number
+  -- an end that is Up, or comes up, with its own number was answered by the other side
+  pub met : n.side.phase ≡ Up → n.emitted ≤ t.number
+  pub told : NoUa to_n ⊎ (n.emitted ≤ t.number)
+
+pub record Knows (bare : Bool) (t : TapState) (n f : NumberedShdlc) (to_n to_f : List OnWire) (r : ℕ) : Type 0 where
+  pub near : Tracks bare t.clf t.uicc n f to_n
+  pub far : Tracks bare t.uicc t.clf f n to_f
+  pub rsets : t.rsets ≡ r
+
+abbrev pub KnowsLink : Bool → TapState → ShdlcLink → Type 0
+KnowsLink bare t l = Knows bare t l.controller l.host l.to_controller l.to_host l.resets
+
+-- ### Sessions by number
+
+-- an end that isn't Up has ended sessions alone
+pub session_ended : (h : NumberedShdlc) → (h.side.phase ≡ Up → ⊥) → (k : ℕ) → shdlc_session_of h k ≡ ended_session h.past k
+session_ended h down k = go h.side.phase refl
+  where
+    go : (p : LinkState) → h.side.phase ≡ p → shdlc_session_of h k ≡ ended_session h.past k
+    go Up q = absurd (down q)
+    go _ q = rw q refl
+
+-- the session of an end at a number that it doesn't have
+session_other : (h : NumberedShdlc) (k : ℕ) → (k ≡ shdlc_number_of h → ⊥) → shdlc_session_of h k ≡ ended_session h.past k
+session_other h k other = go h.side.phase refl
+  where
+    go : (p : LinkState) → h.side.phase ≡ p → shdlc_session_of h k ≡ ended_session h.past k
+    go Up q = let e : (k == shdlc_number_of h) ≡ false = ne_eqb k (shdlc_number_of h) other in rw (q, e) refl
+    go _ q = rw q refl
+
+-- an end has no session with a number above the number of its side
+pub session_above : (h : NumberedShdlc) (m k : ℕ) → Below (m + 1) h.past → shdlc_number_of h < k → m < k → shdlc_session_of h k ≡ no_session
+session_above h m k past i j =
+    session_other h k (λ e. omega (arith, e)) ∙ none_ended (m + 1) k h.past (omega arith) past
+
+-- two sessions in which the same was accepted and sent
+pub record SameLists (x y : Session) : Type 0 where
+  pub acc : x.acc ≡ y.acc
+  pub sent : ever_sent x ≡ ever_sent y
+
+-- of each number the same was accepted and sent
+abbrev pub Alike : NumberedShdlc → NumberedShdlc → Type 0
+Alike n m = (k : ℕ) → SameLists (shdlc_session_of m k) (shdlc_session_of n k)
+
+abbrev SameAs : NumberedShdlc → ℕ → Session → Type 0
+SameAs n k x = SameLists x (shdlc_session_of n k)
+
+alike_all : (n : NumberedShdlc) (k : ℕ) → SameAs n k (shdlc_session_of n k)
+alike_all n k = record { acc = refl; sent = refl }
+
+-- a session goes on
+alike_update : (n m : NumberedShdlc) → n.side.phase ≡ Up → m.side.phase ≡ Up → shdlc_number_of m ≡ shdlc_number_of n → m.past ≡ n.past
+    → SameLists m.side.session n.side.session → Alike n m
+alike_update n m up up' number past same =
+    of_update (SameAs n) n m up up' number past (alike_all n) (rw (of_up n up) same)
+
+-- it ends
+pub alike_end : (n m : NumberedShdlc) → n.side.phase ≡ Up → (m.side.phase ≡ Up → ⊥) → m.past ≡ (shdlc_number_of n, n.side.session) ∷ n.past → Alike n m
+alike_end n m up down past = of_end (SameAs n) n m up down past (alike_all n)
+
+-- there is none
+pub alike_none : (n m : NumberedShdlc) → (n.side.phase ≡ Up → ⊥) → (m.side.phase ≡ Up → ⊥) → m.past ≡ n.past → Alike n m
+alike_none n m down down' past = of_none (SameAs n) n m down down' past (alike_all n)
+
+-- one begins
+pub alike_begin : (n m : NumberedShdlc) (w : ℕ) → (n.side.phase ≡ Up → ⊥) → m.side.phase ≡ Up → m.past ≡ n.past → m.side.session ≡ new_session w
+    → ended_session n.past (shdlc_number_of m) ≡ no_session → Alike n m
+alike_begin n m w down up past new none =
+    of_begin (SameAs n) n m down up past (alike_all n)
+    (rw (session_ended n down (shdlc_number_of m), none, new) (record { acc = refl; sent = refl }))
+
+pub alike_then : (n m k : NumberedShdlc) → Alike n m → Alike m k → Alike n k
+alike_then n m k a b i = let x = a i in let y = b i in record { acc = y.acc ∙ x.acc; sent = y.sent ∙ x.sent }
+
+-- ### The end changes, and the tap hears nothing
+
+-- what of the end n has become m: its sessions with the numbers below p are kept
+pub record Becomes (n m : NumberedShdlc) (p : ℕ) : Type 0 where
+  pub alike : Alike n m
+  pub emitted : m.emitted ≡ n.emitted
+  pub took : m.took ≡ n.took
+  pub past : Below p m.past
+  pub phase : (m.side.phase ≡ Down → ⊥) → n.side.phase ≡ Down → ⊥
+
+pub tracks_on : {bare : Bool} {s t : TapSide} {n m f : NumberedShdlc} {to_n to_n' : List OnWire} → Becomes n m (s.number + 1)
+    → (m.side.phase ≡ Up → n.emitted ≤ t.number) → NoUa to_n' ⊎ (n.emitted ≤ t.number) → Tracks bare s t n f to_n → Tracks bare s t m f to_n'
+tracks_on {bare} {s} {t} {n} {m} {to_n' = to_n'} b met told h =
+    record {
+      asked = h.asked ∙ sym b.emitted;
+      from = omega (arith, h.from, b.emitted);
+      upto = omega (arith, h.upto, b.emitted, b.took);
+      now = λ d. omega (arith, h.now (b.phase d), b.emitted, b.took);
+      took = omega (arith, h.took, b.took);
+      named = named h.named;
+      past = b.past;
+      count = h.count ∙ sym (ap (length {A = Fragment}) (b.alike s.number).acc);
+      list = h.list ∙ sym (b.alike t.number).sent;
+      low = h.low;
+      met = λ u. omega (arith, met u, b.emitted);
+      told = tells told;
+    }
+  where
+    named : (bare ≡ true) ⊎ ((n.side.phase ≡ Down → ⊥) → 0 < s.number) → (bare ≡ true) ⊎ ((m.side.phase ≡ Down → ⊥) → 0 < s.number)
+    named (inl q) = inl q
+    named (inr q) = inr (λ d. q (b.phase d))
+
+    tells : NoUa to_n' ⊎ (n.emitted ≤ t.number) → NoUa to_n' ⊎ (m.emitted ≤ t.number)
+    tells (inl q) = inl q
+    tells (inr q) = inr (omega (arith, q, b.emitted))
+
+-- the other side, where the number of the near one is no less, and its list there is what the far end has sent
+tracks_other : {bare : Bool} {s s' t : TapSide} {n m f : NumberedShdlc} {to_f to_f' : List OnWire} → s.number ≤ s'.number → n.emitted ≤ m.emitted
+    → NoUa to_f' ⊎ (f.emitted ≤ s'.number) → listed_at t s'.number ≡ ever_sent (shdlc_session_of f s'.number) → Tracks bare t s f n to_f
+    → Tracks bare t s' f m to_f'
+tracks_other number emitted told list h =
+    record {
+      asked = h.asked;
+      from = h.from;
+      upto = h.upto;
+      now = h.now;
+      took = omega (arith, h.took);
+      named = h.named;
+      past = h.past;
+      count = h.count;
+      list = list;
+      low = omega (arith, h.low);
+      met = λ u. omega (arith, h.met u);
+      told = told;
+    }
+
+-- so where the near end has taken or sent no RSET
+pub tracks_far : {bare : Bool} {s s' t : TapSide} {n m f : NumberedShdlc} {to_f to_f' : List OnWire} → s'.number ≡ s.number → n.emitted ≤ m.emitted
+    → NoUa to_f' ⊎ (f.emitted ≤ s.number) → Tracks bare t s f n to_f → Tracks bare t s' f m to_f'
+tracks_far {s = s} {s'} {t} {f = f} {to_f' = to_f'} number emitted told h =
+    tracks_other {to_f' = to_f'} (omega (arith, number)) emitted (rw number told) (rw number h.list) h
+
+-- the other side, where the near one has a new number, at which the far end has no session
+pub tracks_renumbered : {bare : Bool} {s s' t : TapSide} {n m f : NumberedShdlc} {to_f to_f' : List OnWire} → s.number < s'.number → n.emitted ≤ m.emitted
+    → shdlc_session_of f s'.number ≡ no_session → NoUa to_f' ⊎ (f.emitted ≤ s'.number) → Tracks bare t s f n to_f → Tracks bare t s' f m to_f'
+tracks_renumbered {s = s} {s'} {t} {f = f} more emitted none told h =
+    let other : (t.listed == s'.number) ≡ false = ne_eqb t.listed s'.number (λ e. omega (arith, e, h.low)) in
+    tracks_other (omega (arith, more)) emitted told (rw (other, none) refl) h
+
+-- ## What the tap knows after a frame of an end
+
+-- ### Wires
+
+-- one frame more, which is no UA
+pub still_no_ua : {P : Type 0} (w : List OnWire) (x : OnWire) → is_ua x.frame ≡ false → NoUa w ⊎ P → NoUa (fits (w ++ x ∷ [])) ⊎ P
+still_no_ua w x q (inl h) = inl (no_ua-fits (w ++ x ∷ []) (no_ua-push w x q h))
+still_no_ua w x q (inr p) = inr p
+
+-- ### Frames of a session
+
+-- a number that says what is counted already
+tells_none : (s t : TapSide) (n : ℕ) → s.count ≡ n → tells_more s t (n % 8) ≡ false
+tells_none s t n q =
+    let other : ((n % 8) == ((s.count + 1) % 8)) ≡ false = ne_eqb (n % 8) ((s.count + 1) % 8) (λ e. omega (arith, e, q)) in
+    rw other refl
+
+same_number : (s t : TapSide) (nr : ℕ) → tells_more s t nr ≡ false → with_number s t nr ≡ s
+same_number s t nr q = rw q refl
+
+told_none : (s t : TapSide) (nr : ℕ) → tells_more s t nr ≡ false → told_by s t nr ≡ []
+told_none s t nr q = rw q refl
+
+either : {X : Type 0} (b : Bool) (x : X) → cond b x x ≡ x
+either true x = refl
+either false x = refl
+
+-- what an end that is Up has accepted is what its side has counted
+pub count_up : {bare : Bool} {s t : TapSide} {n f : NumberedShdlc} {to_n : List OnWire} → n.side.phase ≡ Up → Tracks bare s t n f to_n
+    → (s.number ≡ shdlc_number_of n) × (s.count ≡ length n.side.session.acc)
+count_up {s = s} {n = n} up h =
+    let number : s.number ≡ shdlc_number_of n = h.now (λ d. let g = sym up ∙ d in cc) in
+    (number, h.count ∙ (ap (λ k. length (shdlc_session_of n k).acc) number ∙ ap (λ (x : Session). length x.acc) (of_up n up)))
+
+-- the other side has a number that is no lower
+far_number : {bare : Bool} {t : TapState} {n f : NumberedShdlc} {to_n to_f : List OnWire} {r : ℕ} → n.side.phase ≡ Up → Knows bare t n f to_n to_f r
+    → shdlc_number_of n ≤ t.uicc.number
+far_number up h = omega (arith, h.near.met up, h.near.took, h.far.from)
+
+-- a frame of a session at an end that is Up is one to the tap
+pub in_session : {bare : Bool} {s t : TapSide} {n f : NumberedShdlc} {to_n : List OnWire} → n.side.phase ≡ Up → Tracks bare s t n f to_n
+    → is_in_session bare s ≡ true
+in_session {bare} {s} {n = n} up h = go bare h.named
+  where
+    go : (b : Bool) → (b ≡ true) ⊎ ((n.side.phase ≡ Down → ⊥) → 0 < s.number) → is_in_session b s ≡ true
+    go true q = refl
+    go false (inl q) = cc
+    go false (inr q) = lt-ltb 0 s.number (q (λ d. let g = sym up ∙ d in cc))
+
+-- an answer of an end that is Up says what is known
+answer_says : {bare : Bool} {t : TapState} {n f : NumberedShdlc} {to_n to_f : List OnWire} {r : ℕ} (k : Kind) → n.side.phase ≡ Up
+    → Knows bare t n f to_n to_f r
+    → (tap_hears bare t (S k (expected n.side.session)) ≡ t) × (tap_tells bare t (S k (expected n.side.session)) ≡ [])
+answer_says {bare} {t} {n} k up h =
+    let c = count_up up h.near in
+    let none : tells_more t.clf t.uicc (expected n.side.session) ≡ false = tells_none t.clf t.uicc (length n.side.session.acc) c.1 in (
+      ap (λ s. cond (is_in_session bare t.clf) (record t { clf = s }) t) (same_number t.clf t.uicc (expected n.side.session) none)
+          ∙ either (is_in_session bare t.clf) t,
+      ap (λ m. cond (is_in_session bare t.clf) m []) (told_none t.clf t.uicc (expected n.side.session) none) ∙ either (is_in_session bare t.clf) [],
+    )
+
+-- a frame on the wire that is no RSET and no UA
+pub knows_wire : {bare : Bool} {t : TapState} {n f : NumberedShdlc} {to_n to_f : List OnWire} {r : ℕ} (x : OnWire) → is_ua x.frame ≡ false
+    → Knows bare t n f to_n to_f r → Knows bare t n f to_n (fits (to_f ++ x ∷ [])) r
+knows_wire {t = t} {n} {f} {to_f = to_f} x q h =
+    record {
+      near = h.near;
+      far = tracks_far {n = n} {m = n} {to_f = to_f} refl (omega arith) (still_no_ua to_f x q h.far.told) h.far;
+      rsets = h.rsets;
+    }
+
+-- ### An I frame
+
+-- what of its own session an end that is Up needs to send in it, and what it knows of the other end's with its number
+pub record CanSend (s r : Session) : Type 0 where
+  pub from : s.acked ≤ s.next
+  pub sent : s.next ≤ s.reached
+  pub offered : s.reached ≤ length s.out
+  pub within : s.reached ≤ s.acked + s.window
+  pub most : s.window ≤ 4
+  pub acked : s.acked ≤ length r.acc
+
+pub can_send : {s r : Session} → Base s r → CanSend s r
+can_send b = record { from = b.from; sent = b.sent; offered = b.offered; within = b.within; most = b.most; acked = b.acked }
+
+-- all that is known at an end while its frames go out
+pub record Goes (bare : Bool) (t : TapState) (n f : NumberedShdlc) (to_n to_f : List OnWire) (r : ℕ) : Type 0 where
+  pub knows : Knows bare t n f to_n to_f r
+  pub sends : n.side.phase ≡ Up → CanSend n.side.session (shdlc_session_of f (shdlc_number_of n))
+  pub none : (n.side.phase ≡ Up → ⊥) → n.side.session ≡ no_session
+
+take_one : (xs : List Fragment) (i : ℕ) (x : Fragment) → slice_get xs i ≡ Some x → take (i + 1) xs ≡ take i xs ++ x ∷ []
+take_one [] i x q = cc
+take_one (y ∷ xs) zero x q = let e : y ≡ x = (let z : Some y ≡ Some x = q in cc) in rw e refl
+take_one (y ∷ xs) (suc i) x q =
+    let k : suc i + 1 ≡ suc (i + 1) = omega arith in
+    rw k (ap (λ v. y ∷ v) (take_one xs i x q))
+
+-- the session of an end that is Up goes on
+pub session_now : (m : NumberedShdlc) (k : ℕ) → m.side.phase ≡ Up → k ≡ shdlc_number_of m → shdlc_session_of m k ≡ m.side.session
+session_now m k up q = ap (shdlc_session_of m) q ∙ of_up m up
+
+-- the list of a side grows exactly by a fragment that was never sent before
+list_grows : (s : Session) (bound : ℕ) (info : Fragment) (so_far : List Fragment) → s.acked ≤ s.next → s.next ≤ s.reached → s.reached ≤ length s.out
+    → s.reached ≤ s.acked + s.window → s.window ≤ 4 → s.acked ≤ bound → s.next < s.acked + s.window → slice_get s.out s.next ≡ Some info
+    → so_far ≡ ever_sent s
+    → cond (adds so_far bound (s.next % 8)) (so_far ++ info ∷ []) so_far ≡ ever_sent (sent_next s)
+list_grows s bound info so_far from sent offered within most acked inside is same = go (cases_eq s.next s.reached)
+  where
+    len : length so_far ≡ s.reached
+    len = ap (length {A = Fragment}) same ∙ length-take-le s.reached s.out offered
+
+    go : (s.next ≡ s.reached) ⊎ (s.next ≡ s.reached → ⊥) → cond (adds so_far bound (s.next % 8)) (so_far ++ info ∷ []) so_far ≡ ever_sent (sent_next s)
+    go (inl q) =
+        let one : ((s.next % 8) == (length so_far % 8)) ≡ true = eq-eqb (s.next % 8) (length so_far % 8) (omega (arith, q, len)) in
+        let two : nat_lt (length so_far) (bound + 4) ≡ true = lt-ltb (length so_far) (bound + 4) (omega (arith, q, len, inside, most, acked)) in
+        let m : max s.reached (s.next + 1) ≡ s.next + 1 = omega (arith, q) in
+        rw (one, two, m) (ap (λ l. l ++ info ∷ []) (same ∙ ap (λ k. take k s.out) (sym q)) ∙ sym (take_one s.out s.next info is))
+    go (inr n) =
+        let one : ((s.next % 8) == (length so_far % 8)) ≡ false =
+        ne_eqb (s.next % 8) (length so_far % 8) (λ e. n (omega (arith, e, len, from, sent, within, most))) in
+        let m : max s.reached (s.next + 1) ≡ s.reached = omega (arith, n, sent) in
+        rw (one, m) same
+
+sends_on : {s r : Session} {info : Fragment} → s.next < s.acked + s.window → slice_get s.out s.next ≡ Some info → CanSend s r → CanSend (sent_next s) r
+sends_on {s} {info = info} inside is h =
+    let within : s.next < length s.out = slice_get_within s.out s.next info is in
+    record {
+      from = omega (arith, h.from);
+      sent = omega arith;
+      offered = omega (arith, h.offered, within);
+      within = omega (arith, h.within, inside);
+      most = h.most;
+      acked = h.acked;
+    }
+
+-- an I frame of an end that is Up
+goes_fragment : {bare : Bool} {t : TapState} {n f : NumberedShdlc} {to_n to_f : List OnWire} {r : ℕ} {info : Fragment} (x : OnWire)
+    → x.frame ≡ I (n.side.session.next % 8) (expected n.side.session) info → n.side.phase ≡ Up → fragment_due n.side.session ≡ Some info
+    → Goes bare t n f to_n to_f r
+    → Goes bare (tap_hears bare t (I (n.side.session.next % 8) (expected n.side.session) info))
+    (record n { side = record n.side { session = sent_next n.side.session } }) f to_n (fits (to_f ++ x ∷ [])) r
+    × (tap_tells bare t (I (n.side.session.next % 8) (expected n.side.session) info) ≡ [])
+goes_fragment {bare} {t} {n} {f} {to_n} {to_f} {r} {info} x frame up is g = (
+  subst P (sym heard) (record {
+    knows = record {
+      near = near;
+      far = tracks_far {n = n} {m = m} {to_f = to_f} refl (omega arith) (still_no_ua to_f x (rw frame refl) h.far.told) h.far;
+      rsets = h.rsets;
+    };
+    sends = λ _. sends_on tells.0 tells.1 can;
+    none = λ no. absurd (no up);
+  }),
+  quiet,
+)
+  where
+    h : Knows bare t n f to_n to_f r
+    h = g.knows
+
+    s : Session
+    s = n.side.session
+
+    ns : ℕ
+    ns = s.next % 8
+
+    nr : ℕ
+    nr = expected s
+
+    m : NumberedShdlc
+    m = record n { side = record n.side { session = sent_next s } }
+
+    can : CanSend s (shdlc_session_of f (shdlc_number_of n))
+    can = g.sends up
+
+    tells : (s.next < s.acked + s.window) × (slice_get s.out s.next ≡ Some info)
+    tells = fragment_due-within s info is
+
+    c : (t.clf.number ≡ shdlc_number_of n) × (t.clf.count ≡ length s.acc)
+    c = count_up up h.near
+
+    side : TapSide
+    side = with_fragment t.clf t.uicc ns info
+
+    P : TapState → Type 0
+    P z = Goes bare z m f to_n (fits (to_f ++ x ∷ [])) r
+
+    counts : is_in_session bare t.clf ≡ true
+    counts = in_session up h.near
+
+    heard : tap_hears bare t (I ns nr info) ≡ record t { clf = side }
+    heard =
+        ap (λ b. cond b (record t { clf = with_number side t.uicc nr }) t) counts
+        ∙ ap (λ z. record t { clf = z }) (same_number side t.uicc nr (tells_none side t.uicc (length s.acc) c.1))
+
+    quiet : tap_tells bare t (I ns nr info) ≡ []
+    quiet = ap (λ b. cond b (told_by t.clf t.uicc nr) []) counts ∙ told_none t.clf t.uicc nr (tells_none t.clf t.uicc (length s.acc) c.1)
+
+    list : (t.uicc.number ≡ t.clf.number) ⊎ (t.uicc.number ≡ t.clf.number → ⊥) → listed_at side t.uicc.number ≡ ever_sent (shdlc_session_of m t.uicc.number)
+    list (inl q) =
+        let here : (t.clf.number == t.uicc.number) ≡ true = eq-eqb t.clf.number t.uicc.number (sym q) in
+        let there : (t.uicc.number == t.clf.number) ≡ true = eq-eqb t.uicc.number t.clf.number q in
+        let before : listed_at t.clf t.clf.number ≡ ever_sent s =
+        ap (listed_at t.clf) (sym q) ∙ (h.near.list ∙ ap ever_sent (session_now n t.uicc.number up (q ∙ c.0))) in
+        let after : ever_sent (shdlc_session_of m t.uicc.number) ≡ ever_sent (sent_next s) = ap ever_sent (session_now m t.uicc.number up (q ∙ c.0)) in
+        let counted : counted_at t.uicc t.clf.number ≡ length (shdlc_session_of f (shdlc_number_of n)).acc =
+        rw there (h.far.count ∙ ap (λ k. length (shdlc_session_of f k).acc) (q ∙ c.0)) in
+        let grown = list_grows s (counted_at t.uicc t.clf.number) info (listed_at t.clf t.clf.number) can.from can.sent can.offered can.within can.most
+        (omega (arith, can.acked, counted)) tells.0 tells.1 before in
+        rw here (grown ∙ sym after)
+    list (inr q) =
+        let here : (t.clf.number == t.uicc.number) ≡ false = ne_eqb t.clf.number t.uicc.number (λ e. q (sym e)) in
+        let above : shdlc_session_of m t.uicc.number ≡ no_session =
+        session_above m t.clf.number t.uicc.number h.near.past (omega (arith, far_number up h, q, c.0)) (omega (arith, far_number up h, q, c.0)) in
+        rw (here, above) refl
+
+    near : Tracks bare side t.uicc m f to_n
+    near = record {
+      asked = h.near.asked;
+      from = h.near.from;
+      upto = h.near.upto;
+      now = h.near.now;
+      took = h.near.took;
+      named = h.near.named;
+      past = h.near.past;
+      count = c.1 ∙ sym (ap (λ (z : Session). length z.acc) (session_now m t.clf.number up c.0));
+      list = list (cases_eq t.uicc.number t.clf.number);
+      low = omega (arith, far_number up h, c.0);
+      met = h.near.met;
+      told = h.near.told;
+    }
+
+-- ## An end has its turns, and then all that is due goes out: what the tap knows then
 
 pub hears_all-append : (bare : Bool) (t : TapState) (cs ds : List Control) → hears_all bare t (cs ++ ds) ≡ hears_all bare (hears_all bare t cs) ds
 hears_all-append bare t [] ds = refl
@@ -26,10 +427,10 @@ tells_all-append bare t (c ∷ cs) ds =
 abbrev pub GoesAt : Bool → TapState → ShdlcLink → EndState → Type 0
 GoesAt bare t l e = Goes bare t (record l.controller { side = e }) l.host l.to_controller l.to_host l.resets
 
--- ## Small changes of an end
+-- ### Small changes of an end
 
 -- an end changes, but not its phase and what its session holds
-pub alike_side : (n : NumberedShdlc) (q : EndState) → q.phase ≡ n.side.phase → SameLists q.session n.side.session → Alike n (record n { side = q })
+alike_side : (n : NumberedShdlc) (q : EndState) → q.phase ≡ n.side.phase → SameLists q.session n.side.session → Alike n (record n { side = q })
 alike_side n q phase same = go n.side.phase refl
   where
     down : (p : LinkState) → n.side.phase ≡ p → (p ≡ Up → ⊥) → Alike n (record n { side = q })
@@ -103,7 +504,7 @@ goes_answer {bare} {t} l e k up g =
       says.1,
     )
 
--- ## Fragments go out
+-- ### Fragments go out
 
 record Each (bare : Bool) (t : TapState) (l : ShdlcLink) (c : Control) (f : EndState) : Type 0 where
   goes : GoesAt bare (tap_hears bare t c) (shdlc_put l c) f
@@ -138,11 +539,11 @@ each bare t l e c is due g =
         record { goes = s.0; told = s.1; due = due }
 
 -- all that is due has gone out, and this was told
-pub record Drained (bare : Bool) (t : TapState) (l : ShdlcLink) (m : ℕ) (e : EndState) : Type 0 where
+record Drained (bare : Bool) (t : TapState) (l : ShdlcLink) (m : ℕ) (e : EndState) : Type 0 where
   pub goes : GoesAt bare (hears_all bare t (frames_of m e)) (shdlc_put_all l (frames_of m e)) (after_frames m e)
   pub told : tells_all bare t (frames_of m e) ≡ []
 
-pub drains : (bare : Bool) (m : ℕ) (e : EndState) (t : TapState) (l : ShdlcLink) → e.due ≡ [] → GoesAt bare t l e → Drained bare t l m e
+drains : (bare : Bool) (m : ℕ) (e : EndState) (t : TapState) (l : ShdlcLink) → e.due ≡ [] → GoesAt bare t l e → Drained bare t l m e
 drains bare zero e t l due g = record { goes = g; told = refl }
 drains bare (suc m) e t l due g = by_option (frame_due e)
     (λ q. record { goes = rw q (rw (fetched_idle e q, after_frames_idle m e q) g); told = rw q refl })
@@ -150,10 +551,10 @@ drains bare (suc m) e t l due g = by_option (frame_due e)
     let more = drains bare m (fetched e) (tap_hears bare t c) (shdlc_put l c) one.due one.goes in
     record { goes = rw q more.goes; told = rw q (ap (λ z. z ++ tells_all bare (tap_hears bare t c) (frames_of m (fetched e))) one.told ∙ more.told) })
 
--- ## Turns
+-- ### Turns
 
 -- the end has become e: its control frames go out, and tell this
-pub record TapPending (bare : Bool) (t : TapState) (l : ShdlcLink) (e : EndState) (told : List (ℕ × ℕ × List ℕ)) : Type 0 where
+record TapPending (bare : Bool) (t : TapState) (l : ShdlcLink) (e : EndState) (told : List (ℕ × ℕ × List ℕ)) : Type 0 where
   pub goes : GoesAt bare (hears_all bare t (controls e)) (shdlc_put_all l (controls e)) (record e { due = [] })
   pub tells : tells_all bare t (controls e) ≡ told
   pub few : room e ≤ 2

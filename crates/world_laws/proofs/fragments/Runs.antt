@@ -1,29 +1,401 @@
 -- The tap hears all frames of every run of a link over fragments: it knows both ends, and tells what they got.
-use Rattle.world_laws.proofs.Words.{AllKeepPower, AllShdlcAllowed, AreTurns, Bool, Control, HasItsTick, IsShdlcStart, IsTrackedBy, List, None, NoneIsCut}
-use Rattle.world_laws.proofs.Words.{NumberedShdlc, OnWire, Option, SafeLink, ShdlcEndEvent, ShdlcLink, ShdlcLinkEvent, ShdlcTurn, Some, StartsSo, TapReport}
-use Rattle.world_laws.proofs.Words.{TapSide, TapState, TickWithout, Up, [], aged_wire, ap, append_assoc, arith, by_test, emitted, emitted_event, emitted_here}
-use Rattle.world_laws.proofs.Words.{emitted_if_waiting, emitted_tick, emitted_turns, ever_sent, false, frames_by, got, got_event, got_here, hears_all, inl, inr}
-use Rattle.world_laws.proofs.Words.{is_waiting, listed_at, map-append, new_tap, refl, reports_to, safe_aged, safe_event, safe_exchanged, safe_start, safe_turn}
-use Rattle.world_laws.proofs.Words.{safe_turns, shdlc_after, shdlc_aged, shdlc_all_at_controller, shdlc_exchanged, shdlc_happens, shdlc_happens_at_controller}
-use Rattle.world_laws.proofs.Words.{start, start_down, subst, sym, tap_after, tap_after_frame, tap_exchanged, tap_hears, tap_reports, tap_tells, tapped}
-use Rattle.world_laws.proofs.Words.{tapped_from, tells_all, tick_if_waiting, tick_or_cut, ticks_if_waiting, ticks_or_cut, true, ℕ, ◌++◌, ◌∙◌, ◌∷◌, ◌≡◌, ◌≤◌}
-use Rattle.world_laws.proofs.Words.{◌⊎◌}
-use Rattle.link_laws.specs.sessions.Sessions.IsShdlcStart.{BothUp, BothDown}
+use Rattle.world_laws.proofs.Words.{Act, Activation, Acts, AllKeepPower, AllShdlcAllowed, AreTurns, Below, Bool, Control, Down, EndState, Fragment, HasItsTick}
+use Rattle.world_laws.proofs.Words.{Ignore, IsShdlcStart, IsTrackedBy, IsTurn, KeepsPower, LinkState, List, None, NoneIsCut, NothingIsOut, NumberedShdlc}
+use Rattle.world_laws.proofs.Words.{OnWire, Option, Rset, Rset_due, Safe, SafeLink, Session, ShdlcEndEvent, ShdlcLink, ShdlcLinkEvent, ShdlcTurn, Some}
+use Rattle.world_laws.proofs.Words.{StartsSo, TapReport, TapSide, TapState, TickWithout, Turns, Up, Waiting, [], act_frame, act_not_rset, aged_wire, ap}
+use Rattle.world_laws.proofs.Words.{append_assoc, arith, asked_again, by_test, counts, drop, emitted, emitted_event, emitted_here, emitted_if_waiting}
+use Rattle.world_laws.proofs.Words.{emitted_tick, emitted_turns, false, frames_by, frames_of, given_up, got, got_event, got_here, hears_all, idle_out, inl, inr}
+use Rattle.world_laws.proofs.Words.{is_act, is_rset, is_some, is_up, is_waiting, length, listed_at, ltb-false, map, map-append, most_frames, nat_lt, new_tap}
+use Rattle.world_laws.proofs.Words.{no_session, nothing_out, of_up, passes_act, refl, reports_to, reset_with, runs_timer, safe_aged, safe_event, safe_exchanged}
+use Rattle.world_laws.proofs.Words.{safe_start, safe_turn, safe_turns, sans, sent_again, sent_then, shdlc_after, shdlc_aged, shdlc_all_at_controller}
+use Rattle.world_laws.proofs.Words.{shdlc_becomes, shdlc_exchanged, shdlc_happens, shdlc_happens_at_controller, shdlc_number_of, shdlc_put, shdlc_put_all}
+use Rattle.world_laws.proofs.Words.{shdlc_session_of, shdlc_silent, shdlc_ticks_at_controller, shdlc_turned, start, start_down, stopped, subst, sym}
+use Rattle.world_laws.proofs.Words.{take_answer, taken, tap_after, tap_after_frame, tap_exchanged, tap_hears, tap_reports, tap_tells, tapped, tapped_from}
+use Rattle.world_laws.proofs.Words.{tells_all, tick_answer, tick_if_waiting, tick_or_cut, ticked, ticks_if_waiting, ticks_or_cut, took_other, took_with, true}
+use Rattle.world_laws.proofs.Words.{waiting_from, with_shdlc_ended, ℕ, ◌++◌, ◌+◌, ◌∙◌, ◌∷◌, ◌≡◌, ◌≤◌, ◌⊎◌}
+use Rattle.link_laws.proofs.sessions.Steps.{took}
+use Rattle.link_laws.specs.sessions.Sessions.IsShdlcStart.{BothDown, BothUp}
+use Rattle.link_laws.specs.sessions.Sessions.ShdlcEndEvent.{Cut, Deliver, Lose, Reset, Stop}
 use Rattle.link_laws.specs.sessions.Sessions.ShdlcLinkEvent.{AtController, AtHost, Tick}
-use Rattle.world_laws.proofs.fragments.Wires.{NoUa, no_ua-aged}
-use Rattle.world_laws.proofs.fragments.Sides.{Tracks, Knows, KnowsLink, tracks_on}
-use Rattle.world_laws.proofs.fragments.Frames.{count_up, session_now}
-use Rattle.world_laws.proofs.fragments.Going.{hears_all-append, tells_all-append}
-use Rattle.world_laws.proofs.fragments.Taking.{Heard}
-use Rattle.world_laws.proofs.fragments.Events.{here_heard, turn_heard, tick_heard}
+use Rattle.world_laws.proofs.fragments.Going.{Alike, Becomes, CanSend, GoesAt, Knows, KnowsLink, Tracks, Went, alike_end, alike_none, can_send, count_up}
+use Rattle.world_laws.proofs.fragments.Going.{ever_sent, goes_of, hears_all-append, knows_side, knows_wire, session_now, tells_all-append, tracks_far}
+use Rattle.world_laws.proofs.fragments.Going.{tracks_on, went_none, went_one}
+use Rattle.world_laws.proofs.fragments.Taking.{Heard, got_now, knows_rest, knows_rset, takes_heard}
+use Rattle.world_laws.proofs.fragments.Wires.{NoUa, no_ua-aged, no_ua-drop, no_ua-from, no_ua-rest}
 
--- ## Frames of both sides
+-- ## What the tap knows after whatever happens at the controller's end
 
-pub tap_after-append : (bare : Bool) (t : TapState) (fs gs : List (Bool × Control)) → tap_after bare t (fs ++ gs) ≡ tap_after bare (tap_after bare t fs) gs
+-- what the tap knows after this at the controller's end
+abbrev HeardHere : Bool → TapState → ShdlcLink → ShdlcEndEvent → Type 0
+HeardHere bare t l e = Heard bare t (shdlc_happens_at_controller l e) (emitted_here l e) (got_here l e)
+
+went_heard : {bare : Bool} {t : TapState} (l : ShdlcLink) (e : EndState) (told : List (ℕ × ℕ × List ℕ)) → Went bare t l e told
+    → Heard bare t (shdlc_becomes l e) (frames_of most_frames e) told
+went_heard l e told w = record { knows = w.knows; tells = w.tells }
+
+-- ### It takes a frame
+
+deliver_heard : (bare : Bool) (t : TapState) (ts : List ShdlcTurn) (l : ShdlcLink) → SafeLink 0 0 l → KnowsLink bare t l → HeardHere bare t l (Deliver ts)
+deliver_heard bare t ts l s h = go l.to_controller s h
+  where
+    at : List OnWire → ShdlcLink
+    at w = record l { to_controller = w }
+
+    first : (x : OnWire) (xs : List OnWire) (b : Bool) → is_act x.frame ≡ b → SafeLink 0 0 (at (x ∷ xs)) → KnowsLink bare t (at (x ∷ xs))
+        → Heard bare t (took (at (x ∷ xs)) ts x xs) (sent_then (taken l.controller.side x.frame) ts) (got_now (at (x ∷ xs)) x)
+    first x xs false q s h = takes_heard bare t ts (at (x ∷ xs)) x xs (rw q at s) h
+    first x xs true q s h =
+        let p = passes_act l.controller.side x.frame q in
+        let none : (take_answer l.controller.side x.frame).accepted ≡ None = act_none x.frame q in
+        let number : took_with l.controller.took x ≡ l.controller.took = took_other l.controller.took x (act_not_rset x.frame q) in
+        let g : GoesAt bare t (at xs) l.controller.side = record {
+          knows = knows_rest h;
+          sends = λ up. can_send (rw (of_up l.controller up) at (s.n_base (shdlc_number_of l.controller)));
+          none = s.n_none;
+        } in
+        let w = went_none bare t ts (at xs) l.controller.side s.n_due g in
+        record { knows = rw (p.1, number, p.0) w.knows; tells = rw (p.0, none) w.tells }
+      where
+        act_none : (c : Control) → is_act c ≡ true → (take_answer l.controller.side c).accepted ≡ None
+        act_none (Act a b) q = by l.controller.side.phase refl
+          where
+            by : (p : LinkState) → l.controller.side.phase ≡ p → (take_answer l.controller.side (Act a b)).accepted ≡ None
+            by Up p = rw p refl
+            by _ p = rw p refl
+        act_none _ q = absurd (let z : false ≡ true = q in cc)
+
+    go : (w : List OnWire) → SafeLink 0 0 (at w) → KnowsLink bare t (at w) → HeardHere bare t (at w) (Deliver ts)
+    go [] s h = record { knows = h; tells = refl }
+    go (x ∷ xs) s h = let a = first x xs (is_act x.frame) refl s h in record { knows = a.knows; tells = a.tells }
+
+ignore_is : (l : ShdlcLink) (ts : List ShdlcTurn) (x : OnWire) (xs : List OnWire) → l.controller.side.phase ≡ Down → l.to_controller ≡ x ∷ xs
+    → shdlc_happens_at_controller l (Ignore ts)
+    ≡ shdlc_becomes (record l { to_controller = xs; controller = record l.controller { took = took_with l.controller.took x } })
+    (shdlc_turned l.controller.side ts)
+ignore_is l ts x xs p q = rw (p, q) refl
+
+ignore_sends : (l : ShdlcLink) (ts : List ShdlcTurn) (x : OnWire) (xs : List OnWire) → l.controller.side.phase ≡ Down → l.to_controller ≡ x ∷ xs
+    → emitted_here l (Ignore ts) ≡ sent_then l.controller.side ts
+ignore_sends l ts x xs p q = rw (p, q) refl
+
+-- an end that is Down passes over a frame, but for the number of an RSET
+ignore_heard : (bare : Bool) (t : TapState) (ts : List ShdlcTurn) (l : ShdlcLink) → SafeLink 0 0 l → KnowsLink bare t l → HeardHere bare t l (Ignore ts)
+ignore_heard bare t ts l s h = go l.controller.side.phase refl l.to_controller refl
+  where
+    n : NumberedShdlc
+    n = l.controller
+
+    by_parts : (m : ShdlcLink) (cs : List Control) → shdlc_happens_at_controller l (Ignore ts) ≡ m → emitted_here l (Ignore ts) ≡ cs → Heard bare t m cs []
+        → HeardHere bare t l (Ignore ts)
+    by_parts m cs p q a = record { knows = rw (p, q) a.knows; tells = rw q a.tells }
+
+    same : Heard bare t l [] []
+    same = record { knows = h; tells = refl }
+
+    down : n.side.phase ≡ Down → (x : OnWire) (xs : List OnWire) → l.to_controller ≡ x ∷ xs
+        → Went bare t (record l { to_controller = xs; controller = record n { took = took_with n.took x } }) (shdlc_turned n.side ts) []
+    down q x xs w =
+        let m : NumberedShdlc = record n { took = took_with n.took x } in
+        let k : ShdlcLink = record l { to_controller = xs; controller = m } in
+        let P : List OnWire → Type 0 = λ v. Safe 0 0 n l.host (sans v) (sans l.to_host) l.resets in
+        let c = counts l x xs q (subst P w s) in
+        let no_up : n.side.phase ≡ Up → ⊥ = λ u. let g = sym q ∙ u in cc in
+        let more : n.took ≤ took_with n.took x = grows x in
+        let R : List OnWire → Type 0 = λ v. NoUa v ⊎ (n.emitted ≤ t.uicc.number) in
+        let near : Tracks bare t.clf t.uicc m l.host xs = record {
+          asked = h.near.asked;
+          from = h.near.from;
+          upto = omega (arith, h.near.upto, more);
+          now = λ d. absurd (d q);
+          took = c.hand.n_took;
+          named = inr (λ d. absurd (d q));
+          past = h.near.past;
+          count = h.near.count ∙ sym (ap (length {A = Fragment}) (alike_none n m no_up no_up refl t.clf.number).acc);
+          list = h.near.list ∙ sym (alike_none n m no_up no_up refl t.uicc.number).sent;
+          low = h.near.low;
+          met = λ u. absurd (no_up u);
+          told = left x xs (subst R w h.near.told);
+        } in
+        let g : GoesAt bare t k n.side = record {
+          knows = record { near = near; far = tracks_far {n = n} {m = m} {to_f = l.to_host} refl (omega arith) h.far.told h.far; rsets = h.rsets };
+          sends = λ u. absurd (no_up u);
+          none = s.n_none;
+        } in
+        went_none bare t ts k n.side s.n_due g
+      where
+        left : (x : OnWire) (xs : List OnWire) → NoUa (x ∷ xs) ⊎ (n.emitted ≤ t.uicc.number) → NoUa xs ⊎ (n.emitted ≤ t.uicc.number)
+        left x xs (inl z) = inl (no_ua-rest x xs z)
+        left x xs (inr z) = inr z
+
+        grows : (x : OnWire) → n.took ≤ took_with n.took x
+        grows x = by_test (is_rset x.frame) (λ q. rw q (omega arith)) (λ q. rw q (omega arith))
+
+    go : (p : LinkState) → n.side.phase ≡ p → (w : List OnWire) → l.to_controller ≡ w → HeardHere bare t l (Ignore ts)
+    go Up q w p = by_parts l [] (rw q refl) (rw q refl) same
+    go Waiting q w p = by_parts l [] (rw q refl) (rw q refl) same
+    go Down q [] p = by_parts l [] (rw (q, p) refl) (rw (q, p) refl) same
+    go Down q (x ∷ xs) p =
+        let k : ShdlcLink = record l { to_controller = xs; controller = record n { took = took_with n.took x } } in
+        by_parts (shdlc_becomes k (shdlc_turned n.side ts)) (sent_then n.side ts) (ignore_is l ts x xs q p) (ignore_sends l ts x xs q p)
+        (went_heard k (shdlc_turned n.side ts) [] (down q x xs p))
+
+-- ### Frames of activation
+
+acts_go : (bare : Bool) (t : TapState) (acts : List Activation) (l : ShdlcLink) (e : EndState) → GoesAt bare t l e
+    → GoesAt bare (hears_all bare t (map act_frame acts)) (shdlc_put_all l (map act_frame acts)) e × (tells_all bare t (map act_frame acts) ≡ [])
+acts_go bare t [] l e g = (g, refl)
+acts_go bare t (a ∷ acts) l e g =
+    acts_go bare t acts (shdlc_put l (act_frame a)) e
+    (record { knows = knows_wire (record { frame = act_frame a; age = 0; number = 0 }) refl g.knows; sends = g.sends; none = g.none })
+
+acts_heard : {kf : ℕ} (bare : Bool) (t : TapState) (acts : List Activation) (ts : List ShdlcTurn) (l : ShdlcLink) → SafeLink 0 kf l → KnowsLink bare t l
+    → HeardHere bare t l (Acts acts ts)
+acts_heard bare t acts ts l s h =
+    let bs : List Control = map act_frame acts in
+    let cs : List Control = sent_then l.controller.side ts in
+    let g = acts_go bare t acts l l.controller.side (goes_of l s h) in
+    let w = went_none bare (hears_all bare t bs) ts (shdlc_put_all l bs) l.controller.side s.n_due g.0 in
+    record {
+      knows = rw (hears_all-append bare t bs cs) w.knows;
+      tells = tells_all-append bare t bs cs ∙ (ap (λ z. z ++ tells_all bare (hears_all bare t bs) cs) g.1 ∙ w.tells);
+    }
+
+-- ### It sends an RSET and waits
+
+-- the end has become q, which waits, and its sessions are these
+goes_rset : {bare : Bool} {t : TapState} {kn kf : ℕ} (l : ShdlcLink) (q : EndState) (past : List (ℕ × Session)) (w c : ℕ) → q.phase ≡ Waiting
+    → q.session ≡ no_session
+    → Alike l.controller (record { side = q; emitted = l.resets + 1; took = l.controller.took; past = past }) → Below (t.clf.number + 1) past
+    → NothingIsOut (sans l.to_controller) (sans l.to_host) → SafeLink kn kf l → KnowsLink bare t l
+    → GoesAt bare (tap_hears bare t (Rset w c)) (shdlc_put (record l { controller = record l.controller { past = past } }) (Rset w c)) q
+goes_rset l q past w c waits none alike below out s h =
+    let x : OnWire = record { frame = Rset w c; age = 0; number = l.resets + 1 } in
+    record {
+      knows = knows_rset x w c refl (record {
+        alike = alike;
+        waits = waits;
+        emitted = refl;
+        took = refl;
+        past = below;
+        no_ua = no_ua-from l.to_controller out.no_ua;
+        bound = s.hand.n_bound;
+        far_bound = s.hand.f_bound;
+      }) h;
+      sends = λ u. absurd (let e = sym waits ∙ u in cc);
+      none = λ _. none;
+    }
+
+-- an end that was Up: its session is kept
+up_asks : {bare : Bool} {t : TapState} {kn kf : ℕ} (ts : List ShdlcTurn) (l : ShdlcLink) (e : EndState) → l.controller.side.phase ≡ Up → e.phase ≡ Up
+    → SafeLink kn kf l → KnowsLink bare t l → Went bare t (with_shdlc_ended l true) (shdlc_turned (waiting_from e) ts) []
+up_asks {bare} {t} ts l e up eup s h =
+    let n : NumberedShdlc = l.controller in
+    let past : List (ℕ × Session) = (shdlc_number_of n, n.side.session) ∷ n.past in
+    let q : EndState = record (waiting_from e) { due = [] } in
+    let m : NumberedShdlc = record { side = q; emitted = l.resets + 1; took = n.took; past = past } in
+    let now : t.clf.number ≡ shdlc_number_of n = h.near.now (λ d. let y = sym up ∙ d in cc) in
+    let is : (waiting_from e).due ≡ Rset_due ∷ [] = rw eup refl in
+    let alike : Alike n m = alike_end n m up (λ u. let y : Waiting ≡ Up = u in cc) refl in
+    let out : NothingIsOut (sans l.to_controller) (sans l.to_host) = idle_out s.hand (λ w. let y = sym up ∙ w in cc) in
+    went_one bare t ts (with_shdlc_ended l true) (waiting_from e) Rset_due [] is
+    (goes_rset l q past e.own_window 0 refl refl alike (omega (arith, now), h.near.past) out s h) refl
+
+-- one that was not
+idle_asks : {bare : Bool} {t : TapState} {kn kf : ℕ} (ts : List ShdlcTurn) (l : ShdlcLink) (q : EndState) → (l.controller.side.phase ≡ Up → ⊥)
+    → q.phase ≡ Waiting → q.session ≡ no_session → q.due ≡ Rset_due ∷ [] → NothingIsOut (sans l.to_controller) (sans l.to_host)
+    → SafeLink kn kf l → KnowsLink bare t l → Went bare t l (shdlc_turned q ts) []
+idle_asks {bare} {t} ts l q no_up waits none due out s h =
+    let n : NumberedShdlc = l.controller in
+    let v : EndState = record q { due = [] } in
+    let m : NumberedShdlc = record { side = v; emitted = l.resets + 1; took = n.took; past = n.past } in
+    let alike : Alike n m = alike_none n m no_up (λ u. let y = sym waits ∙ u in cc) refl in
+    went_one bare t ts l q Rset_due [] due (goes_rset l v n.past q.own_window 0 waits none alike h.near.past out s h) refl
+
+reset_heard : {kf : ℕ} (bare : Bool) (t : TapState) (ts : List ShdlcTurn) (l : ShdlcLink) (w : ℕ) → SafeLink 0 kf l → KnowsLink bare t l
+    → HeardHere bare t l (Reset w ts)
+reset_heard {kf} bare t ts l w s h = go l.controller.side.phase refl
+  where
+    side : EndState
+    side = l.controller.side
+
+    e : EndState
+    e = record side { own_window = w }
+
+    by_parts : (b : Bool) (q : EndState) → is_up side.phase ≡ b → reset_with side w ≡ q → Went bare t (with_shdlc_ended l b) (shdlc_turned q ts) []
+        → HeardHere bare t l (Reset w ts)
+    by_parts b q up is a = record { knows = rw (up, is) a.knows; tells = rw is a.tells }
+
+    go : (p : LinkState) → side.phase ≡ p → HeardHere bare t l (Reset w ts)
+    go Waiting q = by_parts false side (rw q refl) (rw q refl) (went_none bare t ts l side s.n_due (goes_of l s h))
+    go Up q = by_parts true (waiting_from e) (rw q refl) (rw q refl) (up_asks ts l e q q s h)
+    go Down q =
+        by_parts false (waiting_from e) (rw q refl) (rw q refl)
+        (idle_asks ts l (waiting_from e) (λ u. let y = sym q ∙ u in cc) refl refl (rw (q, s.n_due) refl) (idle_out s.hand (λ v. let y = sym q ∙ v in cc)) s h)
+
+-- ### It is stopped
+
+stop_heard : {kn kf : ℕ} (bare : Bool) (t : TapState) (l : ShdlcLink) → SafeLink kn kf l → KnowsLink bare t l → HeardHere bare t l Stop
+stop_heard bare t l s h = record { knows = go l.controller.side.phase refl; tells = refl }
+  where
+    n : NumberedShdlc
+    n = l.controller
+
+    q : EndState
+    q = stopped n.side
+
+    made : (past : List (ℕ × Session)) → Alike n (record n { side = q; past = past }) → Below (t.clf.number + 1) past
+        → Knows bare t (record n { side = q; past = past }) l.host [] [] l.resets
+    made past alike below =
+        record {
+          near = tracks_on (record { alike = alike; emitted = refl; took = refl; past = below; phase = λ d. absurd (d refl) })
+              (λ u. let y : Down ≡ Up = u in cc) (inl refl) h.near;
+          far = tracks_far {n = n} {m = record n { side = q; past = past }} {to_f = l.to_host} refl (omega arith) (inl refl) h.far;
+          rsets = h.rsets;
+        }
+
+    no : (u : Down ≡ Up) → ⊥
+    no u = cc
+
+    go : (p : LinkState) → n.side.phase ≡ p → KnowsLink bare t (shdlc_silent l q)
+    go Up e =
+        let past : List (ℕ × Session) = (shdlc_number_of n, n.side.session) ∷ n.past in
+        let now : t.clf.number ≡ shdlc_number_of n = h.near.now (λ d. let y = sym e ∙ d in cc) in
+        rw e (made past (alike_end n (record n { side = q; past = past }) e no refl) (omega (arith, now), h.near.past))
+    go Waiting e = rw e (made n.past (alike_none n (record n { side = q }) (λ u. let y = sym e ∙ u in cc) no refl) h.near.past)
+    go Down e = rw e (made n.past (alike_none n (record n { side = q }) (λ u. let y = sym e ∙ u in cc) no refl) h.near.past)
+
+-- ### Turns and losses
+
+turns_heard_of_events : {kf : ℕ} (bare : Bool) (t : TapState) (ts : List ShdlcTurn) (l : ShdlcLink) → SafeLink 0 kf l → KnowsLink bare t l
+    → HeardHere bare t l (Turns ts)
+turns_heard_of_events bare t ts l s h =
+    went_heard l (shdlc_turned l.controller.side ts) [] (went_none bare t ts l l.controller.side s.n_due (goes_of l s h))
+
+lose_heard : (bare : Bool) (t : TapState) (l : ShdlcLink) → KnowsLink bare t l → HeardHere bare t l Lose
+lose_heard bare t l h =
+    record {
+      knows = record {
+        near = tracks_on (record { alike = λ k. record { acc = refl; sent = refl }; emitted = refl; took = refl; past = h.near.past; phase = λ d. d })
+            h.near.met (left h.near.told) h.near;
+        far = h.far;
+        rsets = h.rsets;
+      };
+      tells = refl;
+    }
+  where
+    left : NoUa l.to_controller ⊎ (l.controller.emitted ≤ t.uicc.number) → NoUa (drop 1 l.to_controller) ⊎ (l.controller.emitted ≤ t.uicc.number)
+    left (inl q) = inl (no_ua-drop l.to_controller q)
+    left (inr q) = inr q
+
+-- whatever happens at the controller's end
+here_heard : (bare : Bool) (t : TapState) (l : ShdlcLink) (e : ShdlcEndEvent) → KeepsPower e → SafeLink 0 0 l → KnowsLink bare t l → HeardHere bare t l e
+here_heard bare t l (Turns ts) a s h = turns_heard_of_events bare t ts l s h
+here_heard bare t l (Deliver ts) a s h = deliver_heard bare t ts l s h
+here_heard bare t l (Ignore ts) a s h = ignore_heard bare t ts l s h
+here_heard bare t l (Acts acts ts) a s h = acts_heard bare t acts ts l s h
+here_heard bare t l Lose a s h = lose_heard bare t l h
+here_heard bare t l (Reset w ts) a s h = reset_heard bare t ts l w s h
+here_heard bare t l Cut a s h = absurd a
+here_heard bare t l Stop a s h = stop_heard bare t l s h
+
+-- whatever its node's turns do
+turn_heard : {kf : ℕ} (bare : Bool) (t : TapState) (l : ShdlcLink) (e : ShdlcEndEvent) → IsTurn e → KeepsPower e → SafeLink 0 kf l
+    → KnowsLink bare t l → Heard bare t (shdlc_happens_at_controller l e) (emitted_here l e) []
+turn_heard bare t l (Turns ts) i a s h = turns_heard_of_events bare t ts l s h
+turn_heard bare t l (Acts acts ts) i a s h = acts_heard bare t acts ts l s h
+turn_heard bare t l (Reset w ts) i a s h = reset_heard bare t ts l w s h
+turn_heard bare t l Cut i a s h = absurd a
+turn_heard bare t l Stop i a s h = stop_heard bare t l s h
+turn_heard bare t l _ i a s h = absurd i
+
+-- ### Its tick
+
+tick_heard : {kf : ℕ} (bare : Bool) (t : TapState) (ts : List ShdlcTurn) (l : ShdlcLink) → SafeLink 1 kf l → KnowsLink bare t l
+    → Heard bare t (shdlc_ticks_at_controller l ts) (emitted_tick l (Some ts)) []
+tick_heard {kf} bare t ts l s h = go e.phase (runs_timer e.session) (nat_lt (e.timer + 1) 10) (nat_lt e.tries 5) refl refl refl refl
+  where
+    e : EndState
+    e = l.controller.side
+
+    Goal : Type 0
+    Goal = Heard bare t (shdlc_ticks_at_controller l ts) (emitted_tick l (Some ts)) []
+
+    g : GoesAt bare t l e
+    g = goes_of l s h
+
+    by_parts : (q : EndState) (b : Bool) → ticked e ≡ q → is_some (tick_answer e).ended ≡ b → Went bare t (with_shdlc_ended l b) (shdlc_turned q ts) [] → Goal
+    by_parts q b p r w = record { knows = rw (p, r) w.knows; tells = rw p w.tells }
+
+    -- the end has become q, in the same phase and with the same session, but for the place from which it sends
+    goes : (q : EndState) → q.phase ≡ e.phase → q.session.acc ≡ e.session.acc → ever_sent q.session ≡ ever_sent e.session
+        → (q.phase ≡ Up → CanSend q.session (shdlc_session_of l.host (shdlc_number_of l.controller)))
+        → ((q.phase ≡ Up → ⊥) → q.session ≡ no_session) → GoesAt bare t l q
+    goes q phase acc sent sends none = record { knows = knows_side q phase (record { acc = acc; sent = sent }) h; sends = sends; none = none }
+
+    counted : GoesAt bare t l (record e { timer = e.timer + 1 })
+    counted = goes (record e { timer = e.timer + 1 }) refl refl refl g.sends g.none
+
+    again : e.phase ≡ Up → GoesAt bare t l (sent_again e)
+    again up =
+        goes (sent_again e) refl refl refl (λ u. let can = g.sends up in record {
+          from = omega arith;
+          sent = omega (arith, can.from, can.sent);
+          offered = can.offered;
+          within = can.within;
+          most = can.most;
+          acked = can.acked;
+        }) (λ no_up. absurd (no_up up))
+
+    late : nat_lt (e.timer + 1) 10 ≡ false → NothingIsOut (sans l.to_controller) (sans l.to_host)
+    late r = nothing_out s.hand (let i = ltb-false (e.timer + 1) 10 r in omega (arith, i))
+
+    go : (p : LinkState) (a b c : Bool) → e.phase ≡ p → runs_timer e.session ≡ a → nat_lt (e.timer + 1) 10 ≡ b → nat_lt e.tries 5 ≡ c → Goal
+    go Down a b c p q r v = by_parts e false (rw p refl) (rw p refl) (went_none bare t ts l e s.n_due g)
+    go Up false b c p q r v = by_parts e false (rw (p, q) refl) (rw (p, q) refl) (went_none bare t ts l e s.n_due g)
+    go Up true true c p q r v =
+        by_parts (record e { timer = e.timer + 1 }) false (rw (p, q, r) refl) (rw (p, q, r) refl)
+        (went_none bare t ts l (record e { timer = e.timer + 1 }) s.n_due counted)
+    go Up true false true p q r v =
+        by_parts (sent_again e) false (rw (p, q, r, v) refl) (rw (p, q, r, v) refl) (went_none bare t ts l (sent_again e) s.n_due (again p))
+    go Up true false false p q r v =
+        by_parts (waiting_from e) true (rw (p, q, r, v) refl) (rw (p, q, r, v) refl) (up_asks ts l e p p s h)
+    go Waiting a true c p q r v =
+        by_parts (record e { timer = e.timer + 1 }) false (rw (p, r) refl) (rw (p, r) refl)
+        (went_none bare t ts l (record e { timer = e.timer + 1 }) s.n_due counted)
+    go Waiting a false true p q r v =
+        let no_up : e.phase ≡ Up → ⊥ = λ u. let y = sym p ∙ u in cc in
+        by_parts (asked_again e) false (rw (p, r, v) refl) (rw (p, r, v) refl)
+        (idle_asks ts l (asked_again e) no_up p (s.n_none no_up) (rw s.n_due refl) (late r) s h)
+    go Waiting a false false p q r v =
+        let no_up : e.phase ≡ Up → ⊥ = λ u. let y = sym p ∙ u in cc in
+        let d : EndState = given_up e in
+        let becomes : Becomes l.controller (record l.controller { side = d }) (t.clf.number + 1) = record {
+          alike = alike_none l.controller (record l.controller { side = d }) no_up (λ u. let y : Down ≡ Up = u in cc) refl;
+          emitted = refl;
+          took = refl;
+          past = h.near.past;
+          phase = λ z. absurd (z refl);
+        } in
+        let gone : GoesAt bare t l d = record {
+          knows = record {
+            near = tracks_on becomes (λ u. let y : Down ≡ Up = u in cc) h.near.told h.near;
+            far = tracks_far {n = l.controller} {m = record l.controller { side = d }} {to_f = l.to_host} refl (omega arith) h.far.told h.far;
+            rsets = h.rsets;
+          };
+          sends = λ u. let y : Down ≡ Up = u in cc;
+          none = λ _. s.n_none no_up;
+        } in
+        by_parts d false (rw (p, r, v) refl) (rw (p, r, v) refl) (went_none bare t ts l d s.n_due gone)
+
+-- ## The tap hears all frames of every run of a link over fragments: it knows both ends, and tells what they got
+
+-- ### Frames of both sides
+
+tap_after-append : (bare : Bool) (t : TapState) (fs gs : List (Bool × Control)) → tap_after bare t (fs ++ gs) ≡ tap_after bare (tap_after bare t fs) gs
 tap_after-append bare t [] gs = refl
 tap_after-append bare t (f ∷ fs) gs = tap_after-append bare (tap_after_frame bare t f.0 f.1) fs gs
 
-pub tapped-append : (bare : Bool) (t : TapState) (fs gs : List (Bool × Control))
+tapped-append : (bare : Bool) (t : TapState) (fs gs : List (Bool × Control))
     → tapped_from bare t (fs ++ gs) ≡ tapped_from bare t fs ++ tapped_from bare (tap_after bare t fs) gs
 tapped-append bare t [] gs = refl
 tapped-append bare t (f ∷ fs) gs =
@@ -58,11 +430,11 @@ far_tapped bare t (c ∷ cs) =
     ∙ sym (reports-append false (tap_tells bare v c) (tells_all bare u cs))
 
 -- what the tap knows of the link m after these frames, and what it reported over them
-pub record HeardBoth (bare : Bool) (t : TapState) (m : ShdlcLink) (fs : List (Bool × Control)) (told : List TapReport) : Type 0 where
+record HeardBoth (bare : Bool) (t : TapState) (m : ShdlcLink) (fs : List (Bool × Control)) (told : List TapReport) : Type 0 where
   pub knows : KnowsLink bare (tap_after bare t fs) m
   pub tells : tapped_from bare t fs ≡ told
 
-pub knows_swap : {bare : Bool} {t : TapState} {n f : NumberedShdlc} {to_n to_f : List OnWire} {r : ℕ} → Knows bare t n f to_n to_f r
+knows_swap : {bare : Bool} {t : TapState} {n f : NumberedShdlc} {to_n to_f : List OnWire} {r : ℕ} → Knows bare t n f to_n to_f r
     → Knows bare (tap_exchanged t) f n to_f to_n r
 knows_swap h = record { near = h.far; far = h.near; rsets = h.rsets }
 
@@ -78,7 +450,7 @@ far_both {bare} {t} m cs told h =
     let P : TapState → Type 0 = λ z. KnowsLink bare z (shdlc_exchanged m) in
     record { knows = subst P (sym (far_after bare t cs)) (knows_swap h.knows); tells = far_tapped bare t cs ∙ ap (reports_to false) h.tells }
 
-pub then_both : {bare : Bool} {t : TapState} (m k : ShdlcLink) (fs gs : List (Bool × Control)) (told more : List TapReport) → HeardBoth bare t m fs told
+then_both : {bare : Bool} {t : TapState} (m k : ShdlcLink) (fs gs : List (Bool × Control)) (told more : List TapReport) → HeardBoth bare t m fs told
     → HeardBoth bare (tap_after bare t fs) k gs more → HeardBoth bare t k (fs ++ gs) (told ++ more)
 then_both {bare} {t} m k fs gs told more a b =
     let P : TapState → Type 0 = λ z. KnowsLink bare z k in
@@ -87,7 +459,7 @@ then_both {bare} {t} m k fs gs told more a b =
       tells = tapped-append bare t fs gs ∙ (ap (λ z. z ++ tapped_from bare (tap_after bare t fs) gs) a.tells ∙ ap (λ z. told ++ z) b.tells);
     }
 
--- ## Events
+-- ### Events
 
 then_heard : {bare : Bool} {t : TapState} (m k : ShdlcLink) (cs ds : List Control) (told more : List (ℕ × ℕ × List ℕ)) → Heard bare t m cs told
     → Heard bare (hears_all bare t cs) k ds more → Heard bare t k (cs ++ ds) (told ++ more)
@@ -144,7 +516,7 @@ rest_heard bare t first near turns d i a p s h =
     then_both m (shdlc_exchanged (ticks_or_cut d k)) (frames_by true (first ++ emitted_turns near turns)) (frames_by false (emitted_tick k d)) [] [] one
     (far_both (ticks_or_cut d k) (emitted_tick k d) [] three)
 
-pub event_heard : (bare : Bool) (t : TapState) (l : ShdlcLink) (e : ShdlcLinkEvent) (es : List ShdlcLinkEvent) → AllShdlcAllowed (e ∷ es) → NoneIsCut (e ∷ es)
+event_heard : (bare : Bool) (t : TapState) (l : ShdlcLink) (e : ShdlcLinkEvent) (es : List ShdlcLinkEvent) → AllShdlcAllowed (e ∷ es) → NoneIsCut (e ∷ es)
     → SafeLink 0 0 l → KnowsLink bare t l → HeardBoth bare t (shdlc_happens l e) (emitted_event l e) (got_event l e) × NoneIsCut es
 event_heard bare t l (AtController e) es i a s h =
     (near_both (shdlc_happens_at_controller l e) (emitted_here l e) (got_here l e) (here_heard bare t l e a.0 s h), a.1)
@@ -161,9 +533,9 @@ event_heard bare t l (TickWithout turns d) es i a s h =
     let one = tick_waiting bare t (shdlc_aged l) s0 (knows_aged l h) in
     (rest_heard bare t (emitted_if_waiting (shdlc_aged l)) (ticks_if_waiting (shdlc_aged l)) turns d i.0 a.0 a.1 (tick_if_waiting 1 (shdlc_aged l) s0) one, a.2)
 
--- ## Runs
+-- ### Runs
 
-pub run_heard : (bare : Bool) (events : List ShdlcLinkEvent) (t : TapState) (l : ShdlcLink) → AllShdlcAllowed events → NoneIsCut events → SafeLink 0 0 l
+run_heard : (bare : Bool) (events : List ShdlcLinkEvent) (t : TapState) (l : ShdlcLink) → AllShdlcAllowed events → NoneIsCut events → SafeLink 0 0 l
     → KnowsLink bare t l → HeardBoth bare t (shdlc_after l events) (emitted l events) (got l events)
 run_heard bare [] t l i a s h = record { knows = h; tells = refl }
 run_heard bare (e ∷ es) t l i a s h =
@@ -173,7 +545,7 @@ run_heard bare (e ∷ es) t l i a s h =
     then_both m (shdlc_after m es) (emitted_event l e) (emitted m es) (got_event l e) (got m es) one.0
     (run_heard bare es (tap_after bare t (emitted_event l e)) m next.1 one.1 next.0 one.0.knows)
 
-pub start_known : (bare : Bool) (l : ShdlcLink) → IsShdlcStart l → StartsSo bare l → KnowsLink bare new_tap l
+start_known : (bare : Bool) (l : ShdlcLink) → IsShdlcStart l → StartsSo bare l → KnowsLink bare new_tap l
 start_known bare l BothUp b = record { near = side; far = side; rsets = refl }
   where
     is_bare : (bare ≡ true) ⊎ ((Up ≡ Up) → ⊥) → bare ≡ true
@@ -214,7 +586,7 @@ start_known bare l BothDown b = record { near = side; far = side; rsets = refl }
     }
 
 -- over a whole run from its beginning
-pub heard_from_start : (bare : Bool) (l : ShdlcLink) → IsShdlcStart l → StartsSo bare l → (events : List ShdlcLinkEvent) → AllShdlcAllowed events
+heard_from_start : (bare : Bool) (l : ShdlcLink) → IsShdlcStart l → StartsSo bare l → (events : List ShdlcLinkEvent) → AllShdlcAllowed events
     → NoneIsCut events → HeardBoth bare new_tap (shdlc_after l events) (emitted l events) (got l events)
 heard_from_start bare l i b events a c = run_heard bare events new_tap l a c (safe_start l i) (start_known bare l i b)
 

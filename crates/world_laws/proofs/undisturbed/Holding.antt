@@ -1,27 +1,249 @@
--- Behind each step of a node an end that takes no fragments is one whose first message was noted as held.
-use Rattle.world_laws.proofs.Words.{About, AtEnd, Bool, Deed, Desk, Entry, FetchMessage, Give, Hold, IsComing, IsOutside, LinkInput, List, Message, NodeInput}
-use Rattle.world_laws.proofs.Words.{None, Option, Port, Release, Reset, SetAside, Some, Tick, TimePasses, Turn, Work, [], after_input, after_sessions}
-use Rattle.world_laws.proofs.Words.{after_turn, all_come, all_done, all_owed, ap, by_option, by_test, changed_if, commit, done, end_of_node, eqb-true, false}
-use Rattle.world_laws.proofs.Words.{flat_map, forgets, forgotten, has_come, input_at, is_forgotten, is_held, is_held_at, is_late, is_over, lacking, map, not}
-use Rattle.world_laws.proofs.Words.{notified, noting, option_map_or, port_at, refl, reset_late, steps, subst, sym, synced, times_out, true, true≢false, turn_at}
-use Rattle.world_laws.proofs.Words.{unless_cut, waiting_at, with_desk, with_older, with_port, without_notice, ℕ, ◌==◌, ◌∙◌, ◌∷◌, ◌≡◌}
-use Rattle.trace_model.specs.declared.entry.Entry.TheVariants as entry
+-- Whether an end takes fragments is told by the turns of its node, and one that takes none has its first message noted as held.
+use Rattle.world_laws.proofs.Words.{About, Act, ActEvent, ActStart, ActStop, ActTick, Activation, AsksReset, AtEnd, Bare, Bool, Clt, Comes, Control, CutOff}
+use Rattle.world_laws.proofs.Words.{Deed, Desk, Down, EndState, Ending, Entry, FetchMessage, Fragment, Give, GoesOut, Hold, I, IsComing, IsOutside, Kind, Link}
+use Rattle.world_laws.proofs.Words.{LinkEnd, LinkInput, LinkState, List, Message, NextFrame, NoInput, NodeInput, None, Option, Port, Release, Reset, Role, Rset}
+use Rattle.world_laws.proofs.Words.{S, SetAside, Some, Srej, Start, Starts, Stop, Stops, Take, Tick, TimePasses, Timed, Turn, Up, Waiting, Work, []}
+use Rattle.world_laws.proofs.Words.{acknowledged, act_answer, activated, after_input, after_sessions, after_turn, ahead, all_come, all_done, all_owed, ap}
+use Rattle.world_laws.proofs.Words.{aside_refusal, by_list, by_option, by_test, changed_if, commit, cond, done, end_of_node, ended_by, eqb-true, false}
+use Rattle.world_laws.proofs.Words.{finished, flat_map, forgets, forgotten, give_refusal, had_tick, has_come, input_at, input_of, is_faulty, is_forgotten}
+use Rattle.world_laws.proofs.Words.{is_held, is_held_at, is_late, is_open, is_over, is_some, is_waiting, lacking, map, most_frames, moved, nat_lt, new_link_end}
+use Rattle.world_laws.proofs.Words.{not, notified, noting, option_map_or, place_of, port_at, put_down, received, refl, renewed, reset_late, reset_refusal}
+use Rattle.world_laws.proofs.Words.{reset_taken, reset_with, runs_timer, sent_all, sent_same, silent, steps, steps_at_controller, stopped, subst, sym, synced}
+use Rattle.world_laws.proofs.Words.{take_answer, taken, tick_answer, ticked, ticked_so, ticks_at_controller, timed, times_out, took, true, true≢false, turn}
+use Rattle.world_laws.proofs.Words.{turn_at, turned, unless_cut, waiting_at, window_of, with_act, with_desk, with_ended, with_older, with_port, with_ready}
+use Rattle.world_laws.proofs.Words.{without_notice, ℕ, ◌&&◌, ◌++◌, ◌==◌, ◌∙◌, ◌∷◌, ◌≡◌}
 use Rattle.hci_tables.specs.declared.command.Command.{Command}
-use Rattle.node_machine.specs.Parts.About.{Waits, Removed}
-use Rattle.node_machine.specs.Parts.Deed.{Commits, Sends, Asks, Releases, Tells, IsAnswered, SetsErrors, Orders}
-use Rattle.node_machine.specs.Controller.{asked_at}
-use Rattle.node_machine.specs.Turns.{deeds_of, goes_through_ends, handles, have_turns, holds_back, lets_go, passes}
+use Rattle.link_laws.specs.machine.Machine.{heard}
 use Rattle.node_laws.proofs.kept.Doing.{stays_cut, uncut}
-use Rattle.node_laws.proofs.steps.StepWalks.{changed_host, come_host, forgets_host, late_host, unless, without_host}
-use Rattle.node_laws.proofs.telling.Steps.{at_map}
-use Rattle.node_laws.proofs.telling.Accounts.{deeds_mute, handling}
-use Rattle.node_laws.specs.passes.Noting.{goes_in}
-use Rattle.node_laws.proofs.passes.Replying.{other_stays, own_changed}
 use Rattle.node_laws.proofs.passes.Passing.{have_handled, have_held}
-use Rattle.world_laws.proofs.undisturbed.Ready.{asked_ready, ready_after, turn_ready}
-use Rattle.world_laws.proofs.undisturbed.Steps.{coming_ready, readied, readied-append}
+use Rattle.node_laws.proofs.passes.Replying.{other_stays, own_changed}
+use Rattle.node_laws.proofs.steps.StepWalks.{changed_host, come_host, forgets_host, late_host, unless, without_host}
+use Rattle.node_laws.proofs.telling.Accounts.{deeds_mute, handling}
+use Rattle.node_laws.proofs.telling.Steps.{at_map}
+use Rattle.node_laws.specs.passes.Noting.{goes_in}
+use Rattle.node_machine.specs.Controller.{asked_at}
+use Rattle.node_machine.specs.Parts.About.{Removed, Waits}
+use Rattle.node_machine.specs.Parts.Deed.{Asks, Commits, IsAnswered, Orders, Releases, Sends, SetsErrors, Tells}
+use Rattle.node_machine.specs.Turns.{deeds_of, goes_through_ends, handles, have_turns, holds_back, lets_go, passes}
+use Rattle.shdlc_core.specs.Machine.Timed.{Runs}
+use Rattle.trace_model.specs.declared.entry.Entry.TheVariants as entry
 
--- ## Ends
+-- ## What an end takes and sends leaves whether it takes fragments: its node alone says so
+
+received_ready : (e : EndState) (ns : ℕ) (info : Fragment) → (received e ns info).ready ≡ e.ready
+received_ready e ns info = go e.ready (ahead e.session ns == 0) (nat_lt (ahead e.session ns) 4) e.session.gap_open refl refl refl refl
+  where
+    go : (a b c d : Bool) → e.ready ≡ a → (ahead e.session ns == 0) ≡ b → nat_lt (ahead e.session ns) 4 ≡ c → e.session.gap_open ≡ d
+        → (received e ns info).ready ≡ e.ready
+    go true true c d p q r s = rw (p, q) refl
+    go true false true true p q r s = rw (p, q, r, s) refl
+    go true false true false p q r s = rw (p, q, r, s) refl
+    go true false false d p q r s = rw (p, q, r) refl
+    go false b c d p q r s = rw p refl
+
+taken_ready : (e : EndState) (c : Control) → (taken e c).ready ≡ e.ready
+taken_ready e c = go e.phase c refl
+  where
+    reset : (p : LinkState) (w : ℕ) (b : Bool) → e.phase ≡ p → (w == 0) ≡ b → (reset_taken e w).ready ≡ e.ready
+    reset p w true q z = rw z refl
+    reset Up w false q z = rw (z, q) refl
+    reset _ w false q z = rw (z, q) refl
+
+    frame : (ns nr : ℕ) (info : Fragment) (o : Option ℕ) → e.phase ≡ Up → place_of e.session nr ≡ o → (taken e (I ns nr info)).ready ≡ e.ready
+    frame ns nr info None p q = rw (p, q) refl
+    frame ns nr info (Some x) p q =
+        let is : taken e (I ns nr info) ≡ received (acknowledged e x) ns info = rw (p, q) refl in
+        ap (λ (f : EndState). f.ready) is ∙ received_ready (acknowledged e x) ns info
+
+    supervised : (kind : Kind) (nr : ℕ) (o : Option ℕ) → e.phase ≡ Up → place_of e.session nr ≡ o → (taken e (S kind nr)).ready ≡ e.ready
+    supervised Srej nr o p q = rw p refl
+    supervised _ nr (Some x) p q = rw (p, q) refl
+    supervised _ nr None p q = rw (p, q) refl
+
+    go : (p : LinkState) (c : Control) → e.phase ≡ p → (taken e c).ready ≡ e.ready
+    go Up (I ns nr info) p = frame ns nr info (place_of e.session nr) p refl
+    go Up (S kind nr) p = supervised kind nr (place_of e.session nr) p refl
+    go Up (Rset w caps) p = let r = reset Up w (w == 0) p refl in rw p (rw p at r)
+    go Up _ p = rw p refl
+    go Waiting (Rset w caps) p = let r = reset Waiting w (w == 0) p refl in rw p (rw p at r)
+    go Down (Rset w caps) p = let r = reset Down w (w == 0) p refl in rw p (rw p at r)
+    go _ _ p = rw p refl
+
+ticked_ready : (e : EndState) → (ticked e).ready ≡ e.ready
+ticked_ready e = go e.phase (runs_timer e.session) (timed e) refl refl refl
+  where
+    go : (p : LinkState) (b : Bool) (t : Timed) → e.phase ≡ p → runs_timer e.session ≡ b → timed e ≡ t → (ticked e).ready ≡ e.ready
+    go Down b t p q r = rw p refl
+    go Waiting b Runs p q r = rw (p, r) refl
+    go Waiting b _ p q r = rw (p, r) refl
+    go Up false t p q r = rw (p, q) refl
+    go Up true Runs p q r = rw (p, q, r) refl
+    go Up true _ p q r = rw (p, q, r) refl
+
+reset_ready : (e : EndState) (w : ℕ) → (reset_with e w).ready ≡ e.ready
+reset_ready e w = by_test (is_waiting e) (λ q. rw q refl) (λ q. rw q refl)
+
+-- ### An end over messages
+
+moved_ready : (e : LinkEnd) (b : Bool) (s : EndState) → (moved e b s).shdlc.ready ≡ s.ready
+moved_ready e true s = refl
+moved_ready e false s = refl
+
+down_ready : (b : Bool) (e : LinkEnd) → (put_down b e).shdlc.ready ≡ e.shdlc.ready
+down_ready false e = refl
+down_ready true e = go e.shdlc.phase refl
+  where
+    go : (p : LinkState) → e.shdlc.phase ≡ p → (put_down true e).shdlc.ready ≡ e.shdlc.ready
+    go Up p = rw p refl
+    go _ p = rw p refl
+
+activated_ready : (e : LinkEnd) (event : ActEvent) → (activated e event).shdlc.ready ≡ e.shdlc.ready
+activated_ready e event =
+    with_ready_of (act_answer e.role event).send _ ∙ down_ready (act_answer e.role event).ended_link e
+  where
+    with_ready_of : (o : Option Activation) (f : LinkEnd) → (with_act o f).shdlc.ready ≡ f.shdlc.ready
+    with_ready_of None f = refl
+    with_ready_of (Some act) f = refl
+
+heard_ready : (e : LinkEnd) (c : Control) → (heard e c).shdlc.ready ≡ e.shdlc.ready
+heard_ready e c = by_test (is_faulty (taken e.shdlc c).session)
+    (λ q. let is : heard e c ≡ put_down true e = rw q refl in ap (λ (f : LinkEnd). f.shdlc.ready) is ∙ down_ready true e)
+    (λ q. let is : (heard e c).shdlc.ready ≡ (moved e (is_some (take_answer e.shdlc c).ended) (taken e.shdlc c)).shdlc.ready = rw q refl in
+    is ∙ (moved_ready e (is_some (take_answer e.shdlc c).ended) (taken e.shdlc c) ∙ taken_ready e.shdlc c))
+
+pub took_ready : (e : LinkEnd) (c : Control) → (took e c).shdlc.ready ≡ e.shdlc.ready
+took_ready e c = go c (is_open e.role) refl
+  where
+    opened : (c : Control) (b : Bool) → (cond b (heard e c) e).shdlc.ready ≡ e.shdlc.ready
+    opened c true = heard_ready e c
+    opened c false = refl
+
+    go : (c : Control) (b : Bool) → is_open e.role ≡ b → (took e c).shdlc.ready ≡ e.shdlc.ready
+    go (Act act again) b q = activated_ready e _
+    go Clt b q = refl
+    go c b q = opened c (is_open e.role)
+
+pub had_tick_ready : (e : LinkEnd) → (had_tick e).shdlc.ready ≡ e.shdlc.ready
+had_tick_ready e = by_test (is_open e.role) (λ q. rw q (moved_ready e ended (ticked e.shdlc) ∙ ticked_ready e.shdlc)) (λ q. rw q (activated_ready e ActTick))
+  where
+    ended : Bool
+    ended = is_some (tick_answer e.shdlc).ended
+
+pub asked_ready : (e : LinkEnd) (window : Option ℕ) → (after_input e (Reset window)).shdlc.ready ≡ e.shdlc.ready
+asked_ready e window = by_option (reset_refusal e) (λ q. rw q (moved_ready e _ _ ∙ reset_ready e.shdlc (window_of e window))) (λ why q. rw q refl)
+
+-- ### Its node's turns
+
+held_ready : (e : EndState) (r : Bool) → (with_ready e r).ready ≡ r
+held_ready e r = go e.ready r refl
+  where
+    go : (a b : Bool) → e.ready ≡ a → (with_ready e b).ready ≡ b
+    go true true p = rw p refl
+    go false false p = rw p refl
+    go true false p = rw p refl
+    go false true p = by_test e.session.answered_rnr (λ q. rw (p, q) refl) (λ q. rw (p, q) refl)
+
+-- whether it takes fragments after a turn
+abbrev pub ready_after : Bool → Turn → Bool
+ready_after ready (Hold held) = not held
+ready_after ready _ = ready
+
+pub turn_ready : (e : LinkEnd) (t : Turn) → (turn e t).shdlc.ready ≡ ready_after e.shdlc.ready t
+turn_ready e (Give m) = by_option (give_refusal e m) (λ q. rw q refl) (λ why q. rw q refl)
+turn_ready e (Hold held) = held_ready e.shdlc (not held)
+turn_ready e SetAside = by_option (aside_refusal e) (λ q. rw q refl) (λ why q. rw q refl)
+turn_ready e _ = refl
+
+-- its frames that are due go out
+pub sent_ready : (e : LinkEnd) → (sent_all e).shdlc.ready ≡ e.shdlc.ready
+sent_ready e = (sent_same most_frames e.shdlc).ready
+
+-- ## Whether an end takes fragments behind a step is told by the turns of its node alone
+
+-- ### Turns
+
+-- whether an end takes fragments after these turns
+abbrev pub readied : Bool → List Turn → Bool
+readied ready [] = ready
+readied ready (t ∷ ts) = readied (ready_after ready t) ts
+
+readied-append : (ready : Bool) (ts : List Turn) (t : Turn) → readied ready (ts ++ t ∷ []) ≡ ready_after (readied ready ts) t
+readied-append ready [] t = refl
+readied-append ready (x ∷ ts) t = readied-append (ready_after ready x) ts t
+
+turned_ready : (e : LinkEnd) (ts : List Turn) → (turned e ts).shdlc.ready ≡ readied e.shdlc.ready ts
+turned_ready e [] = refl
+turned_ready e (t ∷ ts) = turned_ready (turn e t) ts ∙ ap (λ b. readied b ts) (turn_ready e t)
+
+-- ### What comes
+
+coming_ready : (e : LinkEnd) (i : LinkInput) → IsComing i → (after_input e i).shdlc.ready ≡ e.shdlc.ready
+coming_ready e (Take c) is = took_ready e c
+coming_ready e Tick is = had_tick_ready e
+coming_ready e (Reset window) is = asked_ready e window
+coming_ready e (Start value) is = activated_ready (moved e true (stopped e.shdlc)) (ActStart value)
+coming_ready e Stop is = activated_ready (moved e true (stopped e.shdlc)) ActStop
+coming_ready e _ is = absurd is
+
+-- ### Steps
+
+-- a step ends: where the node loses its power, its end is new
+abbrev pub ready_at_end : Ending → Bool → Bool
+ready_at_end GoesOut ready = ready
+ready_at_end CutOff ready = true
+
+new_ready : (r : Role) → (new_link_end (renewed r)).shdlc.ready ≡ true
+new_ready Bare = refl
+new_ready _ = refl
+
+finished_ready : (l : Link) (e : LinkEnd) (ending : Ending) → (finished l e ending).controller.side.shdlc.ready ≡ ready_at_end ending e.shdlc.ready
+finished_ready l e GoesOut = sent_ready e
+finished_ready l e CutOff = new_ready (sent_all e).role
+
+all_ready : (l : Link) (e : LinkEnd) (ts : List Turn) (ending : Ending)
+    → (finished l (turned e ts) ending).controller.side.shdlc.ready ≡ ready_at_end ending (readied e.shdlc.ready ts)
+all_ready l e ts ending = finished_ready l (turned e ts) ending ∙ ap (ready_at_end ending) (turned_ready e ts)
+
+module _ (l : Link) (ts : List Turn) (ending : Ending) where
+  -- what the turns and the ending of a step tell of the end
+  abbrev pub then_ready : Bool
+  then_ready = ready_at_end ending (readied l.controller.side.shdlc.ready ts)
+
+  came : (m : Link) (i : LinkInput) → IsComing i → (finished m (turned (after_input l.controller.side i) ts) ending).controller.side.shdlc.ready ≡ then_ready
+  came m i is =
+      all_ready m (after_input l.controller.side i) ts ending
+      ∙ ap (λ b. ready_at_end ending (readied b ts)) (coming_ready l.controller.side i is)
+
+  pub idle_ready : (steps_at_controller l NoInput ts ending).controller.side.shdlc.ready ≡ then_ready
+  idle_ready = all_ready l l.controller.side ts ending
+
+  pub stepped_ready : (comes : Comes) (i : LinkInput) → input_of l comes ≡ Some i
+      → (steps_at_controller l comes ts ending).controller.side.shdlc.ready ≡ then_ready
+  stepped_ready NextFrame i q = by_list l.to_controller
+      (λ z. let none : None ≡ Some i = rw z at q in absurd (cc none))
+      (λ x xs z. rw z (came _ (Take x.frame) tt))
+  stepped_ready (AsksReset window) i q = came (with_ended l (is_some (ended_by l.controller.side (Reset window)))) (Reset window) tt
+  stepped_ready (Starts value) i q = came (silent l (after_input l.controller.side (Start value))) (Start value) tt
+  stepped_ready Stops i q = came (silent l (after_input l.controller.side Stop)) Stop tt
+  stepped_ready NoInput i q = absurd (cc q)
+
+  -- something comes, or nothing
+  pub near_ready : (b : Bool) (comes : Comes) (i : LinkInput) → (b ≡ true → input_of l comes ≡ Some i)
+      → (steps_at_controller l (cond b comes NoInput) ts ending).controller.side.shdlc.ready ≡ then_ready
+  near_ready true comes i q = stepped_ready comes i (q refl)
+  near_ready false comes i q = idle_ready
+
+  pub tick_ready : (ticks_at_controller l ts ending).controller.side.shdlc.ready ≡ then_ready
+  tick_ready = came (with_ended l (is_some (ended_by l.controller.side Tick))) Tick tt
+
+  pub late_ready : (late : Bool) → (ticked_so l late ts ending).controller.side.shdlc.ready ≡ then_ready
+  late_ready late = by_test (late && not (is_waiting l.controller.side.shdlc))
+      (λ q. rw q (came (with_ended l (is_some (ended_by l.controller.side (Reset None)))) (Reset None) tt))
+      (λ q. rw q tick_ready)
+
+-- ## Behind each step of a node an end that takes no fragments is one whose first message was noted as held
+
+-- ### Ends
 
 -- this holds of an end, which is there
 abbrev pub There : (Port → Type 0) → Option Port → Type 0
@@ -79,7 +301,7 @@ module _ (k : ℕ) (ready : Bool) where
       go None x = x
       go (Some p) x = x.told
 
-  -- ## What is told
+  -- ### What is told
 
   told_after : (t : Turn) (p : Port) → AreTold ready p → AreTold ready (after_turn t p)
   told_after t p a = turn_ready p.side t ∙ (ap (λ b. ready_after b t) a ∙ sym (readied-append ready p.turns t))
@@ -95,7 +317,7 @@ module _ (k : ℕ) (ready : Bool) where
       handling Told (λ es v s u x. x) told_desk told_turn (λ u v cut node ports entries x. subst (λ ps. There (AreTold ready) (port_at ps k)) (sym ports) x)
       (λ writes v x. x) k m (deeds_of w.core w.ports k m) w (deeds_mute w.core w.ports k m) a
 
-  -- ## Deeds
+  -- ### Deeds
 
   kept_turn : (j : ℕ) (t : Turn) (w : Work) → IsNoHold t → Kept w → Kept (turn_at j t w)
   kept_turn j t w n a =
@@ -132,7 +354,7 @@ module _ (k : ℕ) (ready : Bool) where
   kept_deeds h [] w a = a
   kept_deeds h (d ∷ deeds) w a = unless Kept (all_done h deeds) (done h d w) (λ v x. kept_deeds h deeds v x) (kept_deed h d w a)
 
-  -- ## Its own turns
+  -- ### Its own turns
 
   lets_own : (w : Work) → Told w → Kept (lets_go k w)
   lets_own w a = go (port_at w.ports k) refl a
@@ -190,7 +412,7 @@ module _ (k : ℕ) (ready : Bool) where
       by true z later = subst (IfOn Kept) (sym (stays_cut (have_turns k messages) v z)) (λ on. absurd (true≢false (sym z ∙ on)))
       by false z later = subst (IfOn Kept) (sym (uncut (have_turns k messages) v z)) (later v (told_handles m w a))
 
-  -- ## Turns of other ends
+  -- ### Turns of other ends
 
   module _ (h : ℕ) (off : (h == k) ≡ false) where
     turn_other : (t : Turn) (w : Work) → Kept w → Kept (turn_at h t w)
@@ -228,7 +450,7 @@ module _ (k : ℕ) (ready : Bool) where
         deeds : List Deed
         deeds = deeds_of w.core w.ports h m
 
-  -- ## A pass
+  -- ### A pass
 
   going : (hosts : List ℕ) (w : Work) → Kept w → IfOn Kept (goes_through_ends hosts w)
   going [] w a = λ on. a
@@ -245,7 +467,7 @@ module _ (k : ℕ) (ready : Bool) where
           subst P (sym (eqb-true h k q)) (own_turns (waiting_at w.ports k) w (kept_told w a)))
           (λ q. λ on. other_turns h q (waiting_at w.ports h) w a)
 
-  -- ## What comes
+  -- ### What comes
 
   same_kept : (p q : Port) → q.side.shdlc.ready ≡ p.side.shdlc.ready → q.turns ≡ p.turns → q.desk.holds ≡ p.desk.holds → KeepsHeld ready p → KeepsHeld ready q
   same_kept p q r t h a = record { told = r ∙ (a.told ∙ ap (readied ready) (sym t)); held = λ busy. h ∙ a.held (sym r ∙ busy) }
@@ -280,7 +502,7 @@ module _ (k : ℕ) (ready : Bool) where
       (map_there (KeepsHeld ready) (KeepsHeld ready) (λ p. has_come p (input_at TimePasses p)) (λ p. come_host p (input_at TimePasses p)) w.ports k
       (come_there TimePasses tt) a))
 
-  -- ## Steps
+  -- ### Steps
 
   pub step_kept : (input : NodeInput) (w : Work) → IsOutside input → Kept w → IfOn Kept (steps input w)
   step_kept input w is a = by_test v.cut

@@ -20,8 +20,8 @@ use Rattle.node_laws.proofs.telling.Events.{Stands}
 use Rattle.node_laws.proofs.links.Sites.{here_host}
 use Rattle.node_laws.proofs.readings.Sites.{comes_outside, near_end_side}
 use Rattle.node_laws.proofs.turns.Nodes.{sites_is}
-use Rattle.world_laws.proofs.undisturbed.Holding.{IfOn, Kept, KeepsHeld, There, kept_deeds, step_kept}
-use Rattle.world_laws.proofs.undisturbed.Steps.{idle_ready, late_ready, near_ready, readied, ready_at_end, stepped_ready, tick_ready}
+use Rattle.world_laws.proofs.undisturbed.Holding.{IfOn, KeepsHeld, Kept, There, idle_ready, kept_deeds, late_ready, near_ready, readied, ready_at_end}
+use Rattle.world_laws.proofs.undisturbed.Holding.{step_kept, stepped_ready, tick_ready}
 
 -- ## An end and its node
 

@@ -2,8 +2,8 @@
 use Rattle.world_laws.proofs.Words.{AllByRecursion, ArePlayable, Header, IsNodeHeader, IsPlayFor, Line, List, MayFollow, Round, Settle, [], all-append}
 use Rattle.world_laws.proofs.Words.{hosts_stay_behind, inr, lines_may_be_played, lines_played, lines_played_of, plays_for, plays_of, replicate, rounds_for}
 use Rattle.world_laws.proofs.Words.{rounds_to_rest, subst, sym, ℕ, ◌++◌, ◌∷◌}
-use Rattle.world_laws.proofs.schedules.Nodes.{with_settle}
-use Rattle.world_laws.proofs.schedules.Played.{played_playable}
+use Rattle.world_laws.proofs.schedules.NotedQuiet.{with_settle}
+use Rattle.world_laws.proofs.schedules.Resting.{played_playable}
 
 module _ (header : Header) (is : IsNodeHeader header) (lines : List Line) (may : AllByRecursion (MayFollow header) lines) where
   pub playable : ArePlayable (lines_played_of header lines)

@@ -18,11 +18,11 @@ use Rattle.node_laws.specs.answers.Moments.{holds_in}
 use Rattle.node_laws.proofs.reply_passes.Ordered.{reads_last}
 use Rattle.node_laws.proofs.worlds.Resting.{SiteRests}
 use Rattle.node_laws.proofs.worlds.Done.{IsAtRest, event_rests, history_rests}
-use Rattle.world_laws.proofs.schedules.Nodes.{last}
+use Rattle.world_laws.proofs.schedules.NotedQuiet.{last}
 use Rattle.world_laws.proofs.undisturbed.Keeping.{HeldAt, HeldIn, IsHeldSo, SiteHeld, event_kept}
 use Rattle.world_laws.proofs.undisturbed.Nodes.{since}
-use Rattle.world_laws.proofs.worlds.Replayed.{happens_first, none_happens}
-use Rattle.world_laws.proofs.worlds.Rounds.{on_first}
+use Rattle.world_laws.proofs.worlds.FewCauses.{happens_first, none_happens}
+use Rattle.world_laws.proofs.worlds.WorldRounds.{on_first}
 
 -- ## What is read
 

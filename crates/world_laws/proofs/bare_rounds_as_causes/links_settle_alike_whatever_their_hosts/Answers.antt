@@ -1,4 +1,4 @@
-use Rattle.world_laws.proofs.links.AnyHost.{same_count, same_settling}
+use Rattle.world_laws.proofs.links.RoundCauses.{same_count, same_settling}
 use Rattle.world_laws.proofs.bare_rounds_as_causes.links_settle_alike_whatever_their_hosts.Goals as goal
 
 pub returns-clause-rounds : goal.returns-clause-rounds

@@ -1,4 +1,4 @@
-use Rattle.world_laws.proofs.links.Settling.{settled_at_host, settled_at_controller}
+use Rattle.world_laws.proofs.links.RoundCauses.{settled_at_controller, settled_at_host}
 use Rattle.world_laws.proofs.bare_worlds_settle.settled_links_have_brought_all.Goals as goal
 
 pub returns-clause-to_host : goal.returns-clause-to_host

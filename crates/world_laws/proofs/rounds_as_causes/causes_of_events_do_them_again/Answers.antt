@@ -1,4 +1,4 @@
-use Rattle.world_laws.proofs.worlds.Replayed.{again, each_can, one_behind_other}
+use Rattle.world_laws.proofs.worlds.FewCauses.{again, each_can, one_behind_other}
 use Rattle.world_laws.proofs.rounds_as_causes.causes_of_events_do_them_again.Goals as goal
 
 pub returns-clause-again : goal.returns-clause-again

@@ -1,5 +1,5 @@
 use Rattle.world_laws.proofs.Words.{world_rounds_to_settle}
-use Rattle.world_laws.proofs.worlds.CausesOfRounds.{of_rounds, may_be, rounds_only}
+use Rattle.world_laws.proofs.worlds.FewCauses.{may_be, of_rounds, rounds_only}
 use Rattle.world_laws.proofs.rounds_as_causes.in_rounds_ends_take_frames_that_stand.Goals as goal
 
 pub returns-clause-only : goal.returns-clause-only

@@ -1,4 +1,4 @@
-use Rattle.world_laws.proofs.worlds.Replayed.{whole_rounds, whole_settling}
+use Rattle.world_laws.proofs.worlds.FewCauses.{whole_rounds, whole_settling}
 use Rattle.world_laws.proofs.rounds_as_causes.rounds_are_what_their_causes_do.Goals as goal
 
 pub returns-clause-rounds : goal.returns-clause-rounds

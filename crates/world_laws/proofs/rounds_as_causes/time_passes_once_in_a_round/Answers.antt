@@ -1,5 +1,5 @@
 use Rattle.world_laws.proofs.Words.{arith, first_rest, world_after_round, world_rests, world_rounds_to_settle}
-use Rattle.world_laws.proofs.worlds.CausesOfRounds.{ticks_are}
+use Rattle.world_laws.proofs.worlds.FewCauses.{ticks_are}
 use Rattle.world_laws.proofs.rounds_as_causes.time_passes_once_in_a_round.Goals as goal
 
 pub returns-clause-rounds : goal.returns-clause-rounds

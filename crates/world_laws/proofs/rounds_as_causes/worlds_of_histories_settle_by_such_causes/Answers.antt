@@ -1,7 +1,6 @@
 use Rattle.world_laws.proofs.Words.{List, NodeWorld, new_world, world_behind, world_rounds_to_settle, ℕ}
 use Rattle.world_laws.proofs.worlds.WorldRounds.{reached_behind}
-use Rattle.world_laws.proofs.worlds.CausesOfRounds.{of_rounds}
-use Rattle.world_laws.proofs.worlds.FewCauses.{rounds_few, reached_few, reached_small}
+use Rattle.world_laws.proofs.worlds.FewCauses.{of_rounds, reached_few, reached_small, rounds_few}
 use Rattle.world_laws.proofs.rounds_as_causes.worlds_of_histories_settle_by_such_causes.Goals as goal
 
 pub returns-clause-are : goal.returns-clause-are

@@ -1,8 +1,6 @@
 use Rattle.world_laws.proofs.Words.{AllByRecursion, IsLineOf, IsPlayFor, Round, all-append, bare_lines, hosts_stay_behind, inl, lines_may_be_played}
 use Rattle.world_laws.proofs.Words.{lines_played, plays_for, plays_of, replicate, rounds_for, rounds_to_rest, subst, sym, ◌++◌}
-use Rattle.world_laws.proofs.schedules.Bare.{bare_settled}
-use Rattle.world_laws.proofs.schedules.BareNoted.{bare_noted}
-use Rattle.world_laws.proofs.schedules.Nodes.{with_settle}
+use Rattle.world_laws.proofs.schedules.NotedQuiet.{bare_noted, bare_settled, with_settle}
 use Rattle.world_laws.proofs.schedules_settle.bare_links_that_settle_have_brought_all.Goals as goal
 
 pub returns-clause-plays : goal.returns-clause-plays

@@ -1,8 +1,7 @@
 use Rattle.world_laws.proofs.Words.{bare_lines, bare_link_behind, bare_rests, hosts_are, hosts_stay_behind, inl, inr, lines_may_be_played, lines_played}
 use Rattle.world_laws.proofs.Words.{nodes_behind, nodes_rest, sym, ◌∙◌}
 use Rattle.world_laws.proofs.schedules.NotedQuiet.{noted_quiet, noted_quiet_in_bare}
-use Rattle.world_laws.proofs.schedules.Played.{played_playable}
-use Rattle.world_laws.proofs.schedules.Resting.{link_quiet, link_resting, site_quiet, sites_quiet, sites_resting}
+use Rattle.world_laws.proofs.schedules.Resting.{link_quiet, link_resting, played_playable, site_quiet, sites_quiet, sites_resting}
 use Rattle.world_laws.proofs.schedules_settle.links_at_rest_are_quiet.Goals as goal
 
 pub returns-clause-nodes : goal.returns-clause-nodes

@@ -1,7 +1,7 @@
 use Rattle.world_laws.proofs.Words.{ArePlayable, IsPlayFor, Round, all-append, hosts_are, hosts_stay_behind, inr, lines_may_be_played, lines_played, plays_for}
 use Rattle.world_laws.proofs.Words.{plays_of, replicate, rounds_for, rounds_to_rest, subst, sym, ◌++◌}
-use Rattle.world_laws.proofs.schedules.Nodes.{nodes_settled, noted_settled, with_settle}
-use Rattle.world_laws.proofs.schedules.Played.{played_playable}
+use Rattle.world_laws.proofs.schedules.NotedQuiet.{nodes_settled, noted_settled, with_settle}
+use Rattle.world_laws.proofs.schedules.Resting.{played_playable}
 use Rattle.world_laws.proofs.schedules_settle.links_of_nodes_that_settle_have_brought_all.Goals as goal
 
 pub returns-clause-plays : goal.returns-clause-plays

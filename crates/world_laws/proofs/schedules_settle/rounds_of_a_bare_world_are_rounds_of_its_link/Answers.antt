@@ -1,4 +1,4 @@
-use Rattle.world_laws.proofs.schedules.Bare.{one_round, as_many}
+use Rattle.world_laws.proofs.schedules.NotedQuiet.{as_many, one_round}
 use Rattle.world_laws.proofs.schedules_settle.rounds_of_a_bare_world_are_rounds_of_its_link.Goals as goal
 
 pub returns-clause-round : goal.returns-clause-round

@@ -1,10 +1,8 @@
 use Rattle.world_laws.proofs.Words.{AllByRecursion, AreBothReady, AreLeftReady, Follows, Header, IsHeader, IsLineOf, IsPlayFor, Line, List, MayFollow, Round}
 use Rattle.world_laws.proofs.Words.{Settle, [], all-append, bare_lines, bare_link_behind, false, host_of, hosts_stay_behind, inl, lines_may_be_played}
 use Rattle.world_laws.proofs.Words.{lines_played, lines_played_of, plays_for, plays_of, replicate, rounds_for, rounds_to_rest, subst, sym, true, ℕ, ◌++◌, ◌∷◌}
-use Rattle.world_laws.proofs.schedules.BareNoted.{bare_behind}
-use Rattle.world_laws.proofs.schedules.Nodes.{with_settle}
-use Rattle.world_laws.proofs.undisturbed.Bare.{bare_undisturbed, up_later}
-use Rattle.world_laws.proofs.undisturbed.Busy.{schedule_ready}
+use Rattle.world_laws.proofs.schedules.NotedQuiet.{bare_behind, with_settle}
+use Rattle.world_laws.proofs.undisturbed.Bare.{bare_undisturbed, schedule_ready, up_later}
 use Rattle.world_laws.proofs.undisturbed_as_noted.bare_links_that_are_noted_undisturbed_have_brought_all.Goals as goal
 
 valid : (header : Header) → IsHeader header → (lines : List Line) → AllByRecursion (MayFollow header) lines

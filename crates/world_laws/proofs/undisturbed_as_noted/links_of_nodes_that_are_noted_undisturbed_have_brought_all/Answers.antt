@@ -1,5 +1,5 @@
 use Rattle.world_laws.proofs.Words.{ArePlayable, FollowsNodes, Line, List, hosts_are, plays_of, subst}
-use Rattle.world_laws.proofs.schedules.Nodes.{noted_behind, with_settle}
+use Rattle.world_laws.proofs.schedules.NotedQuiet.{noted_behind, with_settle}
 use Rattle.world_laws.proofs.undisturbed.Nodes.{nodes_undisturbed, nodes_up_later}
 use Rattle.world_laws.proofs.undisturbed.Playable.{playable, playable_with}
 use Rattle.world_laws.proofs.undisturbed_as_noted.links_of_nodes_that_are_noted_undisturbed_have_brought_all.Goals as goal

@@ -1,6 +1,6 @@
 use Rattle.world_laws.proofs.Words.{ArePlayable, FollowsNodes, Line, List, hosts_are, plays_of, subst}
-use Rattle.world_laws.proofs.schedules.Bringing.{unheld_behind}
-use Rattle.world_laws.proofs.schedules.Nodes.{with_settle}
+use Rattle.world_laws.proofs.schedules.Resting.{unheld_behind}
+use Rattle.world_laws.proofs.schedules.NotedQuiet.{with_settle}
 use Rattle.world_laws.proofs.undisturbed.Nodes.{nodes_undisturbed}
 use Rattle.world_laws.proofs.undisturbed.Playable.{playable, playable_with}
 use Rattle.world_laws.proofs.undisturbed.Unheld.{nodes_ready}

@@ -1,6 +1,5 @@
 use Rattle.world_laws.proofs.Words.{arith, entries_in, fragments_left, fragments_noted, new_world, world_behind, ◌≤◌}
-use Rattle.world_laws.proofs.worlds.NotedFragments.{link_left}
-use Rattle.world_laws.proofs.worlds.WorldRounds.{reached_behind, world_settled}
+use Rattle.world_laws.proofs.worlds.WorldRounds.{link_left, reached_behind, world_settled}
 use Rattle.world_laws.proofs.worlds_of_nodes_settle.links_of_settled_worlds_have_brought_all.Goals as goal
 
 pub returns-clause-links : goal.returns-clause-links

@@ -1,5 +1,5 @@
 use Rattle.world_laws.proofs.Words.{first_rest, world_after_round, world_rests}
-use Rattle.world_laws.proofs.worlds.WorldRest.{settling_is}
+use Rattle.world_laws.proofs.worlds.WorldRounds.{settling_is}
 use Rattle.world_laws.proofs.worlds_of_nodes_settle.worlds_settle_soonest.Goals as goal
 
 pub returns-clause-least : goal.returns-clause-least

@@ -7,7 +7,7 @@ use Rattle.world.specs.declared.world_steps.World.{World}
 use Rattle.world.specs.Worlds.{IsWorldAt, world_header}
 use Rattle.world.proofs.Histories.{plays_may}
 use Rattle.world.proofs.Playing.{begins_so}
-use Rattle.world_laws.proofs.schedules.Bringing.{brings_all}
+use Rattle.world_laws.proofs.schedules.Resting.{brings_all}
 use Rattle.world_settle.specs.Fronts.{IsFrontNoted}
 use Rattle.world_settle.proofs.Rounds.{all_needed, none_needed, rests_so, room_behind, under_own_header}
 use Rattle.world_settle.proofs.Going.{any_err, breaks_off, noted_whole, told_whole, was_long, went_more, went_none}
