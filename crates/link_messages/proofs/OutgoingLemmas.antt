@@ -527,7 +527,8 @@ front_given true P items Q p q none some = p
 front_given false P items Q p q none some = absurd (some (none q))
 
 -- the first message isn't acknowledged whole
-pub none_whole : (pool : PoolState) (box : Outbox) (q : Queued) → Some q ≡ slice_get box.queue.items 0 → box.acked < packet_count (length (chain_bytes pool q.chain))
+pub none_whole : (pool : PoolState) (box : Outbox) (q : Queued) → Some q ≡ slice_get box.queue.items 0
+    → box.acked < packet_count (length (chain_bytes pool q.chain))
     → (whole_among (queued_messages pool box) box.acked ≡ 0) × (rest_among (queued_messages pool box) box.acked ≡ box.acked)
 none_whole pool box q found low =
     let P : List Queued → Type 0 = λ l. (whole_among (messages_of_all pool l) box.acked ≡ 0) × (rest_among (messages_of_all pool l) box.acked ≡ box.acked) in

@@ -5,7 +5,8 @@ use Rattle.std.specs.Prelude.{slice_index_or}
 use Rattle.std.proofs.lemmas.List.{drop_all}
 use Rattle.std.specs.Prelude.{Option, Some, None}
 use Rattle.std.specs.Option.{option_map_or}
-use Rattle.node_core.proofs.Words.{AreDoableInTurn, Brings, Core, End, EndsStandFor, Entry, FetchMessage, Foretells, Handling, IsDoableNow, IsInStep, KeptEnds, Node, Plan, Port}
+use Rattle.node_core.proofs.Words.{AreDoableInTurn, Brings, Core, End, EndsStandFor, Entry, FetchMessage, Foretells, Handling, IsDoableNow, IsInStep, KeptEnds}
+use Rattle.node_core.proofs.Words.{Node, Plan, Port}
 use Rattle.node_core.proofs.Words.{Stored, Turn, WereMade, Work, after_turn, all_done, deed_shown, done, noted_of, noting, plan_left, port_at, turn_at}
 use Rattle.node_core.proofs.Words.{end_of_node, has_turn, unnumbered, with_desk, with_port}
 use Rattle.trace_model.specs.declared.entry.Entry.TheVariants as entry

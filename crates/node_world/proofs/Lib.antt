@@ -55,6 +55,5 @@ pub mod LinksRest
 pub mod LinesDamage
 pub mod WorldsTick
 pub mod FewPlays
-pub mod RoundLinks
 pub mod LegalPlays
 pub mod FoundAsKept

@@ -5,7 +5,8 @@ use Rattle.std.proofs.lemmas.Result.{on_ok_weaker, IfErr-weaker}
 use Rattle.std.specs.List.{AllByRecursion}
 use Rattle.node_world.specs.Worlds.{AreFewWithParts, IsNodeWorldBehind}
 use Rattle.node_world.specs.declared.worlds.NodeWorld.{NodeWorld}
-use Rattle.world.proofs.Words.{BareWorld, Below, End, Header, History, IsFaultThere, IsLineOf, IsPlayFor, Line, Link, Play, Said, StandsBelow, WorldStandsFor, bare_link_behind}
+use Rattle.world.proofs.Words.{BareWorld, Below, End, Header, History, IsFaultThere, IsLineOf, IsPlayFor, Line, Link, Play, Said, StandsBelow}
+use Rattle.world.proofs.Words.{WorldStandsFor, bare_link_behind}
 use Rattle.world.proofs.Words.{Round, frames_to, host_of, lines_lead, lines_played, link_at, misread, noted, outcome_of, round_behind, told_below}
 use Rattle.link_laws.specs.messages.Rest.{link_rests}
 use Rattle.lines_told.specs.lines.Below.{IsPlayedLine, misread_below}

@@ -38,4 +38,5 @@ notice_never_answered = lines_answered (1 ∷ 2 ∷ []) notice_never_answered_li
 
 relay_and_strangers : Answered (history_of_lines (1 ∷ 2 ∷ 3 ∷ []) relay_and_strangers_lines)
 unfolding found_from hosts_where lowest_free
-relay_and_strangers = lines_answered (1 ∷ 2 ∷ 3 ∷ []) relay_and_strangers_lines refl ((refl, (refl, tt)), ((refl, tt), (tt, tt))) (refl, (refl, (refl, tt))) refl
+relay_and_strangers =
+    lines_answered (1 ∷ 2 ∷ 3 ∷ []) relay_and_strangers_lines refl ((refl, (refl, tt)), ((refl, tt), (tt, tt))) (refl, (refl, (refl, tt))) refl

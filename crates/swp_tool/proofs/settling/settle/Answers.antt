@@ -5,7 +5,8 @@ use Rattle.swp_tool.proofs.settling.settle.Goals as goal
 
 pub returns-clause-runs : goal.returns-clause-runs
 returns-clause-runs c =
-    settled_runs c.args.world.now c.gather.new.world c.args.most c.args.text.now.items c.gather.new.text.items c.in_default.ensures.stands c.in_default.ensures.told
+    settled_runs c.args.world.now c.gather.new.world c.args.most c.args.text.now.items c.gather.new.text.items
+    c.in_default.ensures.stands c.in_default.ensures.told
 
 pub returns-clause-stepped : goal.returns-clause-stepped
 returns-clause-stepped c count was =

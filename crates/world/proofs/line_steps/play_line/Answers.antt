@@ -16,7 +16,8 @@ pub returns-in-Deliver-clause-stands : goal.returns-in-Deliver-clause-stands
 returns-in-Deliver-clause-stands c l h sent =
     let i = c.in-Deliver in
     let at : c.args.at ≡ i.at = c.requires.seen.2 ∙ ap (end_for c.requires.seen.0) i.is in
-    on_ok c.deliver_line.result (c.deliver_line.ensures.stands l h sent) (λ does none. same_does (i.is ∙ ap (λ (e : End). line.Deliver e i.count) (sym at)) does)
+    on_ok c.deliver_line.result (c.deliver_line.ensures.stands l h sent)
+    (λ does none. same_does (i.is ∙ ap (λ (e : End). line.Deliver e i.count) (sym at)) does)
 
 pub returns-in-Lose-clause-stands : goal.returns-in-Lose-clause-stands
 returns-in-Lose-clause-stands c l h sent =
@@ -33,7 +34,8 @@ pub returns-in-Reset-clause-stands : goal.returns-in-Reset-clause-stands
 returns-in-Reset-clause-stands c l h sent =
     let i = c.in-Reset in
     let at : c.args.at ≡ i.at = c.requires.seen.2 ∙ ap (end_for c.requires.seen.0) i.is in
-    on_ok c.reset_line.result (c.reset_line.ensures.stands l h (few_short (few_here c.args.at sent))) (λ does none. same_does (i.is ∙ ap (λ (e : End). line.Reset e i.window) (sym at)) does)
+    on_ok c.reset_line.result (c.reset_line.ensures.stands l h (few_short (few_here c.args.at sent)))
+    (λ does none. same_does (i.is ∙ ap (λ (e : End). line.Reset e i.window) (sym at)) does)
 
 pub returns-in-Busy-clause-stands : goal.returns-in-Busy-clause-stands
 returns-in-Busy-clause-stands c l h sent =

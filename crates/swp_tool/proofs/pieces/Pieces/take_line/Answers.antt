@@ -39,7 +39,8 @@ returns-then-bytes-clause-read c =
     (λ played (before written : List ℕ) h.
     read_whole_line c.args.bytes.now h none c.requires.lacks none
     (λ (s : Schedule) (w : List ℕ) (k : HasPlayed p.replay s w).
-    (let P : List ℕ → Type 0 = λ l. HasPlayed c.play.new.self (and_line s l) w in subst P c.without_carriage_return.ensures (played s w k)))) c.play.ensures.played
+    (let P : List ℕ → Type 0 = λ l. HasPlayed c.play.new.self (and_line s l) w in subst P c.without_carriage_return.ensures (played s w k))))
+    c.play.ensures.played
 
 pub returns-then-bytes-clause-halts : goal.returns-then-bytes-clause-halts
 returns-then-bytes-clause-halts c =
@@ -61,7 +62,8 @@ returns-in_err-play-clause-halts c =
     c.without_carriage_return-line.ensures ∙ ap strip_carriage_return c.as_slice.ensures.value in
     err_is
     (λ (e : Halt). (before written : List ℕ) → HasRead c.args.self.now before written
-    → Halts e r.count (before ++ ended_line c.args.bytes.now) (written ++ r.text.items)) c.from_residual-in_err-play.result why c.from_residual-in_err-play.ensures.1
+    → Halts e r.count (before ++ ended_line c.args.bytes.now) (written ++ r.text.items))
+    c.from_residual-in_err-play.result why c.from_residual-in_err-play.ensures.1
     (λ before written h.
     let P : List ℕ → Type 0 = λ b. Halts why r.count b (written ++ r.text.items) in
     subst P (append_assoc before c.args.bytes.now (10 ∷ []))
