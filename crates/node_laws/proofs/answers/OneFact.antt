@@ -439,8 +439,8 @@ module _ (t : NodeHistory) where
 
   agree_inside : {X : Type 0} (f g : Moment → Entry → List Entry → X) → AgreeAtEntries f g → AtEachEntry t (λ m x behind. f m x behind ≡ g m x behind)
   agree_inside f g same past back o front behind x at inside =
-      let then : List Entry → Moment = λ l. record { past = past; cause = o.cause; so_far = l } in
-      same_behind (λ l y rest. f (then l) y rest) (λ l y rest. g (then l) y rest) [] o.entries front behind x
+      let moment : List Entry → Moment = λ l. record { past = past; cause = o.cause; so_far = l } in
+      same_behind (λ l y rest. f (moment l) y rest) (λ l y rest. g (moment l) y rest) [] o.entries front behind x
       (agree_here (at_entries f) (at_entries g) same past back o at) inside
 
   turn_so : (m : Moment) (x : Entry) (behind : List Entry) → turn_found hosts m x behind ≡ turn_wanted hosts m x behind → IsReplied hosts m x behind
