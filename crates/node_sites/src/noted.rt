@@ -100,6 +100,7 @@ impl Watch for Noted {
 /// # Errors
 ///
 /// No memory is left.
+#[inline(always)]
 pub fn note_last(noted: &mut Noted, entry: Entry) -> Result<(), NoMemory>
     ensures items { OnOk result (noted.new.entries.items ≡ noted.old.entries.items ++ entry ∷ []) }
     ensures short { noted.new.short ≡ noted.old.short }

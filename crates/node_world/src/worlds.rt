@@ -78,6 +78,7 @@ impl NodeWorld {
     /// # Errors
     ///
     /// `NoMemory` where memory runs out. The world is of no use then.
+    #[inline(always)]
     pub fn step(&mut self, alloc: Global, line: &Line) -> Result<Option<Misread>, NoMemory>
         requires room { HasRoomForNodeLine self.old line.now }
         ensures stands { (header : Named) (plays : List Play) → IsNodeWorldBehind self.old header plays → IsPlayedLine header line.now
