@@ -5,6 +5,8 @@ from tokens import SIGN, WORD, Refused, Token, closing, is_blank
 # Words that mean something to Rattle alone, or that nothing exported may have.
 REFUSED = {"ghost", "requires", "ensures", "prove", "unsafe", "extern", "macro_rules", "syntax", "tactic", "async", "dyn"}
 MACROS = {"matches", "unreachable", "write", "writeln", "vec", "format"}
+# Words behind which a `!` denies what follows.
+NEGATED = {"else", "if", "in", "match", "return", "while"}
 
 
 class Bodies:
@@ -38,7 +40,8 @@ class Bodies:
             self.refuse(token, f"`{token.text}` where no clause and no ghost item is known")
         if token.kind == SIGN and not token.text.isascii():
             self.refuse(token, f"`{token.text}` outside a clause")
-        if token.kind == WORD and following(tokens, at, 1) == "!" and following(tokens, at, 2) in ("(", "[", "{") and token.text not in MACROS:
+        is_macro = token.kind == WORD and following(tokens, at, 1) == "!" and following(tokens, at, 2) in ("(", "[", "{")
+        if is_macro and token.text not in MACROS and token.text not in NEGATED:
             self.refuse(token, f"a macro that isn't known: {token.text}!")
 
     def macro(self, tokens, at, out):
