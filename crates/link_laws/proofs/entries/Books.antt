@@ -1,20 +1,19 @@
 -- What the entries of an end say of its sessions, and what each part of a step adds.
 use Rattle.std.specs.Prelude.{◌+◌}
-use Rattle.link_laws.proofs.Words.{Acked, Active, Bool, Controller, End, EndState, Entry, FetchMessage, GaveUp, Give, Got, Hold, Host, IsSendable, LinkEnd}
-use Rattle.link_laws.proofs.Words.{LinkState, List, Message, None, NumberedEnd, Option, Packet, Refused, Release, Report, Sent, Session, SetAside, Some, Talk}
-use Rattle.link_laws.proofs.Words.{Turn, Up as IsUpNow, [], acked_noted, ap, append-nil, append_assoc, arith, aside_refusal, common_steps, cond, drop}
-use Rattle.link_laws.proofs.Words.{ended_talk, eqb-true, false, far, filter-append, filter_map-append, give_refusal, given, given_by, good_of, got_noted, if_so}
-use Rattle.link_laws.proofs.Words.{is_good, join_step, length, ltb-false, ltb-true, map, max, messages_got, nat_lt, news, no_talk, not, number_of}
-use Rattle.link_laws.proofs.Words.{option_to_list, packet_count, packet_of, packets_in, refl, sent_noted, sent_unless, subst, sym, talk_now, talk_of, told}
-use Rattle.link_laws.proofs.Words.{true, turn, turn_entry, whole_acked, whole_among, with_ready, ℕ, ◌&&◌, ◌++◌, ◌-◌, ◌<◌, ◌==◌, ◌∙◌, ◌∷◌, ◌≡◌, ◌≤◌}
+use Rattle.link_laws.proofs.Words.{Acked, Active, Bool, End, EndState, Entry, FetchMessage, GaveUp, Give, Got, Hold, IsSendable, LinkEnd, List, Message, None}
+use Rattle.link_laws.proofs.Words.{NumberedEnd, Option, Packet, Refused, Release, Report, Sent, Session, SetAside, Some, Talk, Turn, Up as IsUpNow, []}
+use Rattle.link_laws.proofs.Words.{acked_noted, ap, append-nil, append_assoc, arith, aside_refusal, common_steps, cond, drop, ended_talk, false, far}
+use Rattle.link_laws.proofs.Words.{filter-append, filter_map-append, give_refusal, given, given_by, good_of, got_noted, if_so, is_good, join_step, length, map}
+use Rattle.link_laws.proofs.Words.{max, messages_got, nat_lt, news, no_talk, not, number_of, option_to_list, packet_count, packet_of, packets_in, refl}
+use Rattle.link_laws.proofs.Words.{sent_noted, sent_unless, subst, sym, talk_now, talk_of, told, true, turn, turn_entry, whole_acked, whole_among, with_ready}
+use Rattle.link_laws.proofs.Words.{ℕ, ◌&&◌, ◌++◌, ◌-◌, ◌<◌, ◌==◌, ◌∙◌, ◌∷◌, ◌≡◌, ◌≤◌}
 use Rattle.hcp_chain.specs.Joining.{message_in}
-use Rattle.link_laws.proofs.places.Joined.{ready_cases}
 use Rattle.link_laws.proofs.machine.Sound.{Data, IsNotUp, SentAfter, Shift, whole_given, whole_more}
 use Rattle.link_laws.proofs.machine.Sound.Shift.{Begins, Ends, Renews, Rests, Stays}
 use Rattle.link_laws.proofs.machine.Reports.{Becomes}
 use Rattle.link_laws.specs.entries.Entries.Entry.{Up, Down}
 use Rattle.link_laws.specs.entries.Filters.{same_link_end}
-use Rattle.link_laws.proofs.Cases.{by_option, by_phase, by_test}
+use Rattle.link_laws.proofs.Cases.{by_option, by_phase}
 
 -- ## Three filters at once
 
@@ -65,16 +64,7 @@ abbrev note : Entry → End → ℕ → Book
 note e who n = read (e ∷ []) who n
 
 read-one : (e : Entry) (t : List Entry) (who : End) (n : ℕ) → read (e ∷ t) who n ≡ plus (note e who n) (read t who n)
-read-one (Sent w k m) t who n =
-    by_test {P = read (Sent w k m ∷ t) who n ≡ plus (note (Sent w k m) who n) (read t who n)} (same_link_end w who && (k == n))
-    (λ q. rw (q, zero_max (acked_noted t who n)) refl) (λ q. rw (q, zero_max (acked_noted t who n)) refl)
-read-one (Got w k m) t who n =
-    by_test {P = read (Got w k m ∷ t) who n ≡ plus (note (Got w k m) who n) (read t who n)} (same_link_end w who && (k == n))
-    (λ q. rw (q, zero_max (acked_noted t who n)) refl) (λ q. rw (q, zero_max (acked_noted t who n)) refl)
-read-one (Acked w k a) t who n =
-    by_test {P = read (Acked w k a ∷ t) who n ≡ plus (note (Acked w k a) who n) (read t who n)} (same_link_end w who && (k == n)) (λ q. rw (q, max_zero a) refl)
-    (λ q. rw (q, zero_max (acked_noted t who n)) refl)
-read-one _ t who n = sym (blank-plus (read t who n))
+read-one e t who n = grind arith
 
 pub read-append : (t u : List Entry) (who : End) (n : ℕ) → read (t ++ u) who n ≡ plus (read t who n) (read u who n)
 read-append [] u who n = sym (blank-plus (read u who n))
@@ -94,12 +84,10 @@ pub silent_cons : (e : Entry) (t : List Entry) → Silent (e ∷ []) → Silent 
 silent_cons e t p q who n = read-one e t who n ∙ (ap (λ b. plus b (read t who n)) (p who n) ∙ (blank-plus (read t who n) ∙ q who n))
 
 silent_so : (b : Bool) (e : Entry) → Silent (e ∷ []) → Silent (if_so b e)
-silent_so false e p who n = refl
-silent_so true e p who n = p who n
+silent_so b e p who n = grind arith
 
 silent_option : {A : Type 0} (f : A → Entry) (o : Option A) → ((x : A) → Silent (f x ∷ [])) → Silent (map f (option_to_list o))
-silent_option f None p who n = refl
-silent_option f (Some x) p who n = p x who n
+silent_option f o p who n = grind arith
 
 -- ## What is told
 
@@ -118,14 +106,7 @@ read_got who who' k n ms = go (same_link_end who who' && (k == n)) refl ms
 
 read_acked : (who who' : End) (k n a : ℕ) (b : Bool)
     → read (if_so b (Acked who k a)) who' n ≡ pick (same_link_end who who' && (k == n)) (record { sent = []; got = []; acked = cond b a 0 })
-read_acked who who' k n a b = go (same_link_end who who' && (k == n)) refl b
-  where
-    go : (c : Bool) → (same_link_end who who' && (k == n)) ≡ c → (b : Bool)
-        → read (if_so b (Acked who k a)) who' n ≡ pick (same_link_end who who' && (k == n)) (record { sent = []; got = []; acked = cond b a 0 })
-    go true q true = rw (q, max_zero a) refl
-    go true q false = rw q refl
-    go false q true = rw q refl
-    go false q false = rw q refl
+read_acked who who' k n a b = grind arith
 
 -- what a report says of messages
 abbrev pub told_book : Report → ℕ → Book
@@ -156,8 +137,7 @@ read_told who who' k n r acked =
 
     both : (x : Bool) → plus (pick x (record { sent = []; got = []; acked = cond (nat_lt 0 r.acked) acked 0 }))
         (pick x (record { sent = []; got = r.got; acked = 0 })) ≡ pick x (told_book r acked)
-    both true = rw (max_zero (cond (nat_lt 0 r.acked) acked 0)) refl
-    both false = refl
+    both x = grind arith
 
     last : read e who' n ≡ pick (same_link_end who who' && (k == n)) (told_book r acked)
     last =
@@ -180,12 +160,10 @@ pub down_talk : (h : NumberedEnd) (n : ℕ) → IsNotUp h.side.shdlc → talk_of
 down_talk h n down = by_phase h.side.shdlc.phase (λ p. absurd (down p)) (λ p. rw p refl) (λ p. rw p refl)
 
 pub same_self : (who : End) → same_link_end who who ≡ true
-same_self Controller = refl
-same_self Host = refl
+same_self who = grind arith
 
 pub same_far : (who : End) → same_link_end who (far who) ≡ false
-same_far Controller = refl
-same_far Host = refl
+same_far who = grind arith
 
 -- nothing of the other end is told
 pub told_far : (t : List Entry) (who : End) (k : ℕ) (r : Report) (acked : ℕ) (h : NumberedEnd) → Told t (far who) h → Told (t ++ told who k r acked) (far who) h
@@ -223,9 +201,7 @@ got_more before s more q =
 -- ## An input
 
 grows : (a b : ℕ) → a ≤ b → max a (cond (nat_lt 0 (b - a)) b 0) ≡ b
-grows a b i =
-    by_test (nat_lt 0 (b - a)) (λ q. let z = ltb-true 0 (b - a) q in rw q (omega (arith, z, i)))
-    (λ q. let z = ltb-false 0 (b - a) q in rw q (omega (arith, z, i)))
+grows a b i = grind arith
 
 -- an end with its session ended or not
 abbrev pub past_after : Bool → NumberedEnd → List (ℕ × Talk)
@@ -242,9 +218,7 @@ pub record Input (h k : NumberedEnd) (ended began : Bool) (r : Report) : Type 0 
 
 noted : (t : List Entry) (who : End) (k : ℕ) (r : Report) (acked n : ℕ)
     → read (t ++ told who k r acked) who n ≡ plus (read t who n) (pick (k == n) (told_book r acked))
-noted t who k r acked n =
-    read-append t (told who k r acked) who n
-    ∙ ap (plus (read t who n)) (read_told who who k n r acked ∙ ap (λ x. pick (x && (k == n)) (told_book r acked)) (same_self who))
+noted t who k r acked n = grind (arith, read-append, told, read, read_told, pick, same_self)
 
 -- a report that says nothing
 silent_report : (t : List Entry) (who : End) (k : ℕ) (r : Report) (acked n : ℕ)
@@ -252,8 +226,7 @@ silent_report : (t : List Entry) (who : End) (k : ℕ) (r : Report) (acked n : �
 silent_report t who k r acked n got zero = noted t who k r acked n ∙ (ap (plus (read t who n)) (none (k == n)) ∙ plus-blank (read t who n))
   where
     none : (b : Bool) → pick b (told_book r acked) ≡ blank
-    none false = refl
-    none true = rw (got, zero) refl
+    none b = grind arith
 
 not_more : (a b : ℕ) → b ≡ 0 → nat_lt 0 (b - a) ≡ false
 not_more a b q = rw q (grind (arith, common_steps))
@@ -266,8 +239,7 @@ blank_talk : (e : LinkEnd) → e.sent ≡ [] → e.shdlc.session.acc ≡ [] → 
 blank_talk e s a = rw (s, a) refl
 
 eq_sym : (a b : ℕ) (x : Bool) → (a == b) ≡ x → (b == a) ≡ x
-eq_sym a b true q = let e : a ≡ b = eqb-true a b q in grind (arith, common_steps, e)
-eq_sym a b false q = grind (arith, common_steps, q)
+eq_sym a b x q = grind arith
 
 pub told_input : (t : List Entry) (who : End) (h k : NumberedEnd) (ended began : Bool) (r : Report) → Input h k ended began r → Data h.side → Told t who h
     → Told (t ++ told who (number_of k) r (whole_acked k.side)) who k
@@ -298,8 +270,7 @@ told_input t who h k ended began r i d b n = go i.becomes.shift
     nothing : k.side.shdlc.session.acc ≡ [] → k.side.sent ≡ [] → read result who n ≡ read t who n
     nothing acc sent =
         silent_report t who j r (whole_acked k.side) n
-        (got ∙ ap (λ (xs : List (List ℕ)). drop (length (messages_got h.side.shdlc.session))
-        (messages_got (record k.side.shdlc.session { acc = xs }))) acc ∙ drop_none (length (messages_got h.side.shdlc.session)))
+        (grind arith)
         (ap (nat_lt 0) i.acked ∙ not_more (whole_acked h.side) (whole_acked k.side) (fresh_whole k.side sent))
       where
         drop_none : (m : ℕ) → drop {A = Message} m [] ≡ []
@@ -312,10 +283,7 @@ told_input t who h k ended began r i d b n = go i.becomes.shift
     -- the session that begins has no messages yet, and none were noted of its number
     begins : (x : Bool) → (n == j) ≡ x → book_of (talk_now k.side) ≡ blank → talk_of h j ≡ no_talk → book_of (talk_of h n)
         ≡ book_of (cond (n == j) (talk_now k.side) (talk_of h n))
-    begins true q none fresh =
-        let e : n ≡ j = eqb-true n j q in
-        rw q (ap (λ m. book_of (talk_of h m)) e ∙ (ap book_of fresh ∙ sym none))
-    begins false q none fresh = rw q refl
+    begins x q none fresh = grind arith
 
     book_is : {s u g g' : List Message} {a c : ℕ} → s ≡ u → g ≡ g' → a ≡ c → book s g a ≡ book u g' c
     book_is p q r = rw (p, q, r) refl
@@ -332,10 +300,8 @@ told_input t who h k ended began r i d b n = go i.becomes.shift
         book_is (append-nil h.side.sent ∙ sym sent) (ap (λ ms. messages_got h.side.shdlc.session ++ ms) got
         ∙ got_more h.side.shdlc.session k.side.shdlc g.more g.acc)
         (ap (λ x. max (whole_acked h.side) (cond (nat_lt 0 x) (whole_acked k.side) 0)) i.acked ∙ grows (whole_acked h.side) (whole_acked k.side) low) in
-        let old : read t who n ≡ book_of (cond (n == j) (talk_now h.side) (ended_talk h.past n)) =
-        b n ∙ (ap book_of (up_talk h n g.was) ∙ ap (λ x. book_of (cond (n == x) (talk_now h.side) (ended_talk h.past n))) (sym same)) in
-        let new : talk_of k n ≡ cond (n == j) (talk_now k.side) (ended_talk h.past n) =
-        up_talk k n g.is ∙ ap (λ ps. cond (n == j) (talk_now k.side) (ended_talk ps n)) (past_false p) in
+        let old : read t who n ≡ book_of (cond (n == j) (talk_now h.side) (ended_talk h.past n)) = grind arith in
+        let new : talk_of k n ≡ cond (n == j) (talk_now k.side) (ended_talk h.past n) = grind arith in
         noted t who j r (whole_acked k.side) n
         ∙ (ap (λ z. plus z (pick (j == n) (told_book r (whole_acked k.side)))) old ∙ (by (n == j) refl now ∙ ap book_of (sym new)))
       where
@@ -349,14 +315,12 @@ told_input t who h k ended began r i d b n = go i.becomes.shift
     go (Renews p q up new) =
         let none : book_of (talk_now k.side) ≡ blank = blank_talk k.side (sent_true p) new.acc in
         let fresh : talk_of h j ≡ no_talk = i.fresh q in
-        let is : talk_of k n ≡ cond (n == j) (talk_now k.side) (talk_of h n) = up_talk k n new.is
-        ∙ ap (λ x. cond (n == j) (talk_now k.side) x) (after_end up p) in
+        let is : talk_of k n ≡ cond (n == j) (talk_now k.side) (talk_of h n) = grind arith in
         nothing new.acc (sent_true p) ∙ (b n ∙ (begins (n == j) refl none fresh ∙ ap book_of (sym is)))
     go (Begins p q down new) =
         let none : book_of (talk_now k.side) ≡ blank = blank_talk k.side (sent_false p ∙ d.forgot down) new.acc in
         let fresh : talk_of h j ≡ no_talk = i.fresh q in
-        let is : talk_of k n ≡ cond (n == j) (talk_now k.side) (talk_of h n) =
-        up_talk k n new.is ∙ ap (λ x. cond (n == j) (talk_now k.side) x) (ap (λ ps. ended_talk ps n) (past_false p) ∙ sym (down_talk h n down)) in
+        let is : talk_of k n ≡ cond (n == j) (talk_now k.side) (talk_of h n) = grind arith in
         nothing new.acc (sent_false p ∙ d.forgot down) ∙ (b n ∙ (begins (n == j) refl none fresh ∙ ap book_of (sym is)))
     go (Rests p q down still s) =
         nothing (ap (λ (z : Session). z.acc) (s (d.none down))) (sent_false p ∙ d.forgot down)
@@ -367,28 +331,7 @@ told_input t who h k ended began r i d b n = go i.becomes.shift
 -- the end of h does something that its sessions don't show
 pub told_same : (t : List Entry) (who : End) (h k : NumberedEnd) → k.side.shdlc.phase ≡ h.side.shdlc.phase → k.past ≡ h.past
     → (h.side.shdlc.phase ≡ IsUpNow → number_of k ≡ number_of h) → book_of (talk_now k.side) ≡ book_of (talk_now h.side) → Told t who h → Told t who k
-told_same t who h k phase past number same b n = b n ∙ go h.side.shdlc.phase refl
-  where
-    up : h.side.shdlc.phase ≡ IsUpNow → book_of (talk_of h n) ≡ book_of (talk_of k n)
-    up p =
-        let m = number p in
-        let other : talk_of k n ≡ cond (n == number_of h) (talk_now k.side) (ended_talk h.past n) =
-        up_talk k n (phase ∙ p) ∙ (ap (λ x. cond (n == x) (talk_now k.side) (ended_talk k.past n)) m
-        ∙ ap (λ ps. cond (n == number_of h) (talk_now k.side) (ended_talk ps n)) past) in
-        ap book_of (up_talk h n p) ∙ (by (n == number_of h) ∙ sym (ap book_of other))
-      where
-        by : (x : Bool) → book_of (cond x (talk_now h.side) (ended_talk h.past n)) ≡ book_of (cond x (talk_now k.side) (ended_talk h.past n))
-        by true = sym same
-        by false = refl
-
-    idle : IsNotUp h.side.shdlc → book_of (talk_of h n) ≡ book_of (talk_of k n)
-    idle d =
-        let still : IsNotUp k.side.shdlc = λ u. d (sym phase ∙ u) in
-        ap book_of (down_talk h n d ∙ (ap (λ ps. ended_talk ps n) (sym past) ∙ sym (down_talk k n still)))
-
-    go : (p : LinkState) → h.side.shdlc.phase ≡ p → book_of (talk_of h n) ≡ book_of (talk_of k n)
-    go IsUpNow p = up p
-    go _ p = idle (λ u. let z = sym p ∙ u in cc)
+told_same t who h k phase past number same b n = grind arith
 
 -- the end of h, which is e now
 abbrev pub with_side : NumberedEnd → LinkEnd → NumberedEnd
@@ -432,9 +375,7 @@ told_given t who h m s up d b n =
 
 ready_session : (e : EndState) (r : Bool) → ((with_ready e r).session.acc ≡ e.session.acc) × ((with_ready e r).session.acked ≡ e.session.acked)
     × ((with_ready e r).phase ≡ e.phase)
-ready_session e r =
-    ready_cases (λ f. (f.session.acc ≡ e.session.acc) × (f.session.acked ≡ e.session.acked) × (f.phase ≡ e.phase)) e r (refl, refl, refl)
-    (refl, refl, refl) (refl, refl, refl)
+ready_session e r = grind arith
 
 told_nothing : (t : List Entry) (who : End) (h : NumberedEnd) → Told t who h → Told (t ++ []) who h
 told_nothing t who h b = told_silent t [] who h (λ w n. refl) b

@@ -1,37 +1,29 @@
 -- What may disturb a session is noted where it happens: frames that are lost, an RNR, a packet that can't be joined.
-use Rattle.std.proofs.lemmas.Bool.{and_right}
 use Rattle.std.specs.Prelude.{◌+◌, ◌||◌}
-use Rattle.link_laws.proofs.Words.{Acked, Act, ActEvent, ActTake, ActTick, Activate, Activation, Active, AllAllowed, AreOwn, AreSendableTurns, Asked, AsksReset}
-use Rattle.link_laws.proofs.Words.{AtController, AtHost, Bare, Bool, ByAct, Cause, Chain, Clt, Comes, Control, Controller, CoreActs, CoreDeliver, CoreLink}
-use Rattle.link_laws.proofs.Words.{CoreLose, CoreReset, CoreTurn, CutOff, Down as IsDown, Emit, End, EndEvent, EndState, Ending, Entry, FetchMessage, GaveUp}
-use Rattle.link_laws.proofs.Words.{Give, GoesOut, Got, HasTick, Hold, Host, I, Ignore as CoreIgnore, IsEvent, IsOwn, IsStart, Link, LinkEnd, LinkEvent}
-use Rattle.link_laws.proofs.Words.{LinkInput, List, Lose, Loss, Losses, Message, NextFrame, NoInput, Node, None, NumberedEnd, OnWire, Option, Peer, Refused}
-use Rattle.link_laws.proofs.Words.{Rej, Release, Report, Reset, Rnr, Role, Rr, Rset, S, SetAside, Some, Srej, Start, Starts, Step, Stop, Stops, Take, Ticks}
-use Rattle.link_laws.proofs.Words.{TicksWithout, TooMany, Turn, Turns as CoreTurns, Ua, [], act_answer, activated, after_input, aged, aged_entries}
-use Rattle.link_laws.proofs.Words.{all_at_controller, among, and_parts, ap, arith, began_by, came_up, cond, core_event, core_happens_here, core_of, core_take}
+use Rattle.link_laws.proofs.Words.{Acked, Act, ActEvent, ActTake, Activate, Activation, Active, AllAllowed, AreOwn, AreSendableTurns, Asked, AsksReset}
+use Rattle.link_laws.proofs.Words.{AtController, AtHost, Bool, ByAct, Cause, Chain, Clt, Comes, Control, Controller, CoreActs, CoreDeliver, CoreLink, CoreLose}
+use Rattle.link_laws.proofs.Words.{CoreReset, CoreTurn, CutOff, Down as IsDown, Emit, End, EndEvent, EndState, Ending, Entry, GaveUp, GoesOut, Got, HasTick}
+use Rattle.link_laws.proofs.Words.{Host, Ignore as CoreIgnore, IsEvent, IsOwn, IsStart, Link, LinkEnd, LinkEvent, LinkInput, List, Lose, Loss, Losses, Message}
+use Rattle.link_laws.proofs.Words.{NextFrame, NoInput, Node, None, NumberedEnd, OnWire, Option, Report, Reset, Role, Some, Start, Starts, Step, Stop, Stops}
+use Rattle.link_laws.proofs.Words.{Take, Ticks, TicksWithout, TooMany, Turn, Turns as CoreTurns, [], act_answer, activated, after_input, aged, aged_entries}
+use Rattle.link_laws.proofs.Words.{all_at_controller, and_parts, ap, arith, began_by, came_up, cond, core_event, core_happens_here, core_of, core_take}
 use Rattle.link_laws.proofs.Words.{core_turned, core_turns, core_with_ended, counts_first, disturbs, drop, ended_by, ending_entries, entries, entries_of_events}
-use Rattle.link_laws.proofs.Words.{event_entries, exchanged, false, far, first_entries, first_lost, frames_of, frames_out, give_refusal, happens}
-use Rattle.link_laws.proofs.Words.{happens_at_controller, here_entries, if_so, if_up, inl, inr, is_act, is_open, is_rnr, is_rset, is_some, is_up, left_after}
-use Rattle.link_laws.proofs.Words.{length, length-append, list_any, ltb-true, map, most_frames, nat_lt, not, noted_all, noted_here, noted_loss, noted_out}
-use Rattle.link_laws.proofs.Words.{noted_turns, number_of, option_to_list, overflows, pushed_out, put, put_entries, puts_entries, refl, report, reset_by}
-use Rattle.link_laws.proofs.Words.{reset_refusal, reset_with, rest_entries, role_after, sent_unless, shdlc_put as core_put, shdlc_put_all as core_put_all}
-use Rattle.link_laws.proofs.Words.{silent, step_entries, steps_at_controller, subst, sym, take_answer, taken, taken_entries, tick_answer, tick_entries}
-use Rattle.link_laws.proofs.Words.{ticks_at_controller, told, told_of, took, took_with, trace, true, true≢false, turn, turn_entries, turn_entry, turned}
-use Rattle.link_laws.proofs.Words.{whole_acked, wire_with, with_ended, ℕ, ◌&&◌, ◌++◌, ◌∙◌, ◌∷◌, ◌≡◌, ◌⊎◌}
-use Rattle.swp_base.specs.declared.link_terms.Cause.TheVariants.{NoAnswer}
+use Rattle.link_laws.proofs.Words.{event_entries, exchanged, false, far, first_entries, first_lost, frames_of, frames_out, happens, happens_at_controller}
+use Rattle.link_laws.proofs.Words.{here_entries, if_so, if_up, inl, inr, is_act, is_open, is_rnr, is_rset, is_some, is_up, left_after, length, length-append}
+use Rattle.link_laws.proofs.Words.{list_any, ltb-true, map, nat_lt, noted_all, noted_here, noted_loss, noted_out, noted_turns, number_of, option_to_list}
+use Rattle.link_laws.proofs.Words.{overflows, pushed_out, put, put_entries, puts_entries, refl, report, reset_by, reset_refusal, reset_with, rest_entries}
+use Rattle.link_laws.proofs.Words.{role_after, shdlc_put as core_put, shdlc_put_all as core_put_all, silent, step_entries, steps_at_controller, subst, sym}
+use Rattle.link_laws.proofs.Words.{take_answer, taken, taken_entries, tick_entries, ticks_at_controller, told, told_of, took, took_with, trace, true}
+use Rattle.link_laws.proofs.Words.{true≢false, turn, turn_entries, turn_entry, turned, whole_acked, wire_with, with_ended, ℕ, ◌&&◌, ◌++◌, ◌∙◌, ◌∷◌, ◌≡◌, ◌⊎◌}
 use Rattle.link_laws.specs.entries.Entries.Entry.{Down, Up}
 use Rattle.link_laws.specs.entries.Order.{is_noted_chain_fault}
-use Rattle.link_laws.proofs.Cases.{by_list, by_option, by_phase, by_test}
-use Rattle.link_laws.proofs.entries.Noting.{if_up_is}
-use Rattle.link_laws.proofs.machine.Reports.{no_began, shdlc_is as shdlc_moved}
-use Rattle.link_laws.proofs.machine.Runs.{opened}
-use Rattle.link_laws.proofs.machine.Sound.{by_tick}
-use Rattle.link_laws.proofs.messages.Finishing.{reset_keeps, reset_tells}
-use Rattle.link_laws.proofs.messages.Project.{Now, Tells, among_now, due_now, frames_now, mid_moved, put-core, turns_mid, with_ended-core}
-use Rattle.link_laws.proofs.messages.Runs.{Good, Reached, act_not_chain, event_step, from_controller, from_host, not_chain, reached_more, start_good}
-use Rattle.link_laws.proofs.messages.Runs.{start_reached}
+use Rattle.link_laws.proofs.Cases.{by_list, by_phase, by_test}
+use Rattle.link_laws.proofs.machine.Reports.{shdlc_is as shdlc_moved}
+use Rattle.link_laws.proofs.messages.Finishing.{reset_tells}
+use Rattle.link_laws.proofs.messages.Project.{Now, Tells, among_now, due_now, frames_now, put-core, turns_mid}
+use Rattle.link_laws.proofs.messages.Runs.{Good, Reached, event_step, from_controller, from_host, not_chain, reached_more, start_good, start_reached}
 use Rattle.link_laws.proofs.messages.Steps.{ComesFirst, FromHost, Heard, act_mid, core_first, counted_is, heard_end, heard_is, is_shdlc, mid_counted}
-use Rattle.link_laws.proofs.messages.Steps.{no_fault_first, polite, role_closes, stays_down, took_closed, took_open}
+use Rattle.link_laws.proofs.messages.Steps.{no_fault_first, polite, role_closes, took_closed, took_open}
 
 -- ## No session ends by a packet that can't be joined
 
@@ -49,20 +41,13 @@ abbrev IsOther : Option Cause → Type 0
 IsOther o = o ≡ Some Chain → ⊥
 
 chain_ended : (who : End) (o : Option Cause) → IsOther o → NoChain (map (Down who) (option_to_list o))
-chain_ended who None n = tt
-chain_ended who (Some Chain) n = absurd (n refl)
-chain_ended who (Some Asked) n = (refl, tt)
-chain_ended who (Some NoAnswer) n = (refl, tt)
-chain_ended who (Some Peer) n = (refl, tt)
-chain_ended who (Some ByAct) n = (refl, tt)
+chain_ended who o n = grind arith
 
 chain_so : (b : Bool) (e : Entry) → is_noted_chain_fault e ≡ false → NoChain (if_so b e)
-chain_so false e p = tt
-chain_so true e p = (p, tt)
+chain_so b e p = grind arith
 
 chain_option : {A : Type 0} (f : A → Entry) (o : Option A) → ((x : A) → is_noted_chain_fault (f x) ≡ false) → NoChain (map f (option_to_list o))
-chain_option f None p = tt
-chain_option f (Some x) p = (p x, tt)
+chain_option f o p = grind arith
 
 chain_got : (who : End) (k : ℕ) (ms : List Message) → NoChain (map (Got who k) ms)
 chain_got who k [] = tt
@@ -81,23 +66,14 @@ chain_told who k r acked n =
     (chain_got who k r.got)))))
 
 chain_turn : (who : End) (k : ℕ) (e : LinkEnd) (t : Turn) → NoChain (turn_entry who k e t)
-chain_turn who k e (Give m) = go (give_refusal e m)
-  where
-    go : (o : Option Refused) → NoChain (sent_unless o who k m)
-    go None = (refl, tt)
-    go (Some why) = tt
-chain_turn who k e (Hold held) = tt
-chain_turn who k e FetchMessage = tt
-chain_turn who k e SetAside = tt
-chain_turn who k e Release = tt
+chain_turn who k e t = grind arith
 
 chain_turns : (who : End) (k : ℕ) (e : LinkEnd) (ts : List Turn) → NoChain (turn_entries who k e ts)
 chain_turns who k e [] = tt
 chain_turns who k e (t ∷ ts) = more (turn_entry who k e t) (turn_entries who k (turn e t) ts) (chain_turn who k e t) (chain_turns who k (turn e t) ts)
 
 chain_lost : (who : End) (why : Loss) (w : List OnWire) → NoChain (first_lost who why w)
-chain_lost who why [] = tt
-chain_lost who why (x ∷ xs) = (refl, tt)
+chain_lost who why w = grind arith
 
 chain_pushed : (who : End) (w : List OnWire) → NoChain (pushed_out who w)
 chain_pushed who w = by_test (nat_lt 64 (length w)) (λ q. rw q (chain_lost who TooMany w)) (λ q. rw q tt)
@@ -112,9 +88,7 @@ chain_ending who l e GoesOut = chain_puts (frames_out e) who l
 chain_ending who l e CutOff = (refl, tt)
 
 chain_rest : (who : End) (l : Link) (e : LinkEnd) (ts : List Turn) (ending : Ending) → NoChain (rest_entries who l e ts ending)
-chain_rest who l e ts ending =
-    more (turn_entries who (number_of l.controller) e ts) (ending_entries who l (turned e ts) ending) (chain_turns who (number_of l.controller) e ts)
-    (chain_ending who l (turned e ts) ending)
+chain_rest who l e ts ending = grind (arith, more, number_of, turned, chain_turns, chain_ending)
 
 chain_input : (who : End) (k : Link) (h : NumberedEnd) (i : LinkInput) (e : LinkEnd) (ts : List Turn) (ending : Ending) → IsOther (ended_by h.side i)
     → NoChain (told_of who h i ++ rest_entries who k e ts ending)
@@ -128,21 +102,10 @@ if_up_other : (s : EndState) (cause : Cause) → (cause ≡ Chain → ⊥) → I
 if_up_other s cause n q = by_phase {P = ⊥} s.phase (λ p. let z = rw p at q in n (cc)) (λ p. let z = rw p at q in cc) (λ p. let z = rw p at q in cc)
 
 reset_other : (e : LinkEnd) (window : Option ℕ) → IsOther (ended_by e (Reset window))
-reset_other e window q =
-    by_option {P = ⊥} (reset_refusal e) (λ p. if_up_other e.shdlc Asked (λ z. cc) (let z = q in rw p at z)) (λ why p. let z = rw p at q in cc)
+reset_other e window q = grind arith
 
 tick_other : (e : LinkEnd) → IsOther (ended_by e HasTick)
-tick_other e q = by_test {P = ⊥} (is_open e.role) (λ o. shdlc (let z = q in rw o at z)) (λ o. act_not_chain e ActTick (let z = q in rw o at z))
-  where
-    none : None ≡ Some Chain → ⊥
-    none y = cc
-
-    other : Some NoAnswer ≡ Some Chain → ⊥
-    other y = cc
-
-    shdlc : (tick_answer e.shdlc).ended ≡ Some Chain → ⊥
-    shdlc z =
-        by_tick (λ _ answer. answer.ended ≡ Some Chain → ⊥) e.shdlc none (λ _. none) (λ _. none) (λ _. other) (λ _. none) (λ _. none) z
+tick_other e q = grind arith
 
 -- ### Steps and events
 
@@ -263,8 +226,7 @@ chain_events (e ∷ es) l a g r =
     more (event_entries l e) (entries (happens l e) es) (chain_event l e a.0 g r) (chain_events es (happens l e) a.1 st.good next)
 
 first_chain : (r : Role) → NoChain (first_entries r)
-first_chain Bare = (refl, (refl, tt))
-first_chain _ = tt
+first_chain r = grind arith
 
 none_any : (t : List Entry) → NoChain t → list_any is_noted_chain_fault t ≡ false
 none_any [] a = refl
@@ -292,15 +254,13 @@ any-append (e ∷ t) u = go (disturbs e) (any-append t u)
   where
     go : (b : Bool) → list_any disturbs (t ++ u) ≡ (list_any disturbs t || list_any disturbs u)
         → (b || list_any disturbs (t ++ u)) ≡ ((b || list_any disturbs t) || list_any disturbs u)
-    go true q = refl
-    go false q = q
+    go b q = grind arith
 
 or_left : (a b : Bool) → a ≡ true → (a || b) ≡ true
 or_left a b q = rw q refl
 
 or_right : (a b : Bool) → b ≡ true → (a || b) ≡ true
-or_right true b q = refl
-or_right false b q = q
+or_right a b q = grind arith
 
 pub disturbed_left : (t u : List Entry) → Disturbed t → Disturbed (t ++ u)
 disturbed_left t u d = any-append t u ∙ or_left (list_any disturbs t) (list_any disturbs u) d
@@ -313,15 +273,7 @@ abbrev pub Grows : Losses → Losses → List Entry → Type 0
 Grows n m u = bad m ≡ true → (bad n ≡ true) ⊎ Disturbed u
 
 rnr_disturbs : (who : End) (c : Control) → is_rnr c ≡ true → disturbs (Emit who c) ≡ true
-rnr_disturbs who (I ns nr info) q = absurd (true≢false (sym q))
-rnr_disturbs who (S Rnr nr) q = refl
-rnr_disturbs who (S Rr nr) q = absurd (true≢false (sym q))
-rnr_disturbs who (S Rej nr) q = absurd (true≢false (sym q))
-rnr_disturbs who (S Srej nr) q = absurd (true≢false (sym q))
-rnr_disturbs who (Rset w caps) q = absurd (true≢false (sym q))
-rnr_disturbs who Ua q = absurd (true≢false (sym q))
-rnr_disturbs who (Act act again) q = absurd (true≢false (sym q))
-rnr_disturbs who Clt q = absurd (true≢false (sym q))
+rnr_disturbs who c q = grind arith
 
 push_lost : (who : End) (l : Link) (c : Control) → overflows (l.to_host ++ record { frame = c; age = 0; number = 0 } ∷ [])
     ≡ true → Disturbed (pushed_out (far who) (wire_with l c))
@@ -338,9 +290,7 @@ push_lost who l c q = go (nat_lt 64 (length (wire_with l c))) refl (wire_with l 
     go : (b : Bool) → nat_lt 64 (length (wire_with l c)) ≡ b → (w : List OnWire) → wire_with l c ≡ w → Disturbed (pushed_out (far who) (wire_with l c))
     go false p w r = absurd (true≢false (sym long ∙ p))
     go true p [] r = absurd (let i = ltb-true 64 (length (wire_with l c)) p in let k = ap (λ (z : List OnWire). length z) r in omega (arith, i, k))
-    go true p (x ∷ xs) r =
-        ap (λ b. list_any disturbs (cond b (first_lost (far who) TooMany (wire_with l c)) [])) p
-        ∙ ap (λ z. list_any disturbs (first_lost (far who) TooMany z)) r
+    go true p (x ∷ xs) r = grind arith
 
 -- a frame goes out
 put_grows : (n : Losses) (who : End) (l : Link) (c : Control) → Grows n (noted_loss n (core_of l) c) (put_entries who l c)
@@ -355,15 +305,7 @@ put_grows n who l c q = go (n.lost) (n.rnr) (overflows (l.to_host ++ record { fr
     go false false false false p r s t = absurd (let z : false ≡ true = rw (p, r, s, t) at q in cc)
 
 grows_then : (n m k : Losses) (u v : List Entry) → Grows n m u → Grows m k v → Grows n k (u ++ v)
-grows_then n m k u v a b q = go (b q)
-  where
-    first : (bad n ≡ true) ⊎ Disturbed u → (bad n ≡ true) ⊎ Disturbed (u ++ v)
-    first (inl x) = inl x
-    first (inr x) = inr (disturbed_left u v x)
-
-    go : (bad m ≡ true) ⊎ Disturbed v → (bad n ≡ true) ⊎ Disturbed (u ++ v)
-    go (inl x) = first (a x)
-    go (inr x) = inr (disturbed_right u v x)
+grows_then n m k u v a b q = grind (arith, disturbed_left, disturbed_right)
 
 -- all frames that go out
 pub flush_grows : (cs : List Control) (n : Losses) (who : End) (l : Link) → Grows n (noted_all n (core_of l) cs) (puts_entries who l cs)
@@ -383,10 +325,7 @@ noted_all-append n c (x ∷ xs) ys = noted_all-append (noted_loss n c x) (core_p
 -- what goes out of an end with this frame of activation
 pub out_noted : (n : Losses) (c : CoreLink) (o : Option Activation) (g : LinkEnd) (s : EndState) → g.acts ≡ due_now o → g.shdlc ≡ s
     → noted_out (noted_all n c (frames_now o)) (core_put_all c (frames_now o)) s ≡ noted_all n c (frames_out g)
-out_noted n c o g s acts is =
-    noted_all-append n c (frames_now o) (frames_of most_frames s)
-    ∙ ap (noted_all n c) (sym (ap (λ a. among 0 a (frames_of most_frames g.shdlc)) acts
-    ∙ (ap (λ f. among 0 (due_now o) (frames_of most_frames f)) is ∙ among_now o (frames_of most_frames s))))
+out_noted n c o g s acts is = grind (arith, noted_all-append, frames_of, noted_all, among_now)
 
 -- ## What is lost in a step, or answered RNR, is noted there; and where an end comes up first in its session, behind its entry
 
@@ -424,24 +363,13 @@ take_noted n l ts x xs a comes = go x.frame refl
     Goal = noted_turns n c (core_take e x.frame ts) ≡ noted_all (came_up n k (began_by e (Take x.frame))) k (frames_out (turned (took e x.frame) ts))
 
     left : (b : Bool) → is_some (ended_by e (Take x.frame)) ≡ b → k ≡ left_core l x xs b
-    left b q = ap at q ∙ is b
-      where
-        at : Bool → CoreLink
-        at b =
-            core_of (let m : Link = with_ended (record l { to_controller = xs }) b in
-            record m { controller = record m.controller { took = took_with l.controller.took x } })
-
-        is : (b : Bool) → at b ≡ left_core l x xs b
-        is false = refl
-        is true = refl
+    left b q = grind arith
 
     take_open : (y : Control) → is_act y ≡ false → is_open e.role ≡ true → core_take e y ts ≡ CoreDeliver (core_turns (took e y) ts) ∷ []
-    take_open (Act _ _) q o = absurd (true≢false q)
-    take_open _ q o = rw o refl
+    take_open y q o = grind arith
 
     take_closed : (y : Control) → is_act y ≡ false → is_open e.role ≡ false → core_take e y ts ≡ CoreIgnore (core_turns (took e y) ts) ∷ []
-    take_closed (Act _ _) q o = absurd (true≢false q)
-    take_closed _ q o = rw o refl
+    take_closed y q o = grind arith
 
     -- an end that is open became f
     open_as : (f : LinkEnd) (b : Bool) → is_act x.frame ≡ false → is_open e.role ≡ true → took e x.frame ≡ f → is_some (ended_by e (Take x.frame)) ≡ b
@@ -457,11 +385,7 @@ take_noted n l ts x xs a comes = go x.frame refl
         ≡ noted_out (came_up n (left_core l x xs (is_some (take_answer e.shdlc x.frame).ended)) (take_answer e.shdlc x.frame).began)
         (left_core l x xs (is_some (take_answer e.shdlc x.frame).ended)) s = rw comes.first refl in
         ap (noted_turns n c) (take_open x.frame q o ∙ ap (λ g. CoreDeliver (core_turns g ts) ∷ []) is)
-        ∙ (first
-        ∙ (ap (λ z. noted_out (came_up n z (take_answer e.shdlc x.frame).began) z s) k_is
-        ∙ (ap (λ z. noted_out (came_up n k z) k s) beg
-        ∙ (out_noted (came_up n k (began_by e (Take x.frame))) k None (turned f ts) s tm.mid.acts shdlc
-        ∙ ap (λ g. noted_all (came_up n k (began_by e (Take x.frame))) k (frames_out (turned g ts))) (sym is)))))
+        ∙ (grind arith)
 
     -- one that isn't passed over it
     closed_as : (f : LinkEnd) → is_act x.frame ≡ false → is_open e.role ≡ false → took e x.frame ≡ f → is_some (ended_by e (Take x.frame)) ≡ false
@@ -475,11 +399,7 @@ take_noted n l ts x xs a comes = go x.frame refl
         let down = comes.tells.now.closed o in
         let first : noted_here n c (CoreIgnore us) ≡ noted_out n (left_core l x xs false) s = ignore_noted n c us x xs down comes.first in
         ap (noted_turns n c) (take_closed x.frame q o ∙ ap (λ g. CoreIgnore (core_turns g ts) ∷ []) is)
-        ∙ (first
-        ∙ (ap (λ z. noted_out n z s) (sym (left false ends))
-        ∙ (out_noted n k None (turned f ts) s tm.mid.acts shdlc
-        ∙ (ap (λ z. noted_all (came_up n k z) k (frames_out (turned f ts))) (sym beg)
-        ∙ ap (λ g. noted_all (came_up n k (began_by e (Take x.frame))) k (frames_out (turned g ts))) (sym is)))))
+        ∙ (grind arith)
 
     shdlc : (b : Bool) → is_open e.role ≡ b → is_shdlc x.frame ≡ true → is_act x.frame ≡ false → Goal
     shdlc true o s q =
@@ -509,17 +429,13 @@ take_noted n l ts x xs a comes = go x.frame refl
         let tm = turns_mid o f ts a m.mid in
         let s : EndState = core_turned e.shdlc us in
         let same : (turned f ts).shdlc ≡ s = tm.is ∙ ap (λ z. core_turned z us) m.same in
-        let ends : is_some (ended_by e (Take x.frame)) ≡ false =
-        ap (λ y. is_some (ended_by e (Take y))) q ∙ (stays_down (act_answer e.role event).ended_link e down comes.rests.due comes.tells.now.acts).1 in
+        let ends : is_some (ended_by e (Take x.frame)) ≡ false = grind arith in
         let counts : took_with l.controller.took x ≡ l.controller.took = no_number (ap is_rset q) in
         let gone : CoreLink = record c { to_controller = xs } in
         let k_is : k ≡ gone = left false ends ∙ ap (λ z. record (record c { to_controller = xs }) { controller = record c.controller { took = z } }) counts in
-        let beg : began_by e (Take x.frame) ≡ false = ap (λ y. began_by e (Take y)) q
-        ∙ and_right (is_open e.role) (take_answer e.shdlc (Act act again)).began (no_began e.shdlc act again) in
+        let beg : began_by e (Take x.frame) ≡ false = grind arith in
         let list : core_take e x.frame ts ≡ CoreLose ∷ CoreActs (option_to_list o) us ∷ [] = ap (λ y. core_take e y ts) q in
-        let lost : noted_here n c CoreLose ≡ n =
-        ap (λ z. record n { lost = n.lost || counts_first z }) comes.first
-        ∙ (ap (λ z. record n { lost = n.lost || not z }) (ap is_act q) ∙ ap (λ z. record n { lost = z }) (or_none n.lost)) in
+        let lost : noted_here n c CoreLose ≡ n = grind arith in
         let link : core_happens_here c CoreLose ≡ gone = ap (λ z. record c { to_controller = drop 1 z }) comes.first in
         ap (noted_turns n c) list
         ∙ (ap (λ z. noted_here z (core_happens_here c CoreLose) (CoreActs (option_to_list o) us)) lost
@@ -563,11 +479,9 @@ reset_noted n l w ts a h q =
     let f : LinkEnd = reset_by e w in
     let t = reset_tells e q in
     let us : List CoreTurn = core_turns f ts in
-    let now : Now f = mid_moved e b (reset_with e.shdlc w) h.now (reset_keeps e.shdlc w t.1 h.now.idle)
-    (opened e.role ((reset_with e.shdlc w).phase ≡ IsDown) t.0) in
+    let now : Now f = grind arith in
     let tm = turns_mid None f ts a now in
     let s : EndState = core_turned (reset_with e.shdlc w) us in
     let is : (turned f ts).shdlc ≡ s = tm.is ∙ ap (λ z. core_turned z us) (shdlc_moved e b (reset_with e.shdlc w)) in
-    let link : core_with_ended (core_of l) (is_up e.shdlc.phase) ≡ core_of (with_ended l b) =
-    ap (core_with_ended (core_of l)) (if_up_is e.shdlc Asked) ∙ sym (with_ended-core l b) in
+    let link : core_with_ended (core_of l) (is_up e.shdlc.phase) ≡ core_of (with_ended l b) = grind arith in
     ap (λ z. noted_out n z s) link ∙ out_noted n (core_of (with_ended l b)) None (turned f ts) s tm.mid.acts is

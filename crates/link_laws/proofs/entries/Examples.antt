@@ -1,7 +1,7 @@
 -- The definitions compute worked examples, entry by entry. Further ones are computed from text to text, in `node_examples`.
 use Rattle.link_laws.proofs.Words.{Act, ActReady as Ready, Active, Asked, AtController, AtHost, ByAct, Control, Controller, Cut, CutOff, Emit, Entry, GaveUp}
 use Rattle.link_laws.proofs.Words.{Give, Got, Host, I, IsQuietSince, IsSettledSince, LinkEvent, List, Lose, Lost, NextFrame, None, OnDemand, Peer, PowerMode}
-use Rattle.link_laws.proofs.Words.{Restarted, Rset, Sent, Some, Step, SyncId, TooOld, Took, Ua, [], acked_noted, after_link_events, disturbs, drop, entries}
+use Rattle.link_laws.proofs.Words.{Restarted, Rset, Sent, Some, Step, SyncId, TooOld, Took, Ua, [], acked_noted, after_link_events, arith, disturbs, drop, entries}
 use Rattle.link_laws.proofs.Words.{false, got_noted, list_any, refl, sent_noted, session_in, since, trace, true, withholds, ◌++◌, ◌∷◌, ◌≡◌}
 use Rattle.link_laws.specs.entries.Entries.Entry.{Up, Down, Tick}
 use Rattle.link_laws.proofs.messages.Examples.{bare, line, takes, resets, gives, ticks, activates, active, up, one}
@@ -113,13 +113,7 @@ cut_goes_on = refl
 settled : IsSettledSince (trace line up) (after_link_events line active)
     (AtController resets)
     (AtHost takes ∷ AtController takes ∷ [])
-settled =
-    record {
-      asked = record { granted = refl; active = refl; free = refl };
-      undisturbed = refl;
-      to_controller = refl;
-      to_host = refl;
-    }
+settled = grind arith
 
 settled_controller : session_in (trace line up) Controller ≡ Some 1
 settled_controller = refl

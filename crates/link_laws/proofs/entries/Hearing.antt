@@ -3,25 +3,23 @@ use Rattle.std.proofs.lemmas.List.Sums.{fold-append}
 use Rattle.std.specs.List.{fold}
 use Rattle.std.specs.Prelude.{length}
 use Rattle.link_laws.proofs.Words.{Acked, ActEvent, Activate, Active, AllAllowed, AreOwn, AsksReset, AtController, AtHost, Bool, CanStart, Cause as EndedBy}
-use Rattle.link_laws.proofs.Words.{Control, Controller, Cut, CutOff, End, EndEvent, Ending, Entry, FetchMessage, GaveUp, Give, GoesOut, Got, HasTick, Hold}
-use Rattle.link_laws.proofs.Words.{Host, IsAllowed, IsBare, IsEvent, IsLine, IsNode, IsOwn, IsSettledSince, IsStart, IsUicc, Link, LinkEnd, LinkEvent}
-use Rattle.link_laws.proofs.Words.{LinkInput, List, Lose, Loss, NextFrame, NoInput, Node, None, NumberedEnd, OnWire, Option, Refused, Release, Report, Reset}
-use Rattle.link_laws.proofs.Words.{Seen, SetAside, Some, Starts, Step, Stops, Take, Ticks, TicksWithout, TooMany, Turn, Up as IsUpNow, [], after_input}
-use Rattle.link_laws.proofs.Words.{after_link_events, aged, aged_entries, all_at_controller, ap, becomes, began_by, core_event, core_of, ended_by, entries}
-use Rattle.link_laws.proofs.Words.{entries_of_events, event_entries, exchanged, false, far, finished, first_entries, first_lost, frames_out, give_refusal}
-use Rattle.link_laws.proofs.Words.{happens, happens_at_controller, has_taken, here_entries, if_so, if◌then◌else◌, input_entries, is_some, is_up, left_after}
-use Rattle.link_laws.proofs.Words.{map, max, most_frames, nat_lt, number_now, number_of, option_to_list, put, put_entries, puts_entries, refl, report}
-use Rattle.link_laws.proofs.Words.{rest_entries, restart_entries, sent_unless, session_in, silent, step_entries, subst, sym, taken_entries, tick_entries}
-use Rattle.link_laws.proofs.Words.{ticks_at_controller, told, told_of, took, took_with, trace, true, turn, turn_entries, turn_entry, turned, whole_acked}
-use Rattle.link_laws.proofs.Words.{wire_with, with_ended, ℕ, ◌++◌, ◌∙◌, ◌∷◌, ◌≡◌}
+use Rattle.link_laws.proofs.Words.{Control, Controller, Cut, CutOff, End, EndEvent, Ending, Entry, GaveUp, GoesOut, Got, HasTick, Host, IsAllowed, IsEvent}
+use Rattle.link_laws.proofs.Words.{IsNode, IsOwn, IsSettledSince, IsStart, IsUicc, Link, LinkEnd, LinkEvent, LinkInput, List, Lose, NextFrame, NoInput, Node}
+use Rattle.link_laws.proofs.Words.{None, NumberedEnd, OnWire, Option, Report, Reset, Seen, Some, Starts, Step, Stops, Take, Ticks, TicksWithout, TooMany, Turn}
+use Rattle.link_laws.proofs.Words.{Up as IsUpNow, [], after_input, after_link_events, aged, aged_entries, all_at_controller, ap, arith, becomes, core_event}
+use Rattle.link_laws.proofs.Words.{core_of, ended_by, entries, entries_of_events, event_entries, exchanged, false, far, finished, first_entries, first_lost}
+use Rattle.link_laws.proofs.Words.{frames_out, happens, happens_at_controller, has_taken, here_entries, if_so, if◌then◌else◌, input_entries, is_some, is_up}
+use Rattle.link_laws.proofs.Words.{left_after, map, max, most_frames, nat_lt, number_now, number_of, option_to_list, put, put_entries, puts_entries, refl}
+use Rattle.link_laws.proofs.Words.{report, rest_entries, restart_entries, session_in, silent, step_entries, subst, sym, taken_entries, tick_entries}
+use Rattle.link_laws.proofs.Words.{ticks_at_controller, told, told_of, took, took_with, trace, turn, turn_entries, turn_entry, turned, whole_acked, wire_with}
+use Rattle.link_laws.proofs.Words.{with_ended, ℕ, ◌++◌, ◌∙◌, ◌∷◌, ◌≡◌}
 use Rattle.link_laws.specs.entries.Entries.Entry.{Down, Tick, Up}
 use Rattle.link_laws.specs.entries.Sessions.{hear}
 use Rattle.link_laws.specs.entries.Settled.{AreNotedUpTogether}
 use Rattle.link_laws.specs.places.Wire.{sans}
-use Rattle.link_laws.proofs.Cases.{by_list, by_phase}
+use Rattle.link_laws.proofs.Cases.{by_list}
 use Rattle.link_laws.proofs.entries.Seeing.{read_off}
 use Rattle.link_laws.proofs.entries.Books.{same_far, same_self, with_side}
-use Rattle.link_laws.proofs.entries.Quieting.{new_not_up}
 use Rattle.link_laws.proofs.entries.Noting.{Frame, Frames, IsQuietEnd, IsRestart, Near, ended_number, idle_finishes, reset_finishes, restart_finishes}
 use Rattle.link_laws.proofs.entries.Noting.{start_restarts, stop_restarts, take_finishes, tick_finishes, turned_same}
 use Rattle.link_laws.proofs.entries.Running.{Before, IsInTick, IsUnderWay, Sounds, after_tick, all_in_tick, before_here, before_there, frame_facts, goes_on}
@@ -30,8 +28,7 @@ use Rattle.link_laws.proofs.entries.Stepping.{CanFinish, puts_number}
 use Rattle.link_laws.proofs.entries.Together.{ticks_host, together}
 use Rattle.link_laws.proofs.machine.Reports.{Reports, reset_so, take_so, tick_so}
 use Rattle.link_laws.proofs.machine.Runs.{Sound}
-use Rattle.link_laws.proofs.machine.Sound.{IsNotUp, Shift}
-use Rattle.link_laws.proofs.machine.Sound.Shift.{Begins, Ends, Renews, Rests as ShiftRests, Stays}
+use Rattle.link_laws.proofs.machine.Sound.{Shift}
 use Rattle.link_laws.proofs.messages.Project.{frames_alike}
 use Rattle.link_laws.proofs.messages.Finishing.{step_tick}
 use Rattle.link_laws.proofs.messages.Runs.{Good, Reached, all_step, can_start, clf_starts, event_step, reached_more, rests_of, safe_reached, started_clf}
@@ -45,22 +42,14 @@ use Rattle.link_laws.proofs.sessions.Steps.{safe_aged}
 pub up_session : (h : NumberedEnd) → h.side.shdlc.phase ≡ IsUpNow → number_now h ≡ Some (number_of h)
 up_session h p = rw p refl
 
-down_session : (h : NumberedEnd) → IsNotUp h.side.shdlc → number_now h ≡ None
-down_session h down = by_phase h.side.shdlc.phase (λ p. absurd (down p)) (λ p. rw p refl) (λ p. rw p refl)
-
 -- an end that has a session is up, and this is its number
 pub session_up : (h : NumberedEnd) (n : ℕ) → number_now h ≡ Some n → (h.side.shdlc.phase ≡ IsUpNow) × (number_of h ≡ n)
-session_up h n q =
-    by_phase h.side.shdlc.phase (λ p. (p, (let z : Some (number_of h) ≡ Some n = sym (up_session h p) ∙ q in cc)))
-    (λ p. absurd (let z : None ≡ Some n = rw p at q in cc)) (λ p. absurd (let z : None ≡ Some n = rw p at q in cc))
+session_up h n q = grind arith
 
 -- two ends in the same phase with the same number
 pub same_session : (a b : NumberedEnd) → a.side.shdlc.phase ≡ b.side.shdlc.phase → (b.side.shdlc.phase ≡ IsUpNow → number_of a ≡ number_of b)
     → number_now a ≡ number_now b
-same_session a b p n =
-    by_phase b.side.shdlc.phase (λ q. up_session a (p ∙ q) ∙ (ap (λ m. Some m) (n q) ∙ sym (up_session b q)))
-    (λ q. down_session a (λ u. let z = sym (p ∙ q) ∙ u in cc) ∙ sym (down_session b (λ u. let z = sym q ∙ u in cc)))
-    (λ q. down_session a (λ u. let z = sym (p ∙ q) ∙ u in cc) ∙ sym (down_session b (λ u. let z = sym q ∙ u in cc)))
+same_session a b p n = grind arith
 
 -- ### What is heard of them
 
@@ -79,8 +68,7 @@ pub passes-append : (who : End) (t u : List Entry) → Passes who t → Passes w
 passes-append who t u p q s = heard-append who s t u ∙ (ap (λ z. heard who z u) (p s) ∙ q s)
 
 passes_so : (who : End) (b : Bool) (e : Entry) → Passes who (e ∷ []) → Passes who (if_so b e)
-passes_so who false e p s = refl
-passes_so who true e p s = p s
+passes_so who b e p s = grind arith
 
 passes_map : {A : Type 0} (who : End) (f : A → Entry) (xs : List A) → ((x : A) → Passes who (f x ∷ [])) → Passes who (map f xs)
 passes_map who f [] p s = refl
@@ -93,14 +81,7 @@ told_rest who n r acked =
     ++ (map (GaveUp who) (option_to_list r.gave_up) ++ (if_so (nat_lt 0 r.acked) (Acked who n acked) ++ map (Got who n) r.got))
 
 passes_told_rest : (w who : End) (n : ℕ) (r : Report) (acked : ℕ) → Passes w (told_rest who n r acked)
-passes_told_rest w who n r acked =
-    let a = passes-append w (if_so (nat_lt 0 r.acked) (Acked who n acked)) (map (Got who n) r.got)
-    (passes_so w (nat_lt 0 r.acked) (Acked who n acked) (λ s. refl)) (passes_map w (Got who n) r.got (λ m s. refl)) in
-    let b = passes-append w (map (GaveUp who) (option_to_list r.gave_up)) (if_so (nat_lt 0 r.acked) (Acked who n acked) ++ map (Got who n) r.got)
-    (passes_map w (GaveUp who) (option_to_list r.gave_up) (λ m s. refl)) a in
-    passes-append w (if_so r.became_active (Active who))
-    (map (GaveUp who) (option_to_list r.gave_up) ++ (if_so (nat_lt 0 r.acked) (Acked who n acked) ++ map (Got who n) r.got))
-    (passes_so w r.became_active (Active who) (λ s. refl)) b
+passes_told_rest w who n r acked = grind (arith, passes-append, passes_so, passes_map)
 
 -- nothing is told of the other end
 passes_told : (who : End) (n : ℕ) (r : Report) (acked : ℕ) → Passes (far who) (told who n r acked)
@@ -116,12 +97,10 @@ abbrev pub after_told : Bool → Bool → ℕ → Option ℕ → Option ℕ
 after_told ended began n s = if began then Some n else (if ended then None else s)
 
 heard_down : (who : End) (o : Option EndedBy) (s : Option ℕ) → heard who s (map (Down who) (option_to_list o)) ≡ (if is_some o then None else s)
-heard_down who None s = refl
-heard_down who (Some c) s = let q = same_self who in rw q refl
+heard_down who o s = grind arith
 
 heard_up : (who : End) (b : Bool) (n : ℕ) (s : Option ℕ) → heard who s (if_so b (Up who n)) ≡ (if b then Some n else s)
-heard_up who false n s = refl
-heard_up who true n s = let q = same_self who in rw q refl
+heard_up who b n s = grind arith
 
 pub heard_told : (who : End) (n : ℕ) (r : Report) (acked : ℕ) (s : Option ℕ) → heard who s (told who n r acked) ≡ after_told (is_some r.ended) r.began n s
 heard_told who n r acked s =
@@ -134,38 +113,20 @@ heard_told who n r acked s =
 -- what becomes of the session of h as it becomes k
 pub shifted : (h k : NumberedEnd) (ended began : Bool) → Shift h.side.shdlc k.side.shdlc ended began
     → (h.side.shdlc.phase ≡ IsUpNow → ended ≡ false → number_of k ≡ number_of h) → after_told ended began (number_of k) (number_now h) ≡ number_now k
-shifted h k ended began (Stays p q g) same =
-    rw (p, q) (up_session h g.was ∙ (ap (λ m. Some m) (sym (same g.was p)) ∙ sym (up_session k g.is)))
-shifted h k ended began (Ends p q up still s) same = rw (p, q) (sym (down_session k still))
-shifted h k ended began (Renews p q up new) same = rw q (sym (up_session k new.is))
-shifted h k ended began (Begins p q down new) same = rw q (sym (up_session k new.is))
-shifted h k ended began (ShiftRests p q down still s) same = rw (p, q) (down_session h down ∙ sym (down_session k still))
+shifted h k ended began a same = grind arith
 
 -- ### Turns and frames
 
 passes_turn : (w who : End) (n : ℕ) (e : LinkEnd) (t : Turn) → Passes w (turn_entry who n e t)
-passes_turn w who n e (Give m) = go (give_refusal e m)
-  where
-    go : (o : Option Refused) → Passes w (sent_unless o who n m)
-    go None s = refl
-    go (Some why) s = refl
-passes_turn w who n e (Hold held) = λ s. refl
-passes_turn w who n e FetchMessage = λ s. refl
-passes_turn w who n e SetAside = λ s. refl
-passes_turn w who n e Release = λ s. refl
+passes_turn w who n e t = grind arith
 
 pub passes_turns : (w who : End) (n : ℕ) (e : LinkEnd) (ts : List Turn) → Passes w (turn_entries who n e ts)
 passes_turns w who n e [] = λ s. refl
 passes_turns w who n e (t ∷ ts) =
     passes-append w (turn_entry who n e t) (turn_entries who n (turn e t) ts) (passes_turn w who n e t) (passes_turns w who n (turn e t) ts)
 
-passes_lost : (w who : End) (why : Loss) (xs : List OnWire) → Passes w (first_lost who why xs)
-passes_lost w who why [] = λ s. refl
-passes_lost w who why (x ∷ xs) = λ s. refl
-
 passes_pushed : (w who : End) (b : Bool) (xs : List OnWire) → Passes w (if b then first_lost who TooMany xs else [])
-passes_pushed w who true xs = passes_lost w who TooMany xs
-passes_pushed w who false xs = λ s. refl
+passes_pushed w who b xs = grind arith
 
 passes_puts : (w who : End) (cs : List Control) (l : Link) → Passes w (puts_entries who l cs)
 passes_puts w who [] l = λ s. refl
@@ -178,13 +139,10 @@ passes_aged w who [] = λ s. refl
 passes_aged w who (x ∷ xs) = go (nat_lt x.age 4) refl (passes_aged w who xs)
   where
     go : (b : Bool) → nat_lt x.age 4 ≡ b → Passes w (aged_entries who xs) → Passes w (aged_entries who (x ∷ xs))
-    go true q later s = rw q (later s)
-    go false q later s = rw q (later s)
+    go b q later s = grind arith
 
 passes_out : (w who : End) (l : Link) (e : LinkEnd) (ts : List Turn) → Passes w (rest_entries who l e ts GoesOut)
-passes_out w who l e ts =
-    passes-append w (turn_entries who (number_of l.controller) e ts) (puts_entries who l (frames_out (turned e ts)))
-    (passes_turns w who (number_of l.controller) e ts) (passes_puts w who (frames_out (turned e ts)) l)
+passes_out w who l e ts = grind (arith, passes-append, number_of, turned, passes_turns, passes_puts)
 
 -- nothing of the other end
 rest_far : (who : End) (l : Link) (e : LinkEnd) (ts : List Turn) (ending : Ending) → Passes (far who) (rest_entries who l e ts ending)
@@ -210,8 +168,7 @@ rest_heard who l e ts CutOff finishes =
     let us : List Entry = turn_entries who (number_of l.controller) e ts in
     let last : heard who s (Cut who ∷ []) ≡ None = let q = same_self who in rw q refl in
     heard-append who s us (Cut who ∷ [])
-    ∙ (ap (λ z. heard who z (Cut who ∷ [])) (passes_turns who who (number_of l.controller) e ts s)
-    ∙ (last ∙ sym (down_session (finished l (turned e ts) CutOff).controller (new_not_up (turned e ts).role finishes.can))))
+    ∙ (grind arith)
 
 -- ### Steps
 
@@ -235,8 +192,7 @@ input_heard who l k took i {ts} {ending} so number same finishes =
     let vs : List Entry = rest_entries who k f ts ending in
     let now : heard who (number_now l.controller) us ≡ number_now (with_side k.controller f) =
     heard_told who (number_of h) (report e i) (whole_acked f) (number_now l.controller)
-    ∙ (shifted l.controller (with_side h f) (is_some (ended_by e i)) (began_by e i) so.shift same
-    ∙ same_session (with_side h f) (with_side k.controller f) refl (λ up. sym number)) in
+    ∙ (grind arith) in
     record {
       here = heard-append who (number_now l.controller) us vs ∙ (ap (λ z. heard who z vs) now ∙ rest_heard who k f ts ending finishes);
       there = passes-append (far who) us vs (passes_told who (number_of h) (report e i) (whole_acked f)) (rest_far who k f ts ending);
@@ -276,8 +232,7 @@ taken_heard who l x xs ts ending a n fr =
   where
     number : (c : Bool) → number_of (record (with_ended (record l { to_controller = xs }) c).controller { took = took_with l.controller.took x })
         ≡ max l.controller.emitted (took_with l.controller.took x)
-    number false = refl
-    number true = refl
+    number c = grind arith
 
 -- a step that takes no frame
 pub own_heard : (who : End) (l : Link) (e : EndEvent) → IsOwn e → IsAllowed l e → Near l → Heard who l (happens_at_controller l e) (here_entries who l e)
@@ -293,11 +248,7 @@ own_heard who l (Step NoInput ts ending) o a n =
 frame_heard : (who : End) (l : Link) (ts : List Turn) (ending : Ending) → IsNode l ts ending → Near l → Frames l ts
     → Heard who l (happens_at_controller l (Step NextFrame ts ending)) (step_entries who l NextFrame ts ending)
 frame_heard who l ts ending a n frames =
-    by_list {P = Heard who l m u} l.to_controller (λ q.
-    let none : u ≡ [] = rw q refl in
-    let same : m ≡ l = rw q refl in
-    let Q : List Entry → Type 0 = λ z. Heard who l l z in
-    subst P (sym same) (subst Q (sym none) (record { here = refl; there = λ s. refl })))
+    by_list {P = Heard who l m u} l.to_controller (grind arith)
     (λ x xs q.
     let some : u ≡ taken_entries who l x xs ts ending = rw q refl in
     let next : m ≡ has_taken l x xs ts ending = rw q refl in
@@ -320,8 +271,7 @@ here_heard who l e a b = go e a
     near = near_of l b
 
     go : (e : EndEvent) → IsAllowed l e → Heard who l (happens_at_controller l e) (here_entries who l e)
-    go (Lose why) a =
-        record { here = passes_lost who who why l.to_controller (number_now l.controller); there = passes_lost (far who) who why l.to_controller }
+    go (Lose why) a = grind arith
     go (Step NextFrame ts ending) a = frame_heard who l ts ending a.1 near (frame_facts l ts a.1.0 b)
     go (Step (AsksReset window) ts ending) a = own_heard who l (Step (AsksReset window) ts ending) tt a near
     go (Step (Starts v) ts ending) a = own_heard who l (Step (Starts v) ts ending) tt a near
@@ -471,8 +421,7 @@ events_heard (e ∷ es) t l a w =
 first_heard : (l : Link) → IsStart l
     → (heard Controller None (first_entries l.controller.side.role) ≡ number_now l.controller)
     × (heard Host None (first_entries l.controller.side.role) ≡ number_now l.host)
-first_heard l IsBare = (refl, refl)
-first_heard l IsLine = (refl, refl)
+first_heard l a = grind arith
 
 both_heard : (l : Link) → IsStart l → (events : List LinkEvent) → AllAllowed l events → BothHeard l (after_link_events l events) (entries l events)
 both_heard l s events a = events_heard events (first_entries l.controller.side.role) l a (start_under_way l s)

@@ -1,17 +1,16 @@
 -- What is noted of runs and steps says what is kept of the sessions of both ends, at each moment, too.
 use Rattle.std.proofs.lemmas.List.{take-append-le}
-use Rattle.link_laws.proofs.Words.{ActEvent, ActStart, ActStop, ActTick, AreSendableTurns, Asked, AsksReset, Bare, Bool, ByAct, CanEnd, Cause, Comes}
-use Rattle.link_laws.proofs.Words.{Controller, CoreInOrder, CutOff, Down as IsDown, End, EndState, Ending, Entry, Give, GoesOut, HasTick, Hold, Host, InOrder}
-use Rattle.link_laws.proofs.Words.{InOrderIn, IsFrontOf, IsNode, Link, LinkEnd, LinkInput, List, Message, NextFrame, NoInput, Node, None, NumberedEnd, OnWire}
-use Rattle.link_laws.proofs.Words.{Option, Reset, Restarted, Role, Session, SetAside, Start, Starts, Stop, Stops, Take, Talk, Took, Turn, Up as IsUpNow}
-use Rattle.link_laws.proofs.Words.{Waiting as IsWaitingNow, [], acked_noted, act_answer, activated, after_input, ap, append-nil, append_assoc, arith}
-use Rattle.link_laws.proofs.Words.{aside_refusal, began_by, core_end, core_of, ended_by, false, far, filter-append, finished, frames_out, give_refusal, good_of}
-use Rattle.link_laws.proofs.Words.{got_noted, has_taken, if_up, inl, inr, is_good, is_open, is_some, is_up, is_waiting, left_after, length, max, moved}
-use Rattle.link_laws.proofs.Words.{new_link_end, no_talk, not, number_of, refl, renewed, reset_by, reset_refusal, reset_with, rest_entries, restart_entries}
-use Rattle.link_laws.proofs.Words.{role_after, sent_all, sent_noted, shdlc_session_of, silent, step_entries, steps_at_controller, stopped, subst, suc, sym}
-use Rattle.link_laws.proofs.Words.{take, taken_entries, talk_of, tick_answer, tick_entries, ticked, ticks_at_controller, told_of, took, took_with, true}
-use Rattle.link_laws.proofs.Words.{true≢false, turn, turned, window_of, with_ended, zero, ℕ, ◌++◌, ◌∙◌, ◌∷◌, ◌≡◌, ◌≤◌, ◌⊎◌}
-use Rattle.link_laws.proofs.Cases.{by_list, by_option, by_phase, by_test}
+use Rattle.link_laws.proofs.Words.{ActEvent, ActStart, ActStop, ActTick, AreSendableTurns, AsksReset, Bool, ByAct, CanEnd, Comes, Controller, CoreInOrder}
+use Rattle.link_laws.proofs.Words.{CutOff, Down as IsDown, End, EndState, Ending, Entry, GoesOut, HasTick, Host, InOrder, InOrderIn, IsFrontOf, IsNode, Link}
+use Rattle.link_laws.proofs.Words.{LinkEnd, LinkInput, List, Message, NextFrame, NoInput, Node, None, NumberedEnd, OnWire, Option, Reset, Restarted, Role}
+use Rattle.link_laws.proofs.Words.{Session, Start, Starts, Stop, Stops, Take, Talk, Took, Turn, Up as IsUpNow, [], acked_noted, act_answer, activated}
+use Rattle.link_laws.proofs.Words.{after_input, ap, append-nil, append_assoc, arith, began_by, core_end, core_of, ended_by, false, far, filter-append, finished}
+use Rattle.link_laws.proofs.Words.{frames_out, good_of, got_noted, has_taken, if_up, inl, inr, is_good, is_open, is_some, is_up, is_waiting, left_after, length}
+use Rattle.link_laws.proofs.Words.{max, moved, no_talk, number_of, refl, reset_by, reset_refusal, rest_entries, restart_entries, role_after, sent_noted}
+use Rattle.link_laws.proofs.Words.{shdlc_session_of, silent, step_entries, steps_at_controller, stopped, subst, suc, sym, take, taken_entries, talk_of}
+use Rattle.link_laws.proofs.Words.{tick_answer, tick_entries, ticked, ticks_at_controller, told_of, took, took_with, true, true≢false, turn, turned, window_of}
+use Rattle.link_laws.proofs.Words.{with_ended, zero, ℕ, ◌++◌, ◌∙◌, ◌∷◌, ◌≡◌, ◌≤◌, ◌⊎◌}
+use Rattle.link_laws.proofs.Cases.{by_list, by_option, by_test}
 use Rattle.link_laws.proofs.entries.Books.{Book, Silent, book_of, past_after, plus, plus-blank, read, read-append, told_silent}
 use Rattle.link_laws.proofs.entries.Stepping.{AllFew, CanFinish, Few, OfOne, Out, TakesInput, Tolds, few_more, few_then, few_told, front_parts, front_read}
 use Rattle.link_laws.proofs.entries.Stepping.{input_told, rest_told, sound_sent, sound_turns}
@@ -19,13 +18,11 @@ use Rattle.link_laws.proofs.machine.Reports.{Reports, good-append, reset_so, shd
 use Rattle.link_laws.proofs.machine.Runs.{Sound, opened, sound_input}
 use Rattle.link_laws.proofs.machine.Sound.{IsNotUp}
 use Rattle.link_laws.proofs.messages.Project.{NoAsk, NoRset, Now, Tells, host_ended as ended_host, mid_moved, moved_role, none_due, ticked_asks, ticked_keeps}
-use Rattle.link_laws.proofs.messages.Finishing.{can_after, can_end, none_out, reset_tells, reset_waits, restart_mid, tick_closed, tick_open, tick_role}
-use Rattle.link_laws.proofs.messages.Finishing.{took_can, waiting_phase}
+use Rattle.link_laws.proofs.messages.Finishing.{can_after, can_end, none_out, restart_mid, tick_closed, tick_open, tick_role, took_can, waiting_phase}
 use Rattle.link_laws.proofs.messages.Steps.{Rests, act_mid, activated_role, says_of, session-core, tick_closes}
 use Rattle.link_laws.proofs.messages.Runs.{in_messages}
 use Rattle.link_laws.proofs.sessions.Data.{Base}
 use Rattle.link_laws.proofs.sessions.Sending.{SafeLink}
-use Rattle.link_laws.proofs.sessions.Ties.{ready-phase as ready_phase}
 
 -- ## What is noted of a run says what is kept of the sessions of both ends
 
@@ -37,10 +34,7 @@ turned_same [] e = refl
 turned_same (t ∷ ts) e = turned_same ts (turn e t) ∙ one t
   where
     one : (t : Turn) → (turn e t).shdlc.phase ≡ e.shdlc.phase
-    one (Hold held) = ready_phase e.shdlc (not held)
-    one SetAside = by_option {P = (turn e SetAside).shdlc.phase ≡ e.shdlc.phase} (aside_refusal e) (λ q. rw q refl) (λ r q. rw q refl)
-    one (Give m) = by_option {P = (turn e (Give m)).shdlc.phase ≡ e.shdlc.phase} (give_refusal e m) (λ q. rw q refl) (λ r q. rw q refl)
-    one _ = refl
+    one t = grind arith
 
 -- no RSET goes out where the end is Up
 abbrev pub IsQuietEnd : LinkEnd → List Turn → Type 0
@@ -68,12 +62,7 @@ quiet_reset l window ts a h r =
     P f = IsQuietEnd f ts
 
     waits : reset_refusal e ≡ None → IsNotUp (reset_by e (window_of e window)).shdlc
-    waits q u =
-        let t = reset_tells e q in
-        let p : (reset_by e (window_of e window)).shdlc.phase ≡ IsWaitingNow =
-        ap (λ (z : EndState). z.phase) (shdlc_moved e (is_some (if_up e.shdlc Asked)) (reset_with e.shdlc (window_of e window)))
-        ∙ reset_waits e.shdlc (window_of e window) t.1 in
-        let z = sym p ∙ u in cc
+    waits q u = grind arith
 
 restarted_down : (e : LinkEnd) (event : ActEvent) → Now e → IsNotUp (activated (moved e true (stopped e.shdlc)) event).shdlc
 restarted_down e event h u = let m = restart_mid e event h in let z = sym (ap (λ (s : EndState). s.phase) m.same) ∙ u in cc
@@ -132,12 +121,10 @@ pub record Near (l : Link) : Type 0 where
   pub sound : Sound l.controller.side
 
 pub ended_number : (l : Link) (b : Bool) → number_of (with_ended l b).controller ≡ number_of l.controller
-ended_number l false = refl
-ended_number l true = refl
+ended_number l b = grind arith
 
 ended_past : (l : Link) (b : Bool) → (with_ended l b).controller.past ≡ past_after b l.controller
-ended_past l false = refl
-ended_past l true = refl
+ended_past l b = grind arith
 
 -- l becomes k in front of an input by which no session begins
 pub record IsPlainInput (l k : Link) (i : LinkInput) : Type 0 where
@@ -152,34 +139,18 @@ plain_ended l b so none = record { reports = so; none = none; number = ended_num
 
 pub plain_silent : (l : Link) (f : LinkEnd) {i : LinkInput} → Reports l.controller.side i → began_by l.controller.side i ≡ false
     → IsPlainInput l (silent l f) i
-plain_silent l f so none =
-    let b : Bool = is_up l.controller.side.shdlc.phase in record { reports = so; none = none; number = ended_number l b; host = ended_host l b }
+plain_silent l f so none = grind arith
 
 plain_input : {l k : Link} {i : LinkInput} → IsPlainInput l k i → k.controller.past ≡ past_after (is_some (ended_by l.controller.side i)) l.controller
     → TakesInput l k i l.controller
-plain_input plain past = record {
-  input = record {
-    becomes = plain.reports;
-    acked = refl;
-    past = past;
-    same = λ up q. plain.number;
-    fresh = λ q. absurd (true≢false (sym q ∙ plain.none));
-  };
-  side = refl;
-  number = sym plain.number;
-  host = plain.host;
-}
+plain_input plain past = grind arith
 
 moved_can : (e : LinkEnd) (i : LinkInput) (ts : List Turn) (ending : Ending) (r : Role) → (after_input e i).role ≡ r → CanEnd r ending
     → CanEnd (turned (after_input e i) ts).role ending
 moved_can e i ts ending r q can = can_end (after_input e i) ts r ending q can
 
 pub reset_role : (e : LinkEnd) (window : Option ℕ) → (after_input e (Reset window)).role ≡ e.role
-reset_role e window =
-    by_option (reset_refusal e) (λ q.
-    let is : after_input e (Reset window) ≡ reset_by e (window_of e window) = rw q refl in
-    ap (λ (f : LinkEnd). f.role) is ∙ moved_role e (is_some (if_up e.shdlc Asked)) (reset_with e.shdlc (window_of e window)))
-    (λ why q. let is : after_input e (Reset window) ≡ e = rw q refl in ap (λ (f : LinkEnd). f.role) is)
+reset_role e window = grind arith
 
 pub tick_can : (e : LinkEnd) (ts : List Turn) (ending : Ending) → CanEnd e.role ending → CanEnd (turned (after_input e HasTick) ts).role ending
 tick_can e ts ending can =
@@ -267,9 +238,6 @@ tick_told t who l node a n b =
     let c : Bool = is_some (ended_by l.controller.side HasTick) in
     input_told HasTick (plain_input (plain_ended l c (tick_so l.controller.side n.sound) refl) (ended_past l c)) (tick_finishes l node a n) n.sound b
 
-pub if_up_is : (s : EndState) (cause : Cause) → is_up s.phase ≡ is_some (if_up s cause)
-if_up_is s cause = by_phase s.phase (λ p. rw p refl) (λ p. rw p refl) (λ p. rw p refl)
-
 restart_told : {t : List Entry} {who : End} {l : Link} {i : LinkInput} {event : ActEvent} (ts : List Turn) (ending : Ending) → IsNode l ts ending → Near l
     → IsRestart l.controller.side i event → Tolds t who l
     → Out t (restart_entries who l i ts ending) who (finished (silent l (after_input l.controller.side i)) (turned (after_input l.controller.side i) ts) ending)
@@ -278,8 +246,7 @@ restart_told {t} {who} {l} {i} ts ending a n r b =
     let f : LinkEnd = after_input e i in
     let c : Bool = is_up e.shdlc.phase in
     let k : Link = silent l f in
-    let past : k.controller.past ≡ past_after (is_some (ended_by e i)) l.controller =
-    ended_past l c ∙ ap (λ x. past_after x l.controller) (if_up_is e.shdlc ByAct ∙ ap (λ o. is_some o) (sym r.ended)) in
+    let past : k.controller.past ≡ past_after (is_some (ended_by e i)) l.controller = grind arith in
     let first : Tolds (t ++ Restarted who ∷ []) who l =
     record {
       here = told_silent t (Restarted who ∷ []) who l.controller (λ x m. refl) b.here;
@@ -333,16 +300,13 @@ taken_told {t} {who} l x xs ts ending a n fr b =
 
     number : (c : Bool) → number_of (record (m c).controller { took = took_with l.controller.took x })
         ≡ max l.controller.emitted (took_with l.controller.took x)
-    number false = refl
-    number true = refl
+    number c = grind arith
 
     past : (c : Bool) → (m c).controller.past ≡ past_after c l.controller
-    past false = refl
-    past true = refl
+    past c = grind arith
 
     host : (c : Bool) → (m c).host ≡ l.host
-    host false = refl
-    host true = refl
+    host c = grind arith
 
 -- what is to be known of frames where one is taken
 abbrev pub FramesFor : Comes → Link → List Turn → Type 0
@@ -381,22 +345,13 @@ step_told t who l NextFrame ts ending a n fr b =
     none q = (rw q refl, rw q refl)
 
     as_is : (u v : List Entry) (k m : Link) → u ≡ v → k ≡ m → Out t v who m → Out t u who k
-    as_is u v k m p q h =
-        let A : List Entry → Type 0 = λ z. Out t z who k in let B : Link → Type 0 = λ z. Out t v who z in subst A (sym p) (subst B (sym q) h)
+    as_is u v k m p q h = grind arith
 
 -- ### Ends stay sound
 
 sound_finished : (l : Link) (e : LinkEnd) (ending : Ending) → CanEnd e.role ending → Sound e → Sound (finished l e ending).controller.side
 sound_finished l e GoesOut can s = sound_sent e s
-sound_finished l e CutOff can s = new (sent_all e).role can
-  where
-    new : (r : Role) → CanEnd r CutOff → Sound (new_link_end (renewed r))
-    new Bare can = absurd can
-    new _ can =
-        record {
-          is = record { out = refl; none = λ _. refl; forgot = λ _. refl; acked = omega arith; reached = omega arith; room = omega arith };
-          closed = λ _. record { phase = refl; due = refl };
-        }
+sound_finished l e CutOff can s = grind arith
 
 pub sound_tick : (l : Link) (node : Node) → IsNode l node.turns node.ending → Sound l.controller.side
     → Sound (ticks_at_controller l node.turns node.ending).controller.side
@@ -408,9 +363,7 @@ sound_tick l node a s =
 
 pub restart_can : (e : LinkEnd) (event : ActEvent) (ts : List Turn) (ending : Ending) → CanEnd e.role ending
     → CanEnd (turned (activated (moved e true (stopped e.shdlc)) event) ts).role ending
-restart_can e event ts ending can =
-    can_end (activated (moved e true (stopped e.shdlc)) event) ts (role_after e.role event) ending (activated_role (moved e true (stopped e.shdlc)) event)
-    (can_after e.role event ending can)
+restart_can e event ts ending can = grind (arith, can_end, activated, moved, activated_role, can_after)
 
 pub sound_step : (l : Link) (comes : Comes) (ts : List Turn) (ending : Ending) → IsNode l ts ending → Sound l.controller.side
     → Sound (steps_at_controller l comes ts ending).controller.side
@@ -488,18 +441,7 @@ as_read t who n b q = (ap (λ (z : Book). z.sent) q, ap (λ (z : Book). z.got) q
 in_order_as : (t : List Entry) (who : End) (n : ℕ) {s g : List Message} {a : ℕ} → sent_noted t who n ≡ s → acked_noted t who n ≡ a
     → got_noted t (far who) n ≡ g
     → IsFrontOf g (good_of s) → IsFrontOf (good_of (take a s)) g → a ≤ length s → InOrderIn t who n
-in_order_as t who n {s} {g} {a} p q r got acked few =
-    let G : List Message → Type 0 = λ z. IsFrontOf z (good_of s) in
-    let H : List Message → Type 0 = λ z. IsFrontOf (got_noted t (far who) n) (good_of z) in
-    let A : List Message → Type 0 = λ z. IsFrontOf (good_of (take a s)) z in
-    let B : List Message → Type 0 = λ z. IsFrontOf (good_of (take a z)) (got_noted t (far who) n) in
-    let C : ℕ → Type 0 = λ z. IsFrontOf (good_of (take z (sent_noted t who n))) (got_noted t (far who) n) in
-    let l = ap (λ (ms : List Message). length ms) p in
-    record {
-      got = subst H (sym p) (subst G (sym r) got);
-      acked = subst C (sym q) (subst B (sym p) (subst A (sym r) acked));
-      few = omega (arith, few, q, l);
-    }
+in_order_as t who n p q r got acked few = grind arith
 
 -- the end of the step sends
 mine : (t u p : List Entry) (who : End) (n : ℕ) → Ok t → Ok (t ++ u) → OfOne who u → AllFew t who u → IsFrontOf p u → InOrderIn (t ++ p) who n
@@ -538,8 +480,7 @@ mine t u p who n before after one few f =
     k_few
 
 far_far : (who : End) → far (far who) ≡ who
-far_far Controller = refl
-far_far Host = refl
+far_far who = grind arith
 
 -- the other end sends, and the end of the step gets
 theirs : (t u p : List Entry) (who : End) (n : ℕ) → Ok t → Ok (t ++ u) → OfOne who u → IsFrontOf p u → InOrderIn (t ++ p) (far who) n
@@ -621,12 +562,7 @@ link_order kn kf l s c h n =
 
 order_in : (t : List Entry) (who : End) (n : ℕ) (s r : Talk) → read t who n ≡ book_of s → read t (far who) n ≡ book_of r → InOrder s r → Few t who
     → InOrderIn t who n
-order_in t who n s r p q o few =
-    let a = as_read t who n (book_of s) p in
-    let b = as_read t (far who) n (book_of r) q in
-    let l = ap (λ (ms : List Message). length ms) a.0 in
-    let i = few n in
-    in_order_as t who n a.0 a.2 b.1 o.got o.acked (omega (arith, i, l, a.2))
+order_in t who n s r p q o few = grind arith
 
 pub ok_link : (t : List Entry) (kn kf : ℕ) (l : Link) → SafeLink kn kf (core_of l) → Tells l.controller → Tells l.host → Tolds t Controller l → Ok t
 ok_link t kn kf l s c h b Controller n =

@@ -1,19 +1,18 @@
 -- A quiet session has delivered all, as it is noted: losses are told, and each step keeps what is known of both ends.
 use Rattle.std.specs.Prelude.{◌||◌}
-use Rattle.link_laws.proofs.Words.{Acked, ActTick, Activation, Active, AreSendableTurns, Asked, AsksReset, Bare, Bool, ByAct, CanEnd, Comes, Controller}
-use Rattle.link_laws.proofs.Words.{CoreActs, CoreEndEvent, CoreLink, CoreTurn, Cut, CutOff, Down as IsDown, End, EndEvent, EndState, Ending, Entry, GaveUp}
-use Rattle.link_laws.proofs.Words.{GoesOut, Got, HasTick, Host, IsAllowed, IsNode, IsOwn, Link, LinkEnd, LinkInput, LinkState, List, Lose, Loss, Losses}
-use Rattle.link_laws.proofs.Words.{NextFrame, NoInput, Node, None, NumberedEnd, OnWire, Option, Refused, Reset, Role, Some, Start, Starts, Step, Stop, Stops}
-use Rattle.link_laws.proofs.Words.{Take, Took, Turn, Up as IsUpNow, [], act_answer, activated, after_input, aged, aged_entries, and_parts, ap, append-nil}
-use Rattle.link_laws.proofs.Words.{append_assoc, arith, began_by, came_up, common_steps, cond, core_all_here, core_end, core_ending, core_happens_here}
-use Rattle.link_laws.proofs.Words.{core_here, core_of, core_reset, core_step, core_take, core_tick, core_tick_rest, core_ticks_or_cut, core_turned, core_turns}
-use Rattle.link_laws.proofs.Words.{core_with_ended, counts_first, ended_by, eqb-true, false, finished, first_lost, frames_of, frames_out, happens_at_controller}
-use Rattle.link_laws.proofs.Words.{has_taken, here_entries, if_so, if_up, inl, inr, is_act, is_open, is_some, is_up, is_up_with, left_after, list_any}
-use Rattle.link_laws.proofs.Words.{loses_aged, map, max, most_frames, moved, nat_lt, new_link_end, no_losses, noted_aged, noted_all, noted_here, noted_out}
-use Rattle.link_laws.proofs.Words.{noted_tick, noted_turns, number_of, option_to_list, put_all, puts_entries, refl, renewed, report, reset_by, reset_refusal}
-use Rattle.link_laws.proofs.Words.{rest_entries, sans, shdlc_ticks_at_controller as core_ticks_here, since, step_entries, steps_at_controller, subst, sym}
-use Rattle.link_laws.proofs.Words.{taken_entries, tick_answer, tick_entries, ticked, ticks_at_controller, told_of, took, took_with, true, true≢false}
-use Rattle.link_laws.proofs.Words.{turn_entries, turned, whole_acked, window_of, with_ended, ℕ, ◌++◌, ◌==◌, ◌∙◌, ◌∷◌, ◌≡◌, ◌⊎◌}
+use Rattle.link_laws.proofs.Words.{Acked, ActTick, Activation, Active, AreSendableTurns, Asked, AsksReset, Bool, ByAct, CanEnd, Comes, Controller, CoreActs}
+use Rattle.link_laws.proofs.Words.{CoreEndEvent, CoreLink, CoreTurn, Cut, CutOff, Down as IsDown, End, EndEvent, EndState, Ending, Entry, GaveUp, GoesOut, Got}
+use Rattle.link_laws.proofs.Words.{HasTick, Host, IsAllowed, IsNode, IsOwn, Link, LinkEnd, LinkInput, List, Lose, Loss, Losses, NextFrame, NoInput, Node, None}
+use Rattle.link_laws.proofs.Words.{NumberedEnd, OnWire, Option, Refused, Reset, Role, Some, Start, Starts, Step, Stop, Stops, Take, Took, Turn, Up as IsUpNow}
+use Rattle.link_laws.proofs.Words.{[], act_answer, activated, after_input, aged, aged_entries, ap, append-nil, append_assoc, arith, began_by, came_up}
+use Rattle.link_laws.proofs.Words.{common_steps, cond, core_all_here, core_end, core_ending, core_happens_here, core_here, core_of, core_reset, core_step}
+use Rattle.link_laws.proofs.Words.{core_take, core_tick, core_tick_rest, core_ticks_or_cut, core_turned, core_turns, counts_first, ended_by, false, finished}
+use Rattle.link_laws.proofs.Words.{first_lost, frames_out, happens_at_controller, has_taken, here_entries, if_so, if_up, inl, inr, is_act, is_open, is_some}
+use Rattle.link_laws.proofs.Words.{is_up_with, left_after, list_any, loses_aged, map, max, most_frames, moved, nat_lt, new_link_end, no_losses, noted_aged}
+use Rattle.link_laws.proofs.Words.{noted_all, noted_here, noted_tick, noted_turns, number_of, option_to_list, put_all, refl, renewed, report, reset_by}
+use Rattle.link_laws.proofs.Words.{reset_refusal, rest_entries, sans, shdlc_ticks_at_controller as core_ticks_here, since, step_entries, steps_at_controller}
+use Rattle.link_laws.proofs.Words.{subst, sym, taken_entries, tick_answer, tick_entries, ticked, ticks_at_controller, told_of, took, took_with, true}
+use Rattle.link_laws.proofs.Words.{true≢false, turn_entries, turned, whole_acked, window_of, with_ended, ℕ, ◌++◌, ◌==◌, ◌∙◌, ◌∷◌, ◌≡◌, ◌⊎◌}
 use Rattle.link_laws.specs.entries.Entries.Entry.{Down, Tick, Up}
 use Rattle.link_laws.specs.entries.Quiet.{begins}
 use Rattle.link_laws.proofs.Cases.{by_list, by_option, by_test}
@@ -26,8 +25,7 @@ use Rattle.link_laws.proofs.entries.Stepping.{CanFinish, host_finished, puts_num
 use Rattle.link_laws.proofs.machine.Reports.{Reports, reset_so, shdlc_is as shdlc_moved, take_so, tick_so}
 use Rattle.link_laws.proofs.machine.Runs.{opened}
 use Rattle.link_laws.proofs.machine.Sound.{IsNotUp, Shift}
-use Rattle.link_laws.proofs.machine.Sound.Shift.{Begins, Ends, Renews, Rests as ShiftRests, Stays}
-use Rattle.link_laws.proofs.messages.Project.{Now, Tells, frames_alike, mid_moved, ticked_keeps, turns_mid, with_ended-core}
+use Rattle.link_laws.proofs.messages.Project.{Now, Tells, frames_alike, mid_moved, ticked_keeps, turns_mid}
 use Rattle.link_laws.proofs.messages.Finishing.{core_tick_rests, rests, tick_closed, tick_open, tick_role}
 use Rattle.link_laws.proofs.messages.Steps.{Rests, act_mid, tick_closes}
 
@@ -108,13 +106,7 @@ knows_new {t} pre v who {n} {m} {other} {k} x grows first =
     alone d = let P : List Entry → Type 0 = λ z. Disturbed (since j z) in subst P (append_assoc t pre (Up who j ∷ v)) (since_up j who (t ++ pre) v d)
 
     up_other : is_up_with (core_end other) j ≡ true → (other.side.shdlc.phase ≡ IsUpNow) × (number_of other ≡ j)
-    up_other q =
-        let p = and_parts (is_up other.side.shdlc.phase) (number_of other == j) q in
-        (phase other.side.shdlc.phase refl p.0, eqb-true (number_of other) j p.1)
-      where
-        phase : (y : LinkState) → other.side.shdlc.phase ≡ y → is_up other.side.shdlc.phase ≡ true → other.side.shdlc.phase ≡ IsUpNow
-        phase IsUpNow r z = r
-        phase _ r z = absurd (let y : false ≡ true = rw r at z in cc)
+    up_other q = grind arith
 
     go : (b : Bool) → is_up_with (core_end other) j ≡ b → bad m ≡ true → Disturbed (since j (t ++ u))
     go false q b = alone (first q b)
@@ -135,25 +127,13 @@ cut_disturbs who k e ts = disturbed_right (turn_entries who (number_of k.control
 
 rest_grows : (n m : Losses) (who : End) (k : Link) (e : LinkEnd) (ts : List Turn) → m ≡ noted_all n (core_of k) (frames_out (turned e ts))
     → Grows n m (rest_entries who k e ts GoesOut)
-rest_grows n m who k e ts q b =
-    which (flush_grows (frames_out (turned e ts)) n who k (ap bad (sym q) ∙ b))
-  where
-    which : (bad n ≡ true) ⊎ Disturbed (puts_entries who k (frames_out (turned e ts))) → (bad n ≡ true) ⊎ Disturbed (rest_entries who k e ts GoesOut)
-    which (inl z) = inl z
-    which (inr z) = inr (disturbed_right (turn_entries who (number_of k.controller) e ts) (puts_entries who k (frames_out (turned e ts))) z)
+rest_grows n m who k e ts q b = grind (arith, flush_grows, turned, disturbed_right, number_of)
 
 grows_right : (n m : Losses) (u v : List Entry) → Grows n m v → Grows n m (u ++ v)
-grows_right n m u v g b = which (g b)
-  where
-    which : (bad n ≡ true) ⊎ Disturbed v → (bad n ≡ true) ⊎ Disturbed (u ++ v)
-    which (inl z) = inl z
-    which (inr z) = inr (disturbed_right u v z)
+grows_right n m u v g b = grind (arith, disturbed_right)
 
 came_bad : (n : Losses) (l : CoreLink) (b : Bool) → bad (came_up n l b) ≡ true → bad n ≡ true
-came_bad n l false q = q
-came_bad n l true q =
-    by_test (is_up_with l.host (max l.controller.emitted l.controller.took)) (λ r. let z = q in rw r at z)
-    (λ r. absurd (let z : false ≡ true = rw r at q in cc))
+came_bad n l b q = grind arith
 
 pub noted-append : (n : Losses) (c : CoreLink) (es fs : List CoreEndEvent)
     → noted_turns n c (es ++ fs) ≡ noted_turns (noted_turns n c es) (core_all_here c es) fs
@@ -161,8 +141,7 @@ noted-append n c [] fs = refl
 noted-append n c (e ∷ es) fs = noted-append (noted_here n c e) (core_happens_here c e) es fs
 
 ending_noted : (n : Losses) (c : CoreLink) (ending : Ending) → noted_turns n c (core_ending ending) ≡ n
-ending_noted n c GoesOut = refl
-ending_noted n c CutOff = refl
+ending_noted n c ending = grind arith
 
 -- what is lost as a frame is taken
 pub taken_noted : (n : Losses) (l : Link) (ts : List Turn) (ending : Ending) (x : OnWire) (xs : List OnWire)
@@ -243,15 +222,10 @@ own_grows n who l _ ts ending o a h = λ b. inr refl
 
 -- the new end of a node that lost power isn't Up
 pub new_not_up : (r : Role) → CanEnd r CutOff → IsNotUp (new_link_end (renewed r)).shdlc
-new_not_up Bare can u = absurd can
-new_not_up _ can u = cc
+new_not_up r can u = grind arith
 
 went_on : (e f : EndState) (ended began : Bool) → Shift e f ended began → began ≡ false → f.phase ≡ IsUpNow → (e.phase ≡ IsUpNow) × (ended ≡ false)
-went_on e f ended began (Stays p q g) n up = (g.was, p)
-went_on e f ended began (Ends p q x still s) n up = absurd (still up)
-went_on e f ended began (Renews p q x z) n up = absurd (true≢false (sym q ∙ n))
-went_on e f ended began (Begins p q d z) n up = absurd (true≢false (sym q ∙ n))
-went_on e f ended began (ShiftRests p q d still s) n up = absurd (still up)
+went_on e f ended began a n up = grind arith
 
 -- what an end that is Up was before its frames went out
 was_up : (k : Link) (g : LinkEnd) (ending : Ending) → CanEnd g.role ending
@@ -388,12 +362,10 @@ taken_knows {t} {n} who l x xs ts ending w a b both = go (began_by e i) refl
 
     number : (c : Bool) → number_of (record (with_ended (record l { to_controller = xs }) c).controller { took = took_with l.controller.took x })
         ≡ max l.controller.emitted (took_with l.controller.took x)
-    number false = refl
-    number true = refl
+    number c = grind arith
 
     host : (c : Bool) → (with_ended (record l { to_controller = xs }) c).host ≡ l.host
-    host false = refl
-    host true = refl
+    host c = grind arith
 
     c : Bool
     c = is_some (ended_by e i)
@@ -444,8 +416,7 @@ taken_knows {t} {n} who l x xs ts ending w a b both = go (began_by e i) refl
             lone : came_up n (core_of k) (began_by e i) ≡ no_losses
             lone =
                 ap (came_up n (core_of k)) q
-                ∙ (ap (λ y. cond (is_up_with (core_end y) (number_of k.controller)) n no_losses) (host c)
-                ∙ (ap (λ y. cond (is_up_with (core_end l.host) y) n no_losses) (number c) ∙ ap (λ y. cond y n no_losses) alone))
+                ∙ (grind arith)
 
             by : (ending : Ending) → Disturbed (rest_entries who k f ts ending)
             by CutOff = cut_disturbs who k f ts
@@ -488,11 +459,7 @@ frame_knows t n who l ts ending a b both =
     (taken_knows who l x xs ts ending q a b both))
   where
     as_is : (u v : List Entry) (m k : Losses) (x y : Link) → u ≡ v → m ≡ k → x ≡ y → Both (t ++ v) k y → Both (t ++ u) m x
-    as_is u v m k x y p q r h =
-        let A : List Entry → Type 0 = λ z. Both (t ++ z) m x in
-        let B : Losses → Type 0 = λ z. Both (t ++ v) z x in
-        let C : Link → Type 0 = λ z. Both (t ++ v) k z in
-        subst A (sym p) (subst B (sym q) (subst C (sym r) h))
+    as_is u v m k x y p q r h = grind arith
 
     none : l.to_controller ≡ [] → (step_entries who l NextFrame ts ending ≡ []) × (noted_turns n (core_of l) (core_step l NextFrame ts ending) ≡ n)
         × (steps_at_controller l NextFrame ts ending ≡ l)
@@ -517,11 +484,7 @@ tick_flags n l node =
 
 -- nothing goes out of an end that rests
 rest_noted : (n : Losses) (c : CoreLink) → c.controller.side.phase ≡ IsDown → Rests c.controller.side → noted_tick n (Some []) c ≡ n
-rest_noted n c p r =
-    let f : frames_of most_frames c.controller.side ≡ [] = let q = rests c.controller.side p r in rw q refl in
-    let ended : is_some (tick_answer c.controller.side).ended ≡ false = rw p refl in
-    let state : ticked c.controller.side ≡ c.controller.side = rw p refl in
-    ap (λ b. noted_out n (core_with_ended c b) (ticked c.controller.side)) ended ∙ (ap (noted_out n c) state ∙ ap (noted_all n c) f)
+rest_noted n c p r = grind arith
 
 tick_grows : (n : Losses) (who : End) (l : Link) (ts : List Turn) (ending : Ending) → AreSendableTurns ts → Tells l.controller → Rests l.controller.side.shdlc
     → Grows n (tick_flags n l (record { turns = ts; ending = ending })) (tick_entries who l (record { turns = ts; ending = ending }))
@@ -567,9 +530,7 @@ tick_grows n who l ts GoesOut a h r = go (is_open e.role) refl
         let is : (turned f ts).shdlc ≡ s = tm.is ∙ ap (λ z. core_turned z us) (shdlc_moved e b (ticked e.shdlc)) in
         let first : core_tick e ts GoesOut ≡ Some us = rw o refl ∙ ap (λ (g : LinkEnd). Some (core_turns g ts)) t.0 in
         let rest : core_tick_rest e ts GoesOut ≡ [] = rw o refl in
-        let flag : m ≡ noted_all n (core_of (with_ended l b)) (frames_out (turned f ts)) =
-        flags_as (Some us) [] first rest
-        ∙ (ap (λ z. noted_out n z s) (sym (with_ended-core l b)) ∙ out_noted n (core_of (with_ended l b)) None (turned f ts) s tm.mid.acts is) in
+        let flag : m ≡ noted_all n (core_of (with_ended l b)) (frames_out (turned f ts)) = grind arith in
         entries_as b f t.1 t.0 (input_grows n m who l.controller HasTick (with_ended l b) f ts flag)
     go false o =
         let t = tick_closed e o in
@@ -583,8 +544,7 @@ tick_grows n who l ts GoesOut a h r = go (is_open e.role) refl
         let is : (turned f ts).shdlc ≡ s = tm.is ∙ ap (λ z. core_turned z us) mid.same in
         let ended : is_some (ended_by e HasTick) ≡ false = ap (λ z. is_some z) t.1 ∙ none (act_answer e.role ActTick).ended_link (tick_closes e.role o) in
         let first : core_tick e ts GoesOut ≡ Some [] = rw o refl in
-        let rest : core_tick_rest e ts GoesOut ≡ CoreActs (option_to_list act) us ∷ [] =
-        acts_rest o ∙ ap (λ (g : LinkEnd). CoreActs (option_to_list act) (core_turns g ts) ∷ []) t.0 in
+        let rest : core_tick_rest e ts GoesOut ≡ CoreActs (option_to_list act) us ∷ [] = grind arith in
         let p = h.now.closed o in
         let flag : m ≡ noted_all n c (frames_out (turned f ts)) =
         flags_as (Some []) (CoreActs (option_to_list act) us ∷ []) first rest
@@ -615,9 +575,7 @@ aged_disturbs who (x ∷ xs) q = go (nat_lt x.age 4) (is_act x.frame) refl refl 
   where
     go : (a b : Bool) → nat_lt x.age 4 ≡ a → is_act x.frame ≡ b → (loses_aged (sans xs) ≡ true → Disturbed (aged_entries who xs))
         → Disturbed (aged_entries who (x ∷ xs))
-    go false b r s later = rw r refl
-    go true true r s later = rw r (later (let z = q in rw s at z))
-    go true false r s later = rw r (later (let z = q in rw (s, r) at z))
+    go a b r s later = grind arith
 
 aged_grows : (n : Losses) (l : Link) → Grows n (noted_aged n (core_of l)) (Tick ∷ (aged_entries Controller l.to_controller ++ aged_entries Host l.to_host))
 aged_grows n l q = go n.lost n.rnr (loses_aged (sans l.to_controller)) (loses_aged (sans l.to_host)) refl refl refl refl
@@ -644,12 +602,7 @@ aged_knows t n l b =
 -- ### Events at one end
 
 lost_grows : (n : Losses) (who : End) (why : Loss) (w : List OnWire) → Grows n (record n { lost = n.lost || counts_first w }) (first_lost who why w)
-lost_grows n who why (x ∷ xs) = λ q. inr refl
-lost_grows n who why [] = λ q. inl (ap (λ b. b || n.rnr) (sym (or_none n.lost)) ∙ q)
-  where
-    or_none : (b : Bool) → (b || false) ≡ b
-    or_none true = refl
-    or_none false = refl
+lost_grows n who why w = grind arith
 
 lose_knows : (t : List Entry) (n : Losses) (who : End) (l : Link) (why : Loss) → Both t n l
     → Both (t ++ here_entries who l (Lose why)) (noted_turns n (core_of l) (core_here l (Lose why))) (happens_at_controller l (Lose why))

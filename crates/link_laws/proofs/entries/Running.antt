@@ -1,32 +1,31 @@
 -- Every event is noted so that the entries say what is kept of the sessions of both ends.
-use Rattle.link_laws.proofs.Words.{Activate, AllAllowed, AreOwn, AreSendableTurns, AsksReset, AtController, AtHost, Bare, Bool, CanStart, Clf, Comes, Control}
-use Rattle.link_laws.proofs.Words.{Controller, CoreDeliver, CoreLink, CoreTurn, End, EndEvent, Entry, GoesOut, HasTick, Host, InOrderIn, IsAllowed, IsBare}
-use Rattle.link_laws.proofs.Words.{IsClf, IsEvent, IsFrontOf, IsLine, IsNode, IsOwn, IsRead, IsStart, IsUicc, Link, LinkEnd, LinkEvent, List, Lose, NextFrame}
-use Rattle.link_laws.proofs.Words.{NoInput, Node, NumberedEnd, OnWire, Option, Role, Rset, Starts, Step as EndStep, Stops, Take, Ticks, TicksWithout, Turn}
-use Rattle.link_laws.proofs.Words.{Uicc, Up as IsUpNow, [], after_input, after_link_events, aged, aged_entries, all_at_controller, ap, append-nil, append_assoc}
-use Rattle.link_laws.proofs.Words.{arith, becomes, began_by, cond, core_aged, core_all_here, core_end, core_event, core_happens_here, core_here, core_of}
-use Rattle.link_laws.proofs.Words.{core_tick, core_tick_rest, core_ticks_if_waiting, core_ticks_or_cut, ended_by, ended_talk, entries, entries_of_events}
-use Rattle.link_laws.proofs.Words.{event_entries, exchanged, false, far, first_entries, first_lost, frames_out, happens, happens_at_controller, here_entries}
-use Rattle.link_laws.proofs.Words.{is_act, is_faulty, is_open, is_rset, is_some, is_waiting, left_after, max, most_frames, nat_lt, ne_eqb, new_clf}
-use Rattle.link_laws.proofs.Words.{new_link_end, new_numbered_end, new_uicc, no_talk, number_of, refl, sans, steps_at_controller, subst, sym, taken, talk_of}
-use Rattle.link_laws.proofs.Words.{tick_entries, ticks_at_controller, took, took_with, trace, true, true≢false, turned, with_ended, ℕ, ◌++◌, ◌<◌, ◌==◌, ◌∙◌}
-use Rattle.link_laws.proofs.Words.{◌∷◌, ◌≡◌}
+use Rattle.link_laws.proofs.Words.{Activate, AllAllowed, AreOwn, AreSendableTurns, AsksReset, AtController, AtHost, Bool, CanStart, Comes, Control, Controller}
+use Rattle.link_laws.proofs.Words.{CoreDeliver, CoreLink, CoreTurn, End, EndEvent, Entry, GoesOut, HasTick, Host, InOrderIn, IsAllowed, IsClf, IsEvent}
+use Rattle.link_laws.proofs.Words.{IsFrontOf, IsNode, IsOwn, IsRead, IsStart, IsUicc, Link, LinkEnd, LinkEvent, List, Lose, NextFrame, NoInput, Node}
+use Rattle.link_laws.proofs.Words.{NumberedEnd, OnWire, Option, Role, Rset, Starts, Step as EndStep, Stops, Take, Ticks, TicksWithout, Turn, Up as IsUpNow, []}
+use Rattle.link_laws.proofs.Words.{after_input, after_link_events, aged, aged_entries, all_at_controller, ap, append-nil, append_assoc, arith, becomes}
+use Rattle.link_laws.proofs.Words.{began_by, cond, core_aged, core_all_here, core_end, core_event, core_happens_here, core_here, core_of, core_tick}
+use Rattle.link_laws.proofs.Words.{core_tick_rest, core_ticks_if_waiting, core_ticks_or_cut, ended_by, ended_talk, entries, entries_of_events, event_entries}
+use Rattle.link_laws.proofs.Words.{exchanged, false, far, first_entries, first_lost, frames_out, happens, happens_at_controller, here_entries, is_act}
+use Rattle.link_laws.proofs.Words.{is_faulty, is_open, is_rset, is_some, is_waiting, left_after, max, most_frames, nat_lt, ne_eqb, no_talk, number_of, refl}
+use Rattle.link_laws.proofs.Words.{sans, steps_at_controller, subst, sym, taken, talk_of, tick_entries, ticks_at_controller, took, took_with, trace, true}
+use Rattle.link_laws.proofs.Words.{true≢false, turned, with_ended, ℕ, ◌++◌, ◌<◌, ◌==◌, ◌∙◌, ◌∷◌, ◌≡◌}
 use Rattle.link_laws.proofs.sessions.Hand.{IsRset, rset_told}
 use Rattle.link_laws.proofs.sessions.Safe.{Safe}
 use Rattle.link_laws.proofs.sessions.Sending.{SafeLink}
 use Rattle.link_laws.proofs.sessions.Steps.{took_other, safe_aged, safe_turns, safe_exchanged, tick_or_cut, tick_if_waiting}
 use Rattle.link_laws.proofs.machine.Sound.{Shift}
 use Rattle.link_laws.proofs.machine.Sound.Shift.{Begins, Ends, Renews, Rests as ShiftRests, Stays}
-use Rattle.link_laws.proofs.machine.Runs.{Sound, new_sound}
+use Rattle.link_laws.proofs.machine.Runs.{Sound}
 use Rattle.link_laws.proofs.machine.Reports.{take_so}
 use Rattle.link_laws.proofs.messages.Project.{NoRset, Step, Tells, beside-put_all, frames_alike}
-use Rattle.link_laws.proofs.messages.ActsInOrder.{LinkInOrder, IsPolite, polite_of}
+use Rattle.link_laws.proofs.messages.ActsInOrder.{LinkInOrder}
 use Rattle.link_laws.proofs.messages.Steps.{ComesFirst, FromHost, core_first}
 use Rattle.link_laws.proofs.messages.Finishing.{first_none, step_tick}
 use Rattle.link_laws.proofs.messages.Runs.{Good, Reached, can_start, event_step, from_controller, from_host, new_number, own_here, own_turns, reached_more}
 use Rattle.link_laws.proofs.messages.Runs.{rest_both, rests_of, safe_reached, seen, start_good, start_reached, started_clf, step_here, tells_same}
 use Rattle.link_laws.specs.entries.Entries.Entry.{Tick}
-use Rattle.link_laws.proofs.entries.Books.{Book, blank, book_of, Silent, silent_cons, Told, up_talk, down_talk, told_silent, past_after}
+use Rattle.link_laws.proofs.entries.Books.{Silent, silent_cons, Told, up_talk, down_talk, told_silent, past_after}
 use Rattle.link_laws.proofs.entries.Stepping.{NoAcked, OfOne, Out, Tolds, few_more, few_told, one_input, one_step, puts_number, silent_first}
 use Rattle.link_laws.proofs.entries.Noting.{AllOk, Frames, FramesFor, Near, Ok, all_then, between, ok_link, ok_silent, sound_step, sound_tick, step_told}
 use Rattle.link_laws.proofs.entries.Noting.{tick_told}
@@ -51,8 +50,7 @@ near_of l b = record { tells = b.tells; rests = rests_of 0 0 (core_of l) b.safe;
 pub comes_first : (l : Link) (x : OnWire) (xs : List OnWire) → l.to_controller ≡ x ∷ xs → Before l → ComesFirst l x xs
 comes_first l x xs w b = record {
   first = w;
-  polite = subst (IsPolite l.controller.side) w
-      (polite_of l.controller.side l.host.side.role l.to_controller l.to_host b.in_order b.tells.now.closed);
+  polite = grind arith;
   tells = b.tells;
   host = b.host;
   rests = rests_of 0 0 (core_of l) b.safe;
@@ -114,8 +112,7 @@ frame_facts l ts a b x xs w = record { quiet = none ts a; same = same; fresh = f
     left_half c = record (with_ended (record l { to_controller = xs }) c).controller { took = took_with l.controller.took x }
 
     left : (c : Bool) → ((left_half c).past ≡ past_after c l.controller) × (number_of (left_half c) ≡ n)
-    left false = (refl, refl)
-    left true = (refl, refl)
+    left c = grind arith
 
     -- no ended session has the number of one that begins
     new : f.shdlc.phase ≡ IsUpNow → ended_talk (past_after c l.controller) n ≡ no_talk
@@ -163,17 +160,12 @@ here_told t who l (Lose why) a b h =
     }
   where
     none : (w : List OnWire) → NoAcked (first_lost who why w)
-    none [] = tt
-    none (x ∷ xs) = ((λ w n. refl), tt)
+    none w = grind arith
 
 -- what is noted there is of this end
 one_here : (who : End) (l : Link) (e : EndEvent) → OfOne who (here_entries who l e)
 one_here who l (EndStep comes ts ending) = one_step who l comes ts ending
-one_here who l (Lose why) = go l.to_controller
-  where
-    go : (w : List OnWire) → OfOne who (first_lost who why w)
-    go [] = tt
-    go (x ∷ xs) = ((λ n. refl), tt)
+one_here who l (Lose why) = grind arith
 
 pub sound_here : (l : Link) (e : EndEvent) → IsAllowed l e → Sound l.controller.side → Sound (happens_at_controller l e).controller.side
 sound_here l (EndStep comes ts ending) a s = sound_step l comes ts ending a.1 s
@@ -295,13 +287,7 @@ without_tick l waits g r s =
 
 -- the host's end in front of its tick, where m came of l
 pub host_in_tick : (l m : Link) → m.host ≡ l.host → IsInTick 1 m → Good l → Sounds l → Near (exchanged m)
-host_in_tick l m is i g s =
-    let H : NumberedEnd → Type 0 = λ z. Sound z.side in
-    record {
-      tells = tells_same m.host l.host is g.host;
-      rests = rests_of 1 0 (core_of (exchanged m)) (safe_exchanged 0 1 (core_of m) i.safe);
-      sound = subst H (sym is) s.host;
-    }
+host_in_tick l m is i g s = grind arith
 
 -- what was noted of a link up to now
 pub record Noted (t : List Entry) (l : Link) : Type 0 where
@@ -567,8 +553,7 @@ note_event t l (Activate power c id h) a g r n =
     record { noted = subst P (append_assoc t u v) second.noted; all = all_then t u v first.all second.all }
   where
     clf_starts : (r f : Role) → IsClf r → CanStart r f
-    clf_starts (Clf s) f i = tt
-    clf_starts _ f i = absurd i
+    clf_starts r f i = grind arith
 
 -- ## Runs
 
@@ -609,25 +594,11 @@ note_events (e ∷ es) t l a w =
     let P : List Entry → Type 0 = λ z. Noted z (after_link_events (happens l e) es) in
     record { noted = subst P (append_assoc t u v) more.noted; all = all_then t u v first.all more.all }
 
-start_tolds : (l : Link) → IsStart l → Tolds (first_entries l.controller.side.role) Controller l
-start_tolds l IsBare = record { here = told; there = told }
-  where
-    told : (n : ℕ) → blank ≡ book_of (talk_of (new_numbered_end (new_link_end Bare)) n)
-    told n = by_test (n == 0) (λ q. rw q refl) (λ q. rw q refl)
-start_tolds l IsLine = record { here = λ n. refl; there = λ n. refl }
-
-start_sounds : (l : Link) → IsStart l → Sounds l
-start_sounds l IsBare = record { controller = new_sound Bare; host = new_sound Bare }
-start_sounds l IsLine = record { controller = new_sound (Clf new_clf); host = new_sound (Uicc new_uicc) }
-
 start_quiet : (r : Role) → Quiet (first_entries r)
-start_quiet Bare = ((λ x n. refl), ((λ x n. refl), tt))
-start_quiet _ = tt
+start_quiet r = grind arith
 
 pub start_noted : (l : Link) → IsStart l → Noted (first_entries l.controller.side.role) l
-start_noted l s =
-    let b = start_tolds l s in
-    record { tolds = b; sounds = start_sounds l s; ok = reached_ok (first_entries l.controller.side.role) l (start_good l s) (start_reached l s) b }
+start_noted l s = grind arith
 
 pub start_under_way : (l : Link) → IsStart l → IsUnderWay (first_entries l.controller.side.role) l
 start_under_way l s = record { good = start_good l s; reached = start_reached l s; noted = start_noted l s }
@@ -648,9 +619,7 @@ at_each_moment l s events a p f =
 
 -- what the filters read
 pub is_read : (t : List Entry) (who : End) (h : NumberedEnd) (n : ℕ) → Told t who h → IsRead t who n (talk_of h n)
-is_read t who h n b =
-    let q = b n in
-    record { sent = ap (λ (z : Book). z.sent) q; got = ap (λ (z : Book). z.got) q; acked = ap (λ (z : Book). z.acked) q }
+is_read t who h n b = grind arith
 
 pub read_here : (l : Link) → IsStart l → (events : List LinkEvent) → AllAllowed l events → (n : ℕ)
     → IsRead (trace l events) Controller n (talk_of (after_link_events l events).controller n)

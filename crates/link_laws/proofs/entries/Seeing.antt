@@ -1,16 +1,15 @@
 -- What is seen of a link in the entries of its steps is what the link keeps, and along each wire the ages of frames don't rise.
 use Rattle.std.specs.Prelude.{◌+◌}
-use Rattle.link_laws.proofs.Words.{Acked, Act, Activate, Active, AsksReset, AtController, AtHost, Bool, Clt, Comes, Control, Controller, Cut, CutOff, End}
-use Rattle.link_laws.proofs.Words.{EndEvent, Ending, Entry, FetchMessage, GaveUp, Give, GoesOut, Got, HasTick, Hold, Host, I, IsBare, IsLine, IsStart, Link}
-use Rattle.link_laws.proofs.Words.{LinkEnd, LinkEvent, LinkInput, List, Lose, Lost, NextFrame, NoInput, Node, None, NumberedEnd, OnWire, Option, Refused}
-use Rattle.link_laws.proofs.Words.{Release, Report, Reset, Rset, S, Seen, SetAside, Some, Start, Starts, Step, Stop, Stops, Take, Ticks, TicksWithout, TooMany}
-use Rattle.link_laws.proofs.Words.{TooOld, Took, Turn, Ua, [], after_input, after_link_events, aged, aged_entries, aged_wire, all_at_controller, ap, arith}
-use Rattle.link_laws.proofs.Words.{cond, drop, ended_by, ending_entries, entries, entries_of_events, event_entries, exchanged, false, far, finished, first_lost}
-use Rattle.link_laws.proofs.Words.{fits, frames_out, give_refusal, happens, happens_at_controller, has_taken, here_entries, if_so, is_rset, is_some, is_up}
-use Rattle.link_laws.proofs.Words.{kept, left_after, length, ltb-false, ltb-true, map, nat_lt, number_of, older, option_to_list, pushed_out, put, put_all}
-use Rattle.link_laws.proofs.Words.{put_entries, puts_entries, refl, report, rest_entries, see, see_all, sent_all, sent_unless, silent, step_entries}
-use Rattle.link_laws.proofs.Words.{steps_at_controller, subst, sym, taken_entries, tick_entries, ticks_at_controller, told, told_of, took_with, trace, true}
-use Rattle.link_laws.proofs.Words.{turn, turn_entries, turn_entry, turned, whole_acked, wire_with, with_controller, with_ended, ℕ, ◌++◌, ◌<◌, ◌∙◌, ◌∷◌, ◌≡◌}
+use Rattle.link_laws.proofs.Words.{Acked, Activate, Active, AsksReset, AtController, AtHost, Bool, Comes, Control, Controller, CutOff, End, EndEvent, Ending}
+use Rattle.link_laws.proofs.Words.{Entry, GaveUp, GoesOut, Got, HasTick, Host, IsBare, IsLine, IsStart, Link, LinkEnd, LinkEvent, LinkInput, List, Lose, Lost}
+use Rattle.link_laws.proofs.Words.{NextFrame, NoInput, Node, NumberedEnd, OnWire, Report, Reset, Rset, Seen, Start, Starts, Step, Stop, Stops, Take, Ticks}
+use Rattle.link_laws.proofs.Words.{TicksWithout, TooMany, TooOld, Took, Turn, [], after_input, after_link_events, aged, aged_entries, aged_wire}
+use Rattle.link_laws.proofs.Words.{all_at_controller, ap, arith, cond, drop, ended_by, ending_entries, entries, entries_of_events, event_entries, exchanged}
+use Rattle.link_laws.proofs.Words.{false, finished, first_lost, fits, frames_out, happens, happens_at_controller, has_taken, here_entries, if_so, is_rset}
+use Rattle.link_laws.proofs.Words.{is_some, kept, left_after, ltb-false, ltb-true, map, nat_lt, number_of, older, option_to_list, put, put_all, put_entries}
+use Rattle.link_laws.proofs.Words.{puts_entries, refl, report, rest_entries, see, see_all, sent_all, silent, step_entries, steps_at_controller, subst, sym}
+use Rattle.link_laws.proofs.Words.{taken_entries, tick_entries, ticks_at_controller, told, told_of, took_with, trace, true, turn, turn_entries, turn_entry}
+use Rattle.link_laws.proofs.Words.{turned, whole_acked, with_controller, with_ended, ℕ, ◌++◌, ◌<◌, ◌∙◌, ◌∷◌, ◌≡◌}
 use Rattle.link_laws.specs.entries.Entries.Entry.{Down, Tick, Up}
 use Rattle.link_laws.specs.entries.Reading.{nothing_seen}
 use Rattle.link_laws.proofs.Cases.{by_list, by_test}
@@ -38,8 +37,7 @@ plain-append : (t u : List Entry) → Plain t → Plain u → Plain (t ++ u)
 plain-append t u p q s = see_all-append s t u ∙ (ap (λ z. see_all z u) (p s) ∙ q s)
 
 plain_so : (b : Bool) (e : Entry) → ((s : Seen) → see s e ≡ s) → Plain (if_so b e)
-plain_so false e p s = refl
-plain_so true e p s = p s
+plain_so b e p s = grind arith
 
 plain_map : {A : Type 0} (f : A → Entry) (xs : List A) → ((x : A) (s : Seen) → see s (f x) ≡ s) → Plain (map f xs)
 plain_map f [] p s = refl
@@ -65,15 +63,7 @@ plain_told who n r acked =
     (plain_map (Down who) (option_to_list r.ended) (λ m s. refl)) d
 
 plain_turn : (who : End) (n : ℕ) (e : LinkEnd) (t : Turn) → Plain (turn_entry who n e t)
-plain_turn who n e (Give m) s = go (give_refusal e m)
-  where
-    go : (o : Option Refused) → see_all s (sent_unless o who n m) ≡ s
-    go None = refl
-    go (Some why) = refl
-plain_turn who n e (Hold held) s = refl
-plain_turn who n e FetchMessage s = refl
-plain_turn who n e SetAside s = refl
-plain_turn who n e Release s = refl
+plain_turn who n e t s = grind arith
 
 plain_turns : (who : End) (n : ℕ) (e : LinkEnd) (ts : List Turn) → Plain (turn_entries who n e ts)
 plain_turns who n e [] s = refl
@@ -86,22 +76,6 @@ plain_turns who n e (t ∷ ts) s =
 abbrev loses : End → Bool → List OnWire → List Entry
 loses who b wire = cond b (first_lost who TooMany wire) []
 
--- a wire to the host, and the rest
-abbrev at_wire : End → Link → List OnWire → Seen
-at_wire who l w = seen_as who (record l { to_host = w })
-
-fits_seen : (who : End) (l : Link) (w : List OnWire) → see_all (at_wire who l w) (pushed_out (far who) w) ≡ at_wire who l (fits w)
-fits_seen who l w = go (nat_lt 64 (length w)) w
-  where
-    go : (b : Bool) (w : List OnWire) → see_all (at_wire who l w) (loses (far who) b w) ≡ at_wire who l (cond b (drop 1 w) w)
-    go false w = refl
-    go true [] = refl
-    go true (x ∷ xs) = by who
-      where
-        by : (who : End) → see_all (at_wire who l (x ∷ xs)) (first_lost (far who) TooMany (x ∷ xs)) ≡ at_wire who l xs
-        by Controller = refl
-        by Host = refl
-
 -- the link with a frame more on the wire to the host, before one is pushed out
 abbrev more : Link → Control → Link
 more l c = by_kind (is_rset c) where
@@ -110,30 +84,7 @@ more l c = by_kind (is_rset c) where
   by_kind false = l
 
 put_seen : (who : End) (l : Link) (c : Control) → see_all (seen_as who l) (put_entries who l c) ≡ seen_as who (put l c)
-put_seen who l c = emits who c ∙ (fits_seen who (more l c) (wire_with l c) ∙ out c)
-  where
-    emits : (who : End) (c : Control)
-        → see_all (seen_as who l) (put_entries who l c) ≡ see_all (at_wire who (more l c) (wire_with l c)) (pushed_out (far who) (wire_with l c))
-    emits Controller (I _ _ _) = refl
-    emits Controller (S _ _) = refl
-    emits Controller (Rset _ _) = refl
-    emits Controller Ua = refl
-    emits Controller (Act _ _) = refl
-    emits Controller Clt = refl
-    emits Host (I _ _ _) = refl
-    emits Host (S _ _) = refl
-    emits Host (Rset _ _) = refl
-    emits Host Ua = refl
-    emits Host (Act _ _) = refl
-    emits Host Clt = refl
-
-    out : (c : Control) → at_wire who (more l c) (fits (wire_with l c)) ≡ seen_as who (put l c)
-    out (I _ _ _) = refl
-    out (S _ _) = refl
-    out (Rset _ _) = refl
-    out Ua = refl
-    out (Act _ _) = refl
-    out Clt = refl
+put_seen who l c = grind arith
 
 puts_seen : (who : End) (cs : List Control) (l : Link) → see_all (seen_as who l) (puts_entries who l cs) ≡ seen_as who (put_all l cs)
 puts_seen who [] l = refl
@@ -145,50 +96,26 @@ puts_seen who (c ∷ cs) l =
 
 -- what its end is and what is known of sessions isn't seen
 same_seen : (who : End) (l : Link) (e : LinkEnd) → seen_as who (with_controller l e) ≡ seen_as who l
-same_seen Controller l e = refl
-same_seen Host l e = refl
+same_seen who l e = grind arith
 
 ended_seen : (who : End) (l : Link) (b : Bool) → seen_as who (with_ended l b) ≡ seen_as who l
-ended_seen Controller l false = refl
-ended_seen Controller l true = refl
-ended_seen Host l false = refl
-ended_seen Host l true = refl
+ended_seen who l b = grind arith
 
 -- both wires are empty
 abbrev emptied : Link → Link
 emptied l = record l { to_controller = []; to_host = [] }
 
 silent_seen : (who : End) (l : Link) (e : LinkEnd) → seen_as who (silent l e) ≡ seen_as who (emptied l)
-silent_seen who l e = by who (is_up l.controller.side.shdlc.phase)
-  where
-    at : Bool → Link
-    at b = let m : Link = with_ended l b in record m { controller = record m.controller { side = e }; to_controller = []; to_host = [] }
-
-    by : (who : End) (b : Bool) → seen_as who (at b) ≡ seen_as who (emptied l)
-    by Controller false = refl
-    by Controller true = refl
-    by Host false = refl
-    by Host true = refl
+silent_seen who l e = grind arith
 
 ending_seen : (who : End) (l : Link) (e : LinkEnd) (ending : Ending) → see_all (seen_as who l) (ending_entries who l e ending)
     ≡ seen_as who (finished l e ending)
 ending_seen who l e GoesOut = puts_seen who (frames_out e) l ∙ sym (same_seen who (put_all l (frames_out e)) (sent_all e))
-ending_seen who l e CutOff = by who ∙ sym (silent_seen who (with_controller l (sent_all e)) _ ∙ same who)
-  where
-    by : (who : End) → see_all (seen_as who l) (Cut who ∷ []) ≡ seen_as who (emptied l)
-    by Controller = refl
-    by Host = refl
-
-    same : (who : End) → seen_as who (emptied (with_controller l (sent_all e))) ≡ seen_as who (emptied l)
-    same Controller = refl
-    same Host = refl
+ending_seen who l e CutOff = grind arith
 
 rest_seen : (who : End) (l : Link) (e : LinkEnd) (ts : List Turn) (ending : Ending)
     → see_all (seen_as who l) (rest_entries who l e ts ending) ≡ seen_as who (finished l (turned e ts) ending)
-rest_seen who l e ts ending =
-    see_all-append (seen_as who l) (turn_entries who (number_of l.controller) e ts) (ending_entries who l (turned e ts) ending)
-    ∙ (ap (λ s. see_all s (ending_entries who l (turned e ts) ending)) (plain_turns who (number_of l.controller) e ts (seen_as who l))
-    ∙ ending_seen who l (turned e ts) ending)
+rest_seen who l e ts ending = grind (arith, see_all-append, number_of, turned, plain_turns, ending_seen)
 
 -- after what is told of an input
 told_seen : (who : End) (l k : Link) (h : NumberedEnd) (i : LinkInput) (e : LinkEnd) (ts : List Turn) (ending : Ending) → seen_as who k ≡ seen_as who l
@@ -256,14 +183,10 @@ step_seen who l NextFrame ts ending =
     left_seen : (who : End) (x : OnWire) (xs : List OnWire) (b : Bool)
         → seen_as who (let m : Link = with_ended (record l { to_controller = xs }) b in
         record m { controller = record m.controller { took = took_with l.controller.took x } }) ≡ seen_as who (took_link x xs)
-    left_seen Controller x xs false = refl
-    left_seen Controller x xs true = refl
-    left_seen Host x xs false = refl
-    left_seen Host x xs true = refl
+    left_seen who x xs b = grind arith
 
     takes : (who : End) (x : OnWire) (xs : List OnWire) → l.to_controller ≡ x ∷ xs → see (seen_as who l) (Took who x.frame) ≡ seen_as who (took_link x xs)
-    takes Controller x xs q = rw q refl
-    takes Host x xs q = rw q refl
+    takes who x xs q = grind arith
 
     some : (x : OnWire) (xs : List OnWire) → l.to_controller ≡ x ∷ xs → step_entries who l NextFrame ts ending ≡ taken_entries who l x xs ts ending
     some x xs q = rw q refl
@@ -273,14 +196,7 @@ step_seen who l NextFrame ts ending =
 
 pub here_seen : (who : End) (l : Link) (e : EndEvent) → see_all (seen_as who l) (here_entries who l e) ≡ seen_as who (happens_at_controller l e)
 here_seen who l (Step comes ts ending) = step_seen who l comes ts ending
-here_seen who l (Lose why) = go who l.to_controller refl
-  where
-    go : (who : End) (w : List OnWire) → l.to_controller ≡ w
-        → see_all (seen_as who l) (here_entries who l (Lose why)) ≡ seen_as who (happens_at_controller l (Lose why))
-    go Controller [] q = rw q refl
-    go Controller (x ∷ xs) q = rw q refl
-    go Host [] q = rw q refl
-    go Host (x ∷ xs) q = rw q refl
+here_seen who l (Lose why) = grind arith
 
 pub all_seen : (who : End) (es : List EndEvent) (l : Link) → see_all (seen_as who l) (entries_of_events who l es) ≡ seen_as who (all_at_controller l es)
 all_seen who [] l = refl
@@ -303,12 +219,7 @@ record Ages (l : Link) : Type 0 where
   pub there : Young 4 l.to_host
 
 young_fits : (w : List OnWire) → Young 4 w → Young 4 (fits w)
-young_fits w y = go (nat_lt 64 (length w)) w y
-  where
-    go : (b : Bool) (w : List OnWire) → Young 4 w → Young 4 (cond b (drop 1 w) w)
-    go false w y = y
-    go true [] y = tt
-    go true (x ∷ xs) y = young_later x.age 4 xs y.0 y.1
+young_fits w y = grind (arith, young_later)
 
 ages_put : (l : Link) (c : Control) → Ages l → Ages (put l c)
 ages_put l c a = go c
@@ -329,8 +240,7 @@ ages_silent : (l : Link) (e : LinkEnd) → Ages (silent l e)
 ages_silent l e = record { near = tt; there = tt }
 
 ages_ended : (l : Link) (b : Bool) → Ages l → Ages (with_ended l b)
-ages_ended l false a = a
-ages_ended l true a = record { near = a.near; there = a.there }
+ages_ended l b a = grind arith
 
 ages_finished : (l : Link) (e : LinkEnd) (ending : Ending) → Ages l → Ages (finished l e ending)
 ages_finished l e GoesOut a = let b = ages_puts (frames_out e) l a in record { near = b.near; there = b.there }
@@ -433,8 +343,7 @@ aged_seen who s (x ∷ xs) y =
     ∙ (ap (λ z. see_all z (aged_entries who xs)) (lost who) ∙ ((aged_seen who s xs (young_later x.age 4 xs y.0 y.1)) ∙ ap (with_wire who s) (sym w))))
   where
     lost : (who : End) → see (with_wire who s (older (x ∷ xs))) (Lost who x.frame TooOld) ≡ with_wire who s (older xs)
-    lost Controller = refl
-    lost Host = refl
+    lost who = grind arith
 
 both_aged : (l : Link) → Ages l
     → see_all (see (kept l) Tick) (aged_entries Controller l.to_controller ++ aged_entries Host l.to_host) ≡ kept (aged l)

@@ -1,18 +1,17 @@
 -- The answer to a reset is kept back no more than before, and not at all from a reset on, where nothing is noted that withholds it.
 use Rattle.std.specs.Prelude.{◌+◌, ◌||◌}
 use Rattle.link_laws.proofs.Words.{Act, ActEvent, ActTake, Activation, AreSendableTurns, Asked, AsksReset, Bool, Clt, Control, CoreActs, CoreDeliver}
-use Rattle.link_laws.proofs.Words.{CoreEndEvent, CoreLink, CoreLose, CoreReset, CoreTurn, Cut, CutOff, Down as IsDown, Due, Emit, End, EndEvent, EndState}
-use Rattle.link_laws.proofs.Words.{Entry, Fragment, GoesOut, HasTick, IsAllowed, IsOwn, Link, LinkEnd, LinkState, List, Lose, Loss, Lost, NextFrame, NoInput}
-use Rattle.link_laws.proofs.Words.{None, Offer, OnWire, Option, Refused, Reset, Restarted, Role, Rr_due, Rset_due, SetReady, Some, Starts, Step, Stops, Take}
-use Rattle.link_laws.proofs.Words.{TooMany, Turn, Turns as CoreTurns, Up as IsUpNow, [], act_answer, activated, after_input, among, ap, core_happens_here}
-use Rattle.link_laws.proofs.Words.{core_here, core_of, core_reset, core_step, core_take, core_turned, core_turns, counts_first, drop, due_left, ended_by, false}
-use Rattle.link_laws.proofs.Words.{far, first_lost, frames_of, frames_out, happens_at_controller, has_taken, heard, here_entries, if_up, if◌then◌else◌, inl}
-use Rattle.link_laws.proofs.Words.{input_entries, inr, is_faulty, is_open, is_rset, is_some, is_waiting, left_after, length, length-append, list_any}
-use Rattle.link_laws.proofs.Words.{most_frames, moved, nat_lt, not, option_to_list, overflows, pushed_out, put, put_down, put_entries, puts_entries, refl}
-use Rattle.link_laws.proofs.Words.{reset_by, reset_refusal, reset_with, rest_entries, role_after, shdlc_put as core_put, shdlc_put_all as core_put_all}
-use Rattle.link_laws.proofs.Words.{shdlc_turn as core_turn, step_entries, stopped, subst, suc, sure_all, sure_here, sure_out, sure_put, sure_tick, sure_turns}
-use Rattle.link_laws.proofs.Words.{sym, take_answer, taken, taken_entries, tick_answer, ticked, told_of, took, took_with, true, true≢false, turn_entries}
-use Rattle.link_laws.proofs.Words.{turned, window_of, wire_with, with_ended, withholds, ℕ, ◌&&◌, ◌++◌, ◌∙◌, ◌∷◌, ◌≡◌, ◌⊎◌}
+use Rattle.link_laws.proofs.Words.{CoreEndEvent, CoreLink, CoreLose, CoreTurn, Cut, CutOff, Down as IsDown, Due, Emit, End, EndEvent, EndState, Entry, Fragment}
+use Rattle.link_laws.proofs.Words.{GoesOut, HasTick, IsAllowed, IsOwn, Link, LinkEnd, LinkState, List, Lose, Loss, Lost, NextFrame, NoInput, None, Offer}
+use Rattle.link_laws.proofs.Words.{OnWire, Option, Refused, Reset, Restarted, Role, Rr_due, Rset_due, SetReady, Some, Starts, Step, Stops, Take, TooMany, Turn}
+use Rattle.link_laws.proofs.Words.{Turns as CoreTurns, [], act_answer, activated, after_input, ap, arith, core_happens_here, core_here, core_of, core_reset}
+use Rattle.link_laws.proofs.Words.{core_step, core_take, core_turned, core_turns, drop, due_left, ended_by, false, first_lost, frames_of, frames_out}
+use Rattle.link_laws.proofs.Words.{happens_at_controller, has_taken, heard, here_entries, if_up, if◌then◌else◌, inl, input_entries, inr, is_open, is_rset}
+use Rattle.link_laws.proofs.Words.{is_some, is_waiting, left_after, length, length-append, list_any, most_frames, moved, nat_lt, not, option_to_list, overflows}
+use Rattle.link_laws.proofs.Words.{put, put_down, put_entries, puts_entries, refl, reset_by, reset_refusal, reset_with, rest_entries, role_after}
+use Rattle.link_laws.proofs.Words.{shdlc_put as core_put, shdlc_put_all as core_put_all, shdlc_turn as core_turn, step_entries, stopped, subst, suc, sure_all}
+use Rattle.link_laws.proofs.Words.{sure_here, sure_out, sure_put, sure_tick, sure_turns, sym, take_answer, taken, taken_entries, tick_answer, ticked, told_of}
+use Rattle.link_laws.proofs.Words.{took, took_with, true, true≢false, turn_entries, turned, window_of, with_ended, withholds, ℕ, ◌&&◌, ◌++◌, ◌∙◌, ◌∷◌, ◌≡◌, ◌⊎◌}
 use Rattle.link_laws.specs.places.Wire.{is_act}
 use Rattle.link_laws.proofs.Cases.{by_list, by_phase, by_test}
 use Rattle.link_laws.proofs.entries.Disturbing.{left_core}
@@ -20,13 +19,12 @@ use Rattle.link_laws.proofs.entries.Noting.{reset_role}
 use Rattle.link_laws.proofs.entries.Running.{Before, comes_first}
 use Rattle.link_laws.proofs.machine.Reports.{shdlc_is as shdlc_moved}
 use Rattle.link_laws.proofs.machine.Runs.{opened}
-use Rattle.link_laws.proofs.messages.ActsInOrder.{ActsInOrder, ended_means}
+use Rattle.link_laws.proofs.messages.ActsInOrder.{ActsInOrder}
 use Rattle.link_laws.proofs.messages.Project.{Now, Tells, among_now, due_now, frames_now, mid_moved, moved_role, put-core, ticked_keeps, turned_role, turns_mid}
-use Rattle.link_laws.proofs.messages.Project.{with_ended-core}
-use Rattle.link_laws.proofs.messages.Finishing.{reset_keeps, reset_tells, tick_open}
+use Rattle.link_laws.proofs.messages.Finishing.{reset_tells, tick_open}
 use Rattle.link_laws.proofs.messages.Runs.{rests_of}
-use Rattle.link_laws.proofs.messages.Steps.{ComesFirst, Heard, Rests, act_mid, activated_role, counted_is, heard_end, heard_is, is_shdlc, no_fault_first}
-use Rattle.link_laws.proofs.messages.Steps.{polite, role_closes, stays_down, took_open}
+use Rattle.link_laws.proofs.messages.Steps.{ComesFirst, Heard, Rests, act_mid, counted_is, heard_end, heard_is, is_shdlc, no_fault_first, polite, role_closes}
+use Rattle.link_laws.proofs.messages.Steps.{took_open}
 use Rattle.link_laws.proofs.places.Joined.{changed, ready_cases}
 
 -- ## Where nothing was lost in a step and no RSET put on the link, the answer to a reset is kept back no more than before
@@ -52,8 +50,7 @@ abbrev pub Stands : List Entry → Type 0
 Stands t = list_any silences t ≡ false
 
 pub or_none : (a b : Bool) → (a || b) ≡ false → (a ≡ false) × (b ≡ false)
-or_none true b q = absurd (true≢false q)
-or_none false b q = (refl, q)
+or_none a b q = grind arith
 
 none_or : (a b : Bool) → a ≡ false → b ≡ false → (a || b) ≡ false
 none_or a b p q = rw p q
@@ -114,13 +111,7 @@ none_over who (y ∷ ys) a b s =
     P z = Spared (if z then first_lost who TooMany (y ∷ (ys ++ a ∷ [])) else [])
 
 put_sure : (s : Bool) (who : End) (l : Link) (c : Control) → s ≡ true → Spared (put_entries who l c) → sure_put s (core_of l) c ≡ true
-put_sure s who l c p q =
-    let a = or_none (is_rset c) (list_any spoils (pushed_out (far who) (wire_with l c))) q in
-    let x : OnWire = record { frame = c; age = 0; number = if is_rset c then l.resets + 1 else 0 } in
-    let y : OnWire = record { frame = c; age = 0; number = 0 } in
-    let none : overflows (l.to_host ++ y ∷ []) ≡ false = none_over (far who) l.to_host x y a.1 in
-    let set = a.0 in
-    rw (set, none, p) refl
+put_sure s who l c p q = grind arith
 
 -- all frames that go out
 flush_sure : (cs : List Control) (s : Bool) (who : End) (l : Link) → s ≡ true → Spared (puts_entries who l cs) → sure_all s (core_of l) cs ≡ true
@@ -133,9 +124,7 @@ flush_sure (c ∷ cs) s who l p q =
 
 pub rest_sure : (s m : Bool) (who : End) (l : Link) (e : LinkEnd) (ts : List Turn) → m ≡ sure_all s (core_of l) (frames_out (turned e ts)) → s ≡ true
     → Spared (rest_entries who l e ts GoesOut) → m ≡ true
-rest_sure s m who l e ts is p q =
-    let a = spared_parts (turn_entries who _ e ts) (puts_entries who l (frames_out (turned e ts))) q in
-    is ∙ flush_sure (frames_out (turned e ts)) s who l p a.1
+rest_sure s m who l e ts is p q = grind (arith, spared_parts, turned, flush_sure)
 
 sure_all-append : (s : Bool) (c : CoreLink) (xs ys : List Control) → sure_all (sure_all s c xs) (core_put_all c xs) ys ≡ sure_all s c (xs ++ ys)
 sure_all-append s c [] ys = refl
@@ -144,10 +133,7 @@ sure_all-append s c (x ∷ xs) ys = sure_all-append (sure_put s c x) (core_put c
 -- what goes out of an end with this frame of activation
 out_sure : (n : Bool) (c : CoreLink) (o : Option Activation) (g : LinkEnd) (s : EndState) → g.acts ≡ due_now o → g.shdlc ≡ s
     → sure_out (sure_all n c (frames_now o)) (core_put_all c (frames_now o)) s ≡ sure_all n c (frames_out g)
-out_sure n c o g s acts is =
-    sure_all-append n c (frames_now o) (frames_of most_frames s)
-    ∙ ap (sure_all n c) (sym (ap (λ a. among 0 a (frames_of most_frames g.shdlc)) acts
-    ∙ (ap (λ f. among 0 (due_now o) (frames_of most_frames f)) is ∙ among_now o (frames_of most_frames s))))
+out_sure n c o g s acts is = grind (arith, sure_all-append, frames_of, among_now)
 
 -- ### Steps
 
@@ -171,20 +157,10 @@ take_sure n l ts x xs a comes open_role = go x.frame refl
     Goal = sure_turns n c (core_take e x.frame ts) ≡ sure_all n k (frames_out (turned (took e x.frame) ts))
 
     left : (b : Bool) → is_some (ended_by e (Take x.frame)) ≡ b → k ≡ left_core l x xs b
-    left b q = ap at q ∙ is b
-      where
-        at : Bool → CoreLink
-        at b =
-            core_of (let m : Link = with_ended (record l { to_controller = xs }) b in
-            record m { controller = record m.controller { took = took_with l.controller.took x } })
-
-        is : (b : Bool) → at b ≡ left_core l x xs b
-        is false = refl
-        is true = refl
+    left b q = grind arith
 
     take_open : (y : Control) → is_act y ≡ false → is_open e.role ≡ true → core_take e y ts ≡ CoreDeliver (core_turns (took e y) ts) ∷ []
-    take_open (Act _ _) q o = absurd (true≢false q)
-    take_open _ q o = rw o refl
+    take_open y q o = grind arith
 
     -- an end that is open became f
     open_as : (f : LinkEnd) (b : Bool) → is_act x.frame ≡ false → is_open e.role ≡ true → took e x.frame ≡ f → is_some (ended_by e (Take x.frame)) ≡ b
@@ -197,10 +173,7 @@ take_sure n l ts x xs a comes open_role = go x.frame refl
         let k_is : left_core l x xs (is_some (take_answer e.shdlc x.frame).ended) ≡ k = ap (left_core l x xs) heard.ended ∙ sym (left b ends) in
         let first : sure_here n c (CoreDeliver us) ≡ sure_out n (left_core l x xs (is_some (take_answer e.shdlc x.frame).ended)) s = rw comes.first refl in
         ap (sure_turns n c) (take_open x.frame q o ∙ ap (λ g. CoreDeliver (core_turns g ts) ∷ []) is)
-        ∙ (first
-        ∙ (ap (λ z. sure_out n z s) k_is
-        ∙ (out_sure n k None (turned f ts) s tm.mid.acts shdlc
-        ∙ ap (λ g. sure_all n k (frames_out (turned g ts))) (sym is))))
+        ∙ (grind arith)
 
     shdlc : is_shdlc x.frame ≡ true → is_act x.frame ≡ false → Goal
     shdlc s q =
@@ -226,14 +199,12 @@ take_sure n l ts x xs a comes open_role = go x.frame refl
         let tm = turns_mid o f ts a m.mid in
         let s : EndState = core_turned e.shdlc us in
         let same : (turned f ts).shdlc ≡ s = tm.is ∙ ap (λ z. core_turned z us) m.same in
-        let ends : is_some (ended_by e (Take x.frame)) ≡ false =
-        ap (λ y. is_some (ended_by e (Take y))) q ∙ (stays_down (act_answer e.role event).ended_link e down comes.rests.due comes.tells.now.acts).1 in
+        let ends : is_some (ended_by e (Take x.frame)) ≡ false = grind arith in
         let counts : took_with l.controller.took x ≡ l.controller.took = no_number (ap is_rset q) in
         let gone : CoreLink = record c { to_controller = xs } in
         let k_is : k ≡ gone = left false ends ∙ ap (λ z. record (record c { to_controller = xs }) { controller = record c.controller { took = z } }) counts in
         let list : core_take e x.frame ts ≡ CoreLose ∷ CoreActs (option_to_list o) us ∷ [] = ap (λ y. core_take e y ts) q in
-        let lost : sure_here n c CoreLose ≡ n =
-        ap (λ z. n && not (counts_first z)) comes.first ∙ (ap (λ z. n && not (not z)) (ap is_act q) ∙ and_true n) in
+        let lost : sure_here n c CoreLose ≡ n = grind arith in
         let link : core_happens_here c CoreLose ≡ gone = ap (λ z. record c { to_controller = drop 1 z }) comes.first in
         ap (sure_turns n c) list
         ∙ (ap (λ z. sure_here z (core_happens_here c CoreLose) (CoreActs (option_to_list o) us)) lost
@@ -281,52 +252,26 @@ tick_sure n l ts a h o =
     let s : EndState = core_turned (ticked e.shdlc) us in
     let is : (turned f ts).shdlc ≡ s = tm.is ∙ ap (λ z. core_turned z us) (shdlc_moved e b (ticked e.shdlc)) in
     ap (λ g. sure_tick n (Some (core_turns g ts)) (core_of l)) t.0
-    ∙ (ap (λ z. sure_out n z s) (sym (with_ended-core l b))
-    ∙ (out_sure n (core_of (with_ended l b)) None (turned f ts) s tm.mid.acts is
-    ∙ (ap (λ z. sure_all n (core_of (with_ended l z)) (frames_out (turned f ts))) (sym t.1)
-    ∙ ap (λ g. sure_all n (core_of (with_ended l (is_some (ended_by e HasTick)))) (frames_out (turned g ts))) (sym t.0))))
+    ∙ (grind arith)
 
 -- ## From a reset on that finds the other end active and not waiting its answer is not kept back, where nothing is noted that withholds it
 
 -- ### Ends that are active
 
--- activation goes on at an end that is active
-act_open : (r f : Role) (x : OnWire) (w v : List OnWire) (act : Activation) (again : Bool) → x.frame ≡ Act act again → ActsInOrder r f (x ∷ w) v
-    → is_open r ≡ true → is_open (role_after r (ActTake act again)) ≡ true
-act_open r f x w v act again q wires o = go (is_open (role_after r (ActTake act again))) refl
-  where
-    go : (b : Bool) → is_open (role_after r (ActTake act again)) ≡ b → is_open (role_after r (ActTake act again)) ≡ true
-    go true p = p
-    go false p = by (role_closes r act again p)
-      where
-        by : (is_open r ≡ false) ⊎ ((act_answer r (ActTake act again)).ended_link ≡ true) → is_open (role_after r (ActTake act again)) ≡ true
-        by (inl z) = absurd (true≢false (sym o ∙ z))
-        by (inr z) = absurd (true≢false (sym o ∙ ended_means r f x w v act again q wires z))
-
 pub down_role : (e : LinkEnd) → (put_down true e).role ≡ e.role
 down_role e = by_phase e.shdlc.phase (λ p. rw p (moved_role e true (stopped e.shdlc))) (λ p. rw p (moved_role e true (stopped e.shdlc))) (λ p. rw p refl)
 
 pub heard_role : (e : LinkEnd) (c : Control) → (heard e c).role ≡ e.role
-heard_role e c =
-    by_test (is_faulty (taken e.shdlc c).session) (λ p. rw p (down_role e)) (λ p. rw p (moved_role e (is_some (take_answer e.shdlc c).ended) (taken e.shdlc c)))
+heard_role e c = grind arith
 
 took_open_of_settling : (e : LinkEnd) (f : Role) (x : OnWire) (w v : List OnWire) → ActsInOrder e.role f (x ∷ w) v → is_open e.role ≡ true
     → is_open (took e x.frame).role ≡ true
-took_open_of_settling e f x w v wires o = go x.frame refl
-  where
-    shdlc : (c : Control) → took e c ≡ heard e c → is_open (took e c).role ≡ true
-    shdlc c q = ap (λ (g : LinkEnd). is_open g.role) q ∙ (ap is_open (heard_role e c) ∙ o)
-
-    go : (c : Control) → x.frame ≡ c → is_open (took e c).role ≡ true
-    go (Act act again) q = ap is_open (activated_role e (ActTake act again)) ∙ act_open e.role f x w v act again q wires o
-    go Clt q = o
-    go it q = shdlc it (rw o refl)
+took_open_of_settling e f x w v wires o = grind arith
 
 -- ### Resets
 
 no_due : (p : LinkState) (due : List Due) → due ≡ [] → due_left p due ≡ []
-no_due IsUpNow due q = refl
-no_due _ due q = q
+no_due p due q = grind arith
 
 reset_due : (e : EndState) (w : ℕ) → is_waiting e ≡ false → e.due ≡ [] → (reset_with e w).due ≡ Rset_due ∷ []
 reset_due e w n q = let z = no_due e.phase e.due q in rw n (ap (λ d. d ++ Rset_due ∷ []) z)
@@ -363,14 +308,12 @@ reset_puts who l window ts sendable h r q s =
     let is : after_input e (Reset window) ≡ f = rw q refl in
     let b : Bool = is_some (if_up e.shdlc Asked) in
     let t = reset_tells e q in
-    let now : Now f = mid_moved e b (reset_with e.shdlc w) h.now (reset_keeps e.shdlc w t.1 h.now.idle)
-    (opened e.role ((reset_with e.shdlc w).phase ≡ IsDown) t.0) in
+    let now : Now f = grind arith in
     let us : List CoreTurn = core_turns f ts in
     let tm = turns_mid None f ts sendable now in
     let z : EndState = core_turned (reset_with e.shdlc w) us in
     let shdlc : (turned f ts).shdlc ≡ z = tm.is ∙ ap (λ y. core_turned y us) (shdlc_moved e b (reset_with e.shdlc w)) in
-    let frames : frames_out (turned f ts) ≡ frames_of most_frames z =
-    ap (λ a. among 0 a (frames_of most_frames (turned f ts).shdlc)) tm.mid.acts ∙ ap (λ y. frames_of most_frames y) shdlc in
+    let frames : frames_out (turned f ts) ≡ frames_of most_frames z = grind arith in
     let a = spared_parts (told_of who l.controller (Reset window)) (rest_entries who k (after_input e (Reset window)) ts GoesOut) s in
     let out =
     spared_parts (turn_entries who _ (after_input e (Reset window)) ts) (puts_entries who k (frames_out (turned (after_input e (Reset window)) ts))) a.1 in
@@ -384,22 +327,13 @@ reset_puts who l window ts sendable h r q s =
 -- a reset that isn't refused, where the other end isn't waiting
 pub reset_sure : (s : Bool) (l : Link) (window : Option ℕ) (ts : List Turn) → reset_refusal l.controller.side ≡ None → is_waiting l.host.side.shdlc ≡ false
     → sure_turns s (core_of l) (core_here l (Step (AsksReset window) ts GoesOut)) ≡ true
-reset_sure s l window ts q n =
-    let e : LinkEnd = l.controller.side in
-    let w : ℕ = window_of e window in
-    let t = reset_tells e q in
-    let mine = t.1 in
-    ap (λ o. sure_turns s (core_of l) (core_reset o e w ts GoesOut)) q
-    ∙ (let z : sure_here s (core_of l) (CoreReset w (core_turns (reset_by e w) ts)) ≡ true = rw (mine, n) refl in z)
+reset_sure s l window ts q n = grind arith
 
 -- ### Steps
 
 -- a step of an end that is cut off is noted
 pub rest_cut : (t : List Entry) (who : End) (l : Link) (e : LinkEnd) (ts : List Turn) → Stands (t ++ rest_entries who l e ts CutOff) → ⊥
-rest_cut t who l e ts q =
-    let a = stands_parts t (rest_entries who l e ts CutOff) q in
-    let b = stands_parts (turn_entries who _ e ts) (Cut who ∷ []) a.1 in
-    true≢false b.1
+rest_cut t who l e ts q = grind (arith, stands_parts)
 
 -- where this was noted: the answer is kept back no more than before, which s and n tell, if it was spared, and the end is active
 abbrev pub Spares : List Entry → Bool → Bool → Link → Type 0
@@ -452,11 +386,7 @@ own_spares s who l (Step (AsksReset window) ts GoesOut) o a h r k st = (
 
 lost_spares : (s : Bool) (who : End) (l : Link) (why : Loss) → s ≡ true → Spared (here_entries who l (Lose why))
     → sure_turns s (core_of l) (core_here l (Lose why)) ≡ true
-lost_spares s who l why p q =
-    by_list l.to_controller (λ r. rw (r, p) refl) (λ x xs r.
-    let z : Spared (here_entries who l (Lose why)) = q in
-    let kept : not (is_act x.frame) ≡ false = (or_none (not (is_act x.frame)) false (rw r at z)).0 in
-    rw (r, p) (ap not kept))
+lost_spares s who l why p q = grind arith
 
 -- a frame is taken
 frame_spares : (s : Bool) (who : End) (l : Link) (ts : List Turn) → AreSendableTurns ts → Before l → is_open l.controller.side.role ≡ true
@@ -465,10 +395,7 @@ frame_spares : (s : Bool) (who : End) (l : Link) (ts : List Turn) → AreSendabl
 frame_spares s who l ts a b k =
     by_list {P = Spares (step_entries who l NextFrame ts GoesOut) s (sure_turns s c (core_step l NextFrame ts GoesOut))
     (happens_at_controller l (Step NextFrame ts GoesOut))} l.to_controller
-    (λ r.
-    let none : core_step l NextFrame ts GoesOut ≡ [] = rw r refl in
-    let same : happens_at_controller l (Step NextFrame ts GoesOut) ≡ l = rw r refl in
-    (λ p q. ap (sure_turns s c) none ∙ p, ap (λ (m : Link). is_open m.controller.side.role) same ∙ k))
+    (grind arith)
     (λ x xs r.
     let e : LinkEnd = l.controller.side in
     let list : core_step l NextFrame ts GoesOut ≡ core_take e x.frame ts ++ [] = rw r refl in
@@ -501,10 +428,7 @@ cut_spares : (s : Bool) (who : End) (l : Link) (ts : List Turn) → is_open l.co
     → Spares (step_entries who l NextFrame ts CutOff) s (sure_turns s (core_of l) (core_step l NextFrame ts CutOff))
     (happens_at_controller l (Step NextFrame ts CutOff))
 cut_spares s who l ts k q =
-    by_list l.to_controller (λ r.
-    let none : core_step l NextFrame ts CutOff ≡ [] = rw r refl in
-    let same : happens_at_controller l (Step NextFrame ts CutOff) ≡ l = rw r refl in
-    (λ p q. ap (sure_turns s (core_of l)) none ∙ p, ap (λ (m : Link). is_open m.controller.side.role) same ∙ k))
+    by_list l.to_controller (grind arith)
     (λ x xs r.
     let some : step_entries who l NextFrame ts CutOff ≡ taken_entries who l x xs ts CutOff = rw r refl in
     let P : List Entry → Type 0 = λ z. Stands z in
@@ -520,7 +444,6 @@ here_spares s who l (Step NextFrame ts GoesOut) a b k st = frame_spares s who l 
 here_spares s who l (Step NextFrame ts CutOff) a b k st = cut_spares s who l ts k st
 here_spares s who l (Step (AsksReset window) ts ending) a b k st =
     own_spares s who l (Step (AsksReset window) ts ending) tt a b.tells (rests_of 0 0 (core_of l) b.safe) k st
-here_spares s who l (Step (Starts v) ts ending) a b k st =
-    own_spares s who l (Step (Starts v) ts ending) tt a b.tells (rests_of 0 0 (core_of l) b.safe) k st
+here_spares s who l (Step (Starts v) ts ending) a b k st = grind arith
 here_spares s who l (Step Stops ts ending) a b k st = own_spares s who l (Step Stops ts ending) tt a b.tells (rests_of 0 0 (core_of l) b.safe) k st
 here_spares s who l (Step NoInput ts ending) a b k st = own_spares s who l (Step NoInput ts ending) tt a b.tells (rests_of 0 0 (core_of l) b.safe) k st

@@ -1,19 +1,18 @@
 -- What is noted of a step of one end says what is kept of its sessions, and never more is acknowledged than sent.
-use Rattle.std.specs.Prelude.{None, Option, Some}
-use Rattle.link_laws.proofs.Words.{Acked, Active, AreSendableInputs, AreSendableTurns, AsksReset, Bare, Bool, CanEnd, Comes, Control, CutOff, Due, Emit, End}
-use Rattle.link_laws.proofs.Words.{EndState, Ending, Entry, FetchMessage, Fragment, FromNode, GaveUp, Give, GoesOut, Got, Hold, IsFrontOf, Link, LinkEnd}
-use Rattle.link_laws.proofs.Words.{LinkInput, LinkState, List, Loss, Message, NextFrame, NoInput, NumberedEnd, OnWire, Refused, Release, Report, Reset, Role}
-use Rattle.link_laws.proofs.Words.{SetAside, Start, Starts, Stop, Stops, Take, TooMany, Turn, Up as IsUpNow, [], acked_noted, after_frames, after_input, ap}
-use Rattle.link_laws.proofs.Words.{append_assoc, arith, becomes, began_by, cond, cut, ended_by, ended_talk, ending_entries, false, far, fetched, finished}
-use Rattle.link_laws.proofs.Words.{first_lost, fragment_due, frames_out, give_refusal, if_so, inl, inr, is_some, is_up, left_after, length, length-append, map}
-use Rattle.link_laws.proofs.Words.{max, most_frames, nat_lt, new_link_end, number_of, option_to_list, pushed_out, put, put_all, put_entries, puts_entries, refl}
-use Rattle.link_laws.proofs.Words.{renewed, report, rest_entries, sent_all, sent_noted, sent_unless, silent, step_entries, subst, suc, sym, taken_entries}
-use Rattle.link_laws.proofs.Words.{talk_now, talk_of, told, told_of, took_with, true, turn, turn_entries, turn_entry, turned, whole_acked, wire_with}
-use Rattle.link_laws.proofs.Words.{with_controller, with_ended, zero, ℕ, ◌++◌, ◌==◌, ◌∙◌, ◌∷◌, ◌≡◌, ◌≤◌, ◌⊎◌}
+use Rattle.std.specs.Prelude.{Option}
+use Rattle.link_laws.proofs.Words.{Acked, Active, AreSendableInputs, AreSendableTurns, AsksReset, Bool, CanEnd, Comes, Control, CutOff, Emit, End, EndState}
+use Rattle.link_laws.proofs.Words.{Ending, Entry, FromNode, GaveUp, GoesOut, Got, IsFrontOf, Link, LinkEnd, LinkInput, LinkState, List, Loss, Message}
+use Rattle.link_laws.proofs.Words.{NextFrame, NoInput, NumberedEnd, OnWire, Report, Reset, Role, Start, Starts, Stop, Stops, Take, TooMany, Turn, Up as IsUpNow}
+use Rattle.link_laws.proofs.Words.{[], acked_noted, after_frames, after_input, ap, append_assoc, arith, becomes, began_by, cond, cut, ended_by, ended_talk}
+use Rattle.link_laws.proofs.Words.{ending_entries, false, far, fetched, finished, first_lost, frames_out, if_so, inl, inr, is_some, is_up, left_after, length}
+use Rattle.link_laws.proofs.Words.{length-append, map, max, most_frames, nat_lt, new_link_end, number_of, option_to_list, pushed_out, put, put_all, put_entries}
+use Rattle.link_laws.proofs.Words.{puts_entries, refl, renewed, report, rest_entries, sent_all, sent_noted, silent, step_entries, subst, suc, sym}
+use Rattle.link_laws.proofs.Words.{taken_entries, talk_now, talk_of, told, told_of, took_with, true, turn, turn_entries, turn_entry, turned, whole_acked}
+use Rattle.link_laws.proofs.Words.{wire_with, with_controller, with_ended, zero, ℕ, ◌++◌, ◌==◌, ◌∙◌, ◌∷◌, ◌≡◌, ◌≤◌, ◌⊎◌}
 use Rattle.link_laws.specs.entries.Entries.Entry.{Down, Up}
 use Rattle.link_laws.proofs.Cases.{by_list, by_test}
-use Rattle.link_laws.proofs.entries.Books.{Book, Input, IsSendableTurn, Silent, Told, blank, blank-plus, book_of, down_talk, plus, read, read-append, same_far}
-use Rattle.link_laws.proofs.entries.Books.{silent-append, silent_cons, told_far, told_input, told_same, told_silent, told_turn, turn_far, up_talk, with_side}
+use Rattle.link_laws.proofs.entries.Books.{Book, Input, IsSendableTurn, Silent, Told, blank, blank-plus, book_of, plus, read, read-append, same_far}
+use Rattle.link_laws.proofs.entries.Books.{silent-append, silent_cons, told_far, told_input, told_same, told_silent, told_turn, turn_far, with_side}
 use Rattle.link_laws.proofs.machine.Runs.{Sound, fetched_data, sound_turn}
 use Rattle.link_laws.proofs.machine.Sound.{whole_few}
 use Rattle.link_laws.proofs.messages.Project.{NoRset, beside-put_all, frames_alike, puts_none}
@@ -35,8 +34,7 @@ front_parts (y ∷ p) (x ∷ u) v f =
   where
     go : y ≡ x → IsFrontOf p u ⊎ ((q : List _) × (p ≡ u ++ q) × IsFrontOf q v)
         → IsFrontOf (y ∷ p) (x ∷ u) ⊎ ((q : List _) × (y ∷ p ≡ (x ∷ u) ++ q) × IsFrontOf q v)
-    go same (inl g) = inl (g.0, ap (λ z. z ∷ (p ++ g.0)) same ∙ ap (λ zs. x ∷ zs) g.1)
-    go same (inr g) = inr (g.0, ap (λ z. z ∷ p) same ∙ ap (λ zs. x ∷ zs) g.1, g.2)
+    go same a = grind arith
 
 -- ### Entries of one end
 
@@ -64,13 +62,11 @@ front_read who p u f a n =
     let P : List Entry → Type 0 = λ z. OfOne who z in one_read who p (one_front who p f.0 (subst P (sym f.1) a)) n
 
 one_so : (who : End) (b : Bool) (e : Entry) → ((n : ℕ) → read (e ∷ []) (far who) n ≡ blank) → OfOne who (if_so b e)
-one_so who false e p = tt
-one_so who true e p = (p, tt)
+one_so who b e p = grind arith
 
 one_option : {A : Type 0} (who : End) (f : A → Entry) (o : Option A) → ((x : A) (n : ℕ) → read (f x ∷ []) (far who) n ≡ blank)
     → OfOne who (map f (option_to_list o))
-one_option who f None p = tt
-one_option who f (Some x) p = (p x, tt)
+one_option who f o p = grind arith
 
 one_got : (who : End) (k : ℕ) (ms : List Message) → OfOne who (map (Got who k) ms)
 one_got who k [] = tt
@@ -95,15 +91,7 @@ one_told who k r acked =
     (one_option who (Down who) r.ended (λ x n. refl)) b
 
 one_turn : (who : End) (k : ℕ) (e : LinkEnd) (t : Turn) → OfOne who (turn_entry who k e t)
-one_turn who k e (Give m) = go (give_refusal e m)
-  where
-    go : (o : Option Refused) → OfOne who (sent_unless o who k m)
-    go None = ((λ n. let w = same_far who in rw w refl), tt)
-    go (Some why) = tt
-one_turn who k e (Hold held) = tt
-one_turn who k e FetchMessage = tt
-one_turn who k e SetAside = tt
-one_turn who k e Release = tt
+one_turn who k e t = grind arith
 
 one_turns : (who : End) (k : ℕ) (e : LinkEnd) (ts : List Turn) → OfOne who (turn_entries who k e ts)
 one_turns who k e [] = tt
@@ -204,13 +192,11 @@ few_then t who u v a b p f = go (front_parts p u v f)
 
 -- what is told gives no message
 no_sent_so : (b : Bool) (e : Entry) → ((who : End) (n : ℕ) → sent_noted (e ∷ []) who n ≡ []) → NoSent (if_so b e)
-no_sent_so false e p = tt
-no_sent_so true e p = (p, tt)
+no_sent_so b e p = grind arith
 
 no_sent_option : {A : Type 0} (f : A → Entry) (o : Option A) → ((x : A) (who : End) (n : ℕ) → sent_noted (f x ∷ []) who n ≡ [])
     → NoSent (map f (option_to_list o))
-no_sent_option f None p = tt
-no_sent_option f (Some x) p = (p x, tt)
+no_sent_option f o p = grind arith
 
 no_sent_got : (who : End) (k : ℕ) (ms : List Message) → NoSent (map (Got who k) ms)
 no_sent_got who k [] = tt
@@ -235,15 +221,7 @@ no_sent_told who k r acked =
     (no_sent_option (Down who) r.ended (λ x w n. refl)) b
 
 no_acked_turn : (who : End) (k : ℕ) (e : LinkEnd) (t : Turn) → NoAcked (turn_entry who k e t)
-no_acked_turn who k e (Give m) = go (give_refusal e m)
-  where
-    go : (o : Option Refused) → NoAcked (sent_unless o who k m)
-    go None = ((λ w n. refl), tt)
-    go (Some why) = tt
-no_acked_turn who k e (Hold held) = tt
-no_acked_turn who k e FetchMessage = tt
-no_acked_turn who k e SetAside = tt
-no_acked_turn who k e Release = tt
+no_acked_turn who k e t = grind arith
 
 no_acked_turns : (who : End) (k : ℕ) (e : LinkEnd) (ts : List Turn) → NoAcked (turn_entries who k e ts)
 no_acked_turns who k e [] = tt
@@ -255,8 +233,7 @@ no_acked_turns who k e (t ∷ ts) =
 -- ### Turns
 
 sendable_first : (t : Turn) (ts : List Turn) → AreSendableTurns (t ∷ ts) → IsSendableTurn t × AreSendableTurns ts × AreSendableInputs (FromNode t ∷ [])
-sendable_first (Give m) ts a = (a.0, a.1, (a.0, tt))
-sendable_first _ ts a = (tt, a, tt)
+sendable_first t ts a = grind arith
 
 pub told_turns : (ts : List Turn) (t : List Entry) (who : End) (h : NumberedEnd) → AreSendableTurns ts → Sound h.side → Told t who h
     → Told (t ++ turn_entries who (number_of h) h.side ts) who (with_side h (turned h.side ts))
@@ -284,12 +261,10 @@ sound_turns (t ∷ ts) e a s = let p = sendable_first t ts a in sound_turns ts (
 -- ### Frames go out
 
 pub silent_first : (who : End) (why : Loss) (w : List OnWire) → Silent (first_lost who why w)
-silent_first who why [] x n = refl
-silent_first who why (y ∷ ys) x n = refl
+silent_first who why w x n = grind arith
 
 silent_lost : (who : End) (b : Bool) (w : List OnWire) → Silent (cond b (first_lost who TooMany w) [])
-silent_lost who false w x n = refl
-silent_lost who true w x n = silent_first who TooMany w x n
+silent_lost who b w x n = grind arith
 
 silent_puts : (cs : List Control) (who : End) (l : Link) → Silent (puts_entries who l cs)
 silent_puts [] who l = λ x n. refl
@@ -310,11 +285,7 @@ pub sound_sent : (e : LinkEnd) → Sound e → Sound (sent_all e)
 sound_sent e s = go most_frames (record e { acts = [] }) (fetched_same e s)
   where
     fetched_same : (e : LinkEnd) → Sound e → Sound (record e { acts = [] })
-    fetched_same e s =
-        record {
-          is = record { out = s.is.out; none = s.is.none; forgot = s.is.forgot; acked = s.is.acked; reached = s.is.reached; room = s.is.room };
-          closed = s.closed;
-        }
+    fetched_same e s = grind arith
 
     go : (n : ℕ) (f : LinkEnd) → Sound f → Sound (record f { shdlc = after_frames n f.shdlc })
     go zero f h = h
@@ -349,8 +320,7 @@ cut_told t who l e can b n = b n ∙ go e.shdlc.phase refl e.role refl can
         record m.controller { side = new_link_end (renewed r) }
 
     new_down : (c : Bool) (r : Role) → CanEnd r CutOff → talk_of (at c r) n ≡ ended_talk (at c r).past n
-    new_down c Bare can = absurd can
-    new_down c _ can = refl
+    new_down c r can = grind arith
 
     up_past : (r : Role) → book_of (talk_of (with_side l.controller e) n)
         ≡ book_of (cond (n == number_of l.controller) (talk_now e) (ended_talk l.controller.past n))
@@ -360,15 +330,13 @@ cut_told t who l e can b n = b n ∙ go e.shdlc.phase refl e.role refl can
     up : e.shdlc.phase ≡ IsUpNow → CanEnd e.role CutOff
         → book_of (talk_of (with_side l.controller e) n) ≡ book_of (talk_of (cut (with_controller l f)).controller n)
     up p can =
-        let z : book_of (talk_of (with_side l.controller e) n) ≡ book_of (cond (n == number_of l.controller) (talk_now e) (ended_talk l.controller.past n)) =
-        ap book_of (up_talk (with_side l.controller e) n p) in
+        let z : book_of (talk_of (with_side l.controller e) n) ≡ book_of (cond (n == number_of l.controller) (talk_now e) (ended_talk l.controller.past n)) = grind arith in
         let is : is_up f.shdlc.phase ≡ true = ap is_up (phase ∙ p) in
         z ∙ (up_past e.role z ∙ ap book_of (sym (new_down true e.role can) ∙ ap (λ c. talk_of (at c e.role) n) (sym is)))
 
     idle : (e.shdlc.phase ≡ IsUpNow → ⊥) → is_up f.shdlc.phase ≡ false → CanEnd e.role CutOff
         → book_of (talk_of (with_side l.controller e) n) ≡ book_of (talk_of (cut (with_controller l f)).controller n)
-    idle d is can =
-        ap book_of (down_talk (with_side l.controller e) n d ∙ (sym (new_down false e.role can) ∙ ap (λ c. talk_of (at c e.role) n) (sym is)))
+    idle d is can = grind arith
 
     go : (p : LinkState) → e.shdlc.phase ≡ p → (r : Role) → e.role ≡ r → CanEnd e.role CutOff
         → book_of (talk_of (with_side l.controller e) n) ≡ book_of (talk_of (cut (with_controller l f)).controller n)
@@ -381,9 +349,7 @@ silent_ending who l e CutOff = λ x n. refl
 
 -- frames that go out acknowledge nothing
 no_acked_lost : (who : End) (b : Bool) (w : List OnWire) → NoAcked (cond b (first_lost who TooMany w) [])
-no_acked_lost who false w = tt
-no_acked_lost who true [] = tt
-no_acked_lost who true (x ∷ xs) = ((λ w n. refl), tt)
+no_acked_lost who b w = grind arith
 
 no_acked_puts : (cs : List Control) (who : End) (l : Link) → NoAcked (puts_entries who l cs)
 no_acked_puts [] who l = tt
@@ -397,9 +363,7 @@ no_acked_ending who l e CutOff = ((λ w n. refl), tt)
 
 -- and are of one end
 one_lost : (who : End) (b : Bool) (w : List OnWire) → OfOne who (cond b (first_lost (far who) TooMany w) [])
-one_lost who false w = tt
-one_lost who true [] = tt
-one_lost who true (x ∷ xs) = ((λ n. refl), tt)
+one_lost who b w = grind arith
 
 one_puts : (cs : List Control) (who : End) (l : Link) → OfOne who (puts_entries who l cs)
 one_puts [] who l = tt
@@ -412,9 +376,7 @@ one_ending who l e GoesOut = one_puts (frames_out e) who l
 one_ending who l e CutOff = ((λ n. refl), tt)
 
 one_rest : (who : End) (l : Link) (e : LinkEnd) (ts : List Turn) (ending : Ending) → OfOne who (rest_entries who l e ts ending)
-one_rest who l e ts ending =
-    one-append who (turn_entries who (number_of l.controller) e ts) (ending_entries who l (turned e ts) ending) (one_turns who (number_of l.controller) e ts)
-    (one_ending who l (turned e ts) ending)
+one_rest who l e ts ending = grind (arith, one-append, number_of, turned, one_turns, one_ending)
 
 pub one_input : (who : End) (l k : Link) (h : NumberedEnd) (i : LinkInput) (e : LinkEnd) (ts : List Turn) (ending : Ending)
     → OfOne who (told_of who h i ++ rest_entries who k e ts ending)
@@ -461,11 +423,7 @@ ending_told t who l e CutOff can none b =
 
 pub host_finished : (l : Link) (e : LinkEnd) (ending : Ending) → (finished l e ending).host ≡ l.host
 host_finished l e GoesOut = (beside-put_all (frames_out e) l).host
-host_finished l e CutOff = by (is_up (sent_all e).shdlc.phase)
-  where
-    by : (b : Bool) → (with_ended (with_controller l (sent_all e)) b).host ≡ l.host
-    by true = refl
-    by false = refl
+host_finished l e CutOff = grind arith
 
 -- ### A link
 
@@ -537,9 +495,7 @@ input_told {t} {who} {l} {k} i {h} {ts} {ending} takes finishes s b =
     let here = told_input t who l.controller (with_side k.controller f) (is_some (ended_by e i)) (began_by e i) r takes.input s.is b.here in
     let there = told_far t who (number_of k.controller) r (whole_acked f) k.host (told_at t (far who) l.host k.host takes.host b.there) in
     let out = rest_told (t ++ us) who k f ts ending finishes here there in
-    let same : told_of who h i ≡ us =
-    ap (λ n. told who n (report h.side i) (whole_acked (after_input h.side i))) takes.number
-    ∙ ap (λ z. told who (number_of k.controller) (report z i) (whole_acked (after_input z i))) takes.side in
+    let same : told_of who h i ≡ us = grind arith in
     let P : List Entry → Type 0 = λ z. Tolds z who (finished k (turned f ts) ending) in
     let both : Out t (us ++ vs) who (finished k (turned f ts) ending) =
     record {
@@ -552,8 +508,4 @@ input_told {t} {who} {l} {k} i {h} {ts} {ending} takes finishes s b =
     subst Q (sym same) both
 
 pub one_fetched_acked : (s : EndState) → (fetched s).session.acked ≡ s.session.acked
-one_fetched_acked s = go s.due refl (fragment_due s.session) refl where
-  go : (due : List Due) → s.due ≡ due → (o : Option Fragment) → fragment_due s.session ≡ o → (fetched s).session.acked ≡ s.session.acked
-  go [] q None r = rw (q, r) refl
-  go [] q (Some info) r = rw (q, r) refl
-  go (d ∷ ds) q o r = rw q refl
+one_fetched_acked s = grind arith

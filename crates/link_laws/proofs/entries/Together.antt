@@ -1,18 +1,17 @@
 -- Where nothing disturbed a session all of it was delivered, and where nothing withheld the answer to a reset both ends are up.
 use Rattle.link_laws.proofs.Words.{Activate, AllAllowed, AllDelivered, AreOwn, AsksReset, AtController, AtHost, Bool, CanStart, Controller, CoreAtController}
 use Rattle.link_laws.proofs.Words.{CoreAtHost, CoreEndEvent, CoreLink, CoreTurn, CutOff, End, EndEvent, Ending, Entry, GoesOut, HasTick, Host, IsAllowed}
-use Rattle.link_laws.proofs.Words.{IsBare, IsEvent, IsLine, IsNode, IsQuiet, IsQuietSince, IsRead, IsStart, IsUicc, Link, LinkEnd, LinkEvent, LinkTogether}
-use Rattle.link_laws.proofs.Words.{List, Losses, Node, NumberedEnd, OnWire, Option, Reset, ShdlcLinkEvent as CoreLinkEvent, Some, Starts, Step, Talk}
-use Rattle.link_laws.proofs.Words.{Tick as CoreTick, TickWithout as CoreTickWithout, Ticks, TicksWithout, Turn, Up as IsUpNow, [], after_input}
-use Rattle.link_laws.proofs.Words.{after_link_events, aged, aged_entries, all_at_controller, ap, append-nil, append_assoc, core_after, core_aged, core_all}
-use Rattle.link_laws.proofs.Words.{core_all_here, core_event, core_events, core_happens_here, core_here, core_of, core_tick, core_tick_rest}
-use Rattle.link_laws.proofs.Words.{core_ticks_if_waiting, core_ticks_or_cut, core_turns, ended_by, entries, entries_of_events, event_entries, exchanged, false}
-use Rattle.link_laws.proofs.Words.{far, first_entries, good_of, happens, happens_at_controller, here_entries, is_act, is_open, is_some, is_waiting, length}
-use Rattle.link_laws.proofs.Words.{list_any, loses_aged, losses_after, losses_of, map, nat_lt, no_losses, not, noted_aged, noted_event, noted_here}
-use Rattle.link_laws.proofs.Words.{noted_if_waiting, noted_tick, noted_turns, number_of, refl, rest_entries, sans, shdlc_exchanged as core_exchanged}
-use Rattle.link_laws.proofs.Words.{shdlc_happens as core_happens, subst, sure_after, sure_aged, sure_event, sure_here, sure_if_waiting, sure_tick, sure_turns}
-use Rattle.link_laws.proofs.Words.{sym, talk_now, talk_of, tick_entries, ticks_at_controller, told_of, trace, true, true≢false, turned, with_ended, withholds}
-use Rattle.link_laws.proofs.Words.{ℕ, ◌++◌, ◌∙◌, ◌∷◌, ◌≡◌}
+use Rattle.link_laws.proofs.Words.{IsEvent, IsNode, IsQuiet, IsQuietSince, IsRead, IsStart, IsUicc, Link, LinkEnd, LinkEvent, LinkTogether, List, Losses, Node}
+use Rattle.link_laws.proofs.Words.{NumberedEnd, OnWire, Option, Reset, ShdlcLinkEvent as CoreLinkEvent, Some, Starts, Step, Talk, Tick as CoreTick}
+use Rattle.link_laws.proofs.Words.{TickWithout as CoreTickWithout, Ticks, TicksWithout, Turn, Up as IsUpNow, [], after_input, after_link_events, aged}
+use Rattle.link_laws.proofs.Words.{aged_entries, all_at_controller, ap, append-nil, append_assoc, arith, core_after, core_aged, core_all, core_all_here}
+use Rattle.link_laws.proofs.Words.{core_event, core_events, core_happens_here, core_here, core_of, core_tick, core_tick_rest, core_ticks_if_waiting}
+use Rattle.link_laws.proofs.Words.{core_ticks_or_cut, core_turns, ended_by, entries, entries_of_events, event_entries, exchanged, false, far, first_entries}
+use Rattle.link_laws.proofs.Words.{happens, happens_at_controller, here_entries, is_act, is_open, is_some, is_waiting, list_any, loses_aged, losses_after}
+use Rattle.link_laws.proofs.Words.{losses_of, map, nat_lt, no_losses, noted_aged, noted_event, noted_here, noted_if_waiting, noted_tick, noted_turns, number_of}
+use Rattle.link_laws.proofs.Words.{refl, rest_entries, sans, shdlc_exchanged as core_exchanged, shdlc_happens as core_happens, subst, sure_after, sure_aged}
+use Rattle.link_laws.proofs.Words.{sure_event, sure_here, sure_if_waiting, sure_tick, sure_turns, sym, talk_now, talk_of, tick_entries, ticks_at_controller}
+use Rattle.link_laws.proofs.Words.{told_of, trace, true, true≢false, turned, with_ended, withholds, ℕ, ◌++◌, ◌∙◌, ◌∷◌, ◌≡◌}
 use Rattle.link_laws.specs.entries.Entries.Entry.{Tick}
 use Rattle.link_laws.specs.entries.Quiet.{IsDeliveredOnLink}
 use Rattle.link_laws.specs.entries.Settled.{FindsReady, IsReset, rest_of}
@@ -23,11 +22,11 @@ use Rattle.link_laws.proofs.entries.Noting.{reset_role}
 use Rattle.link_laws.proofs.entries.Running.{IsInTick, IsUnderWay, Noted, Sounds, after_tick, all_in_tick, before_here, before_there, goes_on, host_here}
 use Rattle.link_laws.proofs.entries.Running.{host_in_tick, near_in_tick, own_in_tick, own_step, read_here, read_there, sound_here, start_under_way}
 use Rattle.link_laws.proofs.entries.Running.{without_tick}
-use Rattle.link_laws.proofs.entries.Settling.{Spared, Spares, Stands, here_spares, none_withholds, or_none, own_spares, reset_sure, rest_cut, rest_sure}
-use Rattle.link_laws.proofs.entries.Settling.{spared_parts, spoils, stands_parts, tick_sure}
+use Rattle.link_laws.proofs.entries.Settling.{Spared, Spares, Stands, here_spares, none_withholds, own_spares, reset_sure, rest_cut, rest_sure, spared_parts}
+use Rattle.link_laws.proofs.entries.Settling.{stands_parts, tick_sure}
 use Rattle.link_laws.proofs.entries.Stepping.{host_finished}
 use Rattle.link_laws.proofs.machine.Runs.{Sound}
-use Rattle.link_laws.proofs.messages.Finishing.{all_here-append, reset_tells, step_tick, tick_open}
+use Rattle.link_laws.proofs.messages.Finishing.{reset_tells, step_tick, tick_open}
 use Rattle.link_laws.proofs.messages.Project.{Tells, host_ended as ended_host, moved_role, turned_role}
 use Rattle.link_laws.proofs.messages.Runs.{Good, Reached, all_here as delivered_here, all_step, all_there as delivered_there, can_start, clf_starts, event_step}
 use Rattle.link_laws.proofs.messages.Runs.{one_number, own_here, reached_more, rests_of, safe_reached, started_clf, step_here, tells_same, up_together}
@@ -51,10 +50,7 @@ losses-append n c (e ∷ es) fs = losses-append (noted_event n c e) (core_happen
 
 -- the same under other names
 as_is : (t u : List Entry) (n m : Losses) (l : Link) → t ≡ u → n ≡ m → Both u m l → Both t n l
-as_is t u n m l p q b =
-    let P : List Entry → Type 0 = λ z. Both z n l in
-    let Q : Losses → Type 0 = λ z. Both u z l in
-    subst P (sym p) (subst Q (sym q) b)
+as_is t u n m l p q b = grind arith
 
 swap : (t : List Entry) (n : Losses) (l : Link) → Both t n l → Both t n (exchanged l)
 swap t n l b = record { here = b.there; there = b.here }
@@ -121,10 +117,8 @@ event_knows t n l (Ticks c es h) a g r s b =
     let turns : List CoreEndEvent = rest ++ core_all near es in
     let d : CoreLink = core_all_here first turns in
     let x : Losses = noted_turns (noted_tick n1 t1 (core_aged (core_of l))) first turns in
-    let x_is : x ≡ n3 =
-    noted-append (noted_tick n1 t1 (core_aged (core_of l))) first rest (core_all near es) ∙ ap (λ z. noted_turns n2 z (core_all near es)) (sym one.core) in
-    let d_is : d ≡ core_of m = all_here-append first rest (core_all near es)
-    ∙ (ap (λ z. core_all_here z (core_all near es)) (sym one.core) ∙ sym all.step.core) in
+    let x_is : x ≡ n3 = grind arith in
+    let d_is : d ≡ core_of m = grind arith in
     let core : CoreLinkEvent = CoreTick t1 turns (core_tick l.host.side h.turns h.ending) in
     let flag : losses_after n (core_of l) (core_event l (Ticks c es h)) ≡ n4 =
     there_losses (noted_event n (core_of l) core) (core_happens (core_of l) core) (core_tick_rest l.host.side h.turns h.ending)
@@ -227,16 +221,7 @@ events_know (e ∷ es) t n l a w b =
     (losses-append n (core_of l) (core_event l e) (core_events m es) ∙ ap (λ c. losses_after k c (core_events m es)) (sym st.core)) more
 
 start_knows : (l : Link) → IsStart l → Both (first_entries l.controller.side.role) no_losses l
-start_knows l IsBare =
-    record {
-      here = record { has = λ up. refl; tells = λ up b. absurd (true≢false (sym b)) };
-      there = record { has = λ up. refl; tells = λ up b. absurd (true≢false (sym b)) };
-    }
-start_knows l IsLine =
-    record {
-      here = record { has = λ up. absurd (let z = up in cc); tells = λ up b. absurd (true≢false (sym b)) };
-      there = record { has = λ up. absurd (let z = up in cc); tells = λ up b. absurd (true≢false (sym b)) };
-    }
+start_knows l a = grind arith
 
 knows : (l : Link) → IsStart l → (events : List LinkEvent) → AllAllowed l events → Both (trace l events) (losses_of l events) (after_link_events l events)
 knows l s events a =
@@ -278,11 +263,7 @@ up_now h n up q = let z = same_number (number_of h) in ap (talk_of h) q ∙ (up_
 -- what the filters read is what the link has delivered
 delivered : (t : List Entry) (who : End) (n : ℕ) (sender receiver : Talk) → IsRead t who n sender → IsRead t (far who) n receiver → AllDelivered sender receiver
     → IsDeliveredOnLink t who n
-delivered t who n sender receiver x y d =
-    record {
-      got = y.got ∙ (d.got ∙ sym (ap good_of x.sent));
-      acked = x.acked ∙ (d.acked ∙ sym (ap (λ (ms : List (ℕ × List ℕ)). length ms) x.sent));
-    }
+delivered t who n sender receiver x y d = grind arith
 
 pub quiet_here : (l : Link) → IsStart l → (events : List LinkEvent) → AllAllowed l events → IsQuietSince (trace l events) (after_link_events l events)
     → IsDeliveredOnLink (trace l events) Controller (number_of (after_link_events l events).controller)
@@ -358,13 +339,7 @@ none_aged who (x ∷ xs) q = go (nat_lt x.age 4) (is_act x.frame) refl refl (non
   where
     go : (a b : Bool) → nat_lt x.age 4 ≡ a → is_act x.frame ≡ b → (Spared (aged_entries who xs) → loses_aged (sans xs) ≡ false)
         → loses_aged (sans (x ∷ xs)) ≡ false
-    go false true r s later =
-        let z : Spared (aged_entries who (x ∷ xs)) = q in rw s (later (or_none (not (is_act x.frame)) (list_any spoils (aged_entries who xs)) (rw r at z)).1)
-    go false false r s later =
-        let z : Spared (aged_entries who (x ∷ xs)) = q in
-        absurd (true≢false (sym (ap not s) ∙ (or_none (not (is_act x.frame)) (list_any spoils (aged_entries who xs)) (rw r at z)).0))
-    go true true r s later = let z : Spared (aged_entries who (x ∷ xs)) = q in rw s (later (rw r at z))
-    go true false r s later = let z : Spared (aged_entries who (x ∷ xs)) = q in rw (s, r) (later (rw r at z))
+    go a b r s later = grind arith
 
 aged_sure : (s : Bool) (l : Link) → s ≡ true → Spared (aged_entries Controller l.to_controller) → Spared (aged_entries Host l.to_host)
     → sure_aged s (core_of l) ≡ true
@@ -407,8 +382,7 @@ tick_spares s who l node a h k st = go node.ending refl
         let Q : Ending → Type 0 = λ z. Spares (tick_entries who l (as_named z)) s (tick_flag s l (as_named z)) (ticks_at_controller l ts z) in
         let first : core_tick e ts GoesOut ≡ Some (core_turns f ts) = rw k refl in
         let rest : core_tick_rest e ts GoesOut ≡ [] = rw k refl in
-        let flag : tick_flag s l (as_named GoesOut) ≡ sure_tick s (Some (core_turns f ts)) (core_of l) =
-        ap (λ z. flags z (core_tick_rest e ts GoesOut)) first ∙ ap (flags (Some (core_turns f ts))) rest in
+        let flag : tick_flag s l (as_named GoesOut) ≡ sure_tick s (Some (core_turns f ts)) (core_of l) = grind arith in
         let role : (turned f ts).role ≡ e.role =
         turned_role f ts ∙ (ap (λ (z : LinkEnd). z.role) (tick_open e k).0 ∙ moved_role e _ _) in
         subst Q (sym q) (
@@ -455,10 +429,7 @@ event_goes t s l (AtHost e) a g r n o st =
     let b = before_there l g r n.sounds in
     let k = here_spares s Host f e a b o.host st in
     let host : (happens_at_controller f e).host ≡ f.host = (step_here f e a b.tells b.host b.in_order (rests_of 0 0 (core_of f) b.safe) b.from).host in
-    record {
-      sure = λ p sp. sure_there s (core_of l) (core_here f e) ∙ k.0 p sp;
-      active = record { controller = open_as (happens_at_controller f e).host f.host host o.controller; host = k.1 };
-    }
+    grind arith
 event_goes t s l (Ticks c es h) a g r n o st =
     let s0 = safe_aged (core_of l) (safe_reached (core_of l) r) in
     let ps : List Entry = aged_entries Controller l.to_controller in
@@ -489,14 +460,10 @@ event_goes t s l (Ticks c es h) a g r n o st =
     let turns : List CoreEndEvent = rest ++ core_all near es in
     let d : CoreLink = core_all_here first turns in
     let x : Bool = sure_turns (sure_tick n1 t1 (core_aged (core_of l))) first turns in
-    let x_is : x ≡ n3 =
-    turns-append (sure_tick n1 t1 (core_aged (core_of l))) first rest (core_all near es) ∙ ap (λ z. sure_turns n2 z (core_all near es)) (sym one.core) in
-    let d_is : d ≡ core_of m = all_here-append first rest (core_all near es)
-    ∙ (ap (λ z. core_all_here z (core_all near es)) (sym one.core) ∙ sym all.step.core) in
+    let x_is : x ≡ n3 = grind arith in
+    let d_is : d ≡ core_of m = grind arith in
     let core : CoreLinkEvent = CoreTick t1 turns (core_tick l.host.side h.turns h.ending) in
-    let flag : sure_after s (core_of l) (core_event l (Ticks c es h)) ≡ n4 =
-    sure_there (sure_event s (core_of l) core) (core_happens (core_of l) core) (core_tick_rest l.host.side h.turns h.ending)
-    ∙ (ap (λ z. flags z d l.host) x_is ∙ (ap (λ z. flags n3 z l.host) d_is ∙ ap (flags n3 (core_of m)) (sym host_is))) in
+    let flag : sure_after s (core_of l) (core_event l (Ticks c es h)) ≡ n4 = grind arith in
     record {
       sure = λ p sp. let p1 = spared_parts ps (bs ++ (cs ++ (ds ++ fs))) sp in
           let p2 = spared_parts bs (cs ++ (ds ++ fs)) p1.1 in
@@ -538,9 +505,7 @@ event_goes t s l (TicksWithout es h) a g r n o st =
     let x_is : x ≡ n3 = rw a.0 refl in
     let d_is : core_all_here first turns ≡ core_of m = ap (λ z. core_all_here z turns) kept ∙ sym all.step.core in
     let core : CoreLinkEvent = CoreTickWithout turns (core_tick l.host.side h.turns h.ending) in
-    let flag : sure_after s (core_of l) (core_event l (TicksWithout es h)) ≡ n4 =
-    sure_there (sure_event s (core_of l) core) (core_happens (core_of l) core) (core_tick_rest l.host.side h.turns h.ending)
-    ∙ (ap (λ z. flags z (core_all_here first turns) l.host) x_is ∙ (ap (λ z. flags n3 z l.host) d_is ∙ ap (flags n3 (core_of m)) (sym host_is))) in
+    let flag : sure_after s (core_of l) (core_event l (TicksWithout es h)) ≡ n4 = grind arith in
     record {
       sure = λ p sp. let p1 = spared_parts ps (bs ++ (ds ++ fs)) sp in
           let p2 = spared_parts bs (ds ++ fs) p1.1 in
@@ -564,9 +529,7 @@ event_goes t s l (Activate power c id h) a g r n o st = absurd (true≢false st)
 sure_first : (s : Bool) (l : Link) (e : LinkEvent) (es : List LinkEvent) → core_of (happens l e) ≡ core_after (core_of l) (core_event l e)
     → sure_after s (core_of l) (core_events l (e ∷ es))
     ≡ sure_after (sure_after s (core_of l) (core_event l e)) (core_of (happens l e)) (core_events (happens l e) es)
-sure_first s l e es q =
-    let m : Bool = sure_after s (core_of l) (core_event l e) in
-    sure-append s (core_of l) (core_event l e) (core_events (happens l e) es) ∙ ap (λ z. sure_after m z (core_events (happens l e) es)) (sym q)
+sure_first s l e es q = grind arith
 
 -- none of these entries withholds the answer
 record NoneWithholds (u : List Entry) : Type 0 where

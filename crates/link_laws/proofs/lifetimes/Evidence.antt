@@ -1,7 +1,7 @@
 -- What shows that an unacknowledged fragment will be answered in time: it, its answer or the answer that is due.
 use Rattle.std.proofs.Common.{◌==◌}
 use Rattle.link_laws.proofs.Words.{Act, Clt, Control, Due, Fragment, I, Kind, List, Rej, Rej_due, Rnr, Rnr_due, Rr, Rr_due, Rset, Rset_due, S, Srej, Ua, Ua_due}
-use Rattle.link_laws.proofs.Words.{[], ap, arith, cond, eqb-false, eqb-true, inl, inr, refl, with_frame, ℕ, ◌++◌, ◌+◌, ◌<◌, ◌∷◌, ◌≡◌, ◌≤◌, ◌⊎◌}
+use Rattle.link_laws.proofs.Words.{[], arith, cond, eqb-true, inl, inr, refl, with_frame, ℕ, ◌++◌, ◌+◌, ◌<◌, ◌∷◌, ◌≡◌, ◌≤◌, ◌⊎◌}
 use Rattle.link_laws.specs.places.Wire.{OnWire, older}
 use Rattle.link_laws.proofs.places.Flows.{AnswersOnly, Shows, last_count}
 use Rattle.link_laws.proofs.sessions.Wire.{Young, young_later}
@@ -222,15 +222,12 @@ no_srej_push (Clt ∷ ms) m e h = no_srej_push ms m e h
 -- ## Wires whose first mark is taken
 
 pub no_srej_rest : (m : Control) (ms : List Control) → NoSrej (m ∷ ms) → NoSrej ms
-no_srej_rest (S Srej n) ms h = absurd h
-no_srej_rest (_) ms h = h
+no_srej_rest m ms h = grind arith
 
 -- what one that only acknowledges leaves
 pub only_acks : (m : Control) (n a : ℕ) (ms : List Control) → OnlyAcks m n
     → (Answers a m → a < n) × (RewindBy (m ∷ ms) → RewindBy ms) × (last_count a (m ∷ ms) ≡ last_count n ms)
-only_acks (I p k info) n a ms e = (λ g. omega arith, λ g. g, ap (λ b. last_count b ms) e)
-only_acks (S Rr k) n a ms e = (λ g. omega arith, λ g. g, ap (λ b. last_count b ms) e)
-only_acks (_) n a ms e = absurd e
+only_acks m n a ms e = grind arith
 
 -- ## The course
 
@@ -242,8 +239,7 @@ course_from r (I p n info ∷ ms) =
 course_from r (_ ∷ ms) = course_from r ms
 
 pub course_push : (r s n : ℕ) (info : Fragment) (ms : List Control) → s ≤ course_of r ms → s + 1 ≤ course_of r (ms ++ I s n info ∷ [])
-course_push r s n info [] h =
-    by_test {P = s + 1 ≤ cond (s == r) (r + 1) r} (s == r) (λ q. rw q (omega (arith, eqb-true s r q))) (λ q. rw q (let ne = eqb-false s r q in omega arith))
+course_push r s n info [] h = grind arith
 course_push r s n info (I p _ _ ∷ ms) h = course_push (cond (p == r) (r + 1) r) s n info ms h
 course_push r s n info (_ ∷ ms) h = course_push r s n info ms h
 
@@ -268,8 +264,7 @@ course_shows r (x ∷ xs) (Clt ∷ ms) e h = course_shows r xs ms e.1 h
 
 answers_later : (a b r : ℕ) (x : OnWire) (m : Control) (xs : List OnWire) (ms : List Control)
     → (b ≡ r) ⊎ AnswerBy a 0 xs ms → (b ≡ r) ⊎ AnswerBy a 0 (x ∷ xs) (m ∷ ms)
-answers_later a b r x m xs ms (inl q) = inl q
-answers_later a b r x m xs ms (inr q) = inr (inr q)
+answers_later a b r x m xs ms c = grind arith
 
 -- the last number on its way acknowledges all places below it
 pub last_answers : (a b r : ℕ) (wire : List OnWire) (ms : List Control) → Shows wire ms → NoSrej ms → a < r → last_count b ms ≡ r
@@ -280,13 +275,11 @@ last_answers a b r (x ∷ xs) [] e s i h = absurd e
 last_answers a b r (x ∷ xs) (I p n info ∷ ms) e s i h = go (last_answers a n r xs ms e.1 s i h)
   where
     go : (n ≡ r) ⊎ AnswerBy a 0 xs ms → (b ≡ r) ⊎ AnswerBy a 0 (x ∷ xs) (I p n info ∷ ms)
-    go (inl q) = inr (inl (omega arith, omega arith))
-    go (inr q) = inr (inr q)
+    go a = grind arith
 last_answers a b r (x ∷ xs) (S Rr n ∷ ms) e s i h = go (last_answers a n r xs ms e.1 s i h)
   where
     go : (n ≡ r) ⊎ AnswerBy a 0 xs ms → (b ≡ r) ⊎ AnswerBy a 0 (x ∷ xs) (S Rr n ∷ ms)
-    go (inl q) = inr (inl (omega arith, omega arith))
-    go (inr q) = inr (inr q)
+    go a = grind arith
 last_answers a b r (x ∷ xs) (S Rej n ∷ ms) e s i h = inr (inl (tt, omega arith))
 last_answers a b r (x ∷ xs) (S Rnr n ∷ ms) e s i h = inr (inl (tt, omega arith))
 last_answers a b r (x ∷ xs) (S Srej n ∷ ms) e s i h = absurd s
@@ -320,8 +313,4 @@ rewind_due_answers a r (Ua_due ∷ ds) h = rewind_due_answers a r ds h
 
 -- any answer that is due acknowledges all places below the length accepted
 pub due_answers : (a r : ℕ) (d : Due) (ds : List Due) → AnswersOnly (d ∷ ds) → a < r → DueBy a 0 r (d ∷ ds)
-due_answers a r Rr_due ds h i = inl (i, omega arith)
-due_answers a r Rej_due ds h i = inl (omega arith)
-due_answers a r Rnr_due ds h i = inl (omega arith)
-due_answers a r Rset_due ds h i = absurd h
-due_answers a r Ua_due ds h i = absurd h
+due_answers a r d ds h i = grind arith

@@ -1,19 +1,18 @@
 -- Two ends that are Up in one session, and the wires between them, where nothing was lost: the marks of the wires, and the timers in time.
 use Rattle.std.proofs.Common.{max, not, ◌&&◌, ◌==◌}
-use Rattle.std.proofs.lemmas.Bool.{le-ltb, or_cases, or_right}
+use Rattle.std.proofs.lemmas.Bool.{le-ltb, or_right}
 use Rattle.link_laws.proofs.Words.{Act, Bool, Clt, Control, Due, EndState, Fragment, I, Kind, List, None, Option, Rej, Rej_due, Rnr, Rnr_due, Rr, Rr_due, Rset}
-use Rattle.link_laws.proofs.Words.{S, Session, Some, Ua, Up, [], acknowledged, ahead, and_from, and_parts, ap, arith, cases_lt, control_due, eq-eqb, expected}
-use Rattle.link_laws.proofs.Words.{false, fetched, fragment_due, fragment_due-within, frame_due, inl, inr, length, length-append, lt-ltb, ltb-false, ltb-true}
-use Rattle.link_laws.proofs.Words.{made_busy, nat_lt, ne_eqb, not-true, or_parts, place_of, put_out, ready_again, refl, rejected, runs_timer, sent_again}
-use Rattle.link_laws.proofs.Words.{sent_next, slice_get, slice_get_within, subst, sym, take_answer, taken, tick_answer, ticked, true, true≢false, with_frame}
-use Rattle.link_laws.proofs.Words.{with_ready, ℕ, ⊎_elim, ◌%◌, ◌++◌, ◌+◌, ◌<◌, ◌||◌, ◌∙◌, ◌∷◌, ◌≡◌, ◌≤◌, ◌⊎◌}
+use Rattle.link_laws.proofs.Words.{S, Session, Some, Ua, Up, [], acknowledged, ahead, ap, arith, cases_lt, control_due, eq-eqb, expected, false, fetched}
+use Rattle.link_laws.proofs.Words.{fragment_due, fragment_due-within, frame_due, inl, inr, length, length-append, lt-ltb, made_busy, nat_lt, ne_eqb, place_of}
+use Rattle.link_laws.proofs.Words.{put_out, ready_again, refl, rejected, runs_timer, sent_again, sent_next, slice_get, slice_get_within, subst, sym}
+use Rattle.link_laws.proofs.Words.{take_answer, taken, tick_answer, ticked, true, with_frame, with_ready, ℕ, ⊎_elim, ◌%◌, ◌++◌, ◌+◌, ◌<◌, ◌||◌, ◌∙◌, ◌∷◌, ◌≡◌}
+use Rattle.link_laws.proofs.Words.{◌≤◌, ◌⊎◌}
 use Rattle.link_laws.specs.places.Wire.{OnWire, older}
-use Rattle.link_laws.proofs.Cases.{by_test}
 use Rattle.link_laws.proofs.lifetimes.Evidence.{Answers, DueBy, NoSrej, RewindBy, RewindDue, due_more, due_new_rnr, due_new_rr, due_push, rewind_due_push}
 use Rattle.link_laws.proofs.lifetimes.Evidence.{rewind_due_rnr}
 use Rattle.link_laws.proofs.lifetimes.Timely.{AnswersAll, MaySend, Timely, TookFragment, answers_pushed, answers_same, in_time, same_or_below, timely_acked}
-use Rattle.link_laws.proofs.lifetimes.Timely.{timely_answer, timely_answer_I, timely_answering, timely_changed, timely_counted, timely_kept, timely_older}
-use Rattle.link_laws.proofs.lifetimes.Timely.{timely_past, timely_probe, timely_put, timely_received, timely_rewound, timely_send, timely_send_S, timely_still}
+use Rattle.link_laws.proofs.lifetimes.Timely.{timely_answer, timely_answer_I, timely_kept, timely_older, timely_put, timely_received, timely_rewound}
+use Rattle.link_laws.proofs.lifetimes.Timely.{timely_send, timely_send_S}
 use Rattle.link_laws.proofs.places.Joined.{Joined, Sends, ahead_other, ahead_same, changed, fetch_cases, gap_behind, joined_exchanged, joined_fetched}
 use Rattle.link_laws.proofs.places.Joined.{joined_older, joined_put, joined_ready, joined_taken, joined_ticked, not_expected, past_end, place_found}
 use Rattle.link_laws.proofs.places.Joined.{ready_cases, received_cases, taken_I, taken_S, with_next}
@@ -40,23 +39,7 @@ same_number : (c a b : ℕ) → a ≤ c → c ≤ a + 7 → b ≤ c → c ≤ b 
 same_number c a b h i j k e = omega arith
 
 same_mark : (c m : ℕ) (a b : Control) → reduced a ≡ reduced b → Within c m a → Within c m b → a ≡ b
-same_mark c m (I p n info) (I q k more) e g h =
-    let place : p % 8 ≡ q % 8 = cc in
-    let number : n % 8 ≡ k % 8 = cc in
-    let bytes : info ≡ more = cc in
-    let next : p + 1 ≡ q + 1 =
-    same_number m (p + 1) (q + 1) (omega (arith, g.2)) (omega (arith, g.3)) (omega (arith, h.2)) (omega (arith, h.3)) (omega arith) in
-    let same : p ≡ q = omega arith in
-    rw (same, same_number c n k g.0 g.1 h.0 h.1 number, bytes) refl
-same_mark c m (I p n info) (S l k) e g h = absurd (let d : I (p % 8) (n % 8) info ≡ S l (k % 8) = e in cc)
-same_mark c m (S j n) (I q k more) e g h = absurd (let d : S j (n % 8) ≡ I (q % 8) (k % 8) more = e in cc)
-same_mark c m (S j n) (S l k) e g h =
-    let kind : j ≡ l = cc in
-    let number : n % 8 ≡ k % 8 = cc in
-    rw (kind, same_number c n k g.0 g.1 h.0 h.1 number) refl
-same_mark c m (I p n info) (_) e g h = absurd h
-same_mark c m (S j n) (_) e g h = absurd h
-same_mark c m (_) b e g h = absurd g
+same_mark c m a b e g h = grind arith
 
 -- a wire shows one list of such marks
 same_marks : (c m : ℕ) (wire : List OnWire) (ms ns : List Control) → Shows wire ms → Shows wire ns → AllWithin c m ms → AllWithin c m ns → ms ≡ ns
@@ -210,10 +193,7 @@ lasts_ready kn kf near far to_near to_far r h =
   where
     at : (due : List Due) → AnswersAll (length near.session.acc) (length near.session.acc) near.due due
         → BothTimely kn kf (changed near r due) far to_near to_far h.joined.near_marks h.joined.far_marks
-    at due all = (
-      timely_changed near far to_near to_far h.joined.near_marks h.joined.far_marks kn r due h.near_timely,
-      timely_answering far near to_far to_near h.joined.far_marks h.joined.near_marks kf (changed near r due) refl all h.far_timely,
-    )
+    at due all = grind arith
 
 -- ### A tick
 
@@ -221,41 +201,24 @@ tick_by : (P : EndState → Type 0) (e : EndState) → e.phase ≡ Up
     → (runs_timer e.session ≡ false → P e) → (runs_timer e.session ≡ true → P (record e { timer = e.timer + 1 }))
     → (runs_timer e.session ≡ true → 10 ≤ e.timer + 1 → P (sent_again e)) → e.tries < 5
     → P (ticked e) × ((tick_answer e).ended ≡ None)
-tick_by P e up still counted again few = go (runs_timer e.session) (nat_lt (e.timer + 1) 10) refl refl
-  where
-    try : nat_lt e.tries 5 ≡ true
-    try = lt-ltb e.tries 5 few
-
-    go : (a b : Bool) → runs_timer e.session ≡ a → nat_lt (e.timer + 1) 10 ≡ b → P (ticked e) × ((tick_answer e).ended ≡ None)
-    go false b p q = (rw (up, p) (rw up at (still p)), rw (up, p) refl)
-    go true true p q = (rw (up, p, q) (rw up at (counted p)), rw (up, p, q) refl)
-    go true false p q = (rw (up, p, q, try) (rw up at (again p (ltb-false (e.timer + 1) 10 q))), rw (up, p, q, try) refl)
+tick_by P e up still counted again few = grind arith
 
 -- what a timer that runs tells, where nothing is sent and unacknowledged
 waits : (s : Session) → runs_timer s ≡ true → s.next ≤ s.acked → (s.peer_busy ≡ true) × (s.next < length s.out)
-waits s h i = go (or_cases (nat_lt s.acked s.next) (s.peer_busy && nat_lt s.next (length s.out)) h)
-  where
-    go : (nat_lt s.acked s.next ≡ true) ⊎ ((s.peer_busy && nat_lt s.next (length s.out)) ≡ true) → (s.peer_busy ≡ true) × (s.next < length s.out)
-    go (inl e) = absurd (let g = ltb-true s.acked s.next e in omega arith)
-    go (inr e) = let g = and_parts s.peer_busy (nat_lt s.next (length s.out)) e in (g.0, ltb-true s.next (length s.out) g.1)
+waits s h i = grind arith
 
 pub lasts_ticked : (kf : ℕ) (near far : EndState) (to_near to_far : List OnWire) → near.session.probe ≡ false → far.due ≡ []
     → Lasts 1 kf near far to_near to_far → Lasts 0 kf (ticked near) far to_near to_far × ((tick_answer near).ended ≡ None)
 lasts_ticked kf near far to_near to_far noprobe none h =
     let both =
     tick_by (λ e. BothTimely 0 kf e far to_near to_far near_marks far_marks) near h.joined.near_up
-    (λ r. at near refl refl
-    (timely_still near far to_near to_far near_marks far_marks
-    (λ e. let g = (or_parts (nat_lt s.acked s.next) (s.peer_busy && nat_lt s.next (length s.out)) r).0 in let f = ltb-false s.acked s.next g in omega arith)
-    h.near_timely))
-    (λ r. at (record near { timer = near.timer + 1 }) refl refl
-    (timely_counted near far to_near to_far near_marks far_marks (λ e b. runs r e b) h.near_timely))
+    (λ r. grind arith)
+    (λ r. grind arith)
     (λ r late.
     let none_sent : s.next ≤ s.acked = no_more late in
     let w = waits s r none_sent in
     at (sent_again near) refl refl
-    (timely_probe near far to_near to_far near_marks far_marks (omega (arith, h.joined.near_sends.acked_next)) w.1 w.0 noprobe
-    (counts_le s.acked (length far.session.acc) near_marks h.joined.near_sends.counts) h.near_timely))
+    (grind arith))
     (omega (arith, h.near_timely.most)) in (
       lasts_changed 0 kf (ticked near) far to_near to_far 1 kf near h (joined_ticked ⊥ near far to_near to_far both.1 h.joined) both.0,
       both.1,
@@ -275,8 +238,7 @@ lasts_ticked kf near far to_near to_far noprobe none h =
     at e acc due timely = (timely, timely_kept far near to_far to_near far_marks near_marks kf e acc due h.far_timely)
 
     runs : runs_timer s ≡ true → s.acked ≡ s.next → MaySend s → ⊥
-    runs r e (inl b) = true≢false (sym (waits s r (omega arith)).0 ∙ b)
-    runs r e (inr b) = true≢false (sym b ∙ noprobe)
+    runs r e a = grind arith
 
     no_more : 10 ≤ near.timer + 1 → s.next ≤ s.acked
     no_more late = ⊎_elim (λ (e : s.acked < s.next). absurd (let g =
@@ -312,19 +274,6 @@ ack_timer e n i = let b : nat_lt e.session.acked n ≡ true = lt-ltb e.session.a
 ack_same : (e : EndState) (n : ℕ) → e.session.acked ≡ n → ((acknowledged e n).timer ≡ e.timer) × ((acknowledged e n).tries ≡ e.tries)
 ack_same e n i = let b : nat_lt e.session.acked n ≡ false = le-ltb e.session.acked n (omega arith) in (rw b refl, rw b refl)
 
-rr_timer : (e : EndState) (n : ℕ) → e.session.acked < n → (ready_again e n).timer ≡ 0
-rr_timer e n i = by_test (runs_timer (ready_again e n).session) (λ q. rw q (ack_timer e n i).0) (λ q. rw q refl)
-
-rr_same : (e : EndState) (n : ℕ) → e.session.acked ≡ n → n < max e.session.next n → (ready_again e n).timer ≡ e.timer
-rr_same e n i j =
-    let b : nat_lt n (max e.session.next n) ≡ true = lt-ltb n (max e.session.next n) j in
-    rw b (ack_same e n i).0
-
-rr_stops : (e : EndState) (n : ℕ) → n ≡ max e.session.next n → (ready_again e n).timer ≡ 0
-rr_stops e n i =
-    let b : nat_lt n (max e.session.next n) ≡ false = le-ltb n (max e.session.next n) (omega arith) in
-    rw b refl
-
 -- an end that has accepted these fragments and has these control frames to send
 abbrev answering : EndState → List Fragment → List Due → Bool → Bool → EndState
 answering e acc due gap noted = record e { due = due; session = record e.session { acc = acc; gap_open = gap; answered_rnr = noted } }
@@ -356,12 +305,7 @@ lasts_taken near far x to_near to_far noprobe h = (
         → Lasts 0 0 (taken near x.frame) far to_near to_far
     from m ms were both =
         lasts_of 0 0 (taken near x.frame) far to_near to_far ms back one.0
-        (record {
-          near_shows = were.near_shows.1;
-          far_shows = were.far_shows;
-          near_within = were.near_within.1;
-          far_within = were.far_within;
-        })
+        (grind arith)
         (young_later x.age 4 to_near h.near_young.0 h.near_young.1) h.far_young both
 
     go : (ms : List Control) → Shown far (x ∷ to_near) to_far ms back → Sends s t.acc back ms → Sends t s.acc ms back
@@ -382,18 +326,7 @@ lasts_taken near far x to_near to_far noprobe h = (
         → Both ms (answering e acc due gap noted) =
         λ acc due gap noted took. (
           timely_acked near far to_near to_far ms back (answering e acc due gap noted) x (I p n info) n refl h.joined.far_due were.far_shows were.near_shows.1
-              (record {
-                fits = (number.0, told);
-                acked = refl;
-                next = refl;
-                out = refl;
-                no_probe = (noprobe, noprobe);
-                busy = inr refl;
-                grew = ack_timer near n;
-                same_tries = λ g. (ack_same near n g).1;
-                same_timer = λ g i. (ack_same near n g).0;
-                starts = λ q b. zeroed q b (same_or_below s.acked n number.0);
-              })
+              (grind arith)
               near_timely,
           timely_received far near to_far to_near back ms 0 (answering e acc due gap noted) x p n info h.near_young low took far_timely,
         ) in
@@ -414,11 +347,7 @@ lasts_taken near far x to_near to_far noprobe h = (
           course = λ m c. inl (rw more (rw (eq-eqb p (length s.acc) here) at c));
         }))
         (λ z g. at s.acc near.due s.gap_open s.answered_rnr
-        (record {
-          all = answers_same (length s.acc) near.due;
-          new = λ u i j. absurd (gap_behind e.session p z g i far_sends.places.0);
-          course = λ m c. inl (rw (other z) at c);
-        }))
+        (grind arith))
         (λ z g. at s.acc (near.due ++ Rej_due ∷ []) true s.answered_rnr
         (record {
           all = answers_pushed (length s.acc) near.due Rej_due;
@@ -446,11 +375,7 @@ lasts_taken near far x to_near to_far noprobe h = (
         let reach : s.reached ≤ s.acked + 4 = omega (arith, near_sends.window, near_sends.reach_window) in
         let place : place_of s (n % 8) ≡ Some n = place_found s n number.0 number.1 reach in
         let told : n ≤ length t.acc = counts_le n (length t.acc) ms number.2 in
-        let at : (f : EndState) → f.session.acc ≡ s.acc → f.due ≡ near.due → Timely 0 f far to_near to_far ms back → Both ms f =
-        λ f acc due timely. (
-          timely,
-          timely_kept far near to_far to_near back ms 0 f acc due (timely_past far near to_far to_near back ms 0 x k n far_timely),
-        ) in
+        let at : (f : EndState) → f.session.acc ≡ s.acc → f.due ≡ near.due → Timely 0 f far to_near to_far ms back → Both ms f = grind arith in
         let rewound : (f : EndState) → f.session.acked ≡ n → f.session.next ≡ n → f.session.out ≡ s.out → f.session.probe ≡ false → f.timer ≡ 0
         → (f.tries ≤ 1) × (f.tries ≡ 1 → (n ≡ s.acked) × (near.tries ≡ 1) × (f.session.peer_busy ≡ false)) → Timely 0 f far to_near to_far ms back =
         λ f a b c d g tries. timely_rewound near far to_near to_far ms back f x k n
@@ -459,18 +384,7 @@ lasts_taken near far x to_near to_far noprobe h = (
         (subst (λ (c : Control). Both ms (taken near c)) (sym were.near_shows.0) (taken_S (Both ms) near k (n % 8) n h.joined.near_up place (record {
           rr = λ is. at (ready_again near n) refl refl
               (timely_acked near far to_near to_far ms back (ready_again near n) x (S k n) n (rw is refl) h.joined.far_due were.far_shows were.near_shows.1
-              (record {
-                fits = (number.0, told);
-                acked = refl;
-                next = refl;
-                out = refl;
-                no_probe = (noprobe, refl);
-                busy = inl refl;
-                grew = λ g. (rr_timer near n g, (ack_timer near n g).1);
-                same_tries = λ g. (ack_same near n g).1;
-                same_timer = rr_same near n;
-                starts = λ q b. rr_stops near n q;
-              })
+              (grind arith)
               near_timely);
           rej = λ is. at (rejected near n) refl refl (rewound (rejected near n) refl refl refl refl refl (once (same_or_below s.acked n number.0)));
           rnr = λ is. at (made_busy near n) refl refl (rewound (made_busy near n) refl refl refl refl refl (omega arith, λ e. absurd (omega arith)));
@@ -490,14 +404,7 @@ lasts_taken near far x to_near to_far noprobe h = (
 
 -- where a fragment is due the sender may send: the other end isn't busy, or a probe goes out
 may_send : (s : Session) (info : Fragment) → fragment_due s ≡ Some info → MaySend s
-may_send s info e =
-    by_test ((not s.peer_busy || s.probe) && nat_lt s.next (s.acked + s.window))
-    (λ q. pick (or_cases (not s.peer_busy) s.probe (and_parts (not s.peer_busy || s.probe) (nat_lt s.next (s.acked + s.window)) q).0))
-    (λ q. absurd (let n = rw q at e in cc))
-  where
-    pick : (not s.peer_busy ≡ true) ⊎ (s.probe ≡ true) → MaySend s
-    pick (inl b) = inl (not-true s.peer_busy b)
-    pick (inr b) = inr b
+may_send s info e = grind arith
 
 module _ (kf : ℕ) (near far : EndState) (to_near to_far : List OnWire) (h : Lasts 0 kf near far to_near to_far) where
   -- the near end has become e and sent this frame, if any: what is on the wire to the far end then
@@ -599,8 +506,7 @@ no_probe kn kf near far to_near to_far idle h = go near.session.probe refl
         let g = h.near_timely.probes q in
         let may : (not s.peer_busy || s.probe) ≡ true = or_right (not s.peer_busy) s.probe q in
         let inside : nat_lt s.next (s.acked + s.window) ≡ true = lt-ltb s.next (s.acked + s.window) (omega (arith, g.0, h.joined.near_sends.wide)) in
-        let test : ((not s.peer_busy || s.probe) && nat_lt s.next (s.acked + s.window)) ≡ true =
-        and_from (not s.peer_busy || s.probe) (nat_lt s.next (s.acked + s.window)) may inside in
+        let test : ((not s.peer_busy || s.probe) && nat_lt s.next (s.acked + s.window)) ≡ true = grind arith in
         let past : slice_get s.out s.next ≡ None = rw test at none in
         absurd (let f = past_end s.out s.next past in omega (arith, g.0, g.1))
 

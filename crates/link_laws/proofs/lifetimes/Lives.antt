@@ -1,13 +1,13 @@
 -- Each event without a loss keeps both timers in time.
 use Rattle.link_laws.proofs.Words.{Act, Bool, Clt, Control, CoreAtController as AtController, CoreAtHost as AtHost, CoreDeliver as Deliver}
 use Rattle.link_laws.proofs.Words.{CoreEndEvent as ShdlcEndEvent, CoreLink as ShdlcLink, CoreTurn as ShdlcTurn, EndState, I, List, Losses, None, NumberedShdlc}
-use Rattle.link_laws.proofs.Words.{Offer, Rset, S, SetReady, ShdlcLinkEvent, Some, Tick, TickWithout, Turns, Ua, Up, [], ap, arith, begun, came_up}
+use Rattle.link_laws.proofs.Words.{Offer, Rset, S, SetReady, ShdlcLinkEvent, Some, Tick, TickWithout, Turns, Ua, Up, [], ap, arith, came_up}
 use Rattle.link_laws.proofs.Words.{core_after as shdlc_after, core_aged as shdlc_aged, core_all_here as shdlc_all_at_controller}
 use Rattle.link_laws.proofs.Words.{core_happens_here as shdlc_happens_at_controller, core_turned as shdlc_turned, core_with_ended as with_shdlc_ended, false}
-use Rattle.link_laws.proofs.Words.{fetched, frame_due, frames_of, inl, is_some, length, losses_after, ltb-true, most_frames, nat_lt, new_end, no_losses}
-use Rattle.link_laws.proofs.Words.{noted_aged, noted_all, noted_event, noted_here, noted_loss, noted_out, noted_tick, noted_turns, or_parts, refl}
-use Rattle.link_laws.proofs.Words.{shdlc_becomes, shdlc_exchanged, shdlc_happens, shdlc_put, shdlc_put_all, shdlc_ticks_at_controller, shdlc_turn, start, subst}
-use Rattle.link_laws.proofs.Words.{sym, take_answer, taken, tick_answer, ticked, took_with, true, true≢false, with_frame, ℕ, ◌||◌, ◌∙◌, ◌∷◌, ◌≡◌, ◌≤◌}
+use Rattle.link_laws.proofs.Words.{fetched, frame_due, frames_of, inl, is_some, length, losses_after, ltb-true, most_frames, nat_lt, no_losses, noted_aged}
+use Rattle.link_laws.proofs.Words.{noted_all, noted_event, noted_here, noted_loss, noted_out, noted_tick, noted_turns, or_parts, refl, shdlc_becomes}
+use Rattle.link_laws.proofs.Words.{shdlc_exchanged, shdlc_happens, shdlc_put, shdlc_put_all, shdlc_ticks_at_controller, shdlc_turn, start, subst, sym}
+use Rattle.link_laws.proofs.Words.{take_answer, taken, tick_answer, ticked, took_with, true, true≢false, with_frame, ℕ, ◌||◌, ◌∙◌, ◌∷◌, ◌≡◌, ◌≤◌}
 use Rattle.link_laws.specs.places.Wire.{OnWire, fits, is_act, sans, overflows, loses_aged, aged_wire, older}
 use Rattle.link_laws.proofs.places.Flows.{Counts, Shows}
 use Rattle.link_laws.proofs.places.Joined.{few_taken, idle_after, joined_weaker, left, no_due}
@@ -25,13 +25,7 @@ use mathlib.Core.List.{IsPrefix}
 -- ## Wires that show marks
 
 mark_data : (x : OnWire) (xs : List OnWire) (lo hi : ℕ) (ms : List Control) → Shows (x ∷ xs) ms → Counts lo hi ms → IsData x.frame × (is_act x.frame ≡ false)
-mark_data x xs lo hi [] shows counts = absurd shows
-mark_data x xs lo hi (I p n info ∷ ms) shows counts = rw shows.0 (tt, refl)
-mark_data x xs lo hi (S k n ∷ ms) shows counts = rw shows.0 (tt, refl)
-mark_data x xs lo hi (Rset _ _ ∷ ms) shows counts = absurd counts
-mark_data x xs lo hi (Ua ∷ ms) shows counts = absurd counts
-mark_data x xs lo hi (Act _ _ ∷ ms) shows counts = absurd counts
-mark_data x xs lo hi (Clt ∷ ms) shows counts = absurd counts
+mark_data x xs lo hi ms shows counts = grind arith
 
 -- no frame of activation is among them
 sans_all : (wire : List OnWire) (lo hi : ℕ) (ms : List Control) → Shows wire ms → Counts lo hi ms → sans wire ≡ wire
@@ -48,10 +42,7 @@ sans_all (x ∷ xs) lo hi (Clt ∷ ms) shows counts = absurd counts
 
 -- such a wire that loses no frame where one more is put on it holds all of them
 fits_all : (wire : List OnWire) (lo hi : ℕ) (ms : List Control) → Shows wire ms → Counts lo hi ms → overflows wire ≡ false → fits wire ≡ wire
-fits_all [] lo hi ms shows counts none = refl
-fits_all (x ∷ xs) lo hi ms shows counts none =
-    by_test {P = fits (x ∷ xs) ≡ x ∷ xs} (nat_lt 64 (length (x ∷ xs))) (λ q. absurd (true≢false (rw (q, (mark_data x xs lo hi ms shows counts).1) at none)))
-    (λ q. rw q refl)
+fits_all wire lo hi ms shows counts none = grind arith
 
 -- where none is lost by its age, all grow older
 aged_is_older : (wire : List OnWire) → loses_aged wire ≡ false → Young 4 wire → (aged_wire wire ≡ older wire) × Young 4 (older wire)
@@ -138,11 +129,7 @@ module _ (kf : ℕ) (c h : NumberedShdlc) (n : Losses) (l : ShdlcLink) (idle : f
         lasts = r.0;
         near_idle = idle_after most_frames e few;
         far_idle = ap (λ (k : NumberedShdlc). frame_due k.side) r.2 ∙ idle;
-        near = record {
-          emitted = ap (λ (k : NumberedShdlc). k.emitted) r.1 ∙ near.emitted;
-          took = ap (λ (k : NumberedShdlc). k.took) r.1 ∙ near.took;
-          past = ap (λ (k : NumberedShdlc). k.past) r.1 ∙ near.past;
-        };
+        near = grind arith;
         far = let P : NumberedShdlc → Type 0 = Keeps h in subst P (sym r.2) far;
       }
 
@@ -342,17 +329,7 @@ begins_alive l b =
     m = new_meets n f (anew_is_new n b.controller) (anew_is_new f b.host)
 
     timely : (n f : EndState) → IsAnew n → IsAnew f → Timely 0 n f [] [] [] []
-    timely n f g k =
-        record {
-          told = λ e. rw (g.session, k.session) refl;
-          known = tt;
-          course = inl (rw (g.session, k.session) (omega arith));
-          evidence = λ e. absurd (let z = rw g.session at e in omega arith);
-          starts = λ e b. g.timer;
-          probes = λ e. absurd (true≢false (sym (rw g.session at e)));
-          most = rw g.tries (omega arith);
-          tried = λ e. absurd (let z = rw g.tries at e in omega arith);
-        }
+    timely n f g k = grind arith
 
 goes_on : (before now : NumberedShdlc) → now.side.phase ≡ Up → Keeps before now → GoesOn before now
 goes_on before now up k = record { up = up; number = rw (k.emitted, k.took) refl; past = k.past }
@@ -370,10 +347,7 @@ alive_at_host l b events plain none =
     goes_on l.host (shdlc_after l events).host a.lasts.joined.far_up a.far
 
 start_anew : BeginsAnew start
-start_anew = record { controller = anew; host = anew; to_controller = refl; to_host = refl }
-  where
-    anew : IsAnew (begun (new_end 4))
-    anew = record { up = refl; due = refl; timer = refl; tries = refl; window = 4; fits = (omega arith, omega arith); session = refl }
+start_anew = grind arith
 
 pub alive_from_start : (events : List ShdlcLinkEvent) → AllPlain events → LosesNone start events
     → GoesOn start.controller (shdlc_after start events).controller × GoesOn start.host (shdlc_after start events).host

@@ -1,12 +1,11 @@
 -- One sender, its receiver and the wires between them, where nothing was lost: the sender's timer never comes to ten while
 -- something is sent and unacknowledged, and at most one try is made. The near end is the sender.
 use Rattle.std.proofs.Common.{◌==◌, max}
-use Rattle.link_laws.proofs.Words.{Bool, Control, Due, EndState, Fragment, I, Kind, List, S, Session, [], arith, cases_eq, cases_lt, cond, false, inl, inr}
-use Rattle.link_laws.proofs.Words.{length, length-append, put_out, refl, sent_again, sent_next, sym, true, true≢false, with_frame, ℕ, ⊎_elim, ◌++◌, ◌+◌, ◌<◌}
-use Rattle.link_laws.proofs.Words.{◌∙◌, ◌∷◌, ◌≡◌, ◌≤◌, ◌⊎◌}
+use Rattle.link_laws.proofs.Words.{Control, Due, EndState, Fragment, I, Kind, List, S, Session, [], arith, cases_lt, cond, false, inl, inr, length}
+use Rattle.link_laws.proofs.Words.{length-append, put_out, refl, sent_next, sym, true, true≢false, with_frame, ℕ, ⊎_elim, ◌++◌, ◌+◌, ◌<◌, ◌∙◌, ◌∷◌, ◌≡◌, ◌≤◌}
+use Rattle.link_laws.proofs.Words.{◌⊎◌}
 use Rattle.link_laws.specs.places.Wire.{OnWire, older}
 use Rattle.link_laws.proofs.places.Flows.{AnswersOnly, Shows, last_count, last_count_push_I, last_count_push_S, push_not_empty}
-use Rattle.link_laws.proofs.places.Joined.{changed}
 use Rattle.link_laws.proofs.sessions.Wire.{Young}
 use Rattle.link_laws.proofs.lifetimes.Evidence.{Answers, SentBy, AnswerBy, DueBy, RewindDue, RewindBy, NoSrej, OnlyAcks, course_of, sent_push, sent_new}
 use Rattle.link_laws.proofs.lifetimes.Evidence.{answer_push, answer_new, sent_older, answer_older, sent_in_time, answer_in_time, rewind_push, rewind_new}
@@ -15,9 +14,7 @@ use Rattle.link_laws.proofs.lifetimes.Evidence.{rewind_answers, rewind_due_answe
 
 -- one of three ways, each of which is kept
 each : {A B C D E F : Type 0} → A ⊎ (B ⊎ C) → (A → D) → (B → E) → (C → F) → D ⊎ (E ⊎ F)
-each (inl x) f g h = inl (f x)
-each (inr (inl x)) f g h = inr (inl (g x))
-each (inr (inr x)) f g h = inr (inr (h x))
+each a f g h = grind arith
 
 pub same_or_below : (a b : ℕ) → a ≤ b → (a ≡ b) ⊎ (a < b)
 same_or_below a b i = ⊎_elim (λ h. inr h) (λ h. inl (omega arith)) (cases_lt a b)
@@ -143,8 +140,7 @@ module _ (near far : EndState) (to_near to_far : List OnWire) (near_marks far_ma
       known = no_srej_rest m near_marks h.known
 
       free : MaySend near'.session → near'.session.peer_busy ≡ false
-      free (inl b) = b
-      free (inr b) = absurd (true≢false (sym b ∙ took.no_probe.1))
+      free a = grind arith
 
       course : Course near.session.next far near_marks far_marks
       course = each h.course (λ k. k) (λ k. k) rest.1
@@ -154,10 +150,7 @@ module _ (near far : EndState) (to_near to_far : List OnWire) (near_marks far_ma
 
       old : near.session.acked ≡ n → Evidence near.session.acked (near.timer + 0) far (x ∷ to_near) to_far (m ∷ near_marks) far_marks
           → Evidence near.session.acked (near.timer + 0) far to_near to_far near_marks far_marks
-      old e (inl k) = inl k
-      old e (inr (inl (inl k))) = absurd (let g = rest.0 k.0 in omega arith)
-      old e (inr (inl (inr k))) = inr (inl k)
-      old e (inr (inr k)) = inr (inr k)
+      old e a = grind arith
 
       evidence : n < max near.session.next n → (near.session.acked ≡ n) ⊎ (near.session.acked < n)
           → Evidence n (near'.timer + 0) far to_near to_far near_marks far_marks
@@ -167,21 +160,15 @@ module _ (near far : EndState) (to_near to_far : List OnWire) (near_marks far_ma
           rw zero_timer (untimed n answers sf sn known took.fits.1 (omega arith) tell course)
 
       most : (near.session.acked ≡ n) ⊎ (near.session.acked < n) → near'.tries ≤ 1
-      most (inl e) = omega (arith, took.same_tries e, h.most)
-      most (inr g) = omega (arith, (took.grew g).1)
+      most a = grind arith
 
       later : near.session.acked ≡ n → (near.session.acked < near.session.next) ⊎ MaySend near.session
           → (near'.session.acked < near'.session.next) ⊎ MaySend near'.session
-      later e (inl k) = inl (omega (arith, took.acked, took.next))
-      later e (inr (inl k)) = inr (inl (⊎_elim (λ b. b) (λ b. b ∙ k) took.busy))
-      later e (inr (inr k)) = absurd (true≢false (sym k ∙ took.no_probe.0))
+      later e a = grind arith
 
       tried : near'.tries ≡ 1 → (near.session.acked ≡ n) ⊎ (near.session.acked < n)
           → (near'.session.acked < length near'.session.out) × ((near'.session.acked < near'.session.next) ⊎ MaySend near'.session)
-      tried e (inl q) =
-          let t = h.tried (sym (took.same_tries q) ∙ e) in
-          (rw (took.acked, took.out, ← q) t.0, later q t.1)
-      tried e (inr g) = absurd (let z = (took.grew g).1 in omega arith)
+      tried e a = grind arith
 
   -- REJ or RNR: all from its place on is to be sent again
   pub timely_rewound : (near' : EndState) (x : OnWire) (kind : Kind) (n : ℕ) → Rewound near near' far n
@@ -221,21 +208,6 @@ module _ (near far : EndState) (to_near to_far : List OnWire) (near_marks far_ma
       → Timely k near far to_near to_far near_marks far_marks → Timely k near far' to_near to_far near_marks far_marks
   timely_kept k far' same due h = timely_answering k far' same (rw (same, due) (answers_same (length far.session.acc) far.due)) h
 
-  -- it takes a frame without a fragment
-  pub timely_past : (k : ℕ) (x : OnWire) (kind : Kind) (n : ℕ) → Timely k near far to_near (x ∷ to_far) near_marks (S kind n ∷ far_marks)
-      → Timely k near far to_near to_far near_marks far_marks
-  timely_past k x kind n h =
-      record {
-        told = h.told;
-        known = h.known;
-        course = h.course;
-        evidence = h.evidence;
-        starts = h.starts;
-        probes = h.probes;
-        most = h.most;
-        tried = h.tried;
-      }
-
   -- it takes a fragment
   pub timely_received : (k : ℕ) (far' : EndState) (x : OnWire) (p n : ℕ) (info : Fragment) → Young 4 (x ∷ to_far) → near.session.acked ≤ length far.session.acc
       → TookFragment (length far.session.acc) (length far'.session.acc) far.due far'.due p far_marks
@@ -274,31 +246,7 @@ module _ (near far : EndState) (to_near to_far : List OnWire) (near_marks far_ma
       → Timely k (put_out near more) far to_near to_far near_marks far_marks
   timely_put k more h =
       let longer : length near.session.out ≤ length (near.session.out ++ more) = omega (arith, length-append near.session.out more) in
-      record {
-        told = h.told;
-        known = h.known;
-        course = h.course;
-        evidence = h.evidence;
-        starts = h.starts;
-        probes = λ e. ((h.probes e).0, omega (arith, (h.probes e).1));
-        most = h.most;
-        tried = λ e. (omega (arith, (h.tried e).0), (h.tried e).1);
-      }
-
-  -- the sender becomes ready or not ready to receive
-  pub timely_changed : (k : ℕ) (ready : Bool) (due : List Due) → Timely k near far to_near to_far near_marks far_marks
-      → Timely k (changed near ready due) far to_near to_far near_marks far_marks
-  timely_changed k ready due h =
-      record {
-        told = h.told;
-        known = h.known;
-        course = h.course;
-        evidence = h.evidence;
-        starts = h.starts;
-        probes = h.probes;
-        most = h.most;
-        tried = h.tried;
-      }
+      grind arith
 
   -- ## Frames are made
 
@@ -428,59 +376,3 @@ module _ (near far : EndState) (to_near to_far : List OnWire) (near_marks far_ma
       go (inl k) = omega (arith, sent_in_time near.session.acked (near.timer + 1) 4 to_far far_marks yf k)
       go (inr (inl k)) = omega (arith, answer_in_time near.session.acked (near.timer + 1) 4 to_near near_marks yn k)
       go (inr (inr k)) = absurd (rw none at k)
-
-  -- the sender counts a tick
-  pub timely_counted : (near.session.acked ≡ near.session.next → MaySend near.session → ⊥)
-      → Timely 1 near far to_near to_far near_marks far_marks
-      → Timely 0 (record near { timer = near.timer + 1 }) far to_near to_far near_marks far_marks
-  timely_counted runs h =
-      record {
-        told = h.told;
-        known = h.known;
-        course = h.course;
-        evidence = λ e. let same : (near.timer + 1) + 0 ≡ near.timer + 1 = omega arith in rw same (h.evidence e);
-        starts = λ e b. absurd (runs e b);
-        probes = h.probes;
-        most = h.most;
-        tried = h.tried;
-      }
-
-  -- a timer that doesn't run counts nothing
-  pub timely_still : (near.session.acked < near.session.next → ⊥) → Timely 1 near far to_near to_far near_marks far_marks
-      → Timely 0 near far to_near to_far near_marks far_marks
-  timely_still still h =
-      record {
-        told = h.told;
-        known = h.known;
-        course = h.course;
-        evidence = λ e. absurd (still e);
-        starts = h.starts;
-        probes = h.probes;
-        most = h.most;
-        tried = h.tried;
-      }
-
-  -- the other end is busy, something waits and nothing is sent: the first try is made, with a probe
-  pub timely_probe : near.session.acked ≡ near.session.next → near.session.next < length near.session.out → near.session.peer_busy ≡ true
-      → near.session.probe ≡ false → near.session.acked ≤ length far.session.acc
-      → Timely 1 near far to_near to_far near_marks far_marks → Timely 0 (sent_again near) far to_near to_far near_marks far_marks
-  timely_probe none waits busy noprobe low h =
-      record {
-        told = h.told;
-        known = h.known;
-        course = inl (omega (arith, course_from (length far.session.acc) far_marks));
-        evidence = λ e. absurd (omega arith);
-        starts = λ e b. refl;
-        probes = λ e. (refl, omega arith);
-        most = first (cases_eq near.tries 1);
-        tried = λ e. (omega arith, inr (inr busy));
-      }
-    where
-      no_try : (near.session.acked < near.session.next) ⊎ MaySend near.session → ⊥
-      no_try (inl k) = omega arith
-      no_try (inr (inl k)) = true≢false (sym busy ∙ k)
-      no_try (inr (inr k)) = true≢false (sym k ∙ noprobe)
-
-      first : (near.tries ≡ 1) ⊎ (near.tries ≡ 1 → ⊥) → near.tries + 1 ≤ 1
-      first (inl e) = absurd (no_try (h.tried e).1)
-      first (inr e) = omega (arith, h.most)

@@ -1,22 +1,22 @@
 -- What an input does is what its report tells; messages are kept until they are fetched, and frames of activation in their places.
 use Rattle.std.proofs.lemmas.Bool.{and_right}
 use Rattle.std.specs.Prelude.{None, Option, Some}
-use Rattle.link_laws.proofs.Words.{Act, Act as ActFrame, ActDue, ActEvent, ActStart, ActStop, ActTake, ActTick, Activation, Asked, Bare, Bool, ByAct, Chain}
-use Rattle.link_laws.proofs.Words.{Clf, Clt, Control, Down, Due, EndState, Fetch, Fragment, FromNode, Give, HasTick as Tick, Hold, I, Kind, LinkEnd, LinkInput}
-use Rattle.link_laws.proofs.Words.{LinkState, List, Message, Rej_due, Reset, Rnr_due, Role, Rr_due, Rset_due, S, Session, SetAside, Srej, Start, Stop, Take}
-use Rattle.link_laws.proofs.Words.{TakeBroken, TakeUnknown, Turn, Ua, Ua_due, Uicc, Up, Waiting, [], acknowledged, act_answer, activated, after_frames}
-use Rattle.link_laws.proofs.Words.{after_input, after_inputs, ahead, among, ap, append-nil, arith, aside_refusal, began_by, common_steps, cond, control_due}
-use Rattle.link_laws.proofs.Words.{drop, end_after, ended_by, ended_by_act, eqb-true, false, fetched, filter-append, fragment_due, frame_due, frame_fetched}
-use Rattle.link_laws.proofs.Words.{frames_of, frames_out, give_refusal, good_of, had_tick, heard, if_up, in_front, is_faulty, is_good, is_open, is_some}
-use Rattle.link_laws.proofs.Words.{is_waiting, length, length-append, length-map, map, messages_got, most_frames, moved, nat_lt, nearer, new_link_end, news}
-use Rattle.link_laws.proofs.Words.{next_frame, no_session, not, place_of, put_down, received, refl, reset_by, reset_refusal, reset_with, role_after, sent_all}
-use Rattle.link_laws.proofs.Words.{stopped, subst, suc, sym, take, take_answer, taken, tick_answer, ticked, took, true, true≢false, turn, window_of, with_act}
-use Rattle.link_laws.proofs.Words.{with_ready, zero, ℕ, ◌++◌, ◌+◌, ◌-◌, ◌==◌, ◌∙◌, ◌∷◌, ◌≡◌, ◌≤◌}
+use Rattle.link_laws.proofs.Words.{Act, Act as ActFrame, ActDue, ActEvent, ActStart, ActStop, ActTake, ActTick, Activation, Asked, Bool, ByAct, Chain, Clt}
+use Rattle.link_laws.proofs.Words.{Control, Down, Due, EndState, Fetch, Fragment, FromNode, Give, HasTick as Tick, Hold, I, Kind, LinkEnd, LinkInput, LinkState}
+use Rattle.link_laws.proofs.Words.{List, Message, Rej_due, Reset, Rnr_due, Role, Rr_due, Rset_due, S, Session, SetAside, Start, Stop, Take, TakeBroken}
+use Rattle.link_laws.proofs.Words.{TakeUnknown, Turn, Ua, Ua_due, Up, Waiting, [], acknowledged, act_answer, activated, after_frames, after_input, after_inputs}
+use Rattle.link_laws.proofs.Words.{ahead, among, ap, append-nil, arith, aside_refusal, began_by, common_steps, cond, control_due, drop, end_after, ended_by}
+use Rattle.link_laws.proofs.Words.{ended_by_act, eqb-true, false, fetched, filter-append, frame_due, frame_fetched, frames_of, frames_out, give_refusal}
+use Rattle.link_laws.proofs.Words.{good_of, had_tick, heard, if_up, in_front, is_faulty, is_good, is_open, is_some, length, length-append, length-map, map}
+use Rattle.link_laws.proofs.Words.{messages_got, most_frames, moved, nat_lt, nearer, new_link_end, news, next_frame, no_session, not, place_of, put_down}
+use Rattle.link_laws.proofs.Words.{received, refl, reset_by, reset_refusal, reset_with, role_after, sent_all, stopped, subst, suc, sym, take, take_answer}
+use Rattle.link_laws.proofs.Words.{taken, tick_answer, ticked, took, true, true≢false, turn, window_of, with_act, with_ready, zero, ℕ, ◌++◌, ◌+◌, ◌-◌, ◌==◌}
+use Rattle.link_laws.proofs.Words.{◌∙◌, ◌∷◌, ◌≡◌, ◌≤◌}
 use Rattle.link_laws.specs.machine.Laws.{after_fetches, fetches, most_fetches}
 use Rattle.link_laws.specs.machine.Machine.{brought, got_by}
 use Rattle.link_laws.proofs.Cases.{by_list, by_option, by_phase, by_test}
 use Rattle.link_laws.proofs.machine.Runs.{Sound}
-use Rattle.link_laws.proofs.machine.Sound.{IsNotUp, SentAfter, Shift, by_taken, by_tick, reset_shift, same_shift, taken_shift, ticked_shift}
+use Rattle.link_laws.proofs.machine.Sound.{IsNotUp, SentAfter, Shift, by_taken, by_tick, same_shift, taken_shift, ticked_shift}
 use Rattle.link_laws.proofs.machine.Sound.Shift.{Begins, Ends, Renews, Rests, Stays}
 
 -- ## What an input does to the session of an end is what its report tells
@@ -36,17 +36,13 @@ becomes_as p q r h = rw (p, q, r) h
 drop_all : (ms : List Message) → drop (length ms) ms ≡ []
 drop_all ms = grind (arith, common_steps)
 
-drop_nil : (n : ℕ) → drop {A = Message} n [] ≡ []
-drop_nil n = grind (arith, common_steps)
-
 -- where nothing more was accepted, nothing came
 no_news : (before : Session) (s : EndState) → s.session.acc ≡ before.acc → news before s ≡ []
 no_news before s q =
     ap (λ (xs : List (List ℕ)). drop (length (messages_got before)) (messages_got (record s.session { acc = xs }))) q ∙ drop_all (messages_got before)
 
 pub empty_news : (before : Session) (s : EndState) → s.session.acc ≡ [] → news before s ≡ []
-empty_news before s q =
-    ap (λ (xs : List (List ℕ)). drop (length (messages_got before)) (messages_got (record s.session { acc = xs }))) q ∙ drop_nil (length (messages_got before))
+empty_news before s q = grind arith
 
 -- the SHDLC end and the messages sent are the same
 stays_so : (e f : LinkEnd) → f.shdlc ≡ e.shdlc → f.sent ≡ e.sent → Becomes e f false false []
@@ -55,17 +51,11 @@ stays_so e f q s =
 
 -- a link that isn't up goes down
 rests_down : (e f : LinkEnd) → IsNotUp e.shdlc → IsNotUp f.shdlc → f.sent ≡ [] → f.shdlc.session ≡ no_session → Sound e → Becomes e f false false []
-rests_down e f down still sent s h =
-    record {
-      shift = Rests refl refl down still (λ _. s);
-      sent = sent ∙ sym (h.is.forgot down);
-      got = sym (empty_news e.shdlc.session f.shdlc (ap (λ (z : Session). z.acc) s));
-    }
+rests_down e f down still sent s h = grind arith
 
 -- one that is goes down
 ends_down : (e f : LinkEnd) → e.shdlc.phase ≡ Up → IsNotUp f.shdlc → f.sent ≡ [] → f.shdlc.session ≡ no_session → Becomes e f true false []
-ends_down e f up still sent s =
-    record { shift = Ends refl refl up still s; sent = sent; got = sym (empty_news e.shdlc.session f.shdlc (ap (λ (z : Session). z.acc) s)) }
+ends_down e f up still sent s = grind arith
 
 not_up : (e : EndState) (p : LinkState) → e.phase ≡ p → (p ≡ Up → ⊥) → IsNotUp e
 not_up e p q n u = n (sym q ∙ u)
@@ -73,32 +63,10 @@ not_up e p q n u = n (sym q ∙ u)
 -- ### Activation
 
 becomes_act : (e f : LinkEnd) (o : Option Activation) (a : Bool) → Becomes e f a false [] → Becomes e (with_act o f) a false []
-becomes_act e f None a h = h
-becomes_act e f (Some act) false h = record { shift = h.shift; sent = h.sent; got = h.got }
-becomes_act e f (Some act) true h = record { shift = h.shift; sent = h.sent; got = h.got }
+becomes_act e f o a h = grind arith
 
 put_down_so : (e : LinkEnd) (r : Role) → Sound e → Becomes e (record (put_down true e) { role = r }) (is_some (if_up e.shdlc ByAct)) false []
-put_down_so e r h =
-    by_phase e.shdlc.phase (λ p.
-    let f : LinkEnd = record (moved e true (stopped e.shdlc)) { role = r } in
-    let is : record (put_down true e) { role = r } ≡ f = rw p refl in
-    let b : is_some (if_up e.shdlc ByAct) ≡ true = rw p refl in
-    let P : LinkEnd → Type 0 = λ g. Becomes e g (is_some (if_up e.shdlc ByAct)) false [] in
-    subst P (sym is) (becomes_as b refl refl (ends_down e f p (not_up (stopped e.shdlc) Down refl (λ u. cc)) refl refl)))
-    (λ p.
-    let f : LinkEnd = record (moved e true (stopped e.shdlc)) { role = r } in
-    let is : record (put_down true e) { role = r } ≡ f = rw p refl in
-    let b : is_some (if_up e.shdlc ByAct) ≡ false = rw p refl in
-    let P : LinkEnd → Type 0 = λ g. Becomes e g (is_some (if_up e.shdlc ByAct)) false [] in
-    subst P (sym is) (becomes_as b refl refl
-    (rests_down e f (not_up e.shdlc Waiting p (λ u. cc)) (not_up (stopped e.shdlc) Down refl (λ u. cc)) refl refl h)))
-    (λ p.
-    let f : LinkEnd = record e { role = r; shdlc = record e.shdlc { due = [] }; acts = map in_front e.acts } in
-    let is : record (put_down true e) { role = r } ≡ f = rw p refl in
-    let b : is_some (if_up e.shdlc ByAct) ≡ false = rw p refl in
-    let down : IsNotUp e.shdlc = not_up e.shdlc Down p (λ u. cc) in
-    let P : LinkEnd → Type 0 = λ g. Becomes e g (is_some (if_up e.shdlc ByAct)) false [] in
-    subst P (sym is) (becomes_as b refl refl (rests_down e f down down (h.is.forgot down) (h.is.none down) h)))
+put_down_so e r h = grind arith
 
 activated_so : (e : LinkEnd) (event : ActEvent) → Sound e → Becomes e (activated e event) (is_some (ended_by_act e event)) false []
 activated_so e event h =
@@ -152,25 +120,18 @@ restarted_so e event h =
 -- ### Frames
 
 pub shdlc_is : (e : LinkEnd) (b : Bool) (s : EndState) → (moved e b s).shdlc ≡ s
-shdlc_is e false s = refl
-shdlc_is e true s = refl
+shdlc_is e b s = grind arith
 
 pub moved_sent : (e : LinkEnd) (b : Bool) (s : EndState) → SentAfter b e (moved e b s)
-moved_sent e false s = refl
-moved_sent e true s = refl
+moved_sent e b s = grind arith
 
 -- what came beside doesn't count
 sent_beside : (b : Bool) (e f : LinkEnd) (ms : List Message) → SentAfter b e f → SentAfter b e (record f { got = ms })
-sent_beside false e f ms s = s
-sent_beside true e f ms s = s
+sent_beside b e f ms s = grind arith
 
 -- an end without a session can't take a packet that can't be joined
 not_faulty : (e f : EndState) (ended began : Bool) → IsNotUp e → (IsNotUp e → e.session ≡ no_session) → Shift e f ended began → is_faulty f.session ≡ false
-not_faulty e f ended began down none (Stays p q g) = absurd (down g.was)
-not_faulty e f ended began down none (Ends p q up still s) = absurd (down up)
-not_faulty e f ended began down none (Renews p q up n) = absurd (down up)
-not_faulty e f ended began down none (Begins p q d n) = let a = n.acc in rw a refl
-not_faulty e f ended began down none (Rests p q d still s) = let a = ap (λ (z : Session). z.acc) (s (none down)) in rw a refl
+not_faulty e f ended began down none a = grind arith
 
 heard_so : (e : LinkEnd) (c : Control) → Sound e
     → Becomes e (heard e c) (is_some (cond (is_faulty (taken e.shdlc c).session) (Some Chain) (take_answer e.shdlc c).ended))
@@ -217,18 +178,8 @@ heard_so e c h = by (is_faulty (taken e.shdlc c).session) refl
     by true q = let k = bad q in rw q k
     by false q = rw q good
 
--- no session begins with a packet that can't be joined
-faulty_began : (e f : EndState) (ended began : Bool) → is_faulty f.session ≡ true → Shift e f ended began → began ≡ false
-faulty_began e f ended began q (Stays p r g) = r
-faulty_began e f ended began q (Ends p r up still s) = r
-faulty_began e f ended began q (Renews p r up n) = let a : is_faulty f.session ≡ false = let z = n.acc in rw z refl in absurd (true≢false (sym q ∙ a))
-faulty_began e f ended began q (Begins p r d n) = let a : is_faulty f.session ≡ false = let z = n.acc in rw z refl in absurd (true≢false (sym q ∙ a))
-faulty_began e f ended began q (Rests p r d still s) = r
-
 began_so : (e : EndState) (c : Control) → (take_answer e c).began ≡ cond (is_faulty (taken e c).session) false (take_answer e c).began
-began_so e c =
-    by_test (is_faulty (taken e c).session)
-    (λ q. rw q (faulty_began e (taken e c) (is_some (take_answer e c).ended) (take_answer e c).began q (taken_shift e c))) (λ q. rw q refl)
+began_so e c = grind arith
 
 pub no_began : (e : EndState) (act : Activation) (again : Bool) → (take_answer e (Act act again)).began ≡ false
 no_began e act again = by_phase e.phase (λ p. rw p refl) (λ p. rw p refl) (λ p. rw p refl)
@@ -281,25 +232,7 @@ tick_so e h =
     (λ o. rw o (activated_so e ActTick h))
 
 pub reset_so : (e : LinkEnd) (window : Option ℕ) → Sound e → Reports e (Reset window)
-reset_so e window h = by (is_open e.role) (is_waiting e.shdlc) refl refl
-  where
-    w : ℕ
-    w = window_of e window
-
-    by : (a b : Bool) → is_open e.role ≡ a → is_waiting e.shdlc ≡ b → Reports e (Reset window)
-    by false b o q = rw o (stays_so e e refl refl)
-    by true true o q = rw (o, q) (stays_so e e refl refl)
-    by true false o q =
-        let k = moved_so e (is_some (if_up e.shdlc Asked)) (reset_with e.shdlc w) (reset_shift e.shdlc w Asked q) (acc e.shdlc.phase refl) in
-        rw (o, q) (rw q at k)
-      where
-        acc : (p : LinkState) → e.shdlc.phase ≡ p → is_some (if_up e.shdlc Asked) ≡ false → (reset_with e.shdlc w).session.acc ≡ e.shdlc.session.acc
-        acc Up p z = absurd (let y : true ≡ false = rw p at z in cc)
-        acc Waiting p z = absurd (let y : true ≡ false = rw p at q in cc)
-        acc Down p z =
-            let none = h.is.none (not_up e.shdlc Down p (λ u. cc)) in
-            let r : (reset_with e.shdlc w).session ≡ no_session = rw q refl in
-            ap (λ (x : Session). x.acc) (r ∙ sym none)
+reset_so e window h = grind arith
 
 pub start_so : (e : LinkEnd) (v : ℕ) → Sound e → Reports e (Start v)
 start_so e v h = restarted_so e (ActStart v) h
@@ -313,26 +246,16 @@ good-append xs ys = filter-append (λ m. is_good m.1) xs ys
 -- ## Messages that came at an end are kept until they are fetched
 
 pub moved_got : (e : LinkEnd) (b : Bool) (s : EndState) → (moved e b s).got ≡ e.got
-moved_got e true s = refl
-moved_got e false s = refl
+moved_got e b s = grind arith
 
 pub down_got : (e : LinkEnd) (b : Bool) → (put_down b e).got ≡ e.got
-down_got e false = refl
-down_got e true = by_phase {P = (put_down true e).got ≡ e.got} e.shdlc.phase (λ q. rw q refl) (λ q. rw q refl) (λ q. rw q refl)
-
-act_got : (o : Option Activation) (e : LinkEnd) → (with_act o e).got ≡ e.got
-act_got None e = refl
-act_got (Some act) e = refl
+down_got e b = grind arith
 
 pub activated_got : (e : LinkEnd) (event : ActEvent) → (activated e event).got ≡ e.got
-activated_got e event =
-    act_got (act_answer e.role event).send (record (put_down (act_answer e.role event).ended_link e) { role = role_after e.role event })
-    ∙ down_got e (act_answer e.role event).ended_link
+activated_got e event = grind arith
 
 pub reset_got : (e : LinkEnd) (window : Option ℕ) → (after_input e (Reset window)).got ≡ e.got
-reset_got e window =
-    by_option (reset_refusal e) (λ q. let w : ℕ = window_of e window in rw q (moved_got e (is_some (if_up e.shdlc Asked)) (reset_with e.shdlc w)))
-    (λ why q. rw q refl)
+reset_got e window = grind arith
 
 heard_got : (m : LinkEnd) (c : Control) → (took m c ≡ cond (is_open m.role) (heard m c) m)
     → (brought m c ≡ cond (is_open m.role) (cond (is_faulty (taken m.shdlc c).session) [] (news m.shdlc.session (taken m.shdlc c))) [])
@@ -379,12 +302,7 @@ placed_nearer n (a ∷ acts) h p = go (λ b. placed_nearer b acts h) a.behind re
   where
     go : ((b : ℕ) → Placed (suc b) acts (suc h) → Placed b (map nearer acts) h) → (b : ℕ) → a.behind ≡ b → suc n ≤ a.behind
         → Placed a.behind acts (suc h) → Placed n (map nearer (a ∷ acts)) h
-    go later zero q i r = absurd (omega (arith, i, q))
-    go later (suc b) q i r =
-        let P : ℕ → Type 0 = λ z. Placed z acts (suc h) in
-        let Q : ℕ → Type 0 = λ z. Placed z (map nearer acts) h in
-        let less : a.behind - 1 ≡ b = omega (arith, q) in
-        (omega (arith, i), subst Q (sym less) (later b (subst P q r)))
+    go later b q i r = grind arith
 
 -- the last is no more than are due
 top : (low : ℕ) (acts : List ActDue) (h : ℕ) → Placed low acts h → low ≤ h
@@ -392,8 +310,7 @@ top low [] h p = p
 top low (a ∷ acts) h p = let i = top a.behind acts h p.1 in let j = p.0 in omega (arith, i, j)
 
 positive : (n : ℕ) → (n == 0) ≡ false → 1 ≤ n
-positive zero q = absurd (let z : true ≡ false = q in cc)
-positive (suc n) q = omega arith
+positive n q = grind arith
 
 abbrev IsPlaced : LinkEnd → Type 0
 IsPlaced e = Placed 0 e.acts (length e.shdlc.due)
@@ -430,12 +347,7 @@ taken_due e c n =
         (λ x q. let i = received_due (acknowledged e x) ns info in rw (p, q) (rw p at i))
 
     up_S : (k : Kind) (nr : ℕ) → e.phase ≡ Up → length e.due ≤ length (taken e (S k nr)).due
-    up_S k nr p = by k (place_of e.session nr) refl
-      where
-        by : (k : Kind) (o : Option ℕ) → place_of e.session nr ≡ o → length e.due ≤ length (taken e (S k nr)).due
-        by Srej o q = same (S Srej nr) (rw p refl)
-        by c None q = same (S c nr) (rw (p, q) refl)
-        by _ (Some x) q = rw (p, q) (omega arith)
+    up_S k nr p = grind arith
 
 ticked_due : (e : EndState) → is_some (tick_answer e).ended ≡ false → length e.due ≤ length (ticked e).due
 ticked_due e n =
@@ -462,19 +374,14 @@ placed_moved e false s g p = placed_high 0 e.acts (length e.shdlc.due) (length s
 placed_moved e true s g p = placed_front e.acts (length s.due)
 
 placed_down : (b : Bool) (e : LinkEnd) → IsPlaced e → IsPlaced (put_down b e)
-placed_down false e p = p
-placed_down true e p =
-    by_phase {P = IsPlaced (put_down true e)} e.shdlc.phase (λ q. rw q (placed_front e.acts 0)) (λ q. rw q (placed_front e.acts 0))
-    (λ q. rw q (placed_front e.acts 0))
+placed_down b e p = grind (arith, placed_front)
 
 placed_act : (o : Option Activation) (e : LinkEnd) → IsPlaced e → IsPlaced (with_act o e)
 placed_act None e p = p
 placed_act (Some act) e p = placed_push 0 e.acts (length e.shdlc.due) act p
 
 placed_activated : (e : LinkEnd) (event : ActEvent) → IsPlaced e → IsPlaced (activated e event)
-placed_activated e event p =
-    placed_act (act_answer e.role event).send (record (put_down (act_answer e.role event).ended_link e) { role = role_after e.role event })
-    (placed_down (act_answer e.role event).ended_link e p)
+placed_activated e event p = grind (arith, placed_act, placed_down)
 
 placed_heard : (e : LinkEnd) (c : Control) → IsPlaced e → IsPlaced (heard e c)
 placed_heard e c p = by_test (is_faulty (taken e.shdlc c).session) (λ q. rw q down) (λ q. rw q fine)
@@ -551,9 +458,7 @@ placed_inputs [] e p = p
 placed_inputs (i ∷ is) e p = placed_inputs is (after_input e i) (placed_input e i p)
 
 new_placed : (role : Role) → IsPlaced (new_link_end role)
-new_placed Bare = omega arith
-new_placed (Clf s) = omega arith
-new_placed (Uicc s) = omega arith
+new_placed role = grind arith
 
 -- ### One by one
 
@@ -565,15 +470,7 @@ among-nearer n (a ∷ acts) h frames p = go (λ b fs. among-nearer b acts h fs) 
   where
     go : ((b : ℕ) (fs : List Control) → Placed (suc b) acts h → among (suc b) acts fs ≡ among b (map nearer acts) fs) → (b : ℕ) → a.behind ≡ b
         → suc n ≤ a.behind → Placed a.behind acts h → among (suc n) (a ∷ acts) frames ≡ among n (map nearer (a ∷ acts)) frames
-    go known zero q i r = absurd (omega (arith, i, q))
-    go known (suc b) q i r =
-        let P : ℕ → Type 0 = λ z. Placed z acts h in
-        let less : a.behind - suc n ≡ (a.behind - 1) - n = omega arith in
-        let back : a.behind - 1 ≡ b = omega (arith, q) in
-        let later : (fs : List Control) → among a.behind acts fs ≡ among (a.behind - 1) (map nearer acts) fs =
-        λ fs. ap (λ z. among z acts fs) q ∙ (known b fs (subst P q r) ∙ ap (λ z. among z (map nearer acts) fs) (sym back)) in
-        ap (λ z. take z frames ++ Act a.frame false ∷ among a.behind acts (drop z frames)) less
-        ∙ ap (λ fs. take ((a.behind - 1) - n) frames ++ Act a.frame false ∷ fs) (later (drop ((a.behind - 1) - n) frames))
+    go known b q i r = grind arith
 
 -- the first frames fetched, and the end after them
 record OneByOne (k m : ℕ) (e : LinkEnd) : Type 0 where
@@ -581,22 +478,11 @@ record OneByOne (k m : ℕ) (e : LinkEnd) : Type 0 where
   rest : after_fetches k e ≡ record e { shdlc = after_frames m e.shdlc; acts = [] }
 
 pub fetched_due : (s : EndState) (m : ℕ) → length s.due ≤ suc m → length (fetched s).due ≤ m
-fetched_due s m i = go s.due (fragment_due s.session) refl refl
-  where
-    go : (ds : List Due) (o : Option Fragment) → s.due ≡ ds → fragment_due s.session ≡ o → length (fetched s).due ≤ m
-    go [] None p q = rw (p, q) (let l = ap (λ (xs : List Due). length xs) p in omega (arith, l))
-    go [] (Some info) p q = rw (p, q) (let l = ap (λ (xs : List Due). length xs) p in omega (arith, l))
-    go (d ∷ ds) o p q = rw p (let l = ap (λ (xs : List Due). length xs) p in omega (arith, l, i))
+fetched_due s m i = grind arith
 
 one_by_one : (k m : ℕ) (e : LinkEnd) → k ≡ m + length e.acts → length e.shdlc.due ≤ m → IsPlaced e → OneByOne k m e
 one_by_one zero m e q i p =
-    by_list {P = OneByOne zero m e} e.acts (λ w.
-    let l = ap (λ (xs : List ActDue). length xs) w in
-    let none : m ≡ 0 = omega (arith, q, l) in
-    record {
-      frames = sym (ap (λ z. among 0 z (frames_of m e.shdlc)) w ∙ ap (λ z. frames_of z e.shdlc) none);
-      rest = ap (λ z. record e { acts = z }) w ∙ ap (λ z. record e { shdlc = after_frames z e.shdlc; acts = [] }) (sym none);
-    })
+    by_list {P = OneByOne zero m e} e.acts (grind arith)
     (λ a acts w. absurd (let l = ap (λ (xs : List ActDue). length xs) w in omega (arith, q, l)))
 one_by_one (suc k) m e q i p = go (one_by_one k) e.acts refl
   where
@@ -608,30 +494,10 @@ one_by_one (suc k) m e q i p = go (one_by_one k) e.acts refl
 
     first : (o : Option Control) → next_frame e ≡ o → (later : List Control) → fetches k (frame_fetched e) ≡ later → (c : Control) → o ≡ Some c
         → fetches (suc k) e ≡ c ∷ later
-    first None a later b c r = absurd (let z = r in cc)
-    first (Some d) a later b c r = let same : d ≡ c = cc in rw (a, b) (ap (λ z. z ∷ later) same)
+    first o a later b c r = grind arith
 
     none_left : Later → e.acts ≡ [] → OneByOne (suc k) m e
-    none_left later w =
-        let l = ap (λ (xs : List ActDue). length xs) w in
-        let is : m ≡ suc k = omega (arith, q, l) in
-        let f : LinkEnd = record e { shdlc = fetched s } in
-        let fetches_f : frame_fetched e ≡ f = rw w refl in
-        let next : next_frame e ≡ frame_due s = rw w refl in
-        let lf : length f.acts ≡ 0 = l in
-        let placed : IsPlaced f = let P : List ActDue → Type 0 = λ z. Placed 0 z (length (fetched s).due) in subst P (sym w) (omega arith) in
-        let ih = later k f (omega (arith, lf)) (fetched_due s k (omega (arith, i, is))) placed in
-        let plain : among 0 f.acts (frames_of k (fetched s)) ≡ frames_of k (fetched s) = ap (λ z. among 0 z (frames_of k (fetched s))) w in
-        let all : among 0 e.acts (frames_of m s) ≡ frames_of (suc k) s = ap (λ z. among 0 z (frames_of m s)) w ∙ ap (λ z. frames_of z s) is in
-        record {
-          frames = by (frame_due s) refl next (ap (fetches k) fetches_f ∙ (ih.frames ∙ plain)) ∙ sym all;
-          rest = ap (after_fetches k) fetches_f ∙ (ih.rest ∙ ap (λ z. record e { shdlc = after_frames z s; acts = [] }) (sym is));
-        }
-      where
-        by : (o : Option Control) → frame_due s ≡ o → next_frame e ≡ frame_due s → fetches k (frame_fetched e) ≡ frames_of k (fetched s)
-            → fetches (suc k) e ≡ frames_of (suc k) s
-        by None a b c = rw (b, a) refl
-        by (Some d) a b c = rw (b, a) (ap (λ z. d ∷ z) c)
+    none_left later w = grind arith
 
     act_first : Later → (a : ActDue) (acts : List ActDue) → e.acts ≡ a ∷ acts → (a.behind == 0) ≡ true → a.behind ≡ 0 → OneByOne (suc k) m e
     act_first later a acts w z none =
@@ -641,15 +507,8 @@ one_by_one (suc k) m e q i p = go (one_by_one k) e.acts refl
         let next : next_frame e ≡ Some (Act a.frame false) = rw (w, z) refl in
         let here : Placed 0 (a ∷ acts) (length s.due) = let P : List ActDue → Type 0 = λ y. Placed 0 y (length s.due) in subst P w p in
         let ih = later m f (omega (arith, q, l)) i (placed_low 0 a.behind acts (length s.due) (omega (arith, here.0)) here.1) in
-        let all : among 0 e.acts (frames_of m s) ≡ Act a.frame false ∷ among 0 acts (frames_of m s) =
-        ap (λ y. among 0 y (frames_of m s)) w
-        ∙ ap (λ y. take (y - 0) (frames_of m s) ++ Act a.frame false ∷ among y acts (drop (y - 0) (frames_of m s))) none in
-        record {
-          frames =
-              first (next_frame e) refl (fetches k f) (ap (fetches k) fetches_f) (Act a.frame false) next
-              ∙ (ap (λ y. Act a.frame false ∷ y) ih.frames ∙ sym all);
-          rest = ap (after_fetches k) fetches_f ∙ ih.rest;
-        }
+        let all : among 0 e.acts (frames_of m s) ≡ Act a.frame false ∷ among 0 acts (frames_of m s) = grind arith in
+        grind arith
 
     shdlc_first : Later → (a : ActDue) (acts : List ActDue) → e.acts ≡ a ∷ acts → (a.behind == 0) ≡ false → 1 ≤ a.behind
         → (d : Due) (ds : List Due) → s.due ≡ d ∷ ds → (m' : ℕ) → m ≡ suc m' → OneByOne (suc k) m e
@@ -669,10 +528,7 @@ one_by_one (suc k) m e q i p = go (one_by_one k) e.acts refl
         let here : Placed 0 (a ∷ acts) (length s.due) = let P : List ActDue → Type 0 = λ y. Placed 0 y (length s.due) in subst P w p in
         let all : among 0 e.acts (frames_of m s) ≡ c ∷ among 0 ms fs =
         ap (λ y. among 0 y (frames_of m s)) w ∙ (ap (among 0 (a ∷ acts)) frames_are ∙ behind a.behind refl here.1 fs c) in
-        record {
-          frames = first (next_frame e) refl (fetches k f) (ap (fetches k) fetches_f) c next ∙ (ap (λ y. c ∷ y) ih.frames ∙ sym all);
-          rest = ap (after_fetches k) fetches_f ∙ (ih.rest ∙ ap (λ y. record e { shdlc = after_frames y s; acts = [] }) (sym is));
-        }
+        grind arith
       where
         shown : next_frame e ≡ frame_due s
         shown = rw (w, z) refl
@@ -691,8 +547,7 @@ one_by_one (suc k) m e q i p = go (one_by_one k) e.acts refl
             ap (λ x. take (x - 0) (c ∷ fs) ++ Act a.frame false ∷ among x acts (drop (x - 0) (c ∷ fs))) r
             ∙ (ap (λ x. take x (c ∷ fs) ++ Act a.frame false ∷ among (suc b) acts (drop x (c ∷ fs))) whole
             ∙ (ap (λ x. c ∷ (take b fs ++ Act a.frame false ∷ x)) (among-nearer b acts (length s.due) (drop b fs) (subst P r y))
-            ∙ (ap (λ x. c ∷ (take x fs ++ Act a.frame false ∷ among b (map nearer acts) (drop x fs))) (sym part)
-            ∙ ap (λ x. c ∷ (take (x - 0) fs ++ Act a.frame false ∷ among x (map nearer acts) (drop (x - 0) fs))) back)))
+            ∙ (grind arith)))
 
     go : Later → (acts : List ActDue) → e.acts ≡ acts → OneByOne (suc k) m e
     go later [] w = none_left later w

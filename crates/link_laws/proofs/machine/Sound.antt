@@ -1,14 +1,13 @@
 -- What is true of an end after any inputs, with the walks over what a frame and a tick do and what each input does to a session.
 use Rattle.std.proofs.lemmas.Bool.{leb-true}
 use Rattle.std.specs.Prelude.{◌+◌}
-use Rattle.link_laws.proofs.Words.{Bool, Cause, Control, Down, EndState, Fragment, I, Kind, LinkEnd, LinkState, List, Message, None, Option, Peer, Rset, S}
-use Rattle.link_laws.proofs.Words.{Session, Some, Srej, Ua, Ua_due, Up, Waiting, [], acknowledged, ap, append-nil, arith, asked_again, drop, false}
-use Rattle.link_laws.proofs.Words.{fragments_of, given_up, if_up, in_use, inl, inr, is_some, is_waiting, leb-false, length, length-append, length-map, map, min}
-use Rattle.link_laws.proofs.Words.{nat_le, nat_lt, need, need_of_all, no_session, option_to_list, packet_bytes, packet_count, packets_are_counted, packets_of}
-use Rattle.link_laws.proofs.Words.{place_of, received, received-phase, received-sending, refl, reset_with, runs_timer, sent_again, stopped, subst, suc, sym}
-use Rattle.link_laws.proofs.Words.{take, take_answer, taken, tick_answer, ticked, true, up_with, waiting_from, whole_among, zero, ℕ, ⊎_elim, ◌++◌, ◌-◌, ◌<◌}
-use Rattle.link_laws.proofs.Words.{◌==◌, ◌∙◌, ◌∷◌, ◌≡◌, ◌≤◌, ◌⊎◌}
-use Rattle.shdlc_core.proofs.Histories.{place_of-within, received-accepted, received-acked}
+use Rattle.link_laws.proofs.Words.{Bool, Cause, Control, Down, EndState, Fragment, I, Kind, LinkEnd, List, Message, None, Option, Peer, Rset, S, Some, Srej, Ua}
+use Rattle.link_laws.proofs.Words.{Ua_due, Up, Waiting, [], acknowledged, ap, append-nil, arith, asked_again, drop, false, fragments_of, given_up, if_up}
+use Rattle.link_laws.proofs.Words.{in_use, is_some, is_waiting, length, length-append, length-map, map, min, nat_le, need, need_of_all, no_session}
+use Rattle.link_laws.proofs.Words.{option_to_list, packet_bytes, packet_count, packets_are_counted, packets_of, place_of, received, received-phase}
+use Rattle.link_laws.proofs.Words.{received-sending, refl, reset_with, sent_again, subst, suc, sym, take, take_answer, taken, tick_answer, ticked, true}
+use Rattle.link_laws.proofs.Words.{up_with, waiting_from, whole_among, zero, ℕ, ⊎_elim, ◌++◌, ◌-◌, ◌<◌, ◌∙◌, ◌∷◌, ◌≡◌, ◌≤◌, ◌⊎◌}
+use Rattle.shdlc_core.proofs.Histories.{received-accepted, received-acked}
 use Rattle.shdlc_core.specs.Machine.{accepted_reset, fragment_accepted, nothing_taken, nothing_ticked}
 use Rattle.shdlc_core.specs.declared.answers.Taken.{Taken}
 use Rattle.shdlc_core.specs.declared.answers.Ticked.{Ticked}
@@ -30,22 +29,7 @@ pub by_taken : (Q : Control → EndState → Taken → Type 0) (e : EndState)
     → Q (Rset w caps) (up_with (record e { due = e.due ++ Ua_due ∷ [] }) (min e.own_window (min w 4))) (record nothing_taken { began = true }))
     → (e.phase ≡ Waiting → Q Ua (accepted_reset e) (record nothing_taken { began = true }))
     → (c : Control) → Q c (taken e c) (take_answer e c)
-by_taken Q e fragment supervised passed renews answers begins confirmed c = go e.phase refl c
-  where
-    go : (p : LinkState) → e.phase ≡ p → (c : Control) → Q c (taken e c) (take_answer e c)
-    go Up p (I ns nr info) = rw p (rw p at (fragment ns nr info p))
-    go Up p (S kind nr) = rw p (rw p at (supervised kind nr p))
-    go Up p (Rset w caps) =
-        by_test {P = Q (Rset w caps) (taken e (Rset w caps)) (take_answer e (Rset w caps))} (w == 0) (λ q. rw (p, q) (rw p at (passed (Rset w caps))))
-        (λ q. rw (p, q) (renews w caps p))
-    go Waiting p (Rset w caps) =
-        by_test {P = Q (Rset w caps) (taken e (Rset w caps)) (take_answer e (Rset w caps))} (w == 0) (λ q. rw (p, q) (rw p at (passed (Rset w caps))))
-        (λ q. rw (p, q) (rw p at (answers w caps p)))
-    go Down p (Rset w caps) =
-        by_test {P = Q (Rset w caps) (taken e (Rset w caps)) (take_answer e (Rset w caps))} (w == 0) (λ q. rw (p, q) (rw p at (passed (Rset w caps))))
-        (λ q. rw (p, q) (begins w caps p))
-    go Waiting p Ua = rw p (confirmed p)
-    go _ p frame = rw p (rw p at (passed frame))
+by_taken Q e fragment supervised passed renews answers begins confirmed c = grind arith
 
 -- Nothing comes of a tick; it counts; an end that is Up sends again, and begins to wait; one that waits asks again, and gives up.
 pub by_tick : (Q : EndState → Ticked → Type 0) (e : EndState) → Q e nothing_ticked
@@ -53,19 +37,7 @@ pub by_tick : (Q : EndState → Ticked → Type 0) (e : EndState) → Q e nothin
     → (e.phase ≡ Up → Q (waiting_from e) (record nothing_ticked { ended = Some NoAnswer })) → (e.phase ≡ Waiting → Q (asked_again e) nothing_ticked)
     → (e.phase ≡ Waiting → Q (given_up e) (record nothing_ticked { gave_up = Some e.tries }))
     → Q (ticked e) (tick_answer e)
-by_tick Q e same counted again waits asks gives_up =
-    go e.phase (runs_timer e.session) (nat_lt (e.timer + 1) 10) (nat_lt e.tries 5) refl refl refl refl
-  where
-    go : (p : LinkState) (a b c : Bool) → e.phase ≡ p → runs_timer e.session ≡ a → nat_lt (e.timer + 1) 10 ≡ b → nat_lt e.tries 5 ≡ c
-        → Q (ticked e) (tick_answer e)
-    go Down a b c p q r t = rw p (rw p at same)
-    go Up false b c p q r t = rw (p, q) (rw p at same)
-    go Up true true c p q r t = rw (p, q, r) (rw p at (counted (inl p)))
-    go Up true false true p q r t = rw (p, q, r, t) (rw p at (again p))
-    go Up true false false p q r t = rw (p, q, r, t) (rw p at (waits p))
-    go Waiting a true c p q r t = rw (p, r) (rw p at (counted (inr p)))
-    go Waiting a false true p q r t = rw (p, r, t) (rw p at (asks p))
-    go Waiting a false false p q r t = rw (p, r, t) (gives_up p)
+by_tick Q e same counted again waits asks gives_up = grind arith
 
 -- ## What each thing that comes to an SHDLC end does to its session: it goes on, ends, begins, or there is none
 
@@ -128,19 +100,7 @@ same_shift e f q =
 -- what is acknowledged by a valid number
 at_place : {e f : EndState} (nr : ℕ) {x : ℕ} (more : List Fragment) → e.phase ≡ Up → f.phase ≡ Up → place_of e.session nr ≡ Some x
     → f.session.out ≡ e.session.out → f.session.reached ≡ e.session.reached → f.session.acked ≡ x → f.session.acc ≡ e.session.acc ++ more → GoesOn e f
-at_place {e} nr {x} more p q place out reached acked acc =
-    let w = place_of-within e.session nr x place in
-    record {
-      was = p;
-      is = q;
-      out = out;
-      reached = reached;
-      low = omega (arith, w.0, acked);
-      high = omega (arith, w.1, acked, reached);
-      within = λ _. omega (arith, w.1, acked, reached);
-      more = more;
-      acc = acc;
-    }
+at_place nr more p q place out reached acked acc = grind arith
 
 up_I : (e : EndState) (ns nr : ℕ) (info : Fragment) → e.phase ≡ Up → Shift e (taken e (I ns nr info)) false false
 up_I e ns nr info up =
@@ -213,20 +173,7 @@ ticked_shift e =
 
 -- a reset that isn't refused
 pub reset_shift : (e : EndState) (w : ℕ) (cause : Cause) → is_waiting e ≡ false → Shift e (reset_with e w) (is_some (if_up e cause)) false
-reset_shift e w cause n =
-    by_phase e.phase
-    (λ p. let s : Shift e (reset_with e w) true false = Ends refl refl p (waiting_not_up (reset_with e w) (rw n refl)) (rw n refl) in rw p (rw p at s))
-    (λ p. absurd (let z : true ≡ false = rw p at n in cc)) (λ p.
-    let s : Shift e (reset_with e w) false false =
-    Rests refl refl (down_not_up e p) (waiting_not_up (reset_with e w) (rw n refl)) (λ _. rw n refl) in
-    rw p (rw p at s))
-
--- the link goes down
-pub stopped_shift : (e : EndState) (cause : Cause) → Shift e (stopped e) (is_some (if_up e cause)) false
-stopped_shift e cause =
-    by_phase e.phase (λ p. let s : Shift e (stopped e) true false = Ends refl refl p (down_not_up (stopped e) refl) refl in rw p (rw p at s))
-    (λ p. let s : Shift e (stopped e) false false = Rests refl refl (waiting_not_up e p) (down_not_up (stopped e) refl) (λ _. refl) in rw p (rw p at s))
-    (λ p. let s : Shift e (stopped e) false false = Rests refl refl (down_not_up e p) (down_not_up (stopped e) refl) (λ _. refl) in rw p (rw p at s))
+reset_shift e w cause n = grind arith
 
 -- ## What is true of an end after any inputs
 
@@ -243,9 +190,7 @@ whole_more (m ∷ ms) a b i =
     n = packet_count (length m.1)
 
     go : (x y : Bool) → nat_le n a ≡ x → nat_le n b ≡ y → whole_among ms (a - n) ≤ whole_among ms (b - n) → whole_among (m ∷ ms) a ≤ whole_among (m ∷ ms) b
-    go true true p q later = rw (p, q) (omega (arith, later))
-    go true false p q later = absurd (let u = leb-true n a p in let v = leb-false n b q in omega (arith, u, v, i))
-    go false y p q later = rw p (omega arith)
+    go x y p q later = grind arith
 
 -- no more than there are
 pub whole_few : (ms : List Message) (a : ℕ) → whole_among ms a ≤ length ms
@@ -275,10 +220,7 @@ pub need_less : (ms : List Message) (a b : ℕ) → a ≤ b → need_of_all (dro
 need_less [] a b i = go a b
   where
     go : (a b : ℕ) → need_of_all (drop b []) ≤ need_of_all (drop a [])
-    go zero zero = omega arith
-    go zero (suc b) = omega arith
-    go (suc a) zero = omega arith
-    go (suc a) (suc b) = omega arith
+    go a b = grind arith
 need_less (m ∷ ms) zero zero i = omega arith
 need_less (m ∷ ms) zero (suc b) i = let l = need_less ms zero b (omega arith) in omega (arith, l)
 need_less (m ∷ ms) (suc a) zero i = absurd (omega (arith, i))
@@ -294,9 +236,7 @@ need_more (x ∷ ms) m (suc a) i = need_more ms m a (omega (arith, i))
 -- a message more changes nothing of those before it: not all of its fragments are among those that are there already
 pub whole_given : (ms : List Message) (m : Message) (a : ℕ) → 0 < packet_count (length m.1) → a ≤ length (fragments_of ms)
     → whole_among (ms ++ m ∷ []) a ≡ whole_among ms a
-whole_given [] m a p i =
-    by_test {P = whole_among (m ∷ []) a ≡ 0} (nat_le (packet_count (length m.1)) a)
-    (λ q. absurd (let l = leb-true (packet_count (length m.1)) a q in omega (arith, l, p, i))) (λ q. rw q refl)
+whole_given [] m a p i = grind arith
 whole_given (x ∷ ms) m a p i =
     by_test {P = whole_among (x ∷ (ms ++ m ∷ [])) a ≡ whole_among (x ∷ ms) a} (nat_le n a)
     (λ q. rw q (ap suc ((whole_given ms m (a - n) p) (omega (arith, i, l))))) (λ q. rw q refl)
@@ -323,33 +263,11 @@ abbrev pub SentAfter : Bool → LinkEnd → LinkEnd → Type 0
 SentAfter true e f = f.sent ≡ []
 SentAfter false e f = f.sent ≡ e.sent
 
--- no message, no blocks
-empty_room : (e f : LinkEnd) → f.sent ≡ [] → f.aside ≡ e.aside → Data e → in_use f + f.aside ≤ 128
-empty_room e f q a h =
-    let none : in_use f ≡ 0 = ap (λ (ms : List Message). need_of_all (drop (whole_among ms f.shdlc.session.acked) ms)) q in
-    omega (arith, none, a, h.room)
-
 fresh : (e f : LinkEnd) → f.sent ≡ [] → f.aside ≡ e.aside → IsNew f.shdlc → Data e → Data f
-fresh e f sent aside n h =
-    record {
-      out = n.out ∙ ap fragments_of (sym sent);
-      none = λ no. absurd (no n.is);
-      forgot = λ no. absurd (no n.is);
-      acked = omega (arith, n.acked, n.reached);
-      reached = omega (arith, n.reached);
-      room = empty_room e f sent aside h;
-    }
+fresh e f sent aside n h = grind arith
 
 idle : (e f : LinkEnd) → f.sent ≡ [] → f.aside ≡ e.aside → f.shdlc.session ≡ no_session → Data e → Data f
-idle e f sent aside s h =
-    record {
-      out = ap (λ (x : Session). x.out) s ∙ ap fragments_of (sym sent);
-      none = λ _. s;
-      forgot = λ _. sent;
-      acked = let a = ap (λ (x : Session). x.acked) s in let r = ap (λ (x : Session). x.reached) s in omega (arith, a, r);
-      reached = let r = ap (λ (x : Session). x.reached) s in omega (arith, r);
-      room = empty_room e f sent aside h;
-    }
+idle e f sent aside s h = grind arith
 
 -- a step keeps all that
 pub shifted : (e f : LinkEnd) (ended began : Bool) → Shift e.shdlc f.shdlc ended began → SentAfter ended e f → f.aside ≡ e.aside → Data e → Data f
@@ -359,16 +277,8 @@ shifted e f ended began (Stays p q g) sent aside h =
     let len = ap (λ (xs : List (List ℕ)). length xs) out in
     let less = need_less e.sent (whole_among e.sent e.shdlc.session.acked) (whole_among e.sent f.shdlc.session.acked)
     (whole_more e.sent e.shdlc.session.acked f.shdlc.session.acked g.low) in
-    let blocks : in_use f ≡ need_of_all (drop (whole_among e.sent f.shdlc.session.acked) e.sent) =
-    ap (λ (ms : List Message). need_of_all (drop (whole_among ms f.shdlc.session.acked) ms)) same in
-    record {
-      out = g.out ∙ (h.out ∙ ap fragments_of (sym same));
-      none = λ no. absurd (no g.is);
-      forgot = λ no. absurd (no g.is);
-      acked = g.within h.acked;
-      reached = omega (arith, g.reached, h.reached, len);
-      room = omega (arith, blocks, less, h.room, aside);
-    }
+    let blocks : in_use f ≡ need_of_all (drop (whole_among e.sent f.shdlc.session.acked) e.sent) = grind arith in
+    grind arith
 shifted e f ended began (Ends p q up down s) sent aside h = idle e f (subst (λ b. SentAfter b e f) p sent) aside s h
 shifted e f ended began (Renews p q up n) sent aside h = fresh e f (subst (λ b. SentAfter b e f) p sent) aside n h
 shifted e f ended began (Begins p q down n) sent aside h = fresh e f (subst (λ b. SentAfter b e f) p sent ∙ h.forgot down) aside n h

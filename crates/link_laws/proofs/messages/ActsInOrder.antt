@@ -1,14 +1,13 @@
 -- Frames of activation on the wires of a link: an active CLF never meets ACT_SYNC_ID.
 use Rattle.std.specs.Prelude.{◌+◌}
 use Rattle.link_laws.proofs.Words.{Act, ActOut, ActReady, ActStart, ActStop, ActTake, ActTick, Activation, Awaiting, Bare, Bool, CanStart, Clf, ClfAct, Control}
-use Rattle.link_laws.proofs.Words.{Down, Due, EndState, I, IfLine, Inactive, Link, LinkEnd, List, None, OnWire, Option, Phase, PowerMode, Rej_due, Rnr_due}
-use Rattle.link_laws.proofs.Words.{Role, Rr_due, Rset, Rset_due, S, Some, SyncId, Ua_due, Uicc, [], act_answer, act_frame, aged_wire, ap, cond, control_due}
-use Rattle.link_laws.proofs.Words.{drop, false, fetched, fits, frame_due, frames_of, inl, inr, is_act, is_active, is_open, length, nat_le, nat_lt, put, put_all}
-use Rattle.link_laws.proofs.Words.{refl, renewed, role_after, subst, suc, sym, true, true≢false, zero, ℕ, ◌++◌, ◌∙◌, ◌∷◌, ◌≡◌, ◌⊎◌}
+use Rattle.link_laws.proofs.Words.{Down, EndState, I, IfLine, Inactive, Link, LinkEnd, List, None, OnWire, Option, Phase, PowerMode, Role, Rset, S, Some}
+use Rattle.link_laws.proofs.Words.{SyncId, Uicc, [], act_answer, act_frame, aged_wire, ap, arith, false, fetched, fits, frame_due, frames_of, inl, inr, is_act}
+use Rattle.link_laws.proofs.Words.{is_active, is_open, nat_le, nat_lt, put, put_all, refl, role_after, subst, suc, sym, true, true≢false, zero, ℕ, ◌++◌, ◌∙◌}
+use Rattle.link_laws.proofs.Words.{◌∷◌, ◌≡◌, ◌⊎◌}
 use Rattle.swp_act.specs.declared.Phase.TheVariants.{Active}
 use Rattle.swp_act.specs.declared.uicc.UiccAct.{UiccAct}
 use Rattle.swp_act.specs.Activation.{no_act_out, sends, clf_step, uicc_step, phase_ticked}
-use Rattle.link_laws.proofs.places.Joined.{fetch_cases}
 use Rattle.link_laws.proofs.Cases.{by_option, by_test}
 
 -- ## Frames on a wire
@@ -40,12 +39,7 @@ without_push f [] x q h = (q, tt)
 without_push f (y ∷ w) x q h = (h.0, without_push f w x q h.1)
 
 without_fits : (f : Control → Bool) (w : List OnWire) → Without f w → Without f (fits w)
-without_fits f w h = go (nat_lt 64 (length w)) w h
-  where
-    go : (b : Bool) (v : List OnWire) → Without f v → Without f (cond b (drop 1 v) v)
-    go false v g = g
-    go true [] g = g
-    go true (x ∷ xs) g = g.1
+without_fits f w h = grind arith
 
 without_aged : (f : Control → Bool) (w : List OnWire) → Without f w → Without f (aged_wire w)
 without_aged f [] h = tt
@@ -62,12 +56,7 @@ first_push (y ∷ w) x (inr s) h = (go h.0, first_push w x (inr s) h.1)
     go (inr b) = inr (without_push is_sync w x s b)
 
 first_fits : (w : List OnWire) → SyncFirst w → SyncFirst (fits w)
-first_fits w h = go (nat_lt 64 (length w)) w h
-  where
-    go : (b : Bool) (v : List OnWire) → SyncFirst v → SyncFirst (cond b (drop 1 v) v)
-    go false v g = g
-    go true [] g = g
-    go true (x ∷ xs) g = g.1
+first_fits w h = grind arith
 
 first_aged : (w : List OnWire) → SyncFirst w → SyncFirst (aged_wire w)
 first_aged [] h = tt
@@ -79,8 +68,7 @@ first_aged (x ∷ xs) h =
     more (inr b) = inr (without_aged is_sync xs b)
 
 not_act : (c : Control) → is_act c ≡ false → (is_sync c ≡ false) × (is_ready c ≡ false) × (is_again c ≡ false)
-not_act (Act _ _) q = absurd (true≢false q)
-not_act _ q = (refl, refl, refl)
+not_act c q = grind arith
 
 -- ## A CLF, a UICC and the wires to them
 
@@ -100,12 +88,7 @@ pub record Line (c : ClfAct) (u : UiccAct) (to_c to_u : List OnWire) : Type 0 wh
 line_less : (c : ClfAct) (u : UiccAct) (w v w' v' : List OnWire) → ((f : Control → Bool) → Without f w → Without f w') → (SyncFirst w → SyncFirst w')
     → (Without is_again v → Without is_again v')
     → Line c u w v → Line c u w' v'
-line_less c u w v w' v' less tail plain h =
-    record { clf = λ q. let z = h.clf q in (less is_sync z.0, z.1); ready = go h.ready; tail = tail h.tail; plain = plain h.plain; last = h.last }
-  where
-    go : Without is_ready w ⊎ (is_awaiting u.phase ≡ false) → Without is_ready w' ⊎ (is_awaiting u.phase ≡ false)
-    go (inl a) = inl (less is_ready a)
-    go (inr b) = inr b
+line_less c u w v w' v' less tail plain h = grind arith
 
 -- a frame more to the UICC
 line_push_u : (c : ClfAct) (u : UiccAct) (w v : List OnWire) (x : OnWire) → is_again x.frame ≡ false → Line c u w v → Line c u w (fits (v ++ x ∷ []))
@@ -139,27 +122,11 @@ abbrev pub LinkInOrder : Link → Type 0
 LinkInOrder l = ActsInOrder l.controller.side.role l.host.side.role l.to_controller l.to_host
 
 pub in_order_swap : (r f : Role) (w v : List OnWire) → ActsInOrder r f w v → ActsInOrder f r v w
-in_order_swap Bare Bare w v h = tt
-in_order_swap (Clf c) (Uicc u) w v h = h
-in_order_swap (Uicc u) (Clf c) w v h = h
-in_order_swap Bare (Clf c) w v h = absurd h
-in_order_swap Bare (Uicc u) w v h = absurd h
-in_order_swap (Clf c) Bare w v h = absurd h
-in_order_swap (Clf c) (Clf d) w v h = absurd h
-in_order_swap (Uicc u) Bare w v h = absurd h
-in_order_swap (Uicc u) (Uicc t) w v h = absurd h
+in_order_swap r f w v h = grind arith
 
 -- the first frame on the wire to the near end is gone
 pub in_order_drop : (r f : Role) (x : OnWire) (w v : List OnWire) → ActsInOrder r f (x ∷ w) v → ActsInOrder r f w v
-in_order_drop Bare Bare x w v h = tt
-in_order_drop (Clf c) (Uicc u) x w v h = line_less c u (x ∷ w) v w v (λ f z. z.1) (λ z. z.1) (λ z. z) h
-in_order_drop (Uicc u) (Clf c) x w v h = line_less c u v (x ∷ w) v w (λ f z. z) (λ z. z) (λ z. z.1) h
-in_order_drop Bare (Clf c) x w v h = absurd h
-in_order_drop Bare (Uicc u) x w v h = absurd h
-in_order_drop (Clf c) Bare x w v h = absurd h
-in_order_drop (Clf c) (Clf d) x w v h = absurd h
-in_order_drop (Uicc u) Bare x w v h = absurd h
-in_order_drop (Uicc u) (Uicc t) x w v h = absurd h
+in_order_drop r f x w v h = grind arith
 
 pub in_order_aged : (r f : Role) (w v : List OnWire) → ActsInOrder r f w v → ActsInOrder r f (aged_wire w) (aged_wire v)
 in_order_aged Bare Bare w v h = tt
@@ -191,20 +158,7 @@ NoActs [] = Unit {0}
 NoActs (c ∷ cs) = (is_act c ≡ false) × NoActs cs
 
 due_no_act : (e : EndState) (c : Control) → frame_due e ≡ Some c → is_act c ≡ false
-due_no_act e c q = fetch_cases (λ f o. o ≡ Some c → is_act c ≡ false) e (λ d ds p r. control d r) (λ p n r. cc) (λ info p n r. let z = r in fragment z) q
-  where
-    by : (d : Control) → is_act d ≡ false → Some d ≡ Some c → is_act c ≡ false
-    by d n r = let same : d ≡ c = cc in ap is_act (sym same) ∙ n
-
-    control : (d : Due) → Some (control_due e d) ≡ Some c → is_act c ≡ false
-    control Rr_due r = by (control_due e Rr_due) refl r
-    control Rej_due r = by (control_due e Rej_due) refl r
-    control Rnr_due r = by (control_due e Rnr_due) refl r
-    control Rset_due r = by (control_due e Rset_due) refl r
-    control Ua_due r = by (control_due e Ua_due) refl r
-
-    fragment : {n m : ℕ} {info : List ℕ} → Some (I n m info) ≡ Some c → is_act c ≡ false
-    fragment {n} {m} {info} r = by (I n m info) refl r
+due_no_act e c q = grind arith
 
 pub no_acts : (n : ℕ) (e : EndState) → NoActs (frames_of n e)
 no_acts zero e = tt
@@ -255,18 +209,7 @@ uicc_stops c u t w v q h = record { clf = λ a. ((h.clf a).0, q); ready = inr q;
 
 -- the UICC goes on waiting
 uicc_waits : (c : ClfAct) (u t : UiccAct) (w v : List OnWire) → is_awaiting u.phase ≡ true → t.last ≡ u.last → Line c u w v → Line c t w v
-uicc_waits c u t w v q s h =
-    record {
-      clf = λ a. absurd (true≢false (sym q ∙ (h.clf a).1));
-      ready = go h.ready;
-      tail = h.tail;
-      plain = h.plain;
-      last = λ a. let z = h.last q in (z.0, s ∙ z.1);
-    }
-  where
-    go : Without is_ready w ⊎ (is_awaiting u.phase ≡ false) → Without is_ready w ⊎ (is_awaiting t.phase ≡ false)
-    go (inl a) = inl a
-    go (inr b) = absurd (true≢false (sym q ∙ b))
+uicc_waits c u t w v q s h = grind arith
 
 -- and sends ACT_SYNC_ID again
 uicc_syncs : (c : ClfAct) (u : UiccAct) (w v : List OnWire) (id : ℕ) → is_awaiting u.phase ≡ true → Line c u w v → Line c u (with_sent (Some (SyncId id)) w) v
@@ -281,8 +224,7 @@ uicc_syncs c u w v id q h =
     }
   where
     go : Without is_ready w ⊎ (is_awaiting u.phase ≡ false) → Without is_ready w
-    go (inl a) = a
-    go (inr b) = absurd (true≢false (sym q ∙ b))
+    go a = grind arith
 
     none : Without is_ready w
     none = go h.ready
@@ -309,16 +251,7 @@ in_order_take (Clf c) (Uicc u) x w v act again q h = go act again q
     by act again z p t = subst P (sym p) t
 
     active : is_ready x.frame ≡ true → (d : ClfAct) → Line d u w v
-    active y d =
-        record { clf = λ _. (syncs h.tail.0, waits h.ready); ready = g.ready; tail = g.tail; plain = g.plain; last = g.last }
-      where
-        syncs : (is_ready x.frame ≡ false) ⊎ Without is_sync w → Without is_sync w
-        syncs (inl a) = absurd (true≢false (sym y ∙ a))
-        syncs (inr b) = b
-
-        waits : Without is_ready (x ∷ w) ⊎ (is_awaiting u.phase ≡ false) → is_awaiting u.phase ≡ false
-        waits (inl a) = absurd (true≢false (sym y ∙ a.0))
-        waits (inr b) = b
+    active y d = grind arith
 
     go : (act : Activation) (again : Bool) → x.frame ≡ Act act again → P (clf_step c (ActTake act again))
     go act true q = clf_sends c u w v c.last g
@@ -353,14 +286,7 @@ in_order_take (Clf c) (Uicc u) x w v act again q h = go act again q
               },
             ) (rw p refl)
             (clf_sends (d (Awaiting 1 0)) u w v (Some (PowerMode c.power)) (clf_inactive c (d (Awaiting 1 0)) u w v refl g))
-    go ActReady false q = phase c.phase refl
-      where
-        phase : (p : Phase) → c.phase ≡ p → P (clf_step c (ActTake ActReady false))
-        phase (Awaiting tries ticks) p =
-            let d : ClfAct = record { phase = Active; last = c.last; power = c.power } in
-            by ActReady false (d, record { send = None; became_active = true; ended_link = false; sync = None; gave_up = None }) (rw p refl)
-            (active (ap is_ready q) d)
-        phase _ p = by ActReady false (c, no_act_out) (rw p refl) g
+    go ActReady false q = grind arith
 in_order_take (Uicc u) (Clf c) x w v act again q h = go act again q
   where
     g : Line c u v w
@@ -402,14 +328,7 @@ in_order_tick (Clf c) (Uicc u) w v o h =
     clf_sends d u w v (clf_step c ActTick).1.send (clf_inactive c d u w v (stays c.phase o) h)
   where
     stays : (p : Phase) → is_active p ≡ false → is_active (phase_ticked p) ≡ false
-    stays Inactive a = refl
-    stays Active a = a
-    stays (Awaiting tries ticks) a = by (nat_le 10 (ticks + 1)) (nat_le 3 tries) refl refl
-      where
-        by : (x y : Bool) → nat_le 10 (ticks + 1) ≡ x → nat_le 3 tries ≡ y → is_active (phase_ticked (Awaiting tries ticks)) ≡ false
-        by true true p q = rw (p, q) refl
-        by true false p q = rw (p, q) refl
-        by false y p q = rw p refl
+    stays p a = grind arith
 in_order_tick (Uicc u) (Clf c) w v o h = phase u.phase refl
   where
     P : UiccAct × ActOut → Type 0
@@ -440,72 +359,20 @@ in_order_tick (Uicc u) (Clf c) w v o h = phase u.phase refl
             by (t, sends u.last) (rw (p, a, b) refl)
             (subst (λ z. Line c t (with_sent z v) w) (sym l.1) (uicc_syncs c t v w l.0 refl (uicc_waits c u t v w waits refl h)))
 
--- its node loses power
-pub in_order_cut : (r f : Role) (w v : List OnWire) → IfLine r → ActsInOrder r f w v → ActsInOrder (renewed r) f [] []
-in_order_cut Bare f w v i h = absurd i
-in_order_cut (Clf c) (Clf d) w v i h = absurd h
-in_order_cut (Uicc u) (Uicc t) w v i h = absurd h
-in_order_cut (Clf c) (Uicc u) w v i h = record { clf = λ a. absurd (true≢false (sym a)); ready = inl tt; tail = tt; plain = tt; last = h.last }
-in_order_cut (Uicc u) (Clf c) w v i h = record { clf = λ a. (tt, refl); ready = inl tt; tail = tt; plain = tt; last = λ a. absurd (true≢false (sym a)) }
-in_order_cut _ Bare w v i h = absurd h
-
 -- activation begins at an end: a CLF is inactive, and a UICC sends ACT_SYNC_ID
 pub in_order_start : (r f : Role) (w v : List OnWire) (value : ℕ) → CanStart r f → ActsInOrder r f w v
     → ActsInOrder (role_after r (ActStart value)) f [] (with_sent (act_answer r (ActStart value)).send [])
-in_order_start Bare f w v value i h = absurd i
-in_order_start (Clf c) (Clf d) w v value i h = absurd h
-in_order_start (Clf c) (Uicc u) w v value i h =
-    record { clf = λ a. absurd (true≢false (sym a)); ready = inl tt; tail = tt; plain = tt; last = h.last }
-in_order_start (Uicc u) (Uicc t) w v value i h = absurd h
-in_order_start (Uicc u) (Clf c) w v value i h =
-    record { clf = λ a. absurd (true≢false (sym a ∙ i)); ready = inl (refl, tt); tail = (inr tt, tt); plain = tt; last = λ _. (value, refl) }
-in_order_start _ Bare w v value i h = absurd h
+in_order_start r f w v value i h = grind arith
 
 -- activation ends there
 pub in_order_stop : (r f : Role) (w v : List OnWire) → IfLine r → ActsInOrder r f w v
     → ActsInOrder (role_after r ActStop) f [] (with_sent (act_answer r ActStop).send [])
-in_order_stop Bare f w v i h = absurd i
-in_order_stop (Clf c) (Clf d) w v i h = absurd h
-in_order_stop (Clf c) (Uicc u) w v i h =
-    record { clf = λ a. absurd (true≢false (sym a)); ready = inl tt; tail = tt; plain = tt; last = h.last }
-in_order_stop (Uicc u) (Uicc t) w v i h = absurd h
-in_order_stop (Uicc u) (Clf c) w v i h =
-    record { clf = λ a. (tt, refl); ready = inl tt; tail = tt; plain = tt; last = λ a. absurd (true≢false (sym a)) }
-in_order_stop _ Bare w v i h = absurd h
+in_order_stop r f w v i h = grind arith
 
 -- an end whose link activation puts down isn't open
 pub ended_means : (r f : Role) (x : OnWire) (w v : List OnWire) (act : Activation) (again : Bool) → x.frame ≡ Act act again → ActsInOrder r f (x ∷ w) v
     → (act_answer r (ActTake act again)).ended_link ≡ true → is_open r ≡ false
-ended_means Bare f x w v act again q h e = absurd (true≢false (sym e))
-ended_means (Clf c) Bare x w v act again q h e = absurd h
-ended_means (Clf c) (Clf d) x w v act again q h e = absurd h
-ended_means (Uicc u) Bare x w v act again q h e = absurd h
-ended_means (Uicc u) (Uicc t) x w v act again q h e = absurd h
-ended_means (Clf c) (Uicc u) x w v act true q h e = absurd (true≢false (sym e))
-ended_means (Clf c) (Uicc u) x w v (PowerMode code) false q h e = absurd (true≢false (sym e))
-ended_means (Clf c) (Uicc u) x w v (SyncId id) false q h e = go c.phase refl
-  where
-    go : (p : Phase) → c.phase ≡ p → is_open (Clf c) ≡ false
-    go Active p = absurd (true≢false (sym (ap is_sync q) ∙ (h.clf (ap is_active p)).0.0))
-    go _ p = rw p refl
-ended_means (Clf c) (Uicc u) x w v ActReady false q h e = go c.phase refl
-  where
-    go : (p : Phase) → c.phase ≡ p → is_open (Clf c) ≡ false
-    go Active p = absurd (let z = rw p at e in cc)
-    go _ p = rw p refl
-ended_means (Uicc u) (Clf c) x w v act true q h e = absurd (true≢false (sym e))
-ended_means (Uicc u) (Clf c) x w v ActReady false q h e = absurd (true≢false (sym e))
-ended_means (Uicc u) (Clf c) x w v (SyncId id) false q h e = absurd (true≢false (sym e))
-ended_means (Uicc u) (Clf c) x w v (PowerMode code) false q h e = go u.phase (nat_le code 1) refl refl
-  where
-    by_step : (z : UiccAct × ActOut) → z.1.ended_link ≡ false → uicc_step u (ActTake (PowerMode code) false)
-        ≡ z → (uicc_step u (ActTake (PowerMode code) false)).1.ended_link ≡ false
-    by_step z n p = ap (λ (y : UiccAct × ActOut). y.1.ended_link) p ∙ n
-
-    go : (p : Phase) (b : Bool) → u.phase ≡ p → nat_le code 1 ≡ b → is_open (Uicc u) ≡ false
-    go p false r s = absurd (true≢false (sym e ∙ by_step (u, no_act_out) refl (rw s refl)))
-    go Active true r s = absurd (true≢false (sym e ∙ by_step (record { phase = Active; last = Some ActReady }, sends (Some ActReady)) refl (rw (s, r) refl)))
-    go _ true r s = rw r refl
+ended_means r f x w v act again q h e = grind arith
 
 -- An active CLF meets no ACT_SYNC_ID: where the first frame on its way to an end puts its link down, it is Down.
 abbrev pub IsPolite : LinkEnd → List OnWire → Type 0
@@ -516,9 +383,4 @@ IsPolite e (x ∷ xs) = by_frame x.frame where
   by_frame _ = Unit {0}
 
 pub polite_of : (e : LinkEnd) (f : Role) (w v : List OnWire) → ActsInOrder e.role f w v → (is_open e.role ≡ false → e.shdlc.phase ≡ Down) → IsPolite e w
-polite_of e f [] v h closed = tt
-polite_of e f (x ∷ w) v h closed = go x.frame refl
-  where
-    go : (c : Control) → x.frame ≡ c → IsPolite e (x ∷ w)
-    go (Act act again) q = rw q (λ z. closed (ended_means e.role f x w v act again q h z))
-    go _ q = rw q tt
+polite_of e f w v h closed = grind arith

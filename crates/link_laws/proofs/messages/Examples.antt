@@ -1,9 +1,9 @@
 -- The definitions compute the worked examples, with activation, cuts and turns.
 use Rattle.std.specs.Prelude.{replicate}
-use Rattle.link_laws.proofs.Words.{Activate, AsksReset, AtController, AtHost, Bare, Chain, Clf, Down, EndEvent, Give, GoesOut, Hold, I, IsQuiet, Link}
-use Rattle.link_laws.proofs.Words.{LinkEnd, LinkEvent, LinkInput, List, Lose, Message, NextFrame, NoInput, Node, None, OnDemand, OnWire, Rr, S, Some, Step}
-use Rattle.link_laws.proofs.Words.{Take, Ticks, Uicc, [], after_input, after_link_events, ended_by, losses_of, map, messages_got, new_clf, new_link}
-use Rattle.link_laws.proofs.Words.{new_link_end, new_uicc, number_of, refl, report, spare, suc, talk_of, true, turned, zero, ℕ, ◌++◌, ◌∷◌, ◌≡◌}
+use Rattle.link_laws.proofs.Words.{Activate, AsksReset, AtController, AtHost, Bare, Chain, Clf, Down, EndEvent, Give, GoesOut, Hold, I, IsQuiet, Link, LinkEnd}
+use Rattle.link_laws.proofs.Words.{LinkEvent, LinkInput, List, Lose, Message, NextFrame, NoInput, Node, None, OnDemand, OnWire, Rr, S, Some, Step, Take, Ticks}
+use Rattle.link_laws.proofs.Words.{Uicc, [], after_input, after_link_events, ended_by, losses_of, map, messages_got, new_clf, new_link, new_link_end, new_uicc}
+use Rattle.link_laws.proofs.Words.{number_of, refl, report, spare, suc, talk_of, true, turned, zero, ℕ, ◌++◌, ◌∷◌, ◌≡◌}
 
 abbrev pub bare : Link
 bare = new_link Bare Bare

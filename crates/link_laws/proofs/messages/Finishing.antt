@@ -1,31 +1,26 @@
 -- Each step of an end is projected, whether its frames go out or its node loses power before that.
 use Rattle.std.specs.Prelude.{◌+◌}
-use Rattle.link_laws.proofs.Words.{Act, ActEvent, ActTake, ActTick, Activation, AreSendableTurns, Asked, AsksReset, Bare, Bool, CanEnd, Clf, Clt, Control}
-use Rattle.link_laws.proofs.Words.{CoreActs, CoreDeliver, CoreEndEvent, CoreLink, CoreStop, CoreTurn, CutOff, Down, EndState, Ending, GoesOut, HasTick as Tick}
-use Rattle.link_laws.proofs.Words.{IfLine, Link, LinkEnd, List, NextFrame, None, NumberedEnd, OnWire, Option, Phase, Refused, Role, Some, Turn}
-use Rattle.link_laws.proofs.Words.{Turns as CoreTurns, Uicc, Waiting, [], act_answer, activated, after_frames, after_input, among, ap, becomes, core_all_here}
-use Rattle.link_laws.proofs.Words.{core_ending, core_happens_here, core_of, core_reset, core_step, core_take, core_tick, core_tick_rest, core_ticks_or_cut}
-use Rattle.link_laws.proofs.Words.{core_turned, core_turns, core_with_ended, cut, ended_by, ended_by_act, ended_by_frame, false, finished, fragments_of}
-use Rattle.link_laws.proofs.Words.{frame_due, frames_of, frames_out, has_restarted, has_taken, heard, if_up, inl, inr, is_faulty, is_lost_tick, is_open}
-use Rattle.link_laws.proofs.Words.{is_some, is_up, is_waiting, most_frames, moved, new_end, new_link_end, no_session, option_to_list, put_all, put_down, refl}
-use Rattle.link_laws.proofs.Words.{renewed, reset_by, reset_refusal, reset_with, role_after, sent_all, shdlc_becomes as core_becomes}
+use Rattle.link_laws.proofs.Words.{Act, ActEvent, ActTake, ActTick, Activation, AreSendableTurns, Asked, AsksReset, Bool, CanEnd, Clt, Control, CoreActs}
+use Rattle.link_laws.proofs.Words.{CoreDeliver, CoreEndEvent, CoreLink, CoreStop, CoreTurn, CutOff, Down, EndState, Ending, GoesOut, HasTick as Tick, IfLine}
+use Rattle.link_laws.proofs.Words.{Link, LinkEnd, List, NextFrame, None, OnWire, Option, Refused, Role, Some, Turn, Turns as CoreTurns, Waiting, [], act_answer}
+use Rattle.link_laws.proofs.Words.{activated, after_input, among, ap, arith, becomes, core_all_here, core_ending, core_happens_here, core_of, core_reset}
+use Rattle.link_laws.proofs.Words.{core_step, core_take, core_tick, core_tick_rest, core_ticks_or_cut, core_turned, core_turns, core_with_ended, cut, ended_by}
+use Rattle.link_laws.proofs.Words.{ended_by_act, ended_by_frame, false, finished, frame_due, frames_of, frames_out, has_restarted, has_taken, if_up, inl, inr}
+use Rattle.link_laws.proofs.Words.{is_lost_tick, is_open, is_some, is_up, is_waiting, most_frames, moved, new_end, new_link_end, no_session, option_to_list}
+use Rattle.link_laws.proofs.Words.{put_all, refl, renewed, reset_by, reset_refusal, reset_with, role_after, sent_all, shdlc_becomes as core_becomes}
 use Rattle.link_laws.proofs.Words.{shdlc_put_all as core_put_all, shdlc_silent as core_silent, shdlc_ticks_at_controller as core_ticks_here, silent}
-use Rattle.link_laws.proofs.Words.{steps_at_controller, stopped, subst, sym, take_answer, taken, tick_answer, ticked, ticks_at_controller, took, took_with}
-use Rattle.link_laws.proofs.Words.{true, true≢false, turned, window_of, with_controller, with_ended, with_shdlc_controller as core_with_controller, ℕ, ◌&&◌}
-use Rattle.link_laws.proofs.Words.{◌++◌, ◌∙◌, ◌∷◌, ◌≡◌, ◌⊎◌}
-use Rattle.swp_act.specs.declared.Phase.TheVariants.{Active}
-use Rattle.link_laws.proofs.places.Joined.{after_frames_idle}
+use Rattle.link_laws.proofs.Words.{steps_at_controller, stopped, subst, sym, tick_answer, ticked, ticks_at_controller, took, took_with, true, true≢false}
+use Rattle.link_laws.proofs.Words.{turned, window_of, with_controller, with_ended, ℕ, ◌++◌, ◌∙◌, ◌∷◌, ◌≡◌, ◌⊎◌}
 use Rattle.link_laws.specs.messages.Projection.{core_restart}
 use Rattle.link_laws.proofs.messages.Project.{Idle, Keeps, Mid, NoAsk, NoRset, Now, Step, Tells, among_now, frames_alike, frames_now, host_ended, mid_moved}
 use Rattle.link_laws.proofs.messages.Project.{moved_role, no_rset, none_due, past_ended, puts_none, step_moved, step_same, step_turned, taken_asks, ticked_asks}
 use Rattle.link_laws.proofs.messages.Project.{ticked_keeps, turned_asks, turned_phase, turned_role, turns_mid}
-use Rattle.link_laws.proofs.messages.ActsInOrder.{ActsInOrder, LinkInOrder, IsPolite, with_sent, in_order_cut, in_order_tick}
+use Rattle.link_laws.proofs.messages.ActsInOrder.{ActsInOrder, LinkInOrder, IsPolite, with_sent, in_order_tick}
 use Rattle.link_laws.proofs.machine.Runs.{opened}
 use Rattle.link_laws.proofs.machine.Reports.{shdlc_is as shdlc_moved}
 use Rattle.link_laws.proofs.messages.Steps.{FromHost, Rests, is_shdlc, heard_end, heard_is, mid_counted, took_open, took_closed, no_fault_first, polite}
 use Rattle.link_laws.proofs.messages.Steps.{role_closes, ComesFirst, step_first, stays_down, activated_role, act_mid, Acted, tick_closes, core_first}
 use Rattle.link_laws.proofs.Cases.{by_list, by_phase, by_test}
-use Rattle.link_laws.proofs.machine.Sound.{by_tick}
 
 -- ## A step that is cut off
 
@@ -33,35 +28,9 @@ use Rattle.link_laws.proofs.machine.Sound.{by_tick}
 pub silent-core : (l : Link) (e : LinkEnd) → core_of (silent l e) ≡ core_silent (core_of l) e.shdlc
 silent-core l e = by_phase l.controller.side.shdlc.phase (λ p. rw p refl) (λ p. rw p refl) (λ p. rw p refl)
 
-step_silent : (l : Link) (e : LinkEnd) → Now e → Tells l.controller → (LinkInOrder l → ActsInOrder e.role l.host.side.role [] [])
-    → Step l (silent l e) (core_silent (core_of l) e.shdlc)
-step_silent l e n h wires =
-    record {
-      core = silent-core l e;
-      tells = record { now = n; past = past_ended l (is_up l.controller.side.shdlc.phase) h };
-      host = host_ended l (is_up l.controller.side.shdlc.phase);
-      in_order = λ z. let P : NumberedEnd → Type 0 = λ f. ActsInOrder e.role f.side.role [] [] in
-          subst P (sym (host_ended l (is_up l.controller.side.shdlc.phase))) (wires z);
-    }
-
 -- its node loses power
 pub step_cut : (l : Link) → IfLine l.controller.side.role → Tells l.controller → Step l (cut l) (core_silent (core_of l) (new_end 4))
-step_cut l line h = go l.controller.side.role line (λ z. in_order_cut l.controller.side.role l.host.side.role l.to_controller l.to_host line z)
-  where
-    fresh : (e : LinkEnd) → e.shdlc ≡ new_end 4 → e.sent ≡ [] → e.acts ≡ [] → Now e
-    fresh e q s a =
-        record {
-          acts = a;
-          idle = λ _. (ap (λ (z : EndState). z.session.out) q, ap (λ (z : EndState). z.session.acc) q);
-          closed = λ _. ap (λ (z : EndState). z.phase) q;
-          says = record { out = ap (λ (z : EndState). z.session.out) q ∙ ap fragments_of (sym s); short = rw s tt };
-        }
-
-    go : (r : Role) → IfLine r → (LinkInOrder l → ActsInOrder (renewed r) l.host.side.role [] [])
-        → Step l (silent l (new_link_end (renewed r))) (core_silent (core_of l) (new_end 4))
-    go Bare i in_order = absurd i
-    go c i wires =
-        step_silent l (new_link_end (renewed c)) (fresh (new_link_end (renewed c)) refl refl refl) h wires
+step_cut l line h = grind arith
 
 -- the link where the end with this role is new after a loss of power, whether a session ended or not
 abbrev cut_as : Link → Bool → Role → Link
@@ -79,8 +48,7 @@ cut_off_is k e none =
 
     wire : (b : Bool) → cut_as (with_controller (record k { to_host = v }) (sent_all e)) b (sent_all e).role
         ≡ cut_as (with_controller k (sent_all e)) b (sent_all e).role
-    wire true = refl
-    wire false = refl
+    wire b = grind arith
 
 -- a step ends: with its frames, or before that
 pub step_ends : (l k : Link) (e : LinkEnd) (c : CoreLink) (ending : Ending) → Step l (becomes k e) c → NoRset (frames_out e) → CanEnd e.role ending
@@ -90,16 +58,10 @@ step_ends l k e c CutOff st none can =
     let m : Link = becomes k e in
     let sc = step_cut m can st.tells in
     step_same l (cut (with_controller k (sent_all e))) (cut m) (core_silent c (new_end 4)) (core_silent c (new_end 4)) (cut_off_is k e none) refl
-    (record {
-      core = sc.core ∙ ap (λ d. core_silent d (new_end 4)) st.core;
-      tells = sc.tells;
-      host = sc.host ∙ st.host;
-      in_order = λ z. sc.in_order (st.in_order z);
-    })
+    (grind arith)
 
 no_rset_acts : (o : Option Activation) (cs : List Control) → NoRset cs → NoRset (frames_now o ++ cs)
-no_rset_acts None cs a = a
-no_rset_acts (Some act) cs a = (refl, a)
+no_rset_acts o cs a = grind arith
 
 -- where no RSET was due before its node's turns, none goes out
 pub none_out : (o : Option Activation) (e : LinkEnd) (ts : List Turn) → AreSendableTurns ts → Mid o e → NoAsk e.shdlc.due → NoRset (frames_out (turned e ts))
@@ -177,30 +139,11 @@ first_none l ts x xs a comes = go x.frame refl
 
 -- the role of an end that took a frame lets its step end so
 pub can_after : (r : Role) (event : ActEvent) (ending : Ending) → CanEnd r ending → CanEnd (role_after r event) ending
-can_after r event GoesOut can = tt
-can_after Bare event CutOff can = can
-can_after _ event CutOff can = tt
+can_after r event ending can = grind arith
 
 -- a frame changes the role only by activation
 pub took_can : (e : LinkEnd) (c : Control) (ending : Ending) → CanEnd e.role ending → CanEnd (took e c).role ending
-took_can e c ending can = go c (is_open e.role) (is_faulty (taken e.shdlc c).session) refl refl
-  where
-    put_down_role : (b : Bool) → (put_down b e).role ≡ e.role
-    put_down_role false = refl
-    put_down_role true = by_phase {P = (put_down true e).role ≡ e.role} e.shdlc.phase (λ p. rw p refl) (λ p. rw p refl) (λ p. rw p refl)
-
-    R : Role → Type 0
-    R r = CanEnd r ending
-
-    heard_can : (c : Control) (f : Bool) → is_faulty (taken e.shdlc c).session ≡ f → CanEnd (heard e c).role ending
-    heard_can c true q = rw q (subst R (sym (put_down_role true)) can)
-    heard_can c false q = rw q (subst R (sym (moved_role e (is_some (take_answer e.shdlc c).ended) (taken e.shdlc c))) can)
-
-    go : (c : Control) (o f : Bool) → is_open e.role ≡ o → is_faulty (taken e.shdlc c).session ≡ f → CanEnd (took e c).role ending
-    go (Act act again) o f p q = subst R (sym (activated_role e (ActTake act again))) (can_after e.role (ActTake act again) ending can)
-    go Clt o f p q = can
-    go frame true f p q = rw p (heard_can frame f q)
-    go _ false f p q = rw p can
+took_can e c ending can = grind arith
 
 step_take : (l : Link) (ts : List Turn) (ending : Ending) (x : OnWire) (xs : List OnWire) → AreSendableTurns ts → CanEnd l.controller.side.role ending
     → ComesFirst l x xs → Step l (has_taken l x xs ts ending) (core_all_here (core_of l) (core_take l.controller.side x.frame ts ++ core_ending ending))
@@ -212,22 +155,14 @@ step_take l ts ending x xs a can comes =
     let st =
     step_ends l k (turned f ts) (core_all_here (core_of l) (core_take e x.frame ts)) ending (step_first l ts x xs a comes)
     (first_none l ts x xs a comes) (can_end f ts f.role ending refl (took_can e x.frame ending can)) in
-    record {
-      core = st.core ∙ sym (all_here-append (core_of l) (core_take e x.frame ts) (core_ending ending));
-      tells = st.tells;
-      host = st.host;
-      in_order = st.in_order;
-    }
+    grind arith
 
 pub step_frame : (l : Link) (ts : List Turn) (ending : Ending) → AreSendableTurns ts → CanEnd l.controller.side.role ending
     → IsPolite l.controller.side l.to_controller → Tells l.controller → Tells l.host → Rests l.controller.side.shdlc
     → FromHost (core_happens_here (core_of l) (CoreDeliver []))
     → Step l (steps_at_controller l NextFrame ts ending) (core_all_here (core_of l) (core_step l NextFrame ts ending))
 step_frame l ts ending a can p h t rests from =
-    by_list l.to_controller (λ q.
-    step_same l (steps_at_controller l NextFrame ts ending) l (core_all_here (core_of l) (core_step l NextFrame ts ending)) (core_of l)
-    (nothing q) (ap (core_all_here (core_of l)) (core_nothing q))
-    (record { core = refl; tells = h; host = refl; in_order = λ z. z }))
+    by_list l.to_controller (grind arith)
     (λ x xs q.
     step_same l (steps_at_controller l NextFrame ts ending) (has_taken l x xs ts ending) (core_all_here (core_of l) (core_step l NextFrame ts ending))
     (core_all_here (core_of l) (core_take l.controller.side x.frame ts ++ core_ending ending))
@@ -267,9 +202,7 @@ cut_instead l b e waits same role =
 step_cut_instead : (l : Link) (b : Bool) (e : LinkEnd) → e.shdlc.phase ≡ Waiting → b ≡ is_up l.controller.side.shdlc.phase
     → e.role ≡ l.controller.side.role → IfLine l.controller.side.role → Tells l.controller
     → Step l (finished (with_ended l b) e CutOff) (core_silent (core_of l) (new_end 4))
-step_cut_instead l b e waits same role line h =
-    step_same l (cut (with_controller (with_ended l b) (sent_all e))) (cut l) (core_silent (core_of l) (new_end 4)) (core_silent (core_of l) (new_end 4))
-    (cut_instead l b e waits same role) refl (step_cut l line h)
+step_cut_instead l b e waits same role line h = grind (arith, step_same, cut, sent_all, cut_instead, step_cut)
 
 -- turns leave the phase of an end
 pub turns_phase : (e : LinkEnd) (ts : List Turn) → AreSendableTurns ts → Now e → (turned e ts).shdlc.phase ≡ e.shdlc.phase
@@ -282,18 +215,11 @@ reset_up : (s : EndState) → is_some (if_up s Asked) ≡ is_up s.phase
 reset_up s = by_phase s.phase (λ p. rw p refl) (λ p. rw p refl) (λ p. rw p refl)
 
 pub reset_keeps : (e : EndState) (w : ℕ) → is_waiting e ≡ false → Idle e → Keeps (is_some (if_up e Asked)) e (reset_with e w)
-reset_keeps e w n idle =
-    by_phase e.phase (λ p. rw p (record { out = refl; idle = λ _. (refl, refl) })) (λ p. absurd (let z : true ≡ false = rw p at n in cc))
-    (λ p. rw p (record { out = sym (idle (λ u. let z = sym p ∙ u in cc)).0; idle = λ _. (refl, refl) }))
+reset_keeps e w n idle = grind arith
 
 -- an end that is open and doesn't wait
 pub reset_tells : (e : LinkEnd) → reset_refusal e ≡ None → (is_open e.role ≡ true) × (is_waiting e.shdlc ≡ false)
-reset_tells e q = go (is_open e.role) (is_waiting e.shdlc) refl refl
-  where
-    go : (a b : Bool) → is_open e.role ≡ a → is_waiting e.shdlc ≡ b → (is_open e.role ≡ true) × (is_waiting e.shdlc ≡ false)
-    go true false x y = (x, y)
-    go true true x y = absurd (let z = rw (x, y) at q in cc)
-    go false b x y = absurd (let z = rw x at q in cc)
+reset_tells e q = grind arith
 
 pub reset_waits : (s : EndState) (w : ℕ) → is_waiting s ≡ false → (reset_with s w).phase ≡ Waiting
 reset_waits s w n = rw n refl
@@ -338,12 +264,7 @@ step_reset l window ts ending a can h r = go (reset_refusal l.controller.side) r
         let us : List CoreTurn = core_turns (reset_by e w) ts in
         let st =
         step_moved l b (reset_with e.shdlc w) ts h a (reset_keeps e.shdlc w t.1 h.now.idle) (opened e.role ((reset_with e.shdlc w).phase ≡ Down) t.0) in
-        record {
-          core = st.core ∙ ap (λ c. core_becomes (core_with_ended (core_of l) c) (core_turned (reset_with e.shdlc w) us)) (reset_up e.shdlc);
-          tells = st.tells;
-          host = st.host;
-          in_order = st.in_order;
-        }
+        grind arith
 
     go : (o : Option Refused) → reset_refusal e ≡ o
         → Step l (steps_at_controller l (AsksReset window) ts ending) (core_all_here (core_of l) (core_step l (AsksReset window) ts ending))
@@ -360,12 +281,7 @@ step_reset l window ts ending a can h r = go (reset_refusal l.controller.side) r
 
 pub restart_mid : (e : LinkEnd) (event : ActEvent) → Now e
     → Acted (record e { shdlc = stopped e.shdlc }) (activated (moved e true (stopped e.shdlc)) event) (act_answer e.role event).send
-restart_mid e event h =
-    let f : LinkEnd = moved e true (stopped e.shdlc) in
-    let n : Now f =
-    record { acts = rw h.acts refl; idle = λ _. (refl, refl); closed = λ _. refl; says = record { out = refl; short = tt } } in
-    let m = act_mid f event n refl (λ _. refl) (λ _. refl) in
-    record { mid = m.mid; same = m.same }
+restart_mid e event h = grind arith
 
 pub step_restart : (l : Link) (event : ActEvent) (ts : List Turn) (ending : Ending) → AreSendableTurns ts → CanEnd l.controller.side.role ending
     → Tells l.controller
@@ -400,23 +316,8 @@ step_restart l event ts ending a can h wires =
 pub rests : (s : EndState) → s.phase ≡ Down → Rests s → frame_due s ≡ None
 rests s p r = let none : s.session ≡ no_session = r.none (λ u. let z = sym p ∙ u in cc) in rw (r.due, none) refl
 
-core_rests : (c : CoreLink) → frame_due c.controller.side ≡ None → core_becomes c c.controller.side ≡ c
-core_rests c q =
-    let f : frames_of most_frames c.controller.side ≡ [] = rw q refl in
-    let a : after_frames most_frames c.controller.side ≡ c.controller.side = after_frames_idle most_frames c.controller.side q in
-    ap (λ fs. core_with_controller (core_put_all c fs) (after_frames most_frames c.controller.side)) f ∙ ap (core_with_controller c) a
-
 pub core_tick_rests : (c : CoreLink) → c.controller.side.phase ≡ Down → Rests c.controller.side → core_ticks_here c [] ≡ c
-core_tick_rests c p r = nothing ∙ core_rests c (rests c.controller.side p r)
-  where
-    ended : is_some (tick_answer c.controller.side).ended ≡ false
-    ended = rw p refl
-
-    state : ticked c.controller.side ≡ c.controller.side
-    state = rw p refl
-
-    nothing : core_ticks_here c [] ≡ core_becomes c c.controller.side
-    nothing = ap (λ b. core_becomes (core_with_ended c b) (ticked c.controller.side)) ended ∙ ap (core_becomes c) state
+core_tick_rests c p r = grind arith
 
 pub tick_open : (e : LinkEnd) → is_open e.role ≡ true
     → (after_input e Tick ≡ moved e (is_some (tick_answer e.shdlc).ended) (ticked e.shdlc))
@@ -427,27 +328,14 @@ pub tick_closed : (e : LinkEnd) → is_open e.role ≡ false → (after_input e 
 tick_closed e o = (rw o refl, rw o refl)
 
 pub tick_role : (r : Role) → is_open (role_after r ActTick) ≡ false → is_open r ≡ false
-tick_role Bare q = q
-tick_role (Clf s) q = go s.phase refl
-  where
-    go : (p : Phase) → s.phase ≡ p → is_open (Clf s) ≡ false
-    go Active p = absurd (let z = rw p at q in cc)
-    go _ p = rw p refl
-tick_role (Uicc s) q = go s.phase refl
-  where
-    go : (p : Phase) → s.phase ≡ p → is_open (Uicc s) ≡ false
-    go Active p = absurd (let z = rw p at q in cc)
-    go _ p = rw p refl
+tick_role r q = grind arith
 
 pub waiting_phase : (s : EndState) → is_waiting s ≡ true → s.phase ≡ Waiting
 waiting_phase s w = by_phase s.phase (λ p. absurd (let z : false ≡ true = rw p at w in cc)) (λ p. p) (λ p. absurd (let z : false ≡ true = rw p at w in cc))
 
 -- a tick after which an end waits has ended its session, if it had one
 tick_up : (s : EndState) → is_waiting (ticked s) ≡ true → is_some (tick_answer s).ended ≡ is_up s.phase
-tick_up s w =
-    by_tick (λ f answer. is_waiting f ≡ true → is_some answer.ended ≡ is_up s.phase) s (λ z. let p = waiting_phase s z in rw p refl)
-    (λ _ z. let p = waiting_phase s z in rw p refl) (λ _ z. let p = waiting_phase s z in rw p refl) (λ p _. rw p refl) (λ p _. rw p refl)
-    (λ p _. rw p refl) w
+tick_up s w = grind arith
 
 abbrev pub CoreTick : Link → List Turn → Ending → CoreLink
 CoreTick l ts ending =
@@ -457,14 +345,11 @@ CoreTick l ts ending =
 core_tick_as : (l : Link) (ts : List Turn) (ending : Ending) (t : Option (List CoreTurn)) (us : List CoreEndEvent)
     → core_tick l.controller.side ts ending ≡ t → core_tick_rest l.controller.side ts ending ≡ us
     → CoreTick l ts ending ≡ core_all_here (core_ticks_or_cut t (core_of l)) us
-core_tick_as l ts ending t us p q =
-    ap (λ z. core_all_here (core_ticks_or_cut z (core_of l)) (core_tick_rest l.controller.side ts ending)) p
-    ∙ ap (core_all_here (core_ticks_or_cut t (core_of l))) q
+core_tick_as l ts ending t us p q = grind arith
 
 tick_as : (l : Link) (ts : List Turn) (ending : Ending) (b : Bool) (e : LinkEnd) → is_some (ended_by l.controller.side Tick) ≡ b
     → after_input l.controller.side Tick ≡ e → ticks_at_controller l ts ending ≡ finished (with_ended l b) (turned e ts) ending
-tick_as l ts ending b e p q =
-    ap (λ a. finished (with_ended l a) (turned (after_input l.controller.side Tick) ts) ending) p ∙ ap (λ f. finished (with_ended l b) (turned f ts) ending) q
+tick_as l ts ending b e p q = grind arith
 
 step_tick_open : (l : Link) (ts : List Turn) (ending : Ending) → AreSendableTurns ts → CanEnd l.controller.side.role ending → Tells l.controller
     → Rests l.controller.side.shdlc → is_open l.controller.side.role ≡ true → Step l (ticks_at_controller l ts ending) (CoreTick l ts ending)
@@ -498,11 +383,7 @@ step_tick_open l ts ending a can h r o = go ending (is_lost_tick e ending) can r
     kept_tick ending q = (rw (q, o) refl, rw (q, o) refl)
 
     waits : (c : Bool) → is_lost_tick e CutOff ≡ c → is_waiting (ticked e.shdlc) ≡ c
-    waits c q =
-        let z : is_lost_tick e CutOff ≡ is_waiting (ticked e.shdlc) =
-        ap (λ x. x && is_waiting (after_input e Tick).shdlc) o
-        ∙ (ap (λ (g : LinkEnd). is_waiting g.shdlc) t.0 ∙ ap is_waiting (shdlc_moved e b (ticked e.shdlc))) in
-        sym z ∙ q
+    waits c q = grind arith
 
     kept : (ending : Ending) → CanEnd e.role ending → is_lost_tick e ending ≡ false → NoAsk (ticked e.shdlc).due
         → Step l (ticks_at_controller l ts ending) (CoreTick l ts ending)
@@ -583,8 +464,7 @@ step_tick_closed l ts ending a can h r o =
         (λ z. subst R (sym (activated_role e ActTick)) (in_order_tick e.role l.host.side.role l.to_controller l.to_host o z))
 
     not_lost : (ending : Ending) → is_lost_tick e ending ≡ false
-    not_lost GoesOut = refl
-    not_lost CutOff = rw o refl
+    not_lost ending = grind arith
 
     vs : List CoreTurn
     vs = core_turns (after_input e Tick) ts

@@ -1,24 +1,23 @@
 -- A step of a link over messages is its projection's step, and what that needs of what an end asks for and has to send.
-use Rattle.std.specs.Prelude.{drop, ◌+◌, ◌-◌}
-use Rattle.link_laws.proofs.Words.{Act, ActDue, Activation, AreSendableTurns, AreShort, Bool, Clt, Control, CoreLink, CoreTurn, CoreTurn as ShdlcTurn, Down}
-use Rattle.link_laws.proofs.Words.{Due, EndState, FetchMessage, Fragment, Give, Hold, I, Kind, Link, LinkEnd, LinkState, List, Message, None, NumberedEnd}
-use Rattle.link_laws.proofs.Words.{Offer, OnWire, Option, Refused, Rej_due, Release, Rnr_due, Role, Rr_due, Rset, Rset_due, S, SetAside, SetReady, Some, Srej}
-use Rattle.link_laws.proofs.Words.{Talk, Turn, Ua, Ua_due, Up, [], acknowledged, act_frame, after_frames, among, ap, append-nil, aside_refusal, becomes}
-use Rattle.link_laws.proofs.Words.{control_due, core_of, core_turned, core_turned as shdlc_turned, core_turns, core_with_ended, false, fetched, flat_map-append}
-use Rattle.link_laws.proofs.Words.{fragments_of, frame_due, frames_of, frames_out, give_refusal, given, is_open, is_rset, is_some, is_waiting, length}
-use Rattle.link_laws.proofs.Words.{ltb-false, map, most_frames, moved, nat_lt, not, option_to_list, packet_bytes, packets_of, place_of, put, put_all, put_out}
-use Rattle.link_laws.proofs.Words.{received, received-phase, received-sending, refl, sent_all, shdlc_becomes as core_becomes, shdlc_put as core_put}
-use Rattle.link_laws.proofs.Words.{shdlc_put_all as core_put_all, shdlc_turn, shdlc_turn as core_turn_of, subst, suc, sym, take_answer, taken, talk_now}
-use Rattle.link_laws.proofs.Words.{tick_answer, ticked, true, true≢false, turn, turned, with_ended, with_ready, with_shdlc_controller as core_with_controller}
-use Rattle.link_laws.proofs.Words.{zero, ℕ, ◌++◌, ◌∙◌, ◌∷◌, ◌≡◌, ◌≤◌}
+use Rattle.std.specs.Prelude.{drop, ◌-◌}
+use Rattle.link_laws.proofs.Words.{ActDue, Activation, AreSendableTurns, AreShort, Bool, Control, CoreLink, CoreTurn, CoreTurn as ShdlcTurn, Down, Due}
+use Rattle.link_laws.proofs.Words.{EndState, FetchMessage, Fragment, Give, Hold, I, Kind, Link, LinkEnd, List, Message, None, NumberedEnd, Offer, OnWire}
+use Rattle.link_laws.proofs.Words.{Option, Refused, Rej_due, Release, Rnr_due, Role, Rr_due, Rset_due, S, SetAside, SetReady, Some, Talk, Turn, Ua_due, Up, []}
+use Rattle.link_laws.proofs.Words.{acknowledged, act_frame, after_frames, among, ap, append-nil, arith, becomes, core_of, core_turned}
+use Rattle.link_laws.proofs.Words.{core_turned as shdlc_turned, core_turns, core_with_ended, false, fetched, flat_map-append, fragments_of, frame_due}
+use Rattle.link_laws.proofs.Words.{frames_of, frames_out, give_refusal, given, is_open, is_rset, is_some, is_waiting, length, map, most_frames, moved}
+use Rattle.link_laws.proofs.Words.{option_to_list, packet_bytes, packets_of, place_of, put, put_all, put_out, received, refl, sent_all}
+use Rattle.link_laws.proofs.Words.{shdlc_becomes as core_becomes, shdlc_put as core_put, shdlc_put_all as core_put_all, shdlc_turn, shdlc_turn as core_turn_of}
+use Rattle.link_laws.proofs.Words.{subst, suc, sym, take_answer, taken, talk_now, tick_answer, ticked, true, turn, turned, with_ended}
+use Rattle.link_laws.proofs.Words.{with_shdlc_controller as core_with_controller, zero, ℕ, ◌++◌, ◌∙◌, ◌∷◌, ◌≡◌, ◌≤◌}
 use Rattle.link_laws.specs.messages.Projection.{core_turn}
 use Rattle.link_laws.specs.sending.Sending.{IsShort}
 use Rattle.link_laws.proofs.Cases.{by_option, by_phase}
 use Rattle.link_laws.proofs.machine.Reports.{shdlc_is as shdlc_moved}
-use Rattle.link_laws.proofs.machine.Sound.{by_taken, by_tick}
+use Rattle.link_laws.proofs.machine.Sound.{by_taken}
 use Rattle.link_laws.proofs.messages.ActsInOrder.{ActsInOrder, LinkInOrder, in_order_put_all, no_acts, with_sent}
-use Rattle.link_laws.proofs.places.Joined.{fetch_cases, ready_cases, received_cases}
-use Rattle.link_laws.proofs.sessions.Ties.{ready-phase as ready_phase, turn-phase as turn_phase}
+use Rattle.link_laws.proofs.places.Joined.{ready_cases, received_cases}
+use Rattle.link_laws.proofs.sessions.Ties.{turn-phase as turn_phase}
 
 -- ## Where an end doesn't wait it has no RSET to send, and frames that are none give a link no number
 
@@ -54,12 +53,7 @@ up_I e ns nr info up a = by_option (place_of e.session nr) (λ q. rw (up, q) a) 
         (λ _ _. no_ask_more e.due Rej_due refl a) (λ _ _. no_ask_more e.due Rr_due refl a) (no_ask_more e.due Rnr_due refl a)
 
 up_S : (e : EndState) (k : Kind) (nr : ℕ) → e.phase ≡ Up → NoAsk e.due → NoAsk (taken e (S k nr)).due
-up_S e k nr up a = go k (place_of e.session nr) refl
-  where
-    go : (k : Kind) (o : Option ℕ) → place_of e.session nr ≡ o → NoAsk (taken e (S k nr)).due
-    go Srej o q = rw up a
-    go _ None q = rw (up, q) a
-    go _ (Some x) q = rw (up, q) a
+up_S e k nr up a = grind arith
 
 -- a frame makes no RSET
 pub taken_asks : (e : EndState) (c : Control) → NoAsk e.due → NoAsk (taken e c).due
@@ -69,9 +63,7 @@ taken_asks e c a =
 
 -- nor does a tick, where the end doesn't wait then
 pub ticked_asks : (e : EndState) → is_waiting (ticked e) ≡ false → NoAsk e.due → NoAsk (ticked e).due
-ticked_asks e n a =
-    by_tick (λ f _. is_waiting f ≡ false → NoAsk f.due) e (λ _. a) (λ _ _. a) (λ _ _. a) (λ _ z. absurd (true≢false z))
-    (λ p z. absurd (let y : true ≡ false = rw p at z in cc)) (λ _ _. a) n
+ticked_asks e n a = grind arith
 
 turn_asks : (e : EndState) (t : ShdlcTurn) → NoAsk e.due → NoAsk (shdlc_turn e t).due
 turn_asks e (Offer fs) a = by_phase {P = NoAsk (shdlc_turn e (Offer fs)).due} e.phase (λ p. rw p a) (λ p. rw p a) (λ p. rw p a)
@@ -94,25 +86,13 @@ abbrev pub NoRset : List Control → Type 0
 NoRset [] = Unit {0}
 NoRset (c ∷ cs) = (is_rset c ≡ false) × NoRset cs
 
-control_no_rset : (e : EndState) (d : Due) → is_ask d ≡ false → is_rset (control_due e d) ≡ false
-control_no_rset e Rset_due q = q
-control_no_rset e _ q = refl
-
 -- a frame that is fetched
 record Fetches (f : EndState) (o : Option Control) : Type 0 where
   frame : (c : Control) → o ≡ Some c → is_rset c ≡ false
   rest : NoAsk f.due
 
 fetches : (e : EndState) → NoAsk e.due → Fetches (fetched e) (frame_due e)
-fetches e a =
-    fetch_cases Fetches e
-    (λ d ds p. let z : NoAsk (d ∷ ds) = rw p at a in
-    record { frame = λ c q. let same : control_due e d ≡ c = cc in ap is_rset (sym same) ∙ control_no_rset e d z.0; rest = z.1 })
-    (λ p q. record { frame = λ c r. absurd (let z = r in cc); rest = a })
-    (λ info p q. record { frame = λ c r. fragment r; rest = a })
-  where
-    fragment : {n m : ℕ} {info : List ℕ} {c : Control} → Some (I n m info) ≡ Some c → is_rset c ≡ false
-    fragment {n} {m} {info} {c} r = let same : I n m info ≡ c = cc in ap is_rset (sym same)
+fetches e a = grind arith
 
 -- where no RSET is due none goes out
 pub no_rset : (n : ℕ) (e : EndState) → NoAsk e.due → NoRset (frames_of n e)
@@ -129,8 +109,7 @@ puts_none (c ∷ cs) l a =
     later ∙ ap (λ (m : Link). record m { to_host = (put_all (put l c) cs).to_host }) (one c a.0)
   where
     one : (c : Control) → is_rset c ≡ false → put l c ≡ record l { to_host = (put l c).to_host }
-    one (Rset _ _) q = absurd (true≢false q)
-    one _ q = refl
+    one c q = grind arith
 
 -- ## What an SHDLC end has to send over each thing that may happen to it
 
@@ -151,37 +130,11 @@ pub record Keeps (ended : Bool) (e f : EndState) : Type 0 where
 stays : (e f : EndState) → f.phase ≡ Up → f.session.out ≡ e.session.out → Keeps false e f
 stays e f up out = record { out = out; idle = λ n. absurd (n up) }
 
-up_I_of_ends : (e : EndState) (ns nr : ℕ) (info : Fragment) → e.phase ≡ Up → Keeps false e (taken e (I ns nr info))
-up_I_of_ends e ns nr info up =
-    by_option (place_of e.session nr) (λ q. stays e (taken e (I ns nr info)) (rw (up, q) refl) (rw (up, q) refl)) (λ x q.
-    stays e (taken e (I ns nr info)) (rw (up, q) (let r = received-phase (acknowledged e x) ns info in rw up at r))
-    (rw (up, q) (let r = (received-sending (acknowledged e x) ns info).0 in rw up at r)))
-
-up_S_of_ends : (e : EndState) (k : Kind) (nr : ℕ) → e.phase ≡ Up → Keeps false e (taken e (S k nr))
-up_S_of_ends e k nr up = go k (place_of e.session nr) refl
-  where
-    go : (k : Kind) (o : Option ℕ) → place_of e.session nr ≡ o → Keeps false e (taken e (S k nr))
-    go Srej o q = stays e (taken e (S Srej nr)) (rw up refl) (rw up refl)
-    go c None q = stays e (taken e (S c nr)) (rw (up, q) refl) (rw (up, q) refl)
-    go c (Some x) q = stays e (taken e (S c nr)) (rw (up, q) refl) (rw (up, q) refl)
-
 pub taken_keeps : (e : EndState) (c : Control) → Idle e → Keeps (is_some (take_answer e c).ended) e (taken e c)
-taken_keeps e c idle =
-    by_taken (λ _ f answer. Keeps (is_some answer.ended) e f) e (λ ns nr info p. let k = up_I_of_ends e ns nr info p in rw p (rw p at k))
-    (λ kind nr p. let k = up_S_of_ends e kind nr p in rw p (rw p at k)) (λ _. record { out = refl; idle = idle })
-    (λ _ _ _. record { out = refl; idle = λ n. absurd (n refl) }) (λ _ _ _. record { out = refl; idle = idle })
-    (λ _ _ p. record { out = sym (idle (λ u. let z = sym p ∙ u in cc)).0; idle = λ n. absurd (n refl) })
-    (λ p. record { out = sym (idle (λ u. let z = sym p ∙ u in cc)).0; idle = λ n. absurd (n refl) }) c
+taken_keeps e c idle = grind arith
 
 pub ticked_keeps : (e : EndState) → Idle e → Keeps (is_some (tick_answer e).ended) e (ticked e)
-ticked_keeps e idle =
-    by_tick (λ f answer. Keeps (is_some answer.ended) e f) e (record { out = refl; idle = idle }) (λ _. record { out = refl; idle = idle })
-    (λ p. record { out = refl; idle = λ n. absurd (n p) }) (λ _. record { out = refl; idle = λ _. (refl, refl) })
-    (λ _. record { out = refl; idle = idle }) (λ p. record { out = refl; idle = λ _. idle (λ u. let z = sym p ∙ u in cc) })
-
-ready_keeps : (e : EndState) (r : Bool) → Idle e → Keeps false e (with_ready e r)
-ready_keeps e r idle =
-    ready_cases (λ f. Keeps false e f) e r (record { out = refl; idle = idle }) (record { out = refl; idle = idle }) (record { out = refl; idle = idle })
+ticked_keeps e idle = grind arith
 
 -- frames that go out leave the lists and the phase
 pub record Alike (e f : EndState) : Type 0 where
@@ -190,9 +143,7 @@ pub record Alike (e f : EndState) : Type 0 where
   pub phase : f.phase ≡ e.phase
 
 fetched_alike : (e : EndState) → Alike e (fetched e)
-fetched_alike e =
-    fetch_cases (λ f o. Alike e f) e (λ d ds p. record { out = refl; acc = refl; phase = refl }) (λ p q. record { out = refl; acc = refl; phase = refl })
-    (λ info p q. record { out = refl; acc = refl; phase = refl })
+fetched_alike e = grind arith
 
 pub frames_alike : (n : ℕ) (e : EndState) → Alike e (after_frames n e)
 frames_alike zero e = record { out = refl; acc = refl; phase = refl }
@@ -225,30 +176,17 @@ abbrev pub Now : LinkEnd → Type 0
 Now e = Mid None e
 
 pub mid_moved : (e : LinkEnd) (b : Bool) (s : EndState) → Now e → Keeps b e.shdlc s → (is_open e.role ≡ false → s.phase ≡ Down) → Now (moved e b s)
-mid_moved e false s h k c =
-    record { acts = h.acts; idle = k.idle; closed = c; says = record { out = k.out ∙ h.says.out; short = h.says.short } }
-mid_moved e true s h k c =
-    record { acts = rw h.acts refl; idle = k.idle; closed = c; says = record { out = k.out; short = tt } }
+mid_moved e b s h k c = grind arith
 
 now_sent : (e : LinkEnd) (o : Option Activation) → Mid o e → Now (sent_all e)
 now_sent e o h =
     let a = frames_alike most_frames e.shdlc in
-    record {
-      acts = refl;
-      idle = λ n. let i = h.idle (λ u. n (a.phase ∙ u)) in (a.out ∙ i.0, a.acc ∙ i.1);
-      closed = λ q. a.phase ∙ h.closed q;
-      says = record { out = a.out ∙ h.says.out; short = h.says.short };
-    }
+    grind arith
 
 -- ### Turns
 
 pub give_tells : (e : LinkEnd) (m : Message) → give_refusal e m ≡ None → (e.shdlc.phase ≡ Up) × (length m.1 ≤ 4096)
-give_tells e m q = go e.shdlc.phase (nat_lt 4096 (length m.1)) refl refl
-  where
-    go : (p : LinkState) (b : Bool) → e.shdlc.phase ≡ p → nat_lt 4096 (length m.1) ≡ b → (e.shdlc.phase ≡ Up) × (length m.1 ≤ 4096)
-    go Up false p b = (p, ltb-false 4096 (length m.1) b)
-    go Up true p b = absurd (let z = rw (p, b) at q in cc)
-    go _ b p r = absurd (let z = rw p at q in cc)
+give_tells e m q = grind arith
 
 short_more : (ms : List Message) (m : Message) → AreShort ms → IsShort m → AreShort (ms ++ m ∷ [])
 short_more [] m h s = (s, tt)
@@ -274,50 +212,17 @@ pub record Turned (o : Option Activation) (e f : LinkEnd) (ts : List CoreTurn) :
   pub is : f.shdlc ≡ core_turned e.shdlc ts
 
 turned_same : (o : Option Activation) (e f : LinkEnd) (ts us : List CoreTurn) (g : LinkEnd) → f ≡ g → ts ≡ us → Turned o e g us → Turned o e f ts
-turned_same o e f ts us g p q h =
-    record { mid = subst (Mid o) (sym p) h.mid; is = ap (λ (z : LinkEnd). z.shdlc) p ∙ (h.is ∙ ap (core_turned e.shdlc) (sym q)) }
+turned_same o e f ts us g p q h = grind arith
 
 -- what a node does that its SHDLC end doesn't see
 turned_beside : (o : Option Activation) (e f : LinkEnd) → f.role ≡ e.role → f.shdlc ≡ e.shdlc → f.sent ≡ e.sent → f.acts ≡ e.acts → Mid o e → Turned o e f []
-turned_beside o e f role shdlc sent acts h =
-    record {
-      mid = record {
-        acts = acts ∙ h.acts;
-        idle = let P : EndState → Type 0 = λ s. Idle s in subst P (sym shdlc) h.idle;
-        closed = λ q. ap (λ (s : EndState). s.phase) shdlc ∙ h.closed (ap is_open (sym role) ∙ q);
-        says = record {
-          out = ap (λ (s : EndState). s.session.out) shdlc ∙ (h.says.out ∙ ap fragments_of (sym sent));
-          short = let P : List Message → Type 0 = λ ms. AreShort ms in subst P (sym sent) h.says.short;
-        };
-      };
-      is = shdlc;
-    }
+turned_beside o e f role shdlc sent acts h = grind arith
 
 turn_mid : (o : Option Activation) (e : LinkEnd) (t : Turn) → AreSendableTurns (t ∷ []) → Mid o e → Turned o e (turn e t) (core_turn e t)
-turn_mid o e (Hold held) a h =
-    let k = ready_keeps e.shdlc (not held) h.idle in
-    record {
-      mid = record {
-        acts = h.acts;
-        idle = k.idle;
-        closed = λ q. ready_phase e.shdlc (not held) ∙ h.closed q;
-        says = record { out = k.out ∙ h.says.out; short = h.says.short };
-      };
-      is = refl;
-    }
+turn_mid o e (Hold held) a h = grind arith
 turn_mid o e FetchMessage a h = turned_beside o e (record e { got = drop 1 e.got }) refl refl refl refl h
 turn_mid o e Release a h = turned_beside o e (record e { aside = e.aside - 1 }) refl refl refl refl h
-turn_mid o e SetAside a h =
-    by_option {P = Turned o e (turn e SetAside) []} (aside_refusal e) (λ q.
-    turned_same o e (turn e SetAside) [] [] (record e { aside = e.aside + 1 }) (none q) refl
-    (turned_beside o e (record e { aside = e.aside + 1 }) refl refl refl refl h))
-    (λ r q. turned_same o e (turn e SetAside) [] [] e (some r q) refl (turned_beside o e e refl refl refl refl h))
-  where
-    none : aside_refusal e ≡ None → turn e SetAside ≡ record e { aside = e.aside + 1 }
-    none q = rw q refl
-
-    some : (r : Refused) → aside_refusal e ≡ Some r → turn e SetAside ≡ e
-    some r q = rw q refl
+turn_mid o e SetAside a h = grind arith
 turn_mid o e (Give m) a h =
     by_option {P = Turned o e (turn e (Give m)) (core_turn e (Give m))} (give_refusal e m) (λ q.
     let t = give_tells e m q in
@@ -343,35 +248,21 @@ turn_mid o e (Give m) a h =
     offered : e.shdlc.phase ≡ Up → put_out e.shdlc fs ≡ core_turn_of e.shdlc (Offer fs)
     offered up = rw up refl
 
-core_turned-append : (s : EndState) (ts us : List CoreTurn) → core_turned s (ts ++ us) ≡ core_turned (core_turned s ts) us
-core_turned-append s [] us = refl
-core_turned-append s (t ∷ ts) us = core_turned-append (core_turn_of s t) ts us
-
 pub turns_mid : (o : Option Activation) (e : LinkEnd) (ts : List Turn) → AreSendableTurns ts → Mid o e → Turned o e (turned e ts) (core_turns e ts)
 turns_mid o e [] a h = record { mid = h; is = refl }
 turns_mid o e (t ∷ ts) a h =
     let p = parted t ts a in
     let one = turn_mid o e t p.0 h in
     let more = turns_mid o (turn e t) ts p.1 one.mid in
-    record {
-      mid = more.mid;
-      is = more.is ∙ (ap (λ s. core_turned s (core_turns (turn e t) ts)) one.is
-          ∙ sym (core_turned-append e.shdlc (core_turn e t) (core_turns (turn e t) ts)));
-    }
+    grind arith
   where
     parted : (t : Turn) (ts : List Turn) → AreSendableTurns (t ∷ ts) → AreSendableTurns (t ∷ []) × AreSendableTurns ts
-    parted (Give m) ts a = ((a.0, tt), a.1)
-    parted _ ts a = (tt, a)
+    parted t ts a = grind arith
 
 -- ### A link
 
 pub put-core : (l : Link) (c : Control) → core_of (put l c) ≡ core_put (core_of l) c
-put-core l (I _ _ _) = refl
-put-core l (S _ _) = refl
-put-core l (Rset _ _) = refl
-put-core l Ua = refl
-put-core l (Act _ _) = refl
-put-core l Clt = refl
+put-core l c = grind arith
 
 put_all-core : (cs : List Control) (l : Link) → core_of (put_all l cs) ≡ core_put_all (core_of l) cs
 put_all-core [] l = refl
@@ -385,8 +276,7 @@ abbrev pub frames_now : Option Activation → List Control
 frames_now o = map act_frame (option_to_list o)
 
 pub among_now : (o : Option Activation) (frames : List Control) → among 0 (due_now o) frames ≡ frames_now o ++ frames
-among_now None frames = refl
-among_now (Some act) frames = refl
+among_now o frames = grind arith
 
 becomes-core : (l : Link) (o : Option Activation) (e : LinkEnd) (s : EndState) → e.acts ≡ due_now o → e.shdlc ≡ s
     → core_of (becomes l e) ≡ core_becomes (core_put_all (core_of l) (frames_now o)) s
@@ -400,8 +290,7 @@ becomes-core l o e s acts is =
     ∙ (put_all-core (frames_now o ++ frames_of most_frames s) l ∙ core_put_all-append (core_of l) (frames_now o) (frames_of most_frames s)))
 
 pub with_ended-core : (l : Link) (b : Bool) → core_of (with_ended l b) ≡ core_with_ended (core_of l) b
-with_ended-core l false = refl
-with_ended-core l true = refl
+with_ended-core l b = grind arith
 
 -- the frames of the controller's end leave these parts of a link
 pub record Beside (l m : Link) : Type 0 where
@@ -410,12 +299,7 @@ pub record Beside (l m : Link) : Type 0 where
   pub to_controller : m.to_controller ≡ l.to_controller
 
 beside-put : (l : Link) (c : Control) → Beside l (put l c)
-beside-put l (I _ _ _) = record { host = refl; past = refl; to_controller = refl }
-beside-put l (S _ _) = record { host = refl; past = refl; to_controller = refl }
-beside-put l (Rset _ _) = record { host = refl; past = refl; to_controller = refl }
-beside-put l Ua = record { host = refl; past = refl; to_controller = refl }
-beside-put l (Act _ _) = record { host = refl; past = refl; to_controller = refl }
-beside-put l Clt = record { host = refl; past = refl; to_controller = refl }
+beside-put l c = grind arith
 
 pub beside-put_all : (cs : List Control) (l : Link) → Beside l (put_all l cs)
 beside-put_all [] l = record { host = refl; past = refl; to_controller = refl }
@@ -441,13 +325,7 @@ pub record Step (l m : Link) (c : CoreLink) : Type 0 where
   pub in_order : LinkInOrder l → LinkInOrder m
 
 pub step_same : (l m k : Link) (c d : CoreLink) → m ≡ k → c ≡ d → Step l k d → Step l m c
-step_same l m k c d p q st =
-    record {
-      core = ap core_of p ∙ (st.core ∙ sym q);
-      tells = subst (λ (j : Link). Tells j.controller) (sym p) st.tells;
-      host = ap (λ (j : Link). j.host) p ∙ st.host;
-      in_order = λ z. subst LinkInOrder (sym p) (st.in_order z);
-    }
+step_same l m k c d p q st = grind arith
 
 put_all-append : (l : Link) (xs ys : List Control) → put_all l (xs ++ ys) ≡ put_all (put_all l xs) ys
 put_all-append l [] ys = refl
@@ -464,8 +342,7 @@ becomes_in_order l k o e host acts in_order =
     subst P (sym (b.host ∙ host)) (subst Q (sym b.to_controller) goes)
   where
     sends : (o : Option Activation) → (put_all k (frames_now o)).to_host ≡ with_sent o k.to_host
-    sends None = refl
-    sends (Some act) = refl
+    sends o = grind arith
 
     frames : frames_out e ≡ frames_now o ++ frames_of most_frames e.shdlc
     frames = ap (λ a. among 0 a (frames_of most_frames e.shdlc)) acts ∙ among_now o (frames_of most_frames e.shdlc)
@@ -497,9 +374,7 @@ turned_role e [] = refl
 turned_role e (t ∷ ts) = turned_role (turn e t) ts ∙ one t
   where
     one : (t : Turn) → (turn e t).role ≡ e.role
-    one SetAside = by_option {P = (turn e SetAside).role ≡ e.role} (aside_refusal e) (λ q. rw q refl) (λ r q. rw q refl)
-    one (Give m) = by_option {P = (turn e (Give m)).role ≡ e.role} (give_refusal e m) (λ q. rw q refl) (λ r q. rw q refl)
-    one _ = refl
+    one t = grind arith
 
 pub step_turned : (l k : Link) (o : Option Activation) (e : LinkEnd) (ts : List Turn) → k.host ≡ l.host → AllSay k.controller.past
     → AreSendableTurns ts → Mid o e
@@ -511,16 +386,13 @@ step_turned l k o e ts host past a h in_order =
     step_becomes l k o (turned e ts) (core_turned e.shdlc (core_turns e ts)) host past t.mid t.is (λ z. subst P (sym (turned_role e ts)) (in_order z))
 
 pub moved_role : (e : LinkEnd) (b : Bool) (s : EndState) → (moved e b s).role ≡ e.role
-moved_role e false s = refl
-moved_role e true s = refl
+moved_role e b s = grind arith
 
 pub past_ended : (l : Link) (b : Bool) → Tells l.controller → AllSay (with_ended l b).controller.past
-past_ended l false h = h.past
-past_ended l true h = (h.now.says, h.past)
+past_ended l b h = grind arith
 
 pub host_ended : (l : Link) (b : Bool) → (with_ended l b).host ≡ l.host
-host_ended l false = refl
-host_ended l true = refl
+host_ended l b = grind arith
 
 -- the end has become e, in a step that may end its session
 pub step_moved : (l : Link) (b : Bool) (s : EndState) (ts : List Turn) → Tells l.controller → AreSendableTurns ts → Keeps b l.controller.side.shdlc s
@@ -538,5 +410,4 @@ step_moved l b s ts h a keeps c =
   where
     in_order : (b : Bool) → LinkInOrder l
         → ActsInOrder (moved l.controller.side b s).role l.host.side.role (with_ended l b).to_controller (with_ended l b).to_host
-    in_order false z = z
-    in_order true z = z
+    in_order b z = grind arith

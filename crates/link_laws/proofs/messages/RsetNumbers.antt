@@ -1,25 +1,21 @@
 -- RSETs on a link come of ticks and of resets that are asked for, and their numbers are no greater than their count.
-use Rattle.std.specs.Prelude.{length}
-use Rattle.link_laws.proofs.Words.{Act as ActFrame, ActDue, ActEvent, ActOut, ActStart, ActStop, ActTake, ActTick, Activate, Activation as Act, Asked}
-use Rattle.link_laws.proofs.Words.{AsksReset, AtController, AtHost, Bare, Bool, Clf, Clt, Comes, Control, CutOff, Down, Due, EndEvent, EndState, Ending}
-use Rattle.link_laws.proofs.Words.{FetchMessage, Fragment, Give, GoesOut, HasTick as Tick, Hold, I, IsBare, IsLine, IsStart, Kind, Link, LinkEnd, LinkEvent}
-use Rattle.link_laws.proofs.Words.{LinkInput, LinkState, List, Lose, NextFrame, NoInput, None, NumberedEnd, OnWire, Option, Refused, Rej_due, Release, Reset}
-use Rattle.link_laws.proofs.Words.{Rnr_due, Role, Rr_due, Rset_due, S, SetAside, Some, Srej, Starts, Step, Stops, Take, Ticks, TicksWithout, Turn, Ua_due, Uicc}
-use Rattle.link_laws.proofs.Words.{Up, Waiting, [], acknowledged, act_answer, activated, after_frames, after_input, after_link_events, aged, aged_wire}
-use Rattle.link_laws.proofs.Words.{all_at_controller, among, ap, arith, aside_refusal, cond, control_due, deactivated, drop, due_left, ended_by, exchanged}
-use Rattle.link_laws.proofs.Words.{false, fetched, finished, fits, frame_due, frames_of, frames_out, give_refusal, given, had_tick, happens}
-use Rattle.link_laws.proofs.Words.{happens_at_controller, has_input, has_restarted, has_taken, heard, if_up, is_faulty, is_open, is_rset, is_some, is_up}
-use Rattle.link_laws.proofs.Words.{is_waiting, left_after, max, most_frames, moved, nat_lt, new_link_end, news, not, number_of, place_of, put, put_all}
-use Rattle.link_laws.proofs.Words.{put_down, received, refl, renewed, reset_by, reset_refusal, reset_with, role_after, rset_causes_in, rsets_among, rsets_due}
-use Rattle.link_laws.proofs.Words.{sent_all, silent, started, steps_at_controller, stopped, suc, take, take_answer, taken, tick_answer, ticked}
-use Rattle.link_laws.proofs.Words.{ticks_at_controller, took, took_with, true, turn, turned, waiting_from, window_of, with_act, with_controller, with_ended}
-use Rattle.link_laws.proofs.Words.{zero, ℕ, ◌++◌, ◌+◌, ◌-◌, ◌∙◌, ◌∷◌, ◌≡◌, ◌≤◌}
+use Rattle.link_laws.proofs.Words.{Act as ActFrame, ActDue, ActEvent, ActStart, ActStop, ActTake, ActTick, Activate, AsksReset, AtController, AtHost, Bool, Clt}
+use Rattle.link_laws.proofs.Words.{Comes, Control, CutOff, Due, EndEvent, EndState, Ending, FetchMessage, Fragment, Give, GoesOut, HasTick as Tick, Hold, I}
+use Rattle.link_laws.proofs.Words.{IsStart, Kind, Link, LinkEnd, LinkEvent, LinkInput, LinkState, List, Lose, NextFrame, NoInput, None, NumberedEnd, OnWire}
+use Rattle.link_laws.proofs.Words.{Option, Rej_due, Release, Reset, Rnr_due, Rr_due, Rset_due, S, SetAside, Some, Starts, Step, Stops, Take, Ticks}
+use Rattle.link_laws.proofs.Words.{TicksWithout, Turn, Ua_due, Up, [], acknowledged, activated, after_frames, after_input, after_link_events, aged, aged_wire}
+use Rattle.link_laws.proofs.Words.{all_at_controller, among, arith, cond, deactivated, drop, due_left, ended_by, exchanged, false, fetched, finished, fits}
+use Rattle.link_laws.proofs.Words.{frame_due, frames_of, frames_out, had_tick, happens, happens_at_controller, has_input, has_restarted, has_taken, heard}
+use Rattle.link_laws.proofs.Words.{is_faulty, is_open, is_rset, is_some, is_up, left_after, most_frames, moved, nat_lt, news, not, number_of, place_of, put}
+use Rattle.link_laws.proofs.Words.{put_all, put_down, received, refl, reset_with, rset_causes_in, rsets_among, rsets_due, sent_all, silent, started}
+use Rattle.link_laws.proofs.Words.{steps_at_controller, stopped, suc, take, take_answer, taken, tick_answer, ticked, ticks_at_controller, took, took_with, true}
+use Rattle.link_laws.proofs.Words.{turn, turned, waiting_from, with_controller, with_ended, zero, ℕ, ◌++◌, ◌+◌, ◌-◌, ◌∙◌, ◌∷◌, ◌≡◌, ◌≤◌}
 use Rattle.link_laws.specs.machine.Machine.{unless}
 use Rattle.link_laws.specs.messages.Rsets.{EndIsLow, HasLowNumbers, NumbersWithin, WireIsLow, resets_in_coming, resets_in_event, resets_in_events, rset_causes}
 use Rattle.link_laws.specs.messages.Rsets.{rsets_made}
-use Rattle.link_laws.proofs.Cases.{by_option, by_phase, by_test}
+use Rattle.link_laws.proofs.Cases.{by_option, by_test}
 use Rattle.link_laws.proofs.machine.Sound.{by_taken, by_tick}
-use Rattle.link_laws.proofs.places.Joined.{fetch_cases, ready_cases, received_cases}
+use Rattle.link_laws.proofs.places.Joined.{ready_cases, received_cases}
 
 -- ## An end makes an RSET only in a tick and where a reset is asked for, one at most: no frame that it takes makes one, nor does its node
 
@@ -49,12 +45,7 @@ up_I e ns nr info up = by_option (place_of e.session nr) (λ q. rw (up, q) (omeg
         (λ _ _. with_other e.due Rej_due refl) (λ _ _. with_other e.due Rr_due refl) (with_other e.due Rnr_due refl)
 
 up_S : (e : EndState) (k : Kind) (nr : ℕ) → e.phase ≡ Up → rsets_among (taken e (S k nr)).due ≤ rsets_among e.due
-up_S e k nr up = go k (place_of e.session nr) refl
-  where
-    go : (k : Kind) (o : Option ℕ) → place_of e.session nr ≡ o → rsets_among (taken e (S k nr)).due ≤ rsets_among e.due
-    go Srej o q = rw up (omega arith)
-    go _ None q = rw (up, q) (omega arith)
-    go _ (Some x) q = rw (up, q) (omega arith)
+up_S e k nr up = grind arith
 
 taken_due : (e : EndState) (c : Control) → rsets_among (taken e c).due ≤ rsets_among e.due
 taken_due e c =
@@ -64,9 +55,7 @@ taken_due e c =
 -- ### A tick and a reset
 
 left_due : (p : LinkState) (ds : List Due) → rsets_among (due_left p ds) ≤ rsets_among ds
-left_due Up ds = omega arith
-left_due Waiting ds = omega arith
-left_due Down ds = omega arith
+left_due p ds = grind arith
 
 -- an end that begins to wait sends one RSET
 waiting_due : (e : EndState) → rsets_among (waiting_from e).due ≤ rsets_among e.due + 1
@@ -74,39 +63,22 @@ waiting_due e =
     let z = due_more (due_left e.phase e.due) Rset_due in let w = left_due e.phase e.due in omega (arith, z, w)
 
 ticked_due : (e : EndState) → rsets_among (ticked e).due ≤ rsets_among e.due + 1
-ticked_due e =
-    by_tick (λ f _. rsets_among f.due ≤ rsets_among e.due + 1) e (omega arith) (λ _. omega arith) (λ _. omega arith) (λ _. waiting_due e)
-    (λ _. let z = due_more e.due Rset_due in omega (arith, z)) (λ _. omega arith)
+ticked_due e = grind (arith, by_tick, waiting_due, due_more)
 
 reset_due : (s : EndState) (w : ℕ) → rsets_among (reset_with s w).due ≤ rsets_among s.due + 1
-reset_due s w = go (is_waiting s)
-  where
-    go : (b : Bool) → rsets_among (cond b s (waiting_from (record s { own_window = w }))).due ≤ rsets_among s.due + 1
-    go true = omega arith
-    go false = waiting_due (record s { own_window = w })
+reset_due s w = grind (arith, waiting_from, waiting_due)
 
 -- ### An end over messages
 
 moved_due : (e : LinkEnd) (b : Bool) (s : EndState) → rsets_due (moved e b s) ≡ rsets_among s.due
-moved_due e true s = refl
-moved_due e false s = refl
+moved_due e b s = grind arith
 
 -- a packet that can't be joined takes the link down, and no RSET goes out
 down_due : (e : LinkEnd) (b : Bool) → rsets_due (put_down b e) ≤ rsets_due e
-down_due e false = omega arith
-down_due e true =
-    by_phase {P = rsets_due (put_down true e) ≤ rsets_due e} e.shdlc.phase (λ p. rw p (omega arith)) (λ p. rw p (omega arith)) (λ p. rw p (omega arith))
-
-act_due : (o : Option Act) (e : LinkEnd) → rsets_due (with_act o e) ≡ rsets_due e
-act_due None e = refl
-act_due (Some act) e = refl
+down_due e b = grind arith
 
 activated_due : (e : LinkEnd) (event : ActEvent) → rsets_due (activated e event) ≤ rsets_due e
-activated_due e event =
-    let out : ActOut = act_answer e.role event in
-    let down = down_due e out.ended_link in
-    let act = act_due out.send (record (put_down out.ended_link e) { role = role_after e.role event }) in
-    omega (arith, down, act)
+activated_due e event = grind arith
 
 heard_due : (e : LinkEnd) (c : Control) → rsets_due (heard e c) ≤ rsets_due e
 heard_due e c = go (is_faulty (taken e.shdlc c).session)
@@ -120,11 +92,7 @@ heard_due e c = go (is_faulty (taken e.shdlc c).session)
         let m = moved_due e (is_some (take_answer e.shdlc c).ended) (taken e.shdlc c) in let z = taken_due e.shdlc c in omega (arith, m, z)
 
 open_due : (e : LinkEnd) (c : Control) → rsets_due (cond (is_open e.role) (heard e c) e) ≤ rsets_due e
-open_due e c = go (is_open e.role)
-  where
-    go : (b : Bool) → rsets_due (cond b (heard e c) e) ≤ rsets_due e
-    go true = heard_due e c
-    go false = omega arith
+open_due e c = grind (arith, is_open, heard, heard_due)
 
 -- no frame makes an RSET
 took_due : (e : LinkEnd) (c : Control) → rsets_due (took e c) ≤ rsets_due e
@@ -143,15 +111,7 @@ had_tick_due e = go (is_open e.role)
 
 -- and so does a reset
 had_reset_due : (e : LinkEnd) (window : Option ℕ) → rsets_due (after_input e (Reset window)) ≤ rsets_due e + 1
-had_reset_due e window = go (reset_refusal e)
-  where
-    w : ℕ
-    w = window_of e window
-
-    go : (o : Option Refused) → rsets_due (unless o e (reset_by e w)) ≤ rsets_due e + 1
-    go None =
-        let m = moved_due e (is_some (if_up e.shdlc Asked)) (reset_with e.shdlc w) in let z = reset_due e.shdlc w in omega (arith, m, z)
-    go (Some why) = omega arith
+had_reset_due e window = grind (arith, unless, moved_due, is_some, reset_due)
 
 -- activation that begins or ends leaves none
 started_due : (e : LinkEnd) (value : ℕ) → rsets_due (started e value) ≤ rsets_due e
@@ -163,19 +123,11 @@ deactivated_due e = let z = activated_due (moved e true (stopped e.shdlc)) ActSt
 -- ### What a node does to an end
 
 turn_due : (e : LinkEnd) (t : Turn) → rsets_due (turn e t) ≤ rsets_due e
-turn_due e (Give m) = go (give_refusal e m)
-  where
-    go : (o : Option Refused) → rsets_due (unless o e (given e m)) ≤ rsets_due e
-    go None = omega arith
-    go (Some why) = omega arith
+turn_due e (Give m) = grind arith
 turn_due e (Hold held) =
     ready_cases (λ s. rsets_among s.due ≤ rsets_among e.shdlc.due) e.shdlc (not held) (omega arith) (omega arith) (with_other e.shdlc.due Rr_due refl)
 turn_due e FetchMessage = omega arith
-turn_due e SetAside = go (aside_refusal e)
-  where
-    go : (o : Option Refused) → rsets_due (unless o e (record e { aside = e.aside + 1 })) ≤ rsets_due e
-    go None = omega arith
-    go (Some why) = omega arith
+turn_due e SetAside = grind arith
 turn_due e Release = omega arith
 
 turned_due : (ts : List Turn) (e : LinkEnd) → rsets_due (turned e ts) ≤ rsets_due e
@@ -216,18 +168,9 @@ abbrev rset_of : Option Control → ℕ
 rset_of None = 0
 rset_of (Some c) = cond (is_rset c) 1 0
 
-control_rset : (e : EndState) (d : Due) (ds : List Due) → rsets_among ds + rset_of (Some (control_due e d)) ≡ rsets_among (d ∷ ds)
-control_rset e Rr_due ds = omega arith
-control_rset e Rej_due ds = omega arith
-control_rset e Rnr_due ds = omega arith
-control_rset e Rset_due ds = omega arith
-control_rset e Ua_due ds = omega arith
-
 -- an RSET that is fetched is due no more
 fetched_rset : (e : EndState) → rsets_among (fetched e).due + rset_of (frame_due e) ≤ rsets_among e.due
-fetched_rset e =
-    fetch_cases (λ f o. rsets_among f.due + rset_of o ≤ rsets_among e.due) e
-    (λ d ds q. let z = control_rset e d ds in let w = ap rsets_among q in omega (arith, z, w)) (λ _ _. omega arith) (λ info _ _. omega arith)
+fetched_rset e = grind arith
 
 frames_rsets : (n : ℕ) (e : EndState) → rsets_among (after_frames n e).due + rsets (frames_of n e) ≤ rsets_among e.due
 frames_rsets zero e = omega arith
@@ -240,8 +183,7 @@ frames_rsets (suc n) e = go (frame_due e) (frames_rsets n (fetched e)) (fetched_
     go : (o : Option Control) → rsets_among (after_frames n (fetched e)).due + rsets (frames_of n (fetched e)) ≤ rsets_among (fetched e).due
         → rsets_among (fetched e).due + rset_of o ≤ rsets_among e.due
         → rsets_among (after_frames n (fetched e)).due + rsets (by o (frames_of n (fetched e))) ≤ rsets_among e.due
-    go None later first = omega (arith, later, first)
-    go (Some c) later first = omega (arith, later, first)
+    go o later first = grind arith
 
 out_rsets : (e : LinkEnd) → rsets_due (sent_all e) + rsets (frames_out e) ≤ rsets_due e
 out_rsets e =
@@ -269,17 +211,10 @@ record Makes (n : ℕ) (l m : Link) : Type 0 where
   far : m.host ≡ l.host
 
 ended_resets : (l : Link) (b : Bool) → (with_ended l b).resets ≡ l.resets
-ended_resets l true = refl
-ended_resets l false = refl
+ended_resets l b = grind arith
 
 ended_host : (l : Link) (b : Bool) → (with_ended l b).host ≡ l.host
-ended_host l true = refl
-ended_host l false = refl
-
-new_due : (r : Role) → rsets_due (new_link_end r) ≡ 0
-new_due Bare = refl
-new_due (Clf s) = refl
-new_due (Uicc s) = refl
+ended_host l b = grind arith
 
 finished_makes : (n : ℕ) (l k : Link) (e : LinkEnd) (ending : Ending) → k.resets ≡ l.resets → k.host ≡ l.host → l.resets + rsets_due e ≤ n
     → Makes n l (finished k e ending)
@@ -288,13 +223,7 @@ finished_makes n l k e GoesOut resets host within =
       made = let z = puts_more (frames_out e) k in let o = out_rsets e in omega (arith, resets, z, o, within);
       far = puts_host (frames_out e) k ∙ host;
     }
-finished_makes n l k e CutOff resets host within =
-    let c : Link = with_controller k (sent_all e) in
-    let b : Bool = is_up c.controller.side.shdlc.phase in
-    record {
-      made = let z = ended_resets c b in let d = new_due (renewed e.role) in omega (arith, resets, z, d, within);
-      far = ended_host c b ∙ host;
-    }
+finished_makes n l k e CutOff resets host within = grind arith
 
 tick_makes : (l : Link) (ts : List Turn) (ending : Ending)
     → Makes (l.resets + rsets_due l.controller.side + 1) l (ticks_at_controller l ts ending)
@@ -362,8 +291,7 @@ steps_make l NoInput ts ending =
 
 -- where the near end makes so many more, the link has so many more
 both : (n : ℕ) (l m : Link) → Makes (l.resets + rsets_due l.controller.side + n) l m → rsets_made m ≤ rsets_made l + n
-both n l m a =
-    let z = a.made in let h = ap (λ (h : NumberedEnd). rsets_due h.side) a.far in omega (arith, z, h)
+both n l m a = grind arith
 
 made_exchanged : (l : Link) → rsets_made (exchanged l) ≡ rsets_made l
 made_exchanged l = omega arith
@@ -377,11 +305,7 @@ made_in_tick l ts ending = both 1 l (ticks_at_controller l ts ending) (tick_make
 
 made_there : (l : Link) (comes : Comes) (ts : List Turn) (ending : Ending)
     → rsets_made (exchanged (steps_at_controller (exchanged l) comes ts ending)) ≤ rsets_made l + resets_in_coming comes
-made_there l comes ts ending =
-    let a = made_in_step (exchanged l) comes ts ending in
-    let b = made_exchanged (steps_at_controller (exchanged l) comes ts ending) in
-    let c = made_exchanged l in
-    omega (arith, a, b, c)
+made_there l comes ts ending = grind (arith, made_in_step, made_exchanged)
 
 pub made_in_tick_there : (l : Link) (ts : List Turn) (ending : Ending)
     → rsets_made (exchanged (ticks_at_controller (exchanged l) ts ending)) ≤ rsets_made l + 1
@@ -429,8 +353,7 @@ made_by_events [] l = omega arith
 made_by_events (e ∷ es) l = let z = made_by_events es (happens l e) in let o = made_by_event l e in omega (arith, z, o)
 
 none_made : (l : Link) → IsStart l → rsets_made l ≡ 0
-none_made l IsBare = refl
-none_made l IsLine = refl
+none_made l a = grind arith
 
 pub resets_of_run : (l : Link) → IsStart l → (events : List LinkEvent) → (after_link_events l events).resets ≤ rset_causes_in events
 resets_of_run l start events = let z = made_by_events events l in let o = none_made l start in omega (arith, z, o)
@@ -447,31 +370,18 @@ low_push : (n : ℕ) (wire : List OnWire) (x : OnWire) → x.number ≤ n → Wi
 low_push n [] x q a = (q, tt)
 low_push n (y ∷ wire) x q a = (a.0, low_push n wire x q a.1)
 
-low_drop : (n : ℕ) (wire : List OnWire) → WireIsLow n wire → WireIsLow n (drop 1 wire)
-low_drop n [] a = tt
-low_drop n (x ∷ wire) a = a.1
-
 low_fits : (n : ℕ) (wire : List OnWire) → WireIsLow n wire → WireIsLow n (fits wire)
-low_fits n wire a = go (nat_lt 64 (length wire))
-  where
-    go : (b : Bool) → WireIsLow n (cond b (drop 1 wire) wire)
-    go true = low_drop n wire a
-    go false = a
+low_fits n wire a = grind arith
 
 low_aged : (n : ℕ) (wire : List OnWire) → WireIsLow n wire → WireIsLow n (aged_wire wire)
 low_aged n [] a = tt
 low_aged n (x ∷ wire) a = go (nat_lt x.age 4) (low_aged n wire a.1)
   where
     go : (b : Bool) → WireIsLow n (aged_wire wire) → WireIsLow n (cond b (record x { age = x.age + 1 } ∷ aged_wire wire) (aged_wire wire))
-    go true later = (a.0, later)
-    go false later = later
+    go b later = grind arith
 
 pub took_low : (n t : ℕ) (x : OnWire) → t ≤ n → x.number ≤ n → took_with t x ≤ n
-took_low n t x q a = go (is_rset x.frame)
-  where
-    go : (b : Bool) → cond b (max t x.number) t ≤ n
-    go true = omega (arith, q, a)
-    go false = q
+took_low n t x q a = grind arith
 
 -- ### Links
 
@@ -536,44 +446,17 @@ puts_numbered [] l a = a
 puts_numbered (c ∷ cs) l a = puts_numbered cs (put l c) (put_numbered l c a)
 
 with_numbered : (l : Link) (e : LinkEnd) → HasLowNumbers l → HasLowNumbers (with_controller l e)
-with_numbered l e a =
-    record {
-      controller = record { emitted = a.controller.emitted; took = a.controller.took };
-      host = a.host;
-      to_controller = a.to_controller;
-      to_host = a.to_host;
-    }
+with_numbered l e a = grind arith
 
 ended_numbered : (l : Link) (b : Bool) → HasLowNumbers l → HasLowNumbers (with_ended l b)
-ended_numbered l false a = a
-ended_numbered l true a =
-    record {
-      controller = record { emitted = a.controller.emitted; took = a.controller.took };
-      host = a.host;
-      to_controller = a.to_controller;
-      to_host = a.to_host;
-    }
+ended_numbered l b a = grind arith
 
 pub silent_numbered : (l : Link) (e : LinkEnd) → HasLowNumbers l → HasLowNumbers (silent l e)
-silent_numbered l e a = go (is_up l.controller.side.shdlc.phase)
-  where
-    by : Bool → Link
-    by b = let m : Link = with_ended l b in record m { controller = record m.controller { side = e }; to_controller = []; to_host = [] }
-
-    go : (b : Bool) → HasLowNumbers (by b)
-    go b =
-        let z = ended_numbered l b a in
-        record {
-          controller = record { emitted = z.controller.emitted; took = z.controller.took };
-          host = z.host;
-          to_controller = tt;
-          to_host = tt;
-        }
+silent_numbered l e a = grind arith
 
 finished_numbered : (l : Link) (e : LinkEnd) (ending : Ending) → HasLowNumbers l → HasLowNumbers (finished l e ending)
 finished_numbered l e GoesOut a = with_numbered (put_all l (frames_out e)) (sent_all e) (puts_numbered (frames_out e) l a)
-finished_numbered l e CutOff a =
-    let k : Link = with_controller l (sent_all e) in silent_numbered k (new_link_end (renewed e.role)) (with_numbered l (sent_all e) a)
+finished_numbered l e CutOff a = grind arith
 
 -- ### Steps
 
@@ -584,34 +467,7 @@ input_numbered l i ts ending a =
 
 -- the link where the near end has taken x, and these frames are left
 left_numbered : (l : Link) (x : OnWire) (xs : List OnWire) → l.to_controller ≡ x ∷ xs → HasLowNumbers l → HasLowNumbers (left_after l x xs)
-left_numbered l x xs q a = go (is_some (ended_by l.controller.side (Take x.frame)))
-  where
-    wire : WireIsLow l.resets (x ∷ xs)
-    wire = rw q at a.to_controller
-
-    took : took_with l.controller.took x ≤ l.resets
-    took = took_low l.resets l.controller.took x a.controller.took wire.0
-
-    by : Bool → Link
-    by b =
-        let m : Link = with_ended (record l { to_controller = xs }) b in
-        record m { controller = record m.controller { took = took_with l.controller.took x } }
-
-    go : (b : Bool) → HasLowNumbers (by b)
-    go true =
-        record {
-          controller = record { emitted = a.controller.emitted; took = took };
-          host = a.host;
-          to_controller = wire.1;
-          to_host = a.to_host;
-        }
-    go false =
-        record {
-          controller = record { emitted = a.controller.emitted; took = took };
-          host = a.host;
-          to_controller = wire.1;
-          to_host = a.to_host;
-        }
+left_numbered l x xs q a = grind arith
 
 taken_numbered : (l : Link) (x : OnWire) (xs : List OnWire) (ts : List Turn) (ending : Ending) → l.to_controller ≡ x ∷ xs → HasLowNumbers l
     → HasLowNumbers (has_taken l x xs ts ending)
@@ -651,13 +507,7 @@ tick_there_numbered l ts ending a =
 
 pub here_numbered : (l : Link) (e : EndEvent) → HasLowNumbers l → HasLowNumbers (happens_at_controller l e)
 here_numbered l (Step comes ts ending) a = steps_numbered l comes ts ending a
-here_numbered l (Lose why) a =
-    record {
-      controller = a.controller;
-      host = a.host;
-      to_controller = low_drop l.resets l.to_controller a.to_controller;
-      to_host = a.to_host;
-    }
+here_numbered l (Lose why) a = grind arith
 
 pub all_numbered : (es : List EndEvent) (l : Link) → HasLowNumbers l → HasLowNumbers (all_at_controller l es)
 all_numbered [] l a = a
@@ -684,28 +534,10 @@ events_numbered [] l a = a
 events_numbered (e ∷ es) l a = events_numbered es (happens l e) (event_numbered l e a)
 
 pub start_numbered : (l : Link) → IsStart l → HasLowNumbers l
-start_numbered l IsBare =
-    record {
-      controller = record { emitted = omega arith; took = omega arith };
-      host = record { emitted = omega arith; took = omega arith };
-      to_controller = tt;
-      to_host = tt;
-    }
-start_numbered l IsLine =
-    record {
-      controller = record { emitted = omega arith; took = omega arith };
-      host = record { emitted = omega arith; took = omega arith };
-      to_controller = tt;
-      to_host = tt;
-    }
+start_numbered l a = grind arith
 
 pub numbers_within : (n : ℕ) (l : Link) → l.resets ≤ n → HasLowNumbers l → NumbersWithin n l
-numbers_within n l q a =
-    record {
-      resets = q;
-      controller = let z = number_low l.resets l.controller a.controller in omega (arith, q, z);
-      host = let z = number_low l.resets l.host a.host in omega (arith, q, z);
-    }
+numbers_within n l q a = grind arith
 
 pub numbers_of_run : (l : Link) → IsStart l → (events : List LinkEvent) → NumbersWithin (rset_causes_in events) (after_link_events l events)
 numbers_of_run l start events =

@@ -1,31 +1,27 @@
 -- Every run of a link over messages is projected: what is true of it, and what was delivered where nothing was lost.
 use Rattle.std.specs.Prelude.{Some}
-use Rattle.link_laws.proofs.Words.{Act, ActEvent, ActStart, ActStop, ActTake, Activate, AllAllowed, AllDelivered, AllShdlcAllowed as CoreAllAllowed, AreOwn}
-use Rattle.link_laws.proofs.Words.{AreSendable, AreShort, AreTurns as CoreAreTurns, AsksReset, AtController, AtHost, Bare, Bool, BothDown, BothUp, CanStart}
-use Rattle.link_laws.proofs.Words.{Chain, Clf, ClfAct, Clt, Comes, Control, CoreAreUpTogether, CoreAtController, CoreAtHost, CoreDeliver, CoreEndEvent}
-use Rattle.link_laws.proofs.Words.{CoreInOrder, CoreIsAllowed, CoreLink, CoreTurn, CutOff, Down, EndEvent, EndState, Ending}
-use Rattle.link_laws.proofs.Words.{FragmentsDelivered as CoreAllDelivered, GoesOut, InOrder, IsAllowed, IsBare, IsClf, IsEvent, IsFrontOf, IsLine, IsNode}
-use Rattle.link_laws.proofs.Words.{IsOwn, IsQuiet, IsShdlcQuiet as CoreIsQuiet, IsShdlcSettled as CoreIsSettled, IsShdlcStart as CoreIsStart, IsStart, IsUicc}
-use Rattle.link_laws.proofs.Words.{Link, LinkEnd, LinkEvent, LinkState, LinkTogether as AreUpTogether, List, Lose, Loss, Message, NextFrame, NoInput, Node}
-use Rattle.link_laws.proofs.Words.{None, NumberedEnd, OnWire, Option, Peer, Refused, Role, ShdlcLinkEvent as CoreLinkEvent, Starts, Step as EndStep, Stops}
-use Rattle.link_laws.proofs.Words.{Take, Talk, Tick as CoreTick, TickWithout as CoreTickWithout, Ticks, TicksWithout, Turn, Uicc, Up, Waiting, [], act_answer}
-use Rattle.link_laws.proofs.Words.{after_link_events, aged, all_at_controller, ap, append-nil, append_assoc, arith, core_after, core_aged, core_all}
-use Rattle.link_laws.proofs.Words.{core_all_here, core_end, core_ending, core_event, core_events, core_happens_here, core_here, core_of, core_past, core_reset}
-use Rattle.link_laws.proofs.Words.{core_step, core_take, core_tick, core_tick_rest, core_ticks_if_waiting, core_ticks_or_cut, drop, ended_by, ended_by_act}
-use Rattle.link_laws.proofs.Words.{ended_talk, exchanged, false, fragments_of, good_messages_of, good_of, happens, happens_at_controller, inl, is_active}
-use Rattle.link_laws.proofs.Words.{is_faulty, is_lost_tick, is_open, leb-false, length, length-append, length-map, losses_of, map, messages_got, moved, nat_le}
-use Rattle.link_laws.proofs.Words.{ne_eqb, new_clf, new_link_end, new_numbered_end, new_uicc, no_talk, number_of, packet_bytes, packet_count}
-use Rattle.link_laws.proofs.Words.{packets_are_counted, packets_of, refl, renewed, reset_refusal, role_after, shdlc_exchanged as core_exchanged}
-use Rattle.link_laws.proofs.Words.{shdlc_number_of as core_number_of, shdlc_session_of, started, steps_at_controller, stopped, subst, suc, sym, take}
-use Rattle.link_laws.proofs.Words.{take_answer, taken, talk_now, talk_of, ticks_at_controller, true, true≢false, turned, whole_among, window_of, zero, ℕ, ◌++◌}
-use Rattle.link_laws.proofs.Words.{◌+◌, ◌-◌, ◌<◌, ◌==◌, ◌∙◌, ◌∷◌, ◌≡◌, ◌≤◌}
+use Rattle.link_laws.proofs.Words.{ActStart, ActStop, Activate, AllAllowed, AllDelivered, AllShdlcAllowed as CoreAllAllowed, AreOwn, AreSendable, AreShort}
+use Rattle.link_laws.proofs.Words.{AreTurns as CoreAreTurns, AsksReset, AtController, AtHost, Bare, BothDown, BothUp, CanStart, Chain, Clf, ClfAct, Comes}
+use Rattle.link_laws.proofs.Words.{Control, CoreAreUpTogether, CoreAtController, CoreAtHost, CoreDeliver, CoreEndEvent, CoreInOrder, CoreIsAllowed, CoreLink}
+use Rattle.link_laws.proofs.Words.{CoreTurn, EndEvent, Ending, FragmentsDelivered as CoreAllDelivered, InOrder, IsAllowed, IsBare, IsClf, IsEvent, IsFrontOf}
+use Rattle.link_laws.proofs.Words.{IsLine, IsNode, IsOwn, IsQuiet, IsShdlcQuiet as CoreIsQuiet, IsShdlcSettled as CoreIsSettled, IsShdlcStart as CoreIsStart}
+use Rattle.link_laws.proofs.Words.{IsStart, IsUicc, Link, LinkEnd, LinkEvent, LinkTogether as AreUpTogether, List, Lose, Loss, Message, NextFrame, NoInput}
+use Rattle.link_laws.proofs.Words.{Node, NumberedEnd, OnWire, Option, Role, ShdlcLinkEvent as CoreLinkEvent, Starts, Step as EndStep, Stops, Take, Talk}
+use Rattle.link_laws.proofs.Words.{Tick as CoreTick, TickWithout as CoreTickWithout, Ticks, TicksWithout, Turn, Up, [], after_link_events, aged}
+use Rattle.link_laws.proofs.Words.{all_at_controller, ap, append-nil, append_assoc, arith, core_after, core_aged, core_all, core_all_here, core_end, core_event}
+use Rattle.link_laws.proofs.Words.{core_events, core_happens_here, core_here, core_of, core_past, core_step, core_tick, core_tick_rest, core_ticks_if_waiting}
+use Rattle.link_laws.proofs.Words.{core_ticks_or_cut, ended_by, ended_talk, exchanged, false, fragments_of, good_messages_of, good_of, happens}
+use Rattle.link_laws.proofs.Words.{happens_at_controller, is_active, is_faulty, is_open, leb-false, length, length-append, length-map, losses_of, map}
+use Rattle.link_laws.proofs.Words.{messages_got, moved, nat_le, ne_eqb, new_link_end, new_numbered_end, no_talk, number_of, packet_bytes, packet_count}
+use Rattle.link_laws.proofs.Words.{packets_are_counted, packets_of, refl, role_after, shdlc_exchanged as core_exchanged, shdlc_number_of as core_number_of}
+use Rattle.link_laws.proofs.Words.{shdlc_session_of, started, steps_at_controller, stopped, subst, suc, sym, take, taken, talk_now, talk_of}
+use Rattle.link_laws.proofs.Words.{ticks_at_controller, true, turned, whole_among, zero, ℕ, ◌++◌, ◌+◌, ◌-◌, ◌==◌, ◌∙◌, ◌∷◌, ◌≡◌, ◌≤◌}
 use Rattle.hcp_packet.proofs.Joining.{good_messages_are_a_front, joined_again, whole_messages_have_come}
-use Rattle.link_laws.specs.messages.Links.{CanCome, IsWindow}
+use Rattle.link_laws.specs.messages.Links.{CanCome}
 use Rattle.link_laws.specs.messages.Settled.{IsSettled, sure_of}
-use Rattle.link_laws.proofs.Cases.{by_list, by_test}
-use Rattle.link_laws.proofs.machine.Sound.{by_taken, whole_acked_before}
-use Rattle.link_laws.proofs.messages.ActsInOrder.{ActsInOrder, Line, LinkInOrder, in_order_aged, in_order_drop, in_order_start, in_order_stop, in_order_swap}
-use Rattle.link_laws.proofs.messages.ActsInOrder.{polite_of}
+use Rattle.link_laws.proofs.Cases.{by_test}
+use Rattle.link_laws.proofs.machine.Sound.{whole_acked_before}
+use Rattle.link_laws.proofs.messages.ActsInOrder.{LinkInOrder, in_order_aged, in_order_start, in_order_stop, in_order_swap, polite_of}
 use Rattle.link_laws.proofs.messages.Finishing.{all_here-append, step_frame, step_idle, step_reset, step_restart, step_tick}
 use Rattle.link_laws.proofs.messages.Project.{Says, Step, Tells, turned_role}
 use Rattle.link_laws.proofs.messages.Steps.{FromHost, Rests, activated_role, core_first, no_fault_first, says_of, session-core}
@@ -62,81 +58,16 @@ abbrev pub AreAllowed : List CoreEndEvent → Type 0
 AreAllowed [] = Unit {0}
 AreAllowed (e ∷ es) = CoreIsAllowed e × AreAllowed es
 
-are_allowed-append : (es fs : List CoreEndEvent) → AreAllowed es → AreAllowed fs → AreAllowed (es ++ fs)
-are_allowed-append [] fs a b = b
-are_allowed-append (e ∷ es) fs a b = (a.0, are_allowed-append es fs a.1 b)
-
-allowed_here : (es : List CoreEndEvent) → AreAllowed es → CoreAllAllowed (map CoreAtController es)
-allowed_here [] a = tt
-allowed_here (e ∷ es) a = (a.0, allowed_here es a.1)
-
-allowed_there : (es : List CoreEndEvent) → AreAllowed es → CoreAllAllowed (map CoreAtHost es)
-allowed_there [] a = tt
-allowed_there (e ∷ es) a = (a.0, allowed_there es a.1)
-
-turns-append : (es fs : List CoreEndEvent) → CoreAreTurns es → CoreAreTurns fs → CoreAreTurns (es ++ fs)
-turns-append [] fs a b = b
-turns-append (e ∷ es) fs a b = (a.0, turns-append es fs a.1 b)
-
-take_allowed : (e : LinkEnd) (c : Control) (ts : List Turn) → AreAllowed (core_take e c ts)
-take_allowed e c ts = go c (is_open e.role) refl
-  where
-    go : (c : Control) (b : Bool) → is_open e.role ≡ b → AreAllowed (core_take e c ts)
-    go (Act _ _) b q = (tt, (tt, tt))
-    go _ true q = rw q (tt, tt)
-    go _ false q = rw q (tt, tt)
-
 -- what is allowed at an end, and in a tick where no frame is taken
 pub record Both (es : List CoreEndEvent) : Type 0 where
   pub allowed : AreAllowed es
   pub turns : CoreAreTurns es
 
-ending_both : (ending : Ending) → Both (core_ending ending)
-ending_both GoesOut = record { allowed = tt; turns = tt }
-ending_both CutOff = record { allowed = (tt, tt); turns = (tt, tt) }
-
-window_fits : (e : LinkEnd) (window : Option ℕ) → Rests e.shdlc → IsWindow window → (0 < window_of e window) × (window_of e window ≤ 4)
-window_fits e None r a = r.own
-window_fits e (Some w) r a = a
-
-reset_both : (o : Option Refused) (e : LinkEnd) (w : ℕ) (ts : List Turn) (ending : Ending) → (0 < w) × (w ≤ 4) → Both (core_reset o e w ts ending)
-reset_both None e w ts GoesOut a = record { allowed = (a, tt); turns = (a, tt) }
-reset_both None e w ts CutOff a = record { allowed = (tt, tt); turns = (tt, tt) }
-reset_both (Some why) e w ts ending a = let b = ending_both ending in record { allowed = (tt, b.allowed); turns = (tt, b.turns) }
-
-step_allowed : (l : Link) (comes : Comes) (ts : List Turn) (ending : Ending) → Rests l.controller.side.shdlc → CanCome l comes
-    → AreAllowed (core_step l comes ts ending)
-step_allowed l NextFrame ts ending r a =
-    by_list {P = AreAllowed (core_step l NextFrame ts ending)} l.to_controller (λ q. rw q tt) (λ x xs q.
-    rw q (are_allowed-append (core_take l.controller.side x.frame ts) (core_ending ending) (take_allowed l.controller.side x.frame ts)
-    (ending_both ending).allowed))
-step_allowed l (AsksReset window) ts ending r a =
-    (reset_both (reset_refusal l.controller.side) l.controller.side (window_of l.controller.side window) ts ending
-    (window_fits l.controller.side window r a)).allowed
-step_allowed l NoInput ts ending r a = (tt, (ending_both ending).allowed)
-step_allowed l _ ts ending r a = (tt, (tt, (ending_both ending).allowed))
-
 pub own_turns : (l : Link) (e : EndEvent) → Rests l.controller.side.shdlc → IsOwn e → IsAllowed l e → CoreAreTurns (core_here l e)
-own_turns l (EndStep NextFrame ts ending) r o a = absurd o
-own_turns l (EndStep (AsksReset window) ts ending) r o a =
-    (reset_both (reset_refusal l.controller.side) l.controller.side (window_of l.controller.side window) ts ending
-    (window_fits l.controller.side window r a.0)).turns
-own_turns l (EndStep (Starts value) ts ending) r o a = (tt, (tt, (ending_both ending).turns))
-own_turns l (EndStep Stops ts ending) r o a = (tt, (tt, (ending_both ending).turns))
-own_turns l (EndStep NoInput ts ending) r o a = (tt, (ending_both ending).turns)
-own_turns l (Lose why) r o a = absurd o
-
-here_allowed : (l : Link) (e : EndEvent) → Rests l.controller.side.shdlc → IsAllowed l e → AreAllowed (core_here l e)
-here_allowed l (EndStep comes ts ending) r a = step_allowed l comes ts ending r a.0
-here_allowed l (Lose why) r a = (tt, tt)
+own_turns l e r o a = grind arith
 
 pub rest_both : (e : LinkEnd) (ts : List Turn) (ending : Ending) → Both (core_tick_rest e ts ending)
-rest_both e ts ending = go (is_lost_tick e ending) (is_open e.role) refl refl (ending_both ending)
-  where
-    go : (a b : Bool) → is_lost_tick e ending ≡ a → is_open e.role ≡ b → Both (core_ending ending) → Both (core_tick_rest e ts ending)
-    go true b p q h = rw p (record { allowed = tt; turns = tt })
-    go false true p q h = rw (p, q) h
-    go false false p q h = rw (p, q) (record { allowed = (tt, h.allowed); turns = (tt, h.turns) })
+rest_both e ts ending = grind arith
 
 -- ### What is known between events
 
@@ -217,12 +148,7 @@ step_own l Stops ts ending o a n h r =
 step_own l NoInput ts ending o a n h r = step_idle l ts ending n.0 n.1 h r
 
 step_lost : (l : Link) (why : Loss) → Tells l.controller → Step l (happens_at_controller l (Lose why)) (core_all_here (core_of l) (core_here l (Lose why)))
-step_lost l why h = record { core = refl; tells = h; host = refl; in_order = lost l.to_controller }
-  where
-    lost : (w : List OnWire) → ActsInOrder l.controller.side.role l.host.side.role w l.to_host
-        → ActsInOrder l.controller.side.role l.host.side.role (drop 1 w) l.to_host
-    lost [] g = g
-    lost (x ∷ xs) g = in_order_drop l.controller.side.role l.host.side.role x xs l.to_host g
+step_lost l why h = grind arith
 
 pub step_here : (l : Link) (e : EndEvent) → IsAllowed l e → Tells l.controller → Tells l.host → LinkInOrder l → Rests l.controller.side.shdlc
     → FromHost (core_happens_here (core_of l) (CoreDeliver [])) → Step l (happens_at_controller l e) (core_all_here (core_of l) (core_here l e))
@@ -253,15 +179,7 @@ all_step kf l (e ∷ es) a h s =
     let turns = own_turns l e r a.0 a.1 in
     let P : CoreLink → Type 0 = λ c. SafeLink 0 kf c in
     let more = all_step kf m es a.2 one.tells (subst P (sym one.core) (safe_turns kf (core_here l e) (core_of l) turns s)) in
-    record {
-      step = record {
-        core = more.step.core ∙ (ap (λ c. core_all_here c (core_all m es)) one.core ∙ sym (all_here-append (core_of l) (core_here l e) (core_all m es)));
-        tells = more.step.tells;
-        host = more.step.host ∙ one.host;
-        in_order = λ z. more.step.in_order (one.in_order z);
-      };
-      turns = turns-append (core_here l e) (core_all m es) turns more.turns;
-    }
+    grind arith
 
 pub tells_same : (h k : NumberedEnd) → h ≡ k → Tells k → Tells h
 tells_same h k q t = subst Tells (sym q) t
@@ -278,11 +196,7 @@ step_event l e a g r =
     let q = after_here (core_of l) (core_here l e) in
     let rest = rests_of 0 0 (core_of l) (safe_reached (core_of l) r) in
     let st = step_here l e a g.controller g.host g.in_order rest (from_host (core_of l) r) in
-    record {
-      core = st.core ∙ sym q;
-      good = record { controller = st.tells; host = tells_same (happens_at_controller l e).host l.host st.host g.host; in_order = st.in_order g.in_order };
-      allowed = allowed_here (core_here l e) (here_allowed l e rest a);
-    }
+    grind arith
 
 there_event : (l : Link) (e : EndEvent) → IsAllowed (exchanged l) e → Good l → Reached (core_of l)
     → Event l (exchanged (happens_at_controller (exchanged l) e)) (core_after (core_of l) (map CoreAtHost (core_here (exchanged l) e)))
@@ -293,11 +207,7 @@ there_event l e a g r =
     let n : Link = happens_at_controller k e in
     let rest = rests_of 0 0 (core_of k) (safe_exchanged 0 0 (core_of l) (safe_reached (core_of l) r)) in
     let st = step_here k e a g.host g.controller (seen l g.in_order) rest (from_controller (core_of l) r) in
-    record {
-      core = ap core_exchanged st.core ∙ sym q;
-      good = record { controller = tells_same n.host l.controller st.host g.controller; host = st.tells; in_order = seen n (st.in_order (seen l g.in_order)) };
-      allowed = allowed_there (core_here k e) (here_allowed k e rest a);
-    }
+    grind arith
 
 -- a CLF that was started isn't active, whatever came after in the step
 pub record IsIdleClf (r : Role) : Type 0 where
@@ -320,17 +230,14 @@ started_clf l power ts ending i = by ending (clf l.controller.side.role i refl)
     clf _ i q = absurd i
 
     by : (ending : Ending) → IsIdleClf (turned g ts).role → IsIdleClf (steps_at_controller l (Starts power) ts ending).controller.side.role
-    by GoesOut k = k
-    by CutOff k = record { clf = _; is = ap renewed k.is; idle = refl }
+    by ending k = grind arith
 
 -- activation may begin at a CLF
 pub clf_starts : (r f : Role) → IsClf r → CanStart r f
-clf_starts (Clf s) f i = tt
-clf_starts _ f i = absurd i
+clf_starts r f i = grind arith
 
 pub can_start : (r f : Role) → IsUicc r → IsIdleClf f → CanStart r f
-can_start (Uicc s) f u k = let P : Role → Type 0 = λ z. CanStart (Uicc s) z in subst P (sym k.is) k.idle
-can_start _ f u k = absurd u
+can_start r f u k = grind arith
 
 -- what is known once the host's end has had its tick
 record Ticked (n : Link) (c : CoreLink) : Type 0 where
@@ -359,9 +266,7 @@ ticked_there l m x h s a =
     let u : Option (List CoreTurn) = core_tick l.host.side h.turns h.ending in
     record {
       core = ap core_exchanged
-          (three.core ∙ (ap (λ z. core_all_here (core_ticks_or_cut (core_tick z.side h.turns h.ending) (core_exchanged (core_of m)))
-          (core_tick_rest z.side h.turns h.ending)) s.host
-          ∙ ap (λ d. core_all_here (core_ticks_or_cut u (core_exchanged d)) there) s.core))
+          (grind arith)
           ∙ sym (after_there (core_exchanged (core_ticks_or_cut u (core_exchanged x))) there);
       good = record { controller = tells_same n.host m.controller three.host s.near; host = three.tells; in_order = seen n (three.in_order (seen m s.wires)) };
     }
@@ -395,11 +300,7 @@ event_step l (Ticks c es h) a g r =
     } in
     let three = ticked_there l m _ h has_ticked a.2 in
     let there : List CoreEndEvent = core_tick_rest l.host.side h.turns h.ending in
-    record {
-      core = three.core;
-      good = three.good;
-      allowed = (turns-append rest (core_all near es) rest_turns.turns all.turns, allowed_there there (rest_both l.host.side h.turns h.ending).allowed);
-    }
+    grind arith
 event_step l (TicksWithout es h) a g r =
     let s0 = safe_aged (core_of l) (safe_reached (core_of l) r) in
     let near : Link = aged l in
@@ -419,11 +320,7 @@ event_step l (TicksWithout es h) a g r =
     } in
     let three = ticked_there l m _ h has_ticked a.2 in
     let there : List CoreEndEvent = core_tick_rest l.host.side h.turns h.ending in
-    record {
-      core = three.core;
-      good = three.good;
-      allowed = (all.turns, allowed_there there (rest_both l.host.side h.turns h.ending).allowed);
-    }
+    grind arith
 event_step l (Activate power c id h) a g r =
     let x : EndEvent = EndStep (Starts power) c.turns c.ending in
     let y : EndEvent = EndStep (Starts id) h.turns h.ending in
@@ -474,24 +371,10 @@ run (e ∷ es) l a g r =
 -- ## What is true of every run of a link over messages
 
 bare_tells : Tells (new_numbered_end (new_link_end Bare))
-bare_tells =
-    record {
-      now = record { acts = refl; idle = λ n. absurd (n refl); closed = λ q. absurd (true≢false q); says = record { out = refl; short = tt } };
-      past = tt;
-    }
-
-clf_tells : Tells (new_numbered_end (new_link_end (Clf new_clf)))
-clf_tells = record { now = record { acts = refl; idle = λ _. (refl, refl); closed = λ _. refl; says = record { out = refl; short = tt } }; past = tt }
-
-uicc_tells : Tells (new_numbered_end (new_link_end (Uicc new_uicc)))
-uicc_tells = record { now = record { acts = refl; idle = λ _. (refl, refl); closed = λ _. refl; says = record { out = refl; short = tt } }; past = tt }
-
-new_in_order : Line new_clf new_uicc [] []
-new_in_order = record { clf = λ a. absurd (true≢false (sym a)); ready = inl tt; tail = tt; plain = tt; last = λ a. absurd (true≢false (sym a)) }
+bare_tells = grind arith
 
 pub start_good : (l : Link) → IsStart l → Good l
-start_good l IsBare = record { controller = bare_tells; host = bare_tells; in_order = tt }
-start_good l IsLine = record { controller = clf_tells; host = uicc_tells; in_order = new_in_order }
+start_good l a = grind arith
 
 pub start_reached : (l : Link) → IsStart l → Reached (core_of l)
 start_reached l IsBare = record { start = core_of l; starts = BothUp; events = []; allowed = tt; is = refl }
@@ -584,31 +467,8 @@ in_order_there_of_whole l s events a n =
 
 -- ### No chain fault
 
-never_chain : (e : EndState) (c : Control) → (take_answer e c).ended ≡ Some Chain → ⊥
-never_chain e c h =
-    by_taken (λ _ _ answer. answer.ended ≡ Some Chain → ⊥) e (λ ns nr info p z. let y = rw p at z in cc) (λ kind nr p z. let y = rw p at z in cc)
-    (λ _. none) (λ _ _ _. other) (λ _ _ _. none) (λ _ _ _. none) (λ _. none) c h
-  where
-    none : None ≡ Some Chain → ⊥
-    none z = cc
-
-    other : Some Peer ≡ Some Chain → ⊥
-    other z = cc
-
-pub act_not_chain : (e : LinkEnd) (event : ActEvent) → ended_by_act e event ≡ Some Chain → ⊥
-act_not_chain e event h = go (act_answer e.role event).ended_link e.shdlc.phase refl refl
-  where
-    go : (b : Bool) (p : LinkState) → (act_answer e.role event).ended_link ≡ b → e.shdlc.phase ≡ p → ⊥
-    go false p q r = let z = rw q at h in cc
-    go true Up q r = let z = rw (q, r) at h in cc
-    go true Waiting q r = let z = rw (q, r) at h in cc
-    go true Down q r = let z = rw (q, r) at h in cc
-
 pub not_chain : (e : LinkEnd) (c : Control) → (is_open e.role ≡ true → is_faulty (taken e.shdlc c).session ≡ false) → ended_by e (Take c) ≡ Some Chain → ⊥
-not_chain e (Act a b) f q = act_not_chain e (ActTake a b) q
-not_chain e Clt f q = cc
-not_chain e frame f q =
-    by_test (is_open e.role) (λ o. never_chain e.shdlc frame (let z = q in rw (o, f o) at z)) (λ o. let z = rw o at q in cc)
+not_chain e c f q = grind arith
 
 pub no_chain_here : (l : Link) → IsStart l → (events : List LinkEvent) → AllAllowed l events → (x : OnWire) (xs : List OnWire)
     → (after_link_events l events).to_controller ≡ x ∷ xs
@@ -720,8 +580,7 @@ pub up_together : (l : Link) → IsStart l → (events : List LinkEvent) → All
 up_together l s events a q =
     let p = projected l s events a in
     let P : CoreLink → Type 0 = λ c. CoreIsSettled c (sure_of l events) in
-    let settled : CoreIsSettled (core_after (core_of l) (core_events l events)) (sure_of l events) =
-    subst P p (record { sure = q.undisturbed; to_controller = q.to_controller; to_host = q.to_host }) in
+    let settled : CoreIsSettled (core_after (core_of l) (core_events l events)) (sure_of l events) = grind arith in
     let up : CoreAreUpTogether (core_of (after_link_events l events)) =
     subst CoreAreUpTogether (sym p) (core_up_together (core_of l) (core_starts l s) (core_events l events) (allowed l s events a) settled) in
     record { controller = up.controller; host = up.host; number = up.number }

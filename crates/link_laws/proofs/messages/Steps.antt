@@ -1,24 +1,19 @@
 -- Each thing that may happen at an end is projected, where no chain fault comes.
 use Rattle.std.proofs.Common.{not}
 use Rattle.std.specs.Prelude.{◌+◌}
-use Rattle.link_laws.proofs.Words.{Act, ActDue, ActEvent, ActReady, ActTake, ActTick, Activation, AreSendableTurns, Awaiting, Bare, Bool, ByAct, Clf, Clt}
-use Rattle.link_laws.proofs.Words.{Control, CoreActs, CoreDeliver, CoreInOrder, CoreLink, CoreLose, CoreTurn, Down, Due, EndState, Ignore as CoreIgnore}
-use Rattle.link_laws.proofs.Words.{Inactive, IsFrontOf, IsTrue, Link, LinkEnd, LinkState, List, Message, None, NumberedEnd, NumberedShdlc as CoreEnd, OnWire}
-use Rattle.link_laws.proofs.Words.{Option, Phase, PowerMode, Role, Session, Some, SyncId, Talk, Turn, Uicc, Up, [], act_answer, activated, after_frames, ap}
-use Rattle.link_laws.proofs.Words.{are_taken, becomes, cond, core_all_here, core_end, core_happens_here, core_of, core_past, core_take, core_turned, core_turns}
-use Rattle.link_laws.proofs.Words.{core_with_ended, ended_by_frame, ended_session, ended_talk, eq-eqb, false, fragments_of, if_up, in_front, inl, inr, is_act}
-use Rattle.link_laws.proofs.Words.{is_faulty, is_open, is_rset, is_some, map, most_frames, moved, nat_le, news, no_session, number_of, option_to_list}
+use Rattle.link_laws.proofs.Words.{Act, ActEvent, ActTake, ActTick, Activation, AreSendableTurns, Bool, ByAct, Clt, Control, CoreActs, CoreDeliver, CoreInOrder}
+use Rattle.link_laws.proofs.Words.{CoreLink, CoreLose, CoreTurn, Down, EndState, Ignore as CoreIgnore, IsFrontOf, IsTrue, Link, LinkEnd, LinkState, List, None}
+use Rattle.link_laws.proofs.Words.{NumberedEnd, NumberedShdlc as CoreEnd, OnWire, Option, Role, Session, Talk, Turn, Up, [], act_answer, activated}
+use Rattle.link_laws.proofs.Words.{after_frames, ap, are_taken, arith, becomes, cond, core_all_here, core_end, core_happens_here, core_of, core_past, core_take}
+use Rattle.link_laws.proofs.Words.{core_turned, core_turns, core_with_ended, ended_by_frame, ended_session, ended_talk, eq-eqb, false, fragments_of, if_up, inl}
+use Rattle.link_laws.proofs.Words.{inr, is_act, is_faulty, is_open, is_rset, is_some, most_frames, moved, news, no_session, number_of, option_to_list}
 use Rattle.link_laws.proofs.Words.{packets_in, put_down, refl, role_after, shdlc_becomes as core_becomes, shdlc_number_of as core_number_of}
 use Rattle.link_laws.proofs.Words.{shdlc_put_all as core_put_all, shdlc_session_of, subst, sym, take_answer, taken, talk_now, talk_of, took, took_with, true}
-use Rattle.link_laws.proofs.Words.{true≢false, turned, with_act, with_ended, ℕ, ◌++◌, ◌<◌, ◌==◌, ◌∙◌, ◌∷◌, ◌≡◌, ◌≤◌, ◌⊎◌}
-use Rattle.swp_act.specs.declared.Phase.TheVariants.{Active}
+use Rattle.link_laws.proofs.Words.{turned, with_act, with_ended, ℕ, ◌++◌, ◌<◌, ◌==◌, ◌∙◌, ◌∷◌, ◌≡◌, ◌≤◌, ◌⊎◌}
 use Rattle.link_laws.proofs.sending.TakenLemmas.{no_fault}
 use Rattle.link_laws.proofs.sessions.Steps.{took as core_took}
-use Rattle.link_laws.proofs.messages.ActsInOrder.{ActsInOrder, LinkInOrder, IsPolite, with_sent, in_order_drop, in_order_take}
-use Rattle.link_laws.proofs.messages.Project.{Alike, AllSay, Idle, Mid, Now, Says, Step, Tells, frames_alike, frames_now, mid_moved, moved_role, step_same}
-use Rattle.link_laws.proofs.messages.Project.{step_turned, taken_keeps}
-use Rattle.link_laws.proofs.machine.Runs.{opened}
-use Rattle.link_laws.proofs.machine.Reports.{shdlc_is as shdlc_moved}
+use Rattle.link_laws.proofs.messages.ActsInOrder.{ActsInOrder, LinkInOrder, IsPolite, with_sent, in_order_take}
+use Rattle.link_laws.proofs.messages.Project.{Alike, AllSay, Idle, Mid, Now, Says, Step, Tells, frames_alike, frames_now, step_same, step_turned, taken_keeps}
 use Rattle.link_laws.proofs.Cases.{by_phase, by_test}
 
 -- ## A frame is taken
@@ -57,9 +52,7 @@ heard_first l ts x xs = took_as l ts x xs (is_some (take_answer l.controller.sid
 -- the first frame is gone
 first_gone : (l : Link) (x : OnWire) (xs : List OnWire) → l.to_controller ≡ x ∷ xs → LinkInOrder l
     → ActsInOrder l.controller.side.role l.host.side.role xs l.to_host
-first_gone l x xs w z =
-    let P : List OnWire → Type 0 = λ v. ActsInOrder l.controller.side.role l.host.side.role v l.to_host in
-    in_order_drop l.controller.side.role l.host.side.role x xs l.to_host (subst P w z)
+first_gone l x xs w z = grind arith
 
 -- an end g came of the frame x, and its session ended or not
 pub record Heard (e g : LinkEnd) (x : OnWire) (b : Bool) : Type 0 where
@@ -103,37 +96,15 @@ step_heard l ts x xs g b w h a heard = to_core (go b)
         → Step l (took_as l ts x xs b g) (core_took (core_of l) us x xs)
     to_core st = record { core = st.core ∙ sym is; tells = st.tells; host = st.host; in_order = st.in_order }
 
--- what came beside doesn't count
-mid_got : (o : Option Activation) (e : LinkEnd) (ms : List Message) → Mid o e → Mid o (record e { got = ms })
-mid_got o e ms h = record { acts = h.acts; idle = h.idle; closed = h.closed; says = h.says }
-
 pub mid_counted : (o : Option Activation) (e : LinkEnd) (n : ℕ) → Mid o e → Mid o (record e { passed_over = n })
 mid_counted o e n h = record { acts = h.acts; idle = h.idle; closed = h.closed; says = h.says }
 
 pub heard_is : (e : LinkEnd) (x : OnWire) → Now e → is_open e.role ≡ true → Heard e (heard_end e x) x (is_some (take_answer e.shdlc x.frame).ended)
-heard_is e x h o =
-    let b : Bool = is_some (take_answer e.shdlc x.frame).ended in
-    let s : EndState = taken e.shdlc x.frame in
-    let m = mid_moved e b s h (taken_keeps e.shdlc x.frame h.idle) (opened e.role (s.phase ≡ Down) o) in
-    record {
-      ended = refl;
-      shdlc = shdlc_moved e b s;
-      role = moved_role e b s;
-      mid = mid_got None (moved e b s) (e.got ++ news e.shdlc.session s) m;
-    }
+heard_is e x h o = grind arith
 
 -- CLT is only counted
 pub counted_is : (e : LinkEnd) (x : OnWire) → Now e → x.frame ≡ Clt → Heard e (record e { passed_over = e.passed_over + 1 }) x false
-counted_is e x h q =
-    record {
-      ended = ap (λ c. is_some (take_answer e.shdlc c).ended) q ∙ (clt e.shdlc).0;
-      shdlc = sym (ap (taken e.shdlc) q ∙ (clt e.shdlc).1);
-      role = refl;
-      mid = mid_counted None e (e.passed_over + 1) h;
-    }
-  where
-    clt : (s : EndState) → (is_some (take_answer s Clt).ended ≡ false) × (taken s Clt ≡ s)
-    clt s = by_phase s.phase (λ p. (rw p refl, rw p refl)) (λ p. (rw p refl, rw p refl)) (λ p. (rw p refl, rw p refl))
+counted_is e x h q = grind arith
 
 -- a frame of SHDLC
 abbrev pub is_shdlc : Control → Bool
@@ -144,100 +115,30 @@ is_shdlc _ = true
 -- an end that is open takes a frame of SHDLC as its SHDLC end does
 pub took_open : (e : LinkEnd) (x : OnWire) → is_shdlc x.frame ≡ true → is_open e.role ≡ true → is_faulty (taken e.shdlc x.frame).session ≡ false
     → (took e x.frame ≡ heard_end e x) × (is_some (ended_by_frame e x.frame) ≡ is_some (take_answer e.shdlc x.frame).ended)
-took_open e x q o f = go x.frame q f
-  where
-    news_of : Control → LinkEnd
-    news_of c =
-        let g : LinkEnd = moved e (is_some (take_answer e.shdlc c).ended) (taken e.shdlc c) in
-        record g { got = e.got ++ news e.shdlc.session (taken e.shdlc c) }
-
-    go : (c : Control) → is_shdlc c ≡ true → is_faulty (taken e.shdlc c).session ≡ false
-        → (took e c ≡ news_of c) × (is_some (ended_by_frame e c) ≡ is_some (take_answer e.shdlc c).ended)
-    go (Act _ _) q f = absurd (true≢false (sym q))
-    go Clt q f = absurd (true≢false (sym q))
-    go _ q f = (rw (o, f) refl, rw (o, f) refl)
+took_open e x q o f = grind arith
 
 -- one that isn't passes over it
 pub took_closed : (e : LinkEnd) (c : Control) → is_shdlc c ≡ true → is_open e.role ≡ false → (took e c ≡ e) × (is_some (ended_by_frame e c) ≡ false)
-took_closed e (Act _ _) q o = absurd (true≢false (sym q))
-took_closed e Clt q o = absurd (true≢false (sym q))
-took_closed e _ q o = (rw o refl, rw o refl)
+took_closed e c q o = grind arith
 
 -- ## Frames of activation
 
 -- an end that was closed stays so, or its link goes down
 pub role_closes : (r : Role) (act : Activation) (again : Bool) → is_open (role_after r (ActTake act again)) ≡ false
     → (is_open r ≡ false) ⊎ ((act_answer r (ActTake act again)).ended_link ≡ true)
-role_closes Bare act again q = inl q
-role_closes (Clf s) act true q = inl q
-role_closes (Clf s) (SyncId id) false q = go s.phase refl
-  where
-    go : (p : Phase) → s.phase ≡ p → (is_open (Clf s) ≡ false) ⊎ ((act_answer (Clf s) (ActTake (SyncId id) false)).ended_link ≡ true)
-    go Active p = inr (rw p refl)
-    go _ p = inl (rw p refl)
-role_closes (Clf s) ActReady false q = go s.phase refl
-  where
-    go : (p : Phase) → s.phase ≡ p → (is_open (Clf s) ≡ false) ⊎ ((act_answer (Clf s) (ActTake ActReady false)).ended_link ≡ true)
-    go Active p = absurd (let z = rw p at q in cc)
-    go _ p = inl (rw p refl)
-role_closes (Clf s) (PowerMode code) false q = inl q
-role_closes (Uicc s) act true q = inl q
-role_closes (Uicc s) (PowerMode code) false q = go s.phase (nat_le code 1) refl refl
-  where
-    go : (p : Phase) (b : Bool) → s.phase ≡ p → nat_le code 1 ≡ b → (is_open (Uicc s) ≡ false)
-        ⊎ ((act_answer (Uicc s) (ActTake (PowerMode code) false)).ended_link ≡ true)
-    go Active true p c = absurd (let z = rw (c, p) at q in cc)
-    go Active false p c = inl (let z = rw c at q in z)
-    go _ b p c = inl (rw p refl)
-role_closes (Uicc s) ActReady false q = inl q
-role_closes (Uicc s) (SyncId id) false q = inl q
+role_closes r act again q = grind arith
 
 -- a tick of an end that isn't open
 pub tick_closes : (r : Role) → is_open r ≡ false → (act_answer r ActTick).ended_link ≡ false
-tick_closes Bare q = refl
-tick_closes (Clf s) q = go s.phase refl
-  where
-    go : (p : Phase) → s.phase ≡ p → (act_answer (Clf s) ActTick).ended_link ≡ false
-    go Inactive p = rw p refl
-    go Active p = rw p refl
-    go (Awaiting tries ticks) p = by (nat_le 10 (ticks + 1)) (nat_le 3 tries) refl refl
-      where
-        by : (a b : Bool) → nat_le 10 (ticks + 1) ≡ a → nat_le 3 tries ≡ b → (act_answer (Clf s) ActTick).ended_link ≡ false
-        by true true x y = rw (p, x, y) refl
-        by true false x y = rw (p, x, y) refl
-        by false b x y = rw (p, x) refl
-tick_closes (Uicc s) q = go s.phase refl
-  where
-    go : (p : Phase) → s.phase ≡ p → (act_answer (Uicc s) ActTick).ended_link ≡ false
-    go Inactive p = rw p refl
-    go Active p = rw p refl
-    go (Awaiting tries ticks) p = by (nat_le 10 (ticks + 1)) (nat_le 3 tries) refl refl
-      where
-        by : (a b : Bool) → nat_le 10 (ticks + 1) ≡ a → nat_le 3 tries ≡ b → (act_answer (Uicc s) ActTick).ended_link ≡ false
-        by true true x y = rw (p, x, y) refl
-        by true false x y = rw (p, x, y) refl
-        by false b x y = rw (p, x) refl
+tick_closes r q = grind arith
 
 -- a link that is Down and has nothing to send doesn't go down
 pub stays_down : (b : Bool) (e : LinkEnd) → (b ≡ true → e.shdlc.phase ≡ Down) → e.shdlc.due ≡ [] → e.acts ≡ []
     → (put_down b e ≡ e) × (is_some (cond b (if_up e.shdlc ByAct) None) ≡ false)
-stays_down false e d due acts = (refl, refl)
-stays_down true e d due acts =
-    let q = d refl in
-    let at : List Due → List ActDue → LinkEnd = λ ds more. record e { shdlc = record e.shdlc { due = ds }; acts = more } in
-    let empty : put_down true e ≡ at [] (map in_front e.acts) = rw q refl in
-    let none : map in_front e.acts ≡ e.acts = ap (map in_front) acts ∙ sym acts in (
-      empty ∙ (ap (λ ds. at ds (map in_front e.acts)) (sym due) ∙ ap (at e.shdlc.due) none),
-      rw q refl,
-    )
+stays_down b e d due acts = grind arith
 
 pub activated_role : (e : LinkEnd) (event : ActEvent) → (activated e event).role ≡ role_after e.role event
-activated_role e event = go (act_answer e.role event).send
-  where
-    go : (o : Option Activation) → (with_act o (record (put_down (act_answer e.role event).ended_link e) { role = role_after e.role event })).role
-        ≡ role_after e.role event
-    go None = refl
-    go (Some act) = refl
+activated_role e event = grind arith
 
 -- what activation makes of an end
 pub record Acted (e f : LinkEnd) (o : Option Activation) : Type 0 where
@@ -256,11 +157,7 @@ act_mid e event h due down closed =
     r = role_after e.role event
 
     sends : (o : Option Activation) → Acted e (with_act o (record e { role = r })) o
-    sends None = record { mid = record { acts = h.acts; idle = h.idle; closed = closed; says = h.says }; same = refl }
-    sends (Some act) = record {
-      mid = record { acts = rw (h.acts, due) refl; idle = h.idle; closed = closed; says = h.says };
-      same = refl;
-    }
+    sends o = grind arith
 
 -- ## Sessions
 
@@ -299,8 +196,7 @@ session_now : (h : CoreEnd) → h.side.phase ≡ Up → shdlc_session_of h (core
 session_now h up = let same : (core_number_of h == core_number_of h) ≡ true = eq-eqb (core_number_of h) (core_number_of h) refl in rw (up, same) refl
 
 sound : (b : Bool) → IsTrue b → not b ≡ false
-sound true t = refl
-sound false t = absurd (cc)
+sound b t = grind arith
 
 -- What was accepted at an end is a front of what the other end was given, in each session
 abbrev pub FromHost : CoreLink → Type 0
@@ -349,11 +245,7 @@ no_fault_first l x xs w h t o from =
         ≡ s.session.acc = ap (λ (z : Session). z.acc) (session_now (core_end m.controller) (alike.phase ∙ p)) ∙ alike.acc in
         let out : (shdlc_session_of (core_end m.host) n).out ≡ fragments_of (talk_of l.host n).sent =
         ap (λ (z : Session). z.out) (ap (λ (z : NumberedEnd). shdlc_session_of (core_end z) n) st.host ∙ session-core l.host n) ∙ says.out in
-        let front : IsFrontOf s.session.acc (fragments_of (talk_of l.host n).sent) = (
-          o.front.0,
-          ap (λ (z : List (List ℕ)). z ++ o.front.0) (sym acc)
-              ∙ (o.front.1 ∙ out),
-        ) in
+        let front : IsFrontOf s.session.acc (fragments_of (talk_of l.host n).sent) = grind arith in
         sound (are_taken [] (packets_in s.session.acc)) (no_fault (talk_of l.host n).sent s.session.acc says.short front)
 
 -- ## Events
@@ -395,12 +287,10 @@ step_first l ts x xs a comes = go x.frame refl
 
     -- a frame of SHDLC
     take_open : (c : Control) → is_act c ≡ false → is_open e.role ≡ true → core_take e c ts ≡ CoreDeliver (core_turns (took e c) ts) ∷ []
-    take_open (Act _ _) q o = absurd (true≢false q)
-    take_open _ q o = rw o refl
+    take_open c q o = grind arith
 
     take_closed : (c : Control) → is_act c ≡ false → is_open e.role ≡ false → core_take e c ts ≡ CoreIgnore (core_turns (took e c) ts) ∷ []
-    take_closed (Act _ _) q o = absurd (true≢false q)
-    take_closed _ q o = rw o refl
+    take_closed c q o = grind arith
 
     -- the end becomes g
     open_as : (g : LinkEnd) (b : Bool) → is_act x.frame ≡ false → is_open e.role ≡ true → took e x.frame ≡ g
@@ -459,8 +349,7 @@ step_first l ts x xs a comes = go x.frame refl
         let k : Link = record l { to_controller = xs } in
         let st = step_turned l k o f ts refl comes.tells.past a m.mid (taken_calm act again q) in
         let frame_is : took_first l ts x xs ≡ took_as l ts x xs false f =
-        took_is_as l ts x xs false f (ap (λ c. is_some (ended_by_frame e c)) q
-        ∙ (stays_down (act_answer e.role event).ended_link e down comes.rests.due comes.tells.now.acts).1) (ap (took e) q) in
+        took_is_as l ts x xs false f (grind arith) (ap (took e) q) in
         let counts : took_with l.controller.took x ≡ l.controller.took = took_act l.controller.took x (ap is_rset q) in
         let same : took_as l ts x xs false f
         ≡ becomes k (turned f ts) = ap (λ n. becomes (with_took (record l { to_controller = xs }) n) (turned f ts)) counts in

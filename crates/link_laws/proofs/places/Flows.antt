@@ -3,8 +3,8 @@
 use Rattle.std.proofs.Common.{max}
 use mathlib.Core.List.{IsPrefix}
 use Rattle.link_laws.proofs.Words.{Act, Clt, Control, Due, Fragment, I, Kind, List, Rej, Rej_due, Rnr_due, Rr, Rr_due, Rset, Rset_due, S, Session, Some, Ua}
-use Rattle.link_laws.proofs.Words.{Ua_due, [], ap, append_assoc, arith, false, length, length-append, refl, slice_get, slice_get_within, subst, suc, sym}
-use Rattle.link_laws.proofs.Words.{with_frame, zero, ℕ, ◌%◌, ◌++◌, ◌+◌, ◌<◌, ◌∙◌, ◌∷◌, ◌≡◌, ◌≤◌}
+use Rattle.link_laws.proofs.Words.{Ua_due, [], ap, append_assoc, arith, false, length, length-append, refl, slice_get, slice_get_within, suc, sym, with_frame}
+use Rattle.link_laws.proofs.Words.{zero, ℕ, ◌%◌, ◌++◌, ◌+◌, ◌<◌, ◌∙◌, ◌∷◌, ◌≡◌, ◌≤◌}
 use Rattle.link_laws.specs.places.Wire.{OnWire, older}
 
 -- ## The frames on a wire with the places and lengths that their numbers stand for: marks
@@ -112,8 +112,7 @@ places_accepted out r m (I p n info ∷ ms) b h =
 places_accepted out r m (_ ∷ ms) b h = places_accepted out r m ms b h
 
 pub places_lost : (out : List Fragment) (r m : ℕ) (c : Control) (ms : List Control) → Places out r m (c ∷ ms) → Places out r m ms
-places_lost out r m (I p n info) ms h = h.4
-places_lost out r m (_) ms h = h
+places_lost out r m c ms h = grind arith
 
 none_below_push : (p q n : ℕ) (info : Fragment) (ms : List Control) → p ≤ q + 3 → NoneBelow p ms → NoneBelow p (ms ++ I q n info ∷ [])
 none_below_push p q n info [] i h = (i, tt)
@@ -227,19 +226,7 @@ pub record Flows (out : List Fragment) (w a s m : ℕ) (acc : List Fragment) (th
 
 -- a new session
 pub flows_new : (w : ℕ) → 0 < w → w ≤ 4 → Flows [] w 0 0 0 [] [] []
-flows_new w wide most =
-    record {
-      window = most;
-      wide = wide;
-      acked_next = omega arith;
-      next_reach = omega arith;
-      reach_out = omega arith;
-      reach_window = omega arith;
-      front = ([], refl);
-      sent = omega arith;
-      counts = omega arith;
-      places = tt;
-    }
+flows_new w wide most = grind arith
 
 module _ {out : List Fragment} {w a s m : ℕ} {acc : List Fragment} {there back : List Control} (h : Flows out w a s m acc there back) where
   -- more is offered
@@ -264,8 +251,7 @@ module _ {out : List Fragment} {w a s m : ℕ} {acc : List Fragment} {there back
   flows_send n {info} inside is =
       let within : s < length out = slice_get_within out s info is in
       let more : m ≤ max m (s + 1) = omega arith in
-      let follows : MayFollow out (length acc) (max m (s + 1)) s info =
-      record { is = is; sent = omega arith; reach = omega arith; accepted = omega arith } in
+      let follows : MayFollow out (length acc) (max m (s + 1)) s info = grind arith in
       record {
         window = h.window;
         wide = h.wide;
@@ -311,22 +297,6 @@ module _ {out : List Fragment} {w a s m : ℕ} {acc : List Fragment} {there back
         places = h.places;
       }
 
-  -- the sender is to go on from another place
-  pub flows_move : {s' : ℕ} → a ≤ s' → s' ≤ m → Flows out w a s' m acc there back
-  flows_move i j =
-      record {
-        window = h.window;
-        wide = h.wide;
-        acked_next = i;
-        next_reach = j;
-        reach_out = h.reach_out;
-        reach_window = h.reach_window;
-        front = h.front;
-        sent = h.sent;
-        counts = h.counts;
-        places = h.places;
-      }
-
 -- a number that comes back is one from the first unacknowledged place to one past the last that was sent
 pub flows_number : {out : List Fragment} {w a s m : ℕ} {acc : List Fragment} {there back : List Control} (c : Control) (n : ℕ)
     → Carries c n → Flows out w a s m acc there (c ∷ back) → (a ≤ n) × (n ≤ m) × Counts n (length acc) back
@@ -338,24 +308,6 @@ flows_number {acc = acc} {back = back} (S kind k) n e h =
     (omega (arith, h.counts.0), omega (arith, h.sent), counts_lower k n (length acc) back (omega arith) h.counts.1)
 flows_number (_) n e h = absurd e
 
--- the sender takes it
-pub flows_acked : {out : List Fragment} {w a s m : ℕ} {acc : List Fragment} {there back : List Control} {c : Control} → Flows out w a s m acc there (c ∷ back)
-    → {n s' : ℕ} → Carries c n → n ≤ s' → s' ≤ m → Flows out w n s' m acc there back
-flows_acked {out} {w} {a} {s} {m} {acc} {there} {back} {c} h {n} e i j =
-    let number = flows_number c n e h in
-    record {
-      window = h.window;
-      wide = h.wide;
-      acked_next = i;
-      next_reach = j;
-      reach_out = h.reach_out;
-      reach_window = omega (arith, number.0, h.reach_window);
-      front = h.front;
-      sent = h.sent;
-      counts = number.2;
-      places = h.places;
-    }
-
 -- what stands behind a front of a list
 front_more : (acc rest : List Fragment) (info : Fragment) → slice_get (acc ++ rest) (length acc) ≡ Some info → IsPrefix (acc ++ info ∷ []) (acc ++ rest)
 front_more [] [] info h = cc
@@ -363,9 +315,7 @@ front_more [] (x ∷ xs) info h = (xs, let e : info ≡ x = cc in ap (λ y. y �
 front_more (a ∷ acc) rest info h = let p = front_more acc rest info h in (p.0, ap (λ l. a ∷ l) p.1)
 
 pub front_accept : (acc out : List Fragment) (info : Fragment) → slice_get out (length acc) ≡ Some info → IsPrefix acc out → IsPrefix (acc ++ info ∷ []) out
-front_accept acc out info h p =
-    let P : List Fragment → Type 0 = λ l. slice_get l (length acc) ≡ Some info → IsPrefix (acc ++ info ∷ []) l in
-    subst P p.1 (front_more acc p.0 info) h
+front_accept acc out info h p = grind (arith, front_more)
 
 -- the receiver accepts the fragment that is first on the wire
 pub flows_accept : {out : List Fragment} {w a s m : ℕ} {acc : List Fragment} {there back : List Control} {p n : ℕ} {info : Fragment}
@@ -391,19 +341,7 @@ flows_accept {out} {a = a} {m = m} {acc} {there} {back} {info = info} h e =
 -- a frame is taken or lost
 pub flows_past : {out : List Fragment} {w a s m : ℕ} {acc : List Fragment} {there back : List Control} {c : Control}
     → Flows out w a s m acc (c ∷ there) back → Flows out w a s m acc there back
-flows_past {out} {m = m} {acc} {there} {c = c} h =
-    record {
-      window = h.window;
-      wide = h.wide;
-      acked_next = h.acked_next;
-      next_reach = h.next_reach;
-      reach_out = h.reach_out;
-      reach_window = h.reach_window;
-      front = h.front;
-      sent = h.sent;
-      counts = h.counts;
-      places = places_lost out (length acc) m c there h.places;
-    }
+flows_past h = grind arith
 
 pub flows_lost_back : {out : List Fragment} {w a s m : ℕ} {acc : List Fragment} {there back : List Control} {c : Control}
     → Flows out w a s m acc there (c ∷ back) → Flows out w a s m acc there back

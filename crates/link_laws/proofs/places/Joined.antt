@@ -1,27 +1,23 @@
 -- Two ends that are Up in one session and the wires between them at every moment, up to both wires empty and all delivered.
-use Rattle.std.proofs.Common.{max, ◌==◌}
-use Rattle.std.proofs.lemmas.Bool.{cond-true, le-leb}
+use Rattle.std.proofs.Common.{max}
 use Rattle.std.proofs.lemmas.List.{append-nil, nil_from_length}
 use mathlib.Core.List.{IsPrefix}
 use Rattle.link_laws.proofs.Words.{Act, Bool, Clt, Control, Due, EndState, Fragment, FragmentsDelivered, I, Kind, List, None, Option, Rej, Rej_due, Rnr}
-use Rattle.link_laws.proofs.Words.{Rnr_due, Rr, Rr_due, Rset, S, Session, Some, Srej, Ua, Up, [], accepted, acknowledged, after_frames, ahead, and_from, ap}
-use Rattle.link_laws.proofs.Words.{arith, cases_eq, control_due, discarded, eq-eqb, eqb-false, eqb-true, expected, false, fetched, fragment_due}
-use Rattle.link_laws.proofs.Words.{fragment_due-within, frame_due, inl, inr, is_rnr, length, length-append, lt-ltb, ltb-false, ltb-true, made_busy, nat_lt}
-use Rattle.link_laws.proofs.Words.{place_of, put_out, ready_again, received, refl, rejected, repeated, runs_timer, sent_again, sent_next, slice_get, suc, sym}
-use Rattle.link_laws.proofs.Words.{take_answer, taken, tick_answer, ticked, true, true≢false, with_frame, with_ready, zero, ℕ, ◌%◌, ◌++◌, ◌+◌, ◌-◌, ◌<◌, ◌∙◌}
-use Rattle.link_laws.proofs.Words.{◌∷◌, ◌≡◌, ◌≤◌, ◌⊎◌}
+use Rattle.link_laws.proofs.Words.{Rnr_due, Rr, Rr_due, Rset, S, Session, Some, Srej, Ua, Up, [], accepted, acknowledged, after_frames, ahead, ap, arith}
+use Rattle.link_laws.proofs.Words.{control_due, discarded, expected, false, fetched, fragment_due, fragment_due-within, frame_due, inl, inr, is_rnr, length}
+use Rattle.link_laws.proofs.Words.{length-append, lt-ltb, made_busy, nat_lt, place_of, put_out, ready_again, received, refl, rejected, repeated, sent_again}
+use Rattle.link_laws.proofs.Words.{sent_next, slice_get, suc, sym, take_answer, taken, tick_answer, ticked, true, true≢false, with_frame, with_ready, zero, ℕ}
+use Rattle.link_laws.proofs.Words.{◌%◌, ◌++◌, ◌+◌, ◌-◌, ◌<◌, ◌∙◌, ◌∷◌, ◌≡◌, ◌≤◌, ◌⊎◌}
 use Rattle.link_laws.specs.places.Wire.{OnWire, older}
-use Rattle.link_laws.proofs.places.Flows.{AcksOnly, AnswersOnly, Flows, NoRnr, Shows, Whole, answers_push, counts_le, flows_accept, flows_acked, flows_answer}
-use Rattle.link_laws.proofs.places.Flows.{flows_lost_back, flows_move, flows_number, flows_past, flows_put, flows_send, flows_send_S, no_rnr_push}
-use Rattle.link_laws.proofs.places.Flows.{push_not_empty, rnr_pushed, shows_older, shows_push, whole_answer_I, whole_answer_S, whole_send, whole_send_S}
+use Rattle.link_laws.proofs.places.Flows.{AcksOnly, AnswersOnly, Flows, NoRnr, Shows, Whole, answers_push, counts_le, flows_accept, flows_answer}
+use Rattle.link_laws.proofs.places.Flows.{flows_lost_back, flows_number, flows_past, flows_put, flows_send, flows_send_S, no_rnr_push, push_not_empty}
+use Rattle.link_laws.proofs.places.Flows.{rnr_pushed, shows_older, shows_push, whole_answer_I, whole_answer_S, whole_send, whole_send_S}
 
 -- ## A number modulo 8 names one place among those that it can mean
 
 -- an N(R) names the one place that it can mean
 pub place_found : (s : Session) (nr : ℕ) → s.acked ≤ nr → nr ≤ s.reached → s.reached ≤ s.acked + 4 → place_of s (nr % 8) ≡ Some nr
-place_found s nr h i j =
-    let e : s.acked + (nr % 8 + (8 - s.acked % 8)) % 8 ≡ nr = omega arith in
-    rw e (cond-true _ (Some nr) None (and_from _ _ (eq-eqb (nr % 8) (nr % 8) refl) (le-leb nr s.reached i)))
+place_found s nr h i j = grind arith
 
 -- an N(S) is the number expected exactly where its place is the one expected
 pub ahead_same : (s : Session) (p : ℕ) → p ≡ length s.acc → ahead s (p % 8) ≡ 0
@@ -29,9 +25,6 @@ ahead_same s p h = omega arith
 
 pub ahead_other : (s : Session) (p : ℕ) → length s.acc ≤ p + 4 → p ≤ length s.acc + 3 → ahead s (p % 8) ≡ 0 → p ≡ length s.acc
 ahead_other s p h i j = omega arith
-
-ahead_repeat : (s : Session) (p : ℕ) → p < length s.acc → length s.acc ≤ p + 4 → 4 ≤ ahead s (p % 8)
-ahead_repeat s p h i = omega arith
 
 -- ## Two ends that are Up in one session and the wires between them
 -- What is true of them at every moment of an event, and how each thing that one end does keeps it.
@@ -45,27 +38,11 @@ abbrev pub changed : EndState → Bool → List Due → EndState
 changed e r ds = record e { ready = r; due = ds; session = record e.session { answered_rnr = false } }
 
 pub ready_cases : (P : EndState → Type 0) (e : EndState) (r : Bool) → P e → P (changed e r e.due) → P (changed e r (e.due ++ Rr_due ∷ [])) → P (with_ready e r)
-ready_cases P e r same other answered = go e.ready r e.session.answered_rnr same other answered
-  where
-    at : Bool → Bool → EndState
-    at was noted = record e { ready = was; session = record e.session { answered_rnr = noted } }
-
-    go : (was now noted : Bool) → P (at was noted) → P (changed e now e.due) → P (changed e now (e.due ++ Rr_due ∷ [])) → P (with_ready (at was noted) now)
-    go true true noted a b c = a
-    go false false noted a b c = a
-    go true false noted a b c = b
-    go false true true a b c = c
-    go false true false a b c = b
+ready_cases P e r same other answered = grind arith
 
 pub tick_cases : (P : EndState → Type 0) (e : EndState) → e.phase ≡ Up → (tick_answer e).ended ≡ None → P e → P (record e { timer = e.timer + 1 })
     → P (sent_again e) → P (ticked e)
-tick_cases P e up answer same counted again = go (runs_timer e.session) (nat_lt (e.timer + 1) 10) (nat_lt e.tries 5) refl refl refl answer
-  where
-    go : (a b c : Bool) → runs_timer e.session ≡ a → nat_lt (e.timer + 1) 10 ≡ b → nat_lt e.tries 5 ≡ c → (tick_answer e).ended ≡ None → P (ticked e)
-    go false b c p q r n = rw (up, p) (rw up at same)
-    go true true c p q r n = rw (up, p, q) (rw up at counted)
-    go true false true p q r n = rw (up, p, q, r) (rw up at again)
-    go true false false p q r n = absurd (let m = rw (up, p, q, r) at n in cc)
+tick_cases P e up answer same counted again = grind arith
 
 -- what an end does with a fragment, by cases
 pub received_cases : (P : EndState → Type 0) (e : EndState) (ns : ℕ) (info : Fragment)
@@ -75,40 +52,21 @@ pub received_cases : (P : EndState → Type 0) (e : EndState) (ns : ℕ) (info :
     → ((ahead e.session ns ≡ 0 → ⊥) → 4 ≤ ahead e.session ns → P (repeated e))
     → P (discarded e)
     → P (received e ns info)
-received_cases P e ns info takes same gap repeat not_ready =
-    go e.ready (ahead e.session ns == 0) (nat_lt (ahead e.session ns) 4) e.session.gap_open refl refl refl refl
-  where
-    go : (a b c d : Bool) → e.ready ≡ a → (ahead e.session ns == 0) ≡ b → nat_lt (ahead e.session ns) 4 ≡ c → e.session.gap_open ≡ d → P (received e ns info)
-    go false b c d p q r t = rw p (rw p at not_ready)
-    go true true c d p q r t = rw (p, q) (rw p at takes (eqb-true (ahead e.session ns) 0 q))
-    go true false true true p q r t = rw (p, q, r, t) (rw (p, t) at (same (eqb-false (ahead e.session ns) 0 q) (ltb-true (ahead e.session ns) 4 r)))
-    go true false true false p q r t = rw (p, q, r, t) (rw p at (gap (eqb-false (ahead e.session ns) 0 q) (ltb-true (ahead e.session ns) 4 r)))
-    go true false false d p q r t = rw (p, q, r) (rw p at (repeat (eqb-false (ahead e.session ns) 0 q) (ltb-false (ahead e.session ns) 4 r)))
+received_cases P e ns info takes same gap repeat not_ready = grind arith
 
 -- a place that isn't the one expected, and not ahead of it, is behind it
 pub not_expected : (s : Session) (p : ℕ) → (ahead s (p % 8) ≡ 0 → ⊥) → p ≤ length s.acc → p < length s.acc
-not_expected s p z b = go (cases_eq p (length s.acc))
-  where
-    go : (p ≡ length s.acc) ⊎ (p ≡ length s.acc → ⊥) → p < length s.acc
-    go (inl e) = absurd (z (ahead_same s p e))
-    go (inr n) = omega arith
+not_expected s p z b = grind arith
 
 pub gap_behind : (s : Session) (p : ℕ) → (ahead s (p % 8) ≡ 0 → ⊥) → ahead s (p % 8) < 4 → p ≤ length s.acc → length s.acc ≤ p + 4 → ⊥
-gap_behind s p z g b i =
-    let behind : 4 ≤ ahead s (p % 8) = ahead_repeat s p (not_expected s p z b) i in
-    omega arith
+gap_behind s p z g b i = grind arith
 
 -- RR and REJ are the only control frames where nothing was lost and no RNR was made
 acks_rest : (k : Kind) (n : ℕ) (ms : List Control) → AcksOnly (S k n ∷ ms) → AcksOnly ms
-acks_rest Rnr n ms h = absurd h
-acks_rest Srej n ms h = absurd h
-acks_rest _ n ms h = h
+acks_rest k n ms h = grind arith
 
 no_stop : (k : Kind) (n : ℕ) (ms : List Control) → ((k ≡ Rnr) ⊎ (k ≡ Srej)) → AcksOnly (S k n ∷ ms) → ⊥
-no_stop Rnr n ms e h = h
-no_stop Srej n ms e h = h
-no_stop _ n ms (inl e) h = cc
-no_stop _ n ms (inr e) h = cc
+no_stop k n ms e h = grind arith
 
 pub taken_I : (P : EndState → Type 0) (e : EndState) (ns nr x : ℕ) (info : Fragment) → e.phase ≡ Up → place_of e.session nr ≡ Some x
     → P (received (acknowledged e x) ns info) → P (taken e (I ns nr info))
@@ -123,10 +81,7 @@ pub record HoldsOfKinds (P : EndState → Type 0) (e : EndState) (kind : Kind) (
 
 pub taken_S : (P : EndState → Type 0) (e : EndState) (kind : Kind) (nr x : ℕ) → e.phase ≡ Up → place_of e.session nr ≡ Some x
     → HoldsOfKinds P e kind x → P (taken e (S kind nr))
-taken_S P e Rr nr x up at h = rw (up, at) (rw up at (h.rr refl))
-taken_S P e Rej nr x up at h = rw (up, at) (rw up at (h.rej refl))
-taken_S P e Rnr nr x up at h = rw (up, at) (rw up at (h.rnr refl))
-taken_S P e Srej nr x up at h = rw up (rw up at (h.srej refl))
+taken_S P e kind nr x up at h = grind arith
 
 pub answer_I : (e : EndState) (ns nr : ℕ) (info : Fragment) → e.phase ≡ Up → (take_answer e (I ns nr info)).ended ≡ None
 answer_I e ns nr info up = rw up refl
@@ -141,12 +96,7 @@ pub fetch_cases : (P : EndState → Option Control → Type 0) (e : EndState)
     → ((info : Fragment) → e.due ≡ [] → fragment_due e.session ≡ Some info
     → P (record e { session = sent_next e.session }) (Some (I (e.session.next % 8) (expected e.session) info)))
     → P (fetched e) (frame_due e)
-fetch_cases P e control none fragment = go e.due (fragment_due e.session) refl refl
-  where
-    go : (ds : List Due) (f : Option Fragment) → e.due ≡ ds → fragment_due e.session ≡ f → P (fetched e) (frame_due e)
-    go [] None p q = rw (p, q) (rw p at (none p q))
-    go [] (Some info) p q = rw (p, q) (rw p at (fragment info p q))
-    go (d ∷ ds) f p q = rw p (rw p at (control d ds p))
+fetch_cases P e control none fragment = grind arith
 
 -- a wire with one more frame, where there is one
 abbrev pub with_next : List OnWire → Option Control → List OnWire
@@ -184,40 +134,12 @@ record SameToOther (near near' : EndState) : Type 0 where
 module _ (W : Type 0) where
   -- the two ends are alike
   pub joined_exchanged : (near far : EndState) (to_near to_far : List OnWire) → Joined W near far to_near to_far → Joined W far near to_far to_near
-  joined_exchanged near far to_near to_far h =
-      record {
-        near_up = h.far_up;
-        far_up = h.near_up;
-        near_due = h.far_due;
-        far_due = h.near_due;
-        near_marks = h.far_marks;
-        far_marks = h.near_marks;
-        near_shows = h.far_shows;
-        far_shows = h.near_shows;
-        near_sends = h.far_sends;
-        far_sends = h.near_sends;
-        near_whole = h.far_whole;
-        far_whole = h.near_whole;
-      }
+  joined_exchanged near far to_near to_far h = grind arith
 
   -- less is claimed to be whole
   pub joined_weaker : (V : Type 0) → (V → W) → (near far : EndState) (to_near to_far : List OnWire) → Joined W near far to_near to_far
       → Joined V near far to_near to_far
-  joined_weaker V f near far to_near to_far h =
-      record {
-        near_up = h.near_up;
-        far_up = h.far_up;
-        near_due = h.near_due;
-        far_due = h.far_due;
-        near_marks = h.near_marks;
-        far_marks = h.far_marks;
-        near_shows = h.near_shows;
-        far_shows = h.far_shows;
-        near_sends = h.near_sends;
-        far_sends = h.far_sends;
-        near_whole = λ v. h.near_whole (f v);
-        far_whole = λ v. h.far_whole (f v);
-      }
+  joined_weaker V f near far to_near to_far h = grind arith
 
   -- more is offered
   pub joined_put : (near far : EndState) (to_near to_far : List OnWire) (more : List Fragment)
@@ -242,28 +164,7 @@ module _ (W : Type 0) where
   -- an end that changed its timer and what it notes of itself, and that has perhaps one more answer to send
   joined_same : {near near' far : EndState} {to_near to_far : List OnWire} → SameToOther near near'
       → Joined W near far to_near to_far → Joined W near' far to_near to_far
-  joined_same {near} {near'} same h =
-      let acc : near'.session.acc ≡ near.session.acc = ap (λ (s : Session). s.acc) same.session in
-      let acked : near'.session.acked ≡ near.session.acked = ap (λ (s : Session). s.acked) same.session in
-      let reached : near'.session.reached ≡ near.session.reached = ap (λ (s : Session). s.reached) same.session in
-      record {
-        near_up = same.up;
-        far_up = h.far_up;
-        near_due = same.answers;
-        far_due = h.far_due;
-        near_marks = h.near_marks;
-        far_marks = h.far_marks;
-        near_shows = h.near_shows;
-        far_shows = h.far_shows;
-        near_sends = rw (ap (λ (s : Session). Sends s) same.session) h.near_sends;
-        far_sends = rw acc h.far_sends;
-        near_whole = λ w n.
-            let x = h.near_whole w n in
-            record { caught = rw reached x.caught; told = rw acked x.told; free = ap (λ (s : Session). s.peer_busy) same.session ∙ x.free; acks = x.acks };
-        far_whole = λ w n.
-            let x = h.far_whole w (same.no_rnr n) in
-            record { caught = rw acc x.caught; told = λ e. x.told (same.none_due e) ∙ ap length (sym acc); free = x.free; acks = x.acks };
-      }
+  joined_same same h = grind arith
 
   -- the end becomes ready or not ready
   pub joined_ready : (near far : EndState) (to_near to_far : List OnWire) (r : Bool)
@@ -282,24 +183,7 @@ module _ (W : Type 0) where
   -- a tick that doesn't end the session
   pub joined_ticked : (near far : EndState) (to_near to_far : List OnWire) → (tick_answer near).ended ≡ None
       → Joined W near far to_near to_far → Joined W (ticked near) far to_near to_far
-  joined_ticked near far to_near to_far answer h =
-      let s = near.session in
-      tick_cases (λ e. Joined W e far to_near to_far) near h.near_up answer h
-      (joined_same (record { up = h.near_up; answers = h.near_due; no_rnr = λ n. n; none_due = λ n. n; session = refl }) h)
-      (record {
-        near_up = h.near_up;
-        far_up = h.far_up;
-        near_due = h.near_due;
-        far_due = h.far_due;
-        near_marks = h.near_marks;
-        far_marks = h.far_marks;
-        near_shows = h.near_shows;
-        far_shows = h.far_shows;
-        near_sends = flows_move h.near_sends (omega arith) (omega (arith, h.near_sends.acked_next, h.near_sends.next_reach));
-        far_sends = h.far_sends;
-        near_whole = λ w n. let x = h.near_whole w n in record { caught = x.caught; told = x.told; free = x.free; acks = x.acks };
-        far_whole = h.far_whole;
-      })
+  joined_ticked near far to_near to_far answer h = grind arith
 
   -- the frames on the way to the near end grow older
   pub joined_older : (near far : EndState) (to_near to_far : List OnWire)
@@ -343,32 +227,16 @@ module _ (W : Type 0) where
           let reach : s.reached ≤ s.acked + 4 = omega (arith, near_sends.window, near_sends.reach_window) in
           let place : place_of s (n % 8) ≡ Some n = place_found s n number.0 number.1 reach in
           let e : EndState = acknowledged near n in
-          let sends : Sends e.session t.acc h.far_marks ms =
-          flows_acked near_sends refl (omega arith) (omega (arith, near_sends.next_reach, number.1)) in
+          let sends : Sends e.session t.acc h.far_marks ms = grind arith in
           let receives : Sends t s.acc ms h.far_marks = flows_past far_sends in
           let low : t.acked ≤ length s.acc = counts_le t.acked (length s.acc) h.far_marks far_sends.counts in
           let high : p ≤ length s.acc + 3 = omega (arith, far_sends.places.1, far_sends.reach_window, far_sends.window, low) in
-          let whole : W → NoRnr far.due → Whole e.session t.acc far.due h.far_marks ms =
-          λ w q. let y = near_whole w q in record { caught = y.caught; told = y.told; free = y.free; acks = y.acks } in
+          let whole : W → NoRnr far.due → Whole e.session t.acc far.due h.far_marks ms = grind arith in
           -- a place that isn't ahead of what was accepted shows no gap
-          let no_gap : (ahead e.session (p % 8) ≡ 0 → ⊥) → ahead e.session (p % 8) < 4 → p ≤ length s.acc → ⊥ =
-          λ z g b. gap_behind e.session p z g b far_sends.places.0 in
+          let no_gap : (ahead e.session (p % 8) ≡ 0 → ⊥) → ahead e.session (p % 8) < 4 → p ≤ length s.acc → ⊥ = grind arith in
           let same : (d : List Due) → AnswersOnly d → (g b : Bool) → (W → NoRnr d → Whole t s.acc d ms h.far_marks)
           → Joined W (record e { due = d; session = record e.session { gap_open = g; answered_rnr = b } }) far to_near to_far =
-          λ d a g b c. record {
-            near_up = h.near_up;
-            far_up = h.far_up;
-            near_due = a;
-            far_due = h.far_due;
-            near_marks = ms;
-            far_marks = h.far_marks;
-            near_shows = shows.1;
-            far_shows = h.far_shows;
-            near_sends = sends;
-            far_sends = receives;
-            near_whole = λ w q. let y = whole w q in record { caught = y.caught; told = y.told; free = y.free; acks = y.acks };
-            far_whole = c;
-          } in (
+          λ d a g b c. (grind arith) in (
             rw shows.0 (taken_I (λ f. Joined W f far to_near to_far) near (p % 8) (n % 8) n info h.near_up place
                 (received_cases (λ f. Joined W f far to_near to_far) e (p % 8) info
                 (λ z. let at : p ≡ length s.acc = ahead_other e.session p far_sends.places.0 high z in
@@ -418,32 +286,13 @@ module _ (W : Type 0) where
           let receives : Sends t s.acc ms h.far_marks = flows_past far_sends in
           let from : (f : EndState) → f.phase ≡ Up → f.due ≡ near.due → Sends f.session t.acc h.far_marks ms → f.session.acc ≡ s.acc
           → (W → NoRnr far.due → Whole f.session t.acc far.due h.far_marks ms) → Joined W f far to_near to_far =
-          λ f up due sends acc whole. record {
-            near_up = up;
-            far_up = h.far_up;
-            near_due = rw due h.near_due;
-            far_due = h.far_due;
-            near_marks = ms;
-            far_marks = h.far_marks;
-            near_shows = shows.1;
-            far_shows = h.far_shows;
-            near_sends = sends;
-            far_sends = rw acc receives;
-            near_whole = whole;
-            far_whole = λ w q.
-                let y = far_whole w (rw due at q) in
-                record { caught = rw acc y.caught; told = λ z. y.told (sym due ∙ z) ∙ ap length (sym acc); free = y.free; acks = y.acks };
-          } in
-          let acked : (s' : ℕ) → n ≤ s' → s' ≤ s.reached → Flows s.out s.window n s' s.reached t.acc h.far_marks ms =
-          λ s' i j. flows_acked near_sends refl i j in
+          λ f up due sends acc whole. (grind arith) in
+          let acked : (s' : ℕ) → n ≤ s' → s' ≤ s.reached → Flows s.out s.window n s' s.reached t.acc h.far_marks ms = grind arith in
           let upper : max s.next n ≤ s.reached = omega (arith, near_sends.next_reach, number.1) in (
             rw shows.0 (taken_S (λ f. Joined W f far to_near to_far) near k (n % 8) n h.near_up place (record {
-              rr = λ is. from (ready_again near n) h.near_up refl (acked (max s.next n) (omega arith) upper) refl
-                  (freed k n ms near_whole (ready_again near n).session refl refl refl);
-              rej = λ is. from (rejected near n) h.near_up refl (acked n (omega arith) number.1) refl
-                  (freed k n ms near_whole (rejected near n).session refl refl refl);
-              rnr = λ is. from (made_busy near n) h.near_up refl (acked n (omega arith) number.1) refl
-                  (stopped_by k n ms (inl is) near_whole (made_busy near n).session);
+              rr = grind arith;
+              rej = grind arith;
+              rnr = grind arith;
               srej = λ is. from near h.near_up refl (flows_lost_back near_sends) refl (stopped_by k n ms (inr is) near_whole s);
             })),
             rw shows.0 (answer_S near k (n % 8) h.near_up),
@@ -532,8 +381,7 @@ module _ (W : Type 0) where
 
 -- where nothing is due a fetch changes nothing
 pub fetched_idle : (e : EndState) → frame_due e ≡ None → fetched e ≡ e
-fetched_idle e =
-    fetch_cases (λ f c. c ≡ None → f ≡ e) e (λ d ds p n. cc) (λ p q n. refl) (λ info p q n. cc)
+fetched_idle e = grind arith
 
 pub after_frames_idle : (n : ℕ) (e : EndState) → frame_due e ≡ None → after_frames n e ≡ e
 after_frames_idle zero e h = refl
@@ -545,18 +393,10 @@ left e = length e.due + (e.session.acked + e.session.window - e.session.next)
 
 -- each fetch leaves fewer
 fetch_leaves : (e : EndState) → (frame_due e ≡ None) ⊎ (left (fetched e) + 1 ≤ left e)
-fetch_leaves e =
-    fetch_cases (λ f c. (c ≡ None) ⊎ (left f + 1 ≤ left e)) e
-    (λ d ds p. inr (let q : length e.due ≡ suc (length ds) = ap length p in omega arith))
-    (λ p q. inl refl)
-    (λ info p q. inr (let tells = fragment_due-within e.session info q in omega (arith, tells.0)))
+fetch_leaves e = grind arith
 
 nothing_left : (e : EndState) → left e ≡ 0 → frame_due e ≡ None
-nothing_left e h =
-    fetch_cases (λ f c. c ≡ None) e
-    (λ d ds p. absurd (let q : length e.due ≡ suc (length ds) = ap length p in omega arith))
-    (λ p q. refl)
-    (λ info p q. absurd (let tells = fragment_due-within e.session info q in omega (arith, tells.0)))
+nothing_left e h = grind arith
 
 pub idle_after : (n : ℕ) (e : EndState) → left e ≤ n → frame_due (after_frames n e) ≡ None
 idle_after zero e h = nothing_left e (omega arith)
@@ -569,8 +409,7 @@ idle_after (suc n) e h = go (fetch_leaves e) (λ less. idle_after n (fetched e) 
 
 -- an end that has nothing due has no control frame to send
 pub no_due : (e : EndState) → frame_due e ≡ None → e.due ≡ []
-no_due e =
-    fetch_cases (λ f c. c ≡ None → e.due ≡ []) e (λ d ds p n. cc) (λ p q n. p) (λ info p q n. cc)
+no_due e = grind arith
 
 -- ### A frame that is taken makes at most one control frame
 
@@ -582,11 +421,6 @@ few_taken_I e ns nr x info up at =
     taken_I P e ns nr x info up at
     (received_cases P (acknowledged e x) ns info (λ z. one Rr_due) (λ z g. omega arith) (λ z g. one Rej_due) (λ z g. one Rr_due) (one Rnr_due))
 
-few_taken_S : (e : EndState) (k : Kind) (nr x : ℕ) → e.phase ≡ Up → place_of e.session nr ≡ Some x → length (taken e (S k nr)).due ≤ length e.due + 1
-few_taken_S e k nr x up at =
-    taken_S (λ f. length f.due ≤ length e.due + 1) e k nr x up at
-    (record { rr = λ i. omega arith; rej = λ i. omega arith; rnr = λ i. omega arith; srej = λ i. omega arith })
-
 pub few_taken : (e : EndState) (acc : List Fragment) (x : OnWire) (xs : List OnWire) (there back : List Control)
     → e.phase ≡ Up → Shows (x ∷ xs) back → Sends e.session acc there back → length (taken e x.frame).due ≤ length e.due + 1
 few_taken e acc x xs there [] up shows sends = absurd shows
@@ -595,11 +429,7 @@ few_taken e acc x xs there (I p n info ∷ ms) up shows sends =
     let number = flows_number (I p n info) n refl sends in
     let reach : s.reached ≤ s.acked + 4 = omega (arith, sends.window, sends.reach_window) in
     rw shows.0 (few_taken_I e (p % 8) (n % 8) n info up (place_found s n number.0 number.1 reach))
-few_taken e acc x xs there (S k n ∷ ms) up shows sends =
-    let s = e.session in
-    let number = flows_number (S k n) n refl sends in
-    let reach : s.reached ≤ s.acked + 4 = omega (arith, sends.window, sends.reach_window) in
-    rw shows.0 (few_taken_S e k (n % 8) n up (place_found s n number.0 number.1 reach))
+few_taken e acc x xs there (S k n ∷ ms) up shows sends = grind arith
 few_taken e acc x xs there (Rset _ _ ∷ ms) up shows sends = absurd sends.counts
 few_taken e acc x xs there (Ua ∷ ms) up shows sends = absurd sends.counts
 few_taken e acc x xs there (Act _ _ ∷ ms) up shows sends = absurd sends.counts
@@ -608,9 +438,7 @@ few_taken e acc x xs there (Clt ∷ ms) up shows sends = absurd sends.counts
 -- ## Where both wires are empty, and nothing was lost and no RNR made, all is accepted and acknowledged
 
 no_marks : (wire : List OnWire) (ms : List Control) → wire ≡ [] → Shows wire ms → ms ≡ []
-no_marks [] [] e h = refl
-no_marks [] (m ∷ ms) e h = absurd h
-no_marks (x ∷ xs) ms e h = cc
+no_marks wire ms e h = grind arith
 
 pub past_end : {X : Type 0} (xs : List X) (k : ℕ) → slice_get xs k ≡ None → length xs ≤ k
 past_end [] k h = omega arith
@@ -624,8 +452,7 @@ whole_front acc out p h =
     sym (append-nil acc) ∙ ap (λ l. acc ++ l) (sym empty) ∙ p.1
 
 no_fragment : (e : EndState) → frame_due e ≡ None → fragment_due e.session ≡ None
-no_fragment e =
-    fetch_cases (λ f c. c ≡ None → fragment_due e.session ≡ None) e (λ d ds p n. cc) (λ p q n. q) (λ info p q n. cc)
+no_fragment e = grind arith
 
 -- a sender that may send and has nothing due has sent all
 all_sent : (s : Session) → s.peer_busy ≡ false → s.next < s.acked + s.window → fragment_due s ≡ None → length s.out ≤ s.next

@@ -1,11 +1,10 @@
 -- A sender of whole messages never causes a fault.
-use Rattle.std.proofs.Common.{◌/◌, not, ◌&&◌, eqb, leb, ltb, rules, length-take, length-drop}
-use Rattle.std.proofs.Math.Bool.{and-false}
-use Rattle.link_laws.proofs.Words.{AreShort, Bool, IsFrontOf, IsTrue, List, Packet, [], ap, are_taken, arith, common_steps, cond, drop, false}
-use Rattle.link_laws.proofs.Words.{filter_map-append, fragments_of, given_by, join_step, length, length-append, map, packet_bytes, packet_count, packet_of}
-use Rattle.link_laws.proofs.Words.{packets_in, packets_of, refl, subst, suc, sym, take, true, zero, ℕ, ◌++◌, ◌+◌, ◌-◌, ◌<◌, ◌∙◌, ◌∷◌, ◌≡◌, ◌≤◌}
+use Rattle.std.proofs.Common.{◌/◌, not, ◌&&◌, eqb, ltb, rules, length-take, length-drop}
+use Rattle.link_laws.proofs.Words.{AreShort, Bool, IsFrontOf, IsTrue, List, Packet, [], ap, are_taken, arith, common_steps, drop, false, filter_map-append}
+use Rattle.link_laws.proofs.Words.{fragments_of, given_by, join_step, length, length-append, map, packet_bytes, packet_count, packet_of, packets_in, packets_of}
+use Rattle.link_laws.proofs.Words.{refl, subst, suc, sym, take, true, zero, ℕ, ◌++◌, ◌+◌, ◌-◌, ◌<◌, ◌∙◌, ◌∷◌, ◌≡◌, ◌≤◌}
 use Rattle.hcp_packet.specs.Packets.{packet, parts_of, messages_of}
-use Rattle.hcp_chain.specs.Joining.{is_message_open, so_far, others, is_fifth, grown, is_fault}
+use Rattle.hcp_chain.specs.Joining.{so_far, others, is_fifth, grown, is_fault}
 use Rattle.hcp_chain.proofs.GivenLemmas.{given_messages, last_step, more_step}
 use Rattle.hcp_packet.proofs.Joining.{parts_of-more, packets_in-parts, packets_of_all}
 
@@ -29,9 +28,7 @@ record Alone (ms : List (ℕ × List ℕ)) (pipe : ℕ) (bytes : List ℕ) : Typ
   under_way : so_far ms pipe ≡ bytes
 
 not_fifth : (ms : List (ℕ × List ℕ)) (pipe : ℕ) → length ms ≤ 1 → is_fifth ms pipe ≡ false
-not_fifth ms pipe few =
-    let no : leb 4 (length ms) ≡ false = grind (arith, common_steps) in
-    ap (λ b. not (is_message_open ms pipe) && b) no ∙ and-false (not (is_message_open ms pipe))
+not_fifth ms pipe few = grind arith
 
 not_long : (ms : List (ℕ × List ℕ)) (p : Packet) (bytes : List ℕ) → Alone ms p.pipe bytes → length bytes + length p.bytes.items ≤ 4096
     → ltb 4096 (length (grown ms p)) ≡ false
@@ -44,11 +41,7 @@ itself : (pipe : ℕ) → eqb pipe pipe ≡ true
 itself pipe = grind (arith, common_steps)
 
 alone_again : (pipe : ℕ) (bytes : List ℕ) → Alone ((pipe, bytes) ∷ []) pipe bytes
-alone_again pipe bytes = record {
-  few = omega arith;
-  rest = ap (λ b. cond (not b) ((pipe, bytes) ∷ []) []) (itself pipe);
-  under_way = ap (λ b. cond b bytes []) (itself pipe);
-}
+alone_again pipe bytes = grind arith
 
 parts_taken : (pipe n : ℕ) (left bytes : List ℕ) (ms : List (ℕ × List ℕ)) (packets : List Packet) → Alone ms pipe bytes
     → length bytes + length left ≤ 4096 → are_taken ms (parts_of pipe (suc n) left ++ packets) ≡ are_taken [] packets
@@ -60,8 +53,7 @@ parts_taken pipe (suc n) left bytes ms packets alone fits =
     let p = packet false pipe (take 28 left) in
     let step = more_step ms p (not_fifth ms pipe alone.few) (not_long ms p bytes alone (omega (arith, length-take 28 left))) refl in
     let grown_is : grown ms p ≡ bytes ++ take 28 left = ap (λ bs. bs ++ take 28 left) alone.under_way in
-    let next : others ms pipe ++ (pipe, grown ms p) ∷ [] ≡ (pipe, bytes ++ take 28 left) ∷ [] = ap (λ os. os ++ (pipe, grown ms p) ∷ []) alone.rest
-    ∙ ap (λ bs. (pipe, bs) ∷ []) grown_is in
+    let next : others ms pipe ++ (pipe, grown ms p) ∷ [] ≡ (pipe, bytes ++ take 28 left) ∷ [] = grind arith in
     ap (λ ps. are_taken ms (ps ++ packets)) (parts_of-more pipe n left)
     ∙ (ap (λ s. not (is_fault s.0) && are_taken s.1 (parts_of pipe (suc n) (drop 28 left) ++ packets)) step
     ∙ (ap (λ ns. are_taken ns (parts_of pipe (suc n) (drop 28 left) ++ packets)) next
@@ -90,15 +82,7 @@ front_taken (p ∷ front) rest ms taken = by_fault (is_fault (join_step ms p).0)
     by_fault : (b : Bool) → is_fault (join_step ms p).0 ≡ b
         → (are_taken (join_step ms p).1 (front ++ rest) ≡ true → are_taken (join_step ms p).1 front ≡ true)
         → (not (is_fault (join_step ms p).0) && are_taken (join_step ms p).1 front) ≡ true
-    by_fault true e more = absurd (let t : not true && are_taken (join_step ms p).1 (front ++ rest) ≡ true =
-        subst (λ b. not b && are_taken (join_step ms p).1 (front ++ rest) ≡ true) e taken in never t)
-      where
-        never : false ≡ true → ⊥
-        never f = cc
-    by_fault false e more =
-        let t : not false && are_taken (join_step ms p).1 (front ++ rest) ≡ true =
-        subst (λ b. not b && are_taken (join_step ms p).1 (front ++ rest) ≡ true) e taken in
-        ap (λ b. not b && are_taken (join_step ms p).1 front) e ∙ more t
+    by_fault b e more = grind arith
 
 pub no_fault : (sent : List (ℕ × List ℕ)) (got : List (List ℕ)) → AreShort sent → IsFrontOf got (fragments_of sent) → IsTrue (are_taken [] (packets_in got))
 no_fault sent got short front =

@@ -2,13 +2,13 @@
 use Rattle.std.proofs.Common.{◌==◌, max}
 use Rattle.link_laws.proofs.Words.{Act, Bool, Clt, Control, Down, Due, EndState, Fragment, I, Kind, LinkState, List, None, NumberedShdlc, OnWire, Option}
 use Rattle.link_laws.proofs.Words.{Rej_due, Rnr_due, Rr_due, Rset, S, Session, Some, Ua, Up, Waiting, [], accepted, acknowledged, ap, append_assoc, arith}
-use Rattle.link_laws.proofs.Words.{discarded, ended_session, eq-eqb, eqb-true, false, inl, inr, length, length-append, made_busy, ne_eqb, new_session}
-use Rattle.link_laws.proofs.Words.{no_session, older, place_of, ready_again, refl, rejected, repeated, sent_next, shdlc_number_of, shdlc_session_of, slice_get}
-use Rattle.link_laws.proofs.Words.{slice_get_within, sym, take_answer, taken, true, ℕ, ◌%◌, ◌++◌, ◌+◌, ◌<◌, ◌∙◌, ◌∷◌, ◌≡◌, ◌≤◌, ◌⊎◌}
+use Rattle.link_laws.proofs.Words.{discarded, ended_session, eqb-true, false, inl, inr, length, length-append, made_busy, ne_eqb, new_session, no_session}
+use Rattle.link_laws.proofs.Words.{older, place_of, ready_again, refl, rejected, repeated, sent_next, shdlc_number_of, shdlc_session_of, slice_get}
+use Rattle.link_laws.proofs.Words.{slice_get_within, sym, take_answer, taken, ℕ, ◌%◌, ◌++◌, ◌+◌, ◌<◌, ◌∙◌, ◌∷◌, ◌≡◌, ◌≤◌, ◌⊎◌}
 use Rattle.link_laws.proofs.places.Joined.{ahead_other, answer_I, answer_S, place_found, received_cases, taken_I, taken_S}
 use Rattle.link_laws.proofs.places.Flows.{Carries, Counts, MayFollow, NoneBelow, Places, counts_higher, counts_le, counts_lost, counts_lower, counts_push}
 use Rattle.link_laws.proofs.places.Flows.{front_accept, places_accepted, places_grow, places_lost, places_push, places_push_S, places_reach, reduced}
-use Rattle.link_laws.proofs.sessions.Wire.{IsData, add_rset, no_rset_step, rsets}
+use Rattle.link_laws.proofs.sessions.Wire.{IsData, no_rset_step, rsets}
 use Rattle.link_laws.proofs.Cases.{by_test}
 use mathlib.Core.List.{IsPrefix}
 
@@ -71,9 +71,7 @@ bound h = by_phase h.side.phase where
 
 -- an end that is Up
 pub of_up : (h : NumberedShdlc) → h.side.phase ≡ Up → shdlc_session_of h (shdlc_number_of h) ≡ h.side.session
-of_up h up =
-    let same : (shdlc_number_of h == shdlc_number_of h) ≡ true = eq-eqb (shdlc_number_of h) (shdlc_number_of h) refl in
-    rw (up, same) refl
+of_up h up = grind arith
 
 -- its session goes on with other fragments
 pub of_update : (P : ℕ → Session → Type 0) (h g : NumberedShdlc) → h.side.phase ≡ Up → g.side.phase ≡ Up → shdlc_number_of g ≡ shdlc_number_of h
@@ -90,8 +88,7 @@ pub of_end : (P : ℕ → Session → Type 0) (h g : NumberedShdlc) → h.side.p
 of_end P h g up down past all k = go g.side.phase refl (all k)
   where
     go : (p : LinkState) → g.side.phase ≡ p → P k (shdlc_session_of h k) → P k (shdlc_session_of g k)
-    go Up q a = absurd (down q)
-    go _ q a = rw (q, past) (rw up at a)
+    go p q a = grind arith
 
 -- an end without a session stays so
 pub of_none : (P : ℕ → Session → Type 0) (h g : NumberedShdlc) → (h.side.phase ≡ Up → ⊥) → (g.side.phase ≡ Up → ⊥) → g.past ≡ h.past
@@ -99,9 +96,7 @@ pub of_none : (P : ℕ → Session → Type 0) (h g : NumberedShdlc) → (h.side
 of_none P h g down down' past all k = go h.side.phase g.side.phase refl refl (all k)
   where
     go : (p q : LinkState) → h.side.phase ≡ p → g.side.phase ≡ q → P k (shdlc_session_of h k) → P k (shdlc_session_of g k)
-    go Up q a b c = absurd (down a)
-    go _ Up a b c = absurd (down' b)
-    go _ _ a b c = rw (b, past) (rw a at c)
+    go p q a b c = grind arith
 
 -- a session begins at an end that has none
 pub of_begin : (P : ℕ → Session → Type 0) (h g : NumberedShdlc) → (h.side.phase ≡ Up → ⊥) → g.side.phase ≡ Up → g.past ≡ h.past
@@ -109,28 +104,15 @@ pub of_begin : (P : ℕ → Session → Type 0) (h g : NumberedShdlc) → (h.sid
 of_begin P h g down up past all new k = go (k == shdlc_number_of g) refl h.side.phase refl (all k)
   where
     go : (b : Bool) → (k == shdlc_number_of g) ≡ b → (p : LinkState) → h.side.phase ≡ p → P k (shdlc_session_of h k) → P k (shdlc_session_of g k)
-    go true q p a c = rw (up, q) (rw (← eqb-true k (shdlc_number_of g) q) at new)
-    go false q Up a c = absurd (down a)
-    go false q _ a c = rw (up, q, past) (rw a at c)
+    go b q p a c = grind arith
 
 -- a session that hasn't begun has no fragments, and begins as one that hasn't
 pub base_begins : (r : Session) (w : ℕ) → w ≤ 4 → Base no_session r → Base (new_session w) r
-base_begins r w i b =
-    record { from = b.from; sent = b.sent; offered = b.offered; within = omega arith; most = i; front = b.front; fits = b.fits; acked = b.acked }
+base_begins r w i b = grind arith
 
 -- an end in whose session the other accepted the same
 base_there : {r s t : Session} → t.acc ≡ s.acc → Base r s → Base r t
-base_there a b =
-    record {
-      from = b.from;
-      sent = b.sent;
-      offered = b.offered;
-      within = b.within;
-      most = b.most;
-      front = rw a b.front;
-      fits = rw a b.fits;
-      acked = rw a b.acked;
-    }
+base_there a b = grind arith
 
 pub base_begins_there : (s : Session) (w : ℕ) → Base s no_session → Base s (new_session w)
 base_begins_there s w b = base_there refl b
@@ -163,40 +145,12 @@ record TellsAccepted (s r : Session) (n : ℕ) (ms : List Control) : Type 0 wher
 pair_of : {s t r : Session} {n next : ℕ} {ms : List Control} {before here : List OnWire} {there : Option (List OnWire)} → Pair s r before there
     → TellsAccepted s r n ms → n ≤ next → next ≤ s.reached → sans_notes t ≡ sans_notes (record s { acked = n; next = next })
     → ShowsAct here ms → Places r.out (length s.acc) r.reached ms → Pair t r here there
-pair_of {s} {t} {r} {n} {next} {ms} {there = there} h tells from sent same shows places =
-    let out : t.out ≡ s.out = ap (λ (x : Session). x.out) same in
-    let acc : t.acc ≡ s.acc = ap (λ (x : Session). x.acc) same in
-    let acked : t.acked ≡ n = ap (λ (x : Session). x.acked) same in
-    let at : t.next ≡ next = ap (λ (x : Session). x.next) same in
-    let reached : t.reached ≡ s.reached = ap (λ (x : Session). x.reached) same in
-    let window : t.window ≡ s.window = ap (λ (x : Session). x.window) same in
-    record {
-      mine = record {
-        from = omega arith;
-        sent = omega arith;
-        offered = rw (out, reached) h.mine.offered;
-        within = omega (arith, h.mine.within, tells.from);
-        most = omega (arith, h.mine.most);
-        front = rw out h.mine.front;
-        fits = rw reached h.mine.fits;
-        acked = rw acked tells.accepted;
-      };
-      theirs = base_there acc h.theirs;
-      comes = record { marks = ms; shows = shows; places = rw acc places; counts = rw acked tells.counts };
-      goes = go out acc reached there h.goes;
-    }
-  where
-    go : t.out ≡ s.out → t.acc ≡ s.acc → t.reached ≡ s.reached → (o : Option (List OnWire)) → OnLive o r s → OnLive o r t
-    go out acc reached None g = tt
-    go out acc reached (Some w) g = record { marks = g.marks; shows = g.shows; places = rw (out, reached) g.places; counts = rw acc g.counts }
+pair_of h tells from sent same shows places = grind arith
 
 -- it goes on from another place, and nothing came
 pub pair_next : {s t r : Session} {next : ℕ} {here : List OnWire} {there : Option (List OnWire)} → s.acked ≤ next → next ≤ s.reached
     → sans_notes t ≡ sans_notes (record s { next = next }) → Pair s r here there → Pair t r here there
-pair_next {s} from sent same h =
-    pair_of h
-    (record { from = omega arith; reached = omega (arith, h.mine.from, h.mine.sent); accepted = h.mine.acked; counts = h.comes.counts })
-    from sent same h.comes.shows h.comes.places
+pair_next from sent same h = grind arith
 
 -- more is offered
 pub pair_put : {s r : Session} {here : List OnWire} {there : Option (List OnWire)} (more : List Fragment)
@@ -227,16 +181,14 @@ pub shows_push : (w : List OnWire) (ms : List Control) (x : OnWire) (m : Control
     → ShowsAct (w ++ x ∷ []) (ms ++ m ∷ [])
 shows_push [] [] x m e none h = (e, tt)
 shows_push [] (_ ∷ _) x m e none h = absurd h
-shows_push (y ∷ w) [] x m e none h =
-    absurd (let q : add_rset (Rset h.0.0 h.0.1) y.age (rsets w) ≡ [] = rw h.0.2 at none in let z : y.age ∷ rsets w ≡ [] = q in cc)
+shows_push (y ∷ w) [] x m e none h = grind arith
 shows_push (y ∷ w) (k ∷ ms) x m e none h = (h.0, shows_push w ms x m e (no_rset_step y.frame y.age (rsets w) none).0 h.1)
 
 pub shows_push_rset : (w : List OnWire) (ms : List Control) (x : OnWire) (v c : ℕ) → x.frame ≡ Rset v c → rsets w ≡ [] → ShowsAct w ms
     → ShowsAct (w ++ x ∷ []) ms
 shows_push_rset [] [] x v c e none h = ((v, c, e), refl)
 shows_push_rset [] (_ ∷ _) x v c e none h = absurd h
-shows_push_rset (y ∷ w) [] x v c e none h =
-    absurd (let q : add_rset (Rset h.0.0 h.0.1) y.age (rsets w) ≡ [] = rw h.0.2 at none in let z : y.age ∷ rsets w ≡ [] = q in cc)
+shows_push_rset (y ∷ w) [] x v c e none h = grind arith
 shows_push_rset (y ∷ w) (k ∷ ms) x v c e none h = (h.0, shows_push_rset w ms x v c e (no_rset_step y.frame y.age (rsets w) none).0 h.1)
 
 pub shows_older : (w : List OnWire) (ms : List Control) → ShowsAct w ms → ShowsAct (older w) ms
@@ -293,13 +245,7 @@ pair_send {s} {r} {info} {there = there} x inside is frame plain h =
     m = max s.reached (s.next + 1)
 
     follows : MayFollow s.out (length r.acc) m s.next info
-    follows =
-        record {
-          is = is;
-          sent = omega arith;
-          reach = omega (arith, h.mine.within, h.mine.most, h.mine.from);
-          accepted = omega (arith, h.mine.fits, h.mine.within, h.mine.most, h.mine.from);
-        }
+    follows = grind arith
 
     go : (o : Option (List OnWire)) → Plain o → OnLive o r s → OnLive (pushed o x) r (sent_next s)
     go None p g = tt
@@ -375,19 +321,12 @@ taken_up e {r} {x} {here} {there} up data' h = go h.comes.marks h.comes.shows h.
         let same : (g : EndState) → g.phase ≡ e.phase → g.own_window ≡ e.own_window → g.peer_window ≡ e.peer_window
         → sans_notes g.session ≡ sans_notes (record s { acked = n; next = max s.next n })
         → (g.due ≡ e.due) ⊎ ((d : Due) × IsAnswer d × (g.due ≡ e.due ++ d ∷ [])) → TakenUp e g r here there =
-        λ g ph own peer same due. record {
-          up = ph ∙ up;
-          pair = pair_of h number (omega arith) upper same shows.1 places.4;
-          due = due;
-          own = own;
-          peer = peer;
-        } in (
+        λ g ph own peer same due. (grind arith) in (
           rw shows.0 (taken_I (λ g. TakenUp e g r here there) e (p % 8) (n % 8) n info up place
               (received_cases (λ g. TakenUp e g r here there) f (p % 8) info
               (λ z. accept p n info ms shows.1 places number (ahead_other f.session p places.0 high z))
               (λ z g. same f refl refl refl refl (inl refl))
-              (λ z g. same (record f { due = f.due ++ Rej_due ∷ []; session = record f.session { gap_open = true } }) refl refl refl refl
-              (inr (Rej_due, tt, refl)))
+              (λ z g. grind arith)
               (λ z g. same (repeated f) refl refl refl refl (inr (Rr_due, tt, refl)))
               (same (discarded f) refl refl refl refl (inr (Rnr_due, tt, refl))))),
           rw shows.0 (answer_I e (p % 8) (n % 8) info up),
@@ -403,16 +342,7 @@ taken_up e {r} {x} {here} {there} up data' h = go h.comes.marks h.comes.shows h.
             record {
               up = up;
               pair = record {
-                mine = record {
-                  from = omega arith;
-                  sent = omega (arith, h.mine.sent, number.reached);
-                  offered = h.mine.offered;
-                  within = omega (arith, h.mine.within, number.from);
-                  most = h.mine.most;
-                  front = h.mine.front;
-                  fits = h.mine.fits;
-                  acked = number.accepted;
-                };
+                mine = grind arith;
                 theirs = record {
                   from = h.theirs.from;
                   sent = h.theirs.sent;
@@ -455,13 +385,7 @@ taken_up e {r} {x} {here} {there} up data' h = go h.comes.marks h.comes.shows h.
         let at : (g : EndState) (next : ℕ) → n ≤ next → next ≤ s.reached → g.phase ≡ e.phase → g.own_window ≡ e.own_window → g.peer_window ≡ e.peer_window
         → sans_notes g.session ≡ sans_notes (record s { acked = n; next = next })
         → g.due ≡ e.due → TakenUp e g r here there =
-        λ g next i j ph own peer same due. record {
-          up = ph ∙ up;
-          pair = pair_of h number i j same shows.1 places;
-          due = inl due;
-          own = own;
-          peer = peer;
-        } in (
+        λ g next i j ph own peer same due. (grind arith) in (
           rw shows.0 (taken_S (λ g. TakenUp e g r here there) e k (n % 8) n up place (record {
             rr = λ is. at (ready_again e n) (max s.next n) (omega arith) upper refl refl refl refl refl;
             rej = λ is. at (rejected e n) n (omega arith) number.reached refl refl refl refl refl;

@@ -73,12 +73,6 @@ pub record Hand (kn kf : ℕ) (n f : Peer) (to_n to_f : List OnWire) (resets : �
   pub n_bound : n.emitted ≤ resets
   pub f_bound : f.emitted ≤ resets
 
-agrees_swap : (a b : Option (List OnWire)) (x y : ℕ) → Agrees a b (x ≡ y) → Agrees b a (y ≡ x)
-agrees_swap (Some a) (Some b) x y h = sym h
-agrees_swap (Some a) None x y h = tt
-agrees_swap None (Some b) x y h = tt
-agrees_swap None None x y h = tt
-
 -- nothing is out of the near end: no RSET of it is on its way, and no UA to it
 pub record NothingIsOut (to_n to_f : List OnWire) : Type 0 where
   pub no_rset : rsets to_f ≡ []
@@ -121,78 +115,33 @@ pub record RsetTells (f : Peer) (x : OnWire) (window : ℕ) (to_n to_f : List On
 
 -- nothing is out of an end that doesn't wait
 pub none_out : (k : ℕ) (p : LinkState) (t : ℕ) (r u : List ℕ) → (p ≡ Waiting → ⊥) → OneOut k p t r u → (r ≡ []) × (u ≡ [])
-none_out k p t [] [] n h = (refl, refl)
-none_out k p t (a ∷ []) [] n h = absurd (n h.0)
-none_out k p t [] (a ∷ []) n h = absurd (n h.0)
-none_out k p t (a ∷ b ∷ r) u n h = absurd h
-none_out k p t (a ∷ []) (b ∷ u) n h = absurd h
-none_out k p t [] (a ∷ b ∷ u) n h = absurd h
+none_out k p t r u n h = grind arith
 
 pub out_none : (k : ℕ) (p : LinkState) (t : ℕ) (r u : List ℕ) → r ≡ [] → u ≡ [] → OneOut k p t r u
-out_none k p t [] [] a b = tt
-out_none k p t (x ∷ r) u a b = cc
-out_none k p t [] (x ∷ u) a b = cc
-
--- an RSET that is out is the only one
-pub one_rset : (k : ℕ) (p : LinkState) (t a : ℕ) (r u : List ℕ) → OneOut k p t (a ∷ r) u → (r ≡ []) × (u ≡ []) × (p ≡ Waiting) × (a ≡ t + k)
-one_rset k p t a [] [] h = (refl, refl, h.0, h.1)
-one_rset k p t a (b ∷ r) u h = absurd h
-one_rset k p t a [] (b ∷ u) h = absurd h
-
-one_ua : (k : ℕ) (p : LinkState) (t a : ℕ) (r u : List ℕ) → OneOut k p t r (a ∷ u) → (r ≡ []) × (u ≡ []) × (p ≡ Waiting) × (a ≤ t + k) × (t + k ≤ a + 4)
-one_ua k p t a [] [] h = (refl, refl, h.0, h.1, h.2)
-one_ua k p t a [] (b ∷ u) h = absurd h
-one_ua k p t a (b ∷ []) u h = absurd h
-one_ua k p t a (b ∷ c ∷ r) u h = absurd h
-
-pub ahead_still : {k k' : ℕ} {n n' : Peer} (emitted : ℕ) (r : List ℕ) → OnlyTimePasses k k' n n' → Ahead k n emitted r → Ahead k' n' emitted r
-ahead_still emitted [] t h = tt
-ahead_still {k} {k'} {n} {n'} emitted (x ∷ r) t h = (omega (arith, t.took, h.0), go h.1)
-  where
-    go : (n.emitted < emitted) ⊎ ((n.phase ≡ Waiting) × (n.timer + k ≤ x)) → (n'.emitted < emitted) ⊎ ((n'.phase ≡ Waiting) × (n'.timer + k' ≤ x))
-    go (inl g) = inl (omega (arith, t.emitted))
-    go (inr g) = inr (t.phase ∙ g.0, omega (arith, g.1, t.timer g.0))
+out_none k p t r u a b = grind arith
 
 -- an end that doesn't wait has sent less
 pub ahead_not_waiting : (k : ℕ) (n : Peer) (emitted a : ℕ) (r : List ℕ) → (n.phase ≡ Waiting → ⊥) → Ahead k n emitted (a ∷ r)
     → (n.took < emitted) × (n.emitted < emitted)
-ahead_not_waiting k n emitted a r w h = (h.0, go h.1)
-  where
-    go : (n.emitted < emitted) ⊎ ((n.phase ≡ Waiting) × (n.timer + k ≤ a)) → n.emitted < emitted
-    go (inl g) = g
-    go (inr g) = absurd (w g.0)
+ahead_not_waiting k n emitted a r w h = grind arith
 
 ahead_none : (k : ℕ) (n : Peer) (emitted : ℕ) (r : List ℕ) → r ≡ [] → Ahead k n emitted r
-ahead_none k n emitted [] e = tt
-ahead_none k n emitted (a ∷ r) e = cc
+ahead_none k n emitted r e = grind arith
 
 sure_none : (r : List ℕ) (P : Type 0) → r ≡ [] → Sure r P
-sure_none [] P e = tt
-sure_none (a ∷ r) P e = cc
+sure_none r P e = grind arith
 
 sure_from : (r : List ℕ) (P : Type 0) → P → Sure r P
-sure_from [] P p = tt
-sure_from (a ∷ r) P p = p
+sure_from r P p = grind arith
 
 behind_none_fact : (o : Option (List OnWire)) (P : Type 0) → o ≡ None → Behind o P
-behind_none_fact None P e = tt
-behind_none_fact (Some w) P e = cc
+behind_none_fact o P e = grind arith
 
 agrees_left_none : (a b : Option (List OnWire)) (P : Type 0) → a ≡ None → Agrees a b P
-agrees_left_none None None P e = tt
-agrees_left_none None (Some b) P e = tt
-agrees_left_none (Some a) b P e = cc
-
-agrees_right_none : (a b : Option (List OnWire)) (P : Type 0) → b ≡ None → Agrees a b P
-agrees_right_none None None P e = tt
-agrees_right_none (Some a) None P e = tt
-agrees_right_none a (Some b) P e = cc
+agrees_left_none a b P e = grind arith
 
 pub agrees_from : (a b : Option (List OnWire)) (P : Type 0) → P → Agrees a b P
-agrees_from None None P p = tt
-agrees_from None (Some b) P p = tt
-agrees_from (Some a) None P p = tt
-agrees_from (Some a) (Some b) P p = p
+agrees_from a b P p = grind arith
 
 -- two parts are both there or both not
 pub data Alike : Option (List OnWire) → Option (List OnWire) → Type 0 where
@@ -200,9 +149,7 @@ pub data Alike : Option (List OnWire) → Option (List OnWire) → Type 0 where
   SomeAlike : (a b : List OnWire) → Alike (Some a) (Some b)
 
 agrees_alike : (a b c d : Option (List OnWire)) (P : Type 0) → Alike a c → Alike b d → Agrees a b P → Agrees c d P
-agrees_alike a b c d P NoneAlike y h = agrees_left_none None d P refl
-agrees_alike a b c d P (SomeAlike _ _) NoneAlike h = tt
-agrees_alike a b c d P (SomeAlike _ _) (SomeAlike _ _) h = h
+agrees_alike a b c d P e y h = grind arith
 
 rset_of : (x : OnWire) (is : IsRset x) → (rsets (x ∷ []) ≡ x.age ∷ []) × (uas (x ∷ []) ≡ [])
 rset_of x is = (rw is.frame refl, rw is.frame refl)
@@ -213,56 +160,11 @@ ua_of x e = (rw e refl, rw e refl)
 -- nothing stands on the wires
 pub hand_empty : (kn kf : ℕ) (n f : Peer) (r : ℕ) → n.took ≤ f.emitted → f.took ≤ n.emitted → n.emitted ≤ r → f.emitted ≤ r
     → Agrees (live n.phase []) (live f.phase []) (number n ≡ number f) → Hand kn kf n f [] [] r
-hand_empty kn kf n f r n_took f_took n_bound f_bound agree =
-    record {
-      n_out = tt;
-      f_out = tt;
-      n_numbered = tt;
-      f_numbered = tt;
-      n_ahead = tt;
-      f_ahead = tt;
-      n_took = n_took;
-      f_took = f_took;
-      n_sure = tt;
-      f_sure = tt;
-      n_behind = tt;
-      f_behind = tt;
-      n_tail = tt;
-      f_tail = tt;
-      n_young = tt;
-      f_young = tt;
-      agree = agree;
-      n_bound = n_bound;
-      f_bound = f_bound;
-    }
+hand_empty kn kf n f r n_took f_took n_bound f_bound agree = grind arith
 
 -- ## What one end does
 
 module _ {kn kf : ℕ} {n f : Peer} {to_n to_f : List OnWire} {r : ℕ} (h : Hand kn kf n f to_n to_f r) where
-  pub hand_swap : Hand kf kn f n to_f to_n r
-  hand_swap =
-      record {
-        n_out = h.f_out;
-        f_out = h.n_out;
-        n_numbered = h.f_numbered;
-        f_numbered = h.n_numbered;
-        n_ahead = h.f_ahead;
-        f_ahead = h.n_ahead;
-        n_took = h.f_took;
-        f_took = h.n_took;
-        n_sure = h.f_sure;
-        f_sure = h.n_sure;
-        n_behind = h.f_behind;
-        f_behind = h.n_behind;
-        n_tail = h.f_tail;
-        f_tail = h.n_tail;
-        n_young = h.f_young;
-        f_young = h.n_young;
-        agree = agrees_swap (live n.phase to_n) (live f.phase to_f) (number n) (number f) h.agree;
-        n_bound = h.f_bound;
-        f_bound = h.n_bound;
-      }
-
   -- nothing is out of an end that doesn't wait
   pub idle_out : (n.phase ≡ Waiting → ⊥) → NothingIsOut to_n to_f
   idle_out no_wait = let o = none_out kn n.phase n.timer (rsets to_f) (uas to_n) no_wait h.n_out in record { no_rset = o.0; no_ua = o.1 }
@@ -328,36 +230,7 @@ module _ {kn kf : ℕ} {n f : Peer} {to_n to_f : List OnWire} {r : ℕ} (h : Han
 
   -- only the timer of the near end moves
   pub hand_timer : {kn' : ℕ} {n' : Peer} → OnlyTimePasses kn kn' n n' → Hand kn' kf n' f to_n to_f r
-  hand_timer {kn'} {n'} t =
-      record {
-        n_out = out (rsets to_f) (uas to_n) h.n_out;
-        f_out = h.f_out;
-        n_numbered = rw t.emitted h.n_numbered;
-        f_numbered = h.f_numbered;
-        n_ahead = ahead_still f.emitted (rsets to_n) t h.n_ahead;
-        f_ahead = rw t.emitted h.f_ahead;
-        n_took = rw t.took h.n_took;
-        f_took = rw t.emitted h.f_took;
-        n_sure = rw t.emitted h.n_sure;
-        f_sure = rw t.took h.f_sure;
-        n_behind = rw t.emitted h.n_behind;
-        f_behind = rw t.emitted h.f_behind;
-        n_tail = h.n_tail;
-        f_tail = h.f_tail;
-        n_young = h.n_young;
-        f_young = h.f_young;
-        agree = rw (t.phase, t.emitted, t.took) h.agree;
-        n_bound = rw t.emitted h.n_bound;
-        f_bound = h.f_bound;
-      }
-    where
-      out : (rs us : List ℕ) → OneOut kn n.phase n.timer rs us → OneOut kn' n'.phase n'.timer rs us
-      out [] [] g = tt
-      out (a ∷ []) [] g = (t.phase ∙ g.0, omega (arith, g.1, t.timer g.0))
-      out [] (a ∷ []) g = (t.phase ∙ g.0, omega (arith, g.1, t.timer g.0), omega (arith, g.2, t.timer g.0))
-      out (a ∷ b ∷ rs) us g = absurd g
-      out (a ∷ []) (b ∷ us) g = absurd g
-      out [] (a ∷ b ∷ us) g = absurd g
+  hand_timer t = grind arith
 
   -- the near end sends an RSET and waits; nothing was out
   pub hand_ask : (x : OnWire) → NothingIsOut to_n to_f → IsNextRset r x
@@ -391,15 +264,13 @@ module _ {kn kf : ℕ} {n f : Peer} {to_n to_f : List OnWire} {r : ℕ} (h : Han
       }
     where
       ahead : (rs : List ℕ) → Ahead kn n f.emitted rs → Ahead 0 (record { phase = Waiting; timer = 0; emitted = r + 1; took = n.took }) f.emitted rs
-      ahead [] g = tt
-      ahead (a ∷ rs) g = (g.0, inr (refl, omega arith))
+      ahead rs g = grind arith
 
       less : f.emitted < r + 1
       less = omega (arith, h.f_bound)
 
       behind : (o : Option (List OnWire)) → behind_ua to_f ≡ o → Behind (behind_ua (to_f ++ x ∷ [])) (f.emitted < r + 1)
-      behind None e = behind_none_fact (behind_ua (to_f ++ x ∷ [])) (f.emitted < r + 1) (behind_push_none to_f x (rw new.is.frame tt) e)
-      behind (Some ys) e = rw (behind_push to_f ys x e) (sure_from (rsets (ys ++ x ∷ [])) (f.emitted < r + 1) less)
+      behind o e = grind arith
 
   -- the near end, which waited, gives up; nothing is out
   pub hand_down : NothingIsOut to_n to_f → 4 < n.timer + kn
@@ -439,29 +310,7 @@ module _ {kn kf : ℕ} {n f : Peer} {to_n to_f : List OnWire} {r : ℕ} (h : Han
 
   -- the near end, which is Down, has taken the RSET that was sent last, and comes into no session by it
   pub hand_ignore : n.phase ≡ Down → NothingIsOut to_f to_n → Hand kn kf (record n { took = f.emitted }) f to_n to_f r
-  hand_ignore down out =
-      let p : Peer = record n { took = f.emitted } in
-      record {
-        n_out = h.n_out;
-        f_out = h.f_out;
-        n_numbered = h.n_numbered;
-        f_numbered = h.f_numbered;
-        n_ahead = ahead_none kn p f.emitted (rsets to_n) out.no_rset;
-        f_ahead = h.f_ahead;
-        n_took = omega arith;
-        f_took = h.f_took;
-        n_sure = h.n_sure;
-        f_sure = sure_none (uas to_f) (f.emitted ≡ f.emitted) out.no_ua;
-        n_behind = h.n_behind;
-        f_behind = h.f_behind;
-        n_tail = h.n_tail;
-        f_tail = h.f_tail;
-        n_young = h.n_young;
-        f_young = h.f_young;
-        agree = agrees_left_none (live n.phase to_n) (live f.phase to_f) (number p ≡ number f) (rw down refl);
-        n_bound = h.n_bound;
-        f_bound = h.f_bound;
-      }
+  hand_ignore down out = grind arith
 
 -- with a frame in front on its way to the near end
 module _ {kn kf : ℕ} {n f : Peer} {x : OnWire} {to_n to_f : List OnWire} {r : ℕ} (h : Hand kn kf n f (x ∷ to_n) to_f r) where
@@ -488,8 +337,7 @@ module _ {kn kf : ℕ} {n f : Peer} {x : OnWire} {to_n to_f : List OnWire} {r : 
         f_tail = h.f_tail;
         n_young = young_later x.age 4 to_n h.n_young.0 h.n_young.1;
         f_young = h.f_young;
-        agree = agrees_alike (live n.phase (x ∷ to_n)) (live f.phase to_f) (live n.phase to_n) (live f.phase to_f) (number n ≡ number f)
-            (alike n.phase c) (same (live f.phase to_f)) h.agree;
+        agree = grind arith;
         n_bound = h.n_bound;
         f_bound = h.f_bound;
       }
@@ -505,10 +353,7 @@ module _ {kn kf : ℕ} {n f : Peer} {x : OnWire} {to_n to_f : List OnWire} {r : 
 
   -- what a UA in front tells: the near end waits for it, and nothing else of it is out
   pub ua_told : x.frame ≡ Ua → NothingIsOut to_n to_f × (n.phase ≡ Waiting)
-  ua_told frame =
-      let b : uas (x ∷ to_n) ≡ x.age ∷ uas to_n = rw frame refl in
-      let out = one_ua kn n.phase n.timer x.age (rsets to_f) (uas to_n) (rw b at h.n_out) in
-      (record { no_rset = out.0; no_ua = out.1 }, out.2)
+  ua_told frame = grind arith
 
   -- the near end takes the UA that it waited for
   pub hand_up_ua : x.frame ≡ Ua → Hand kn kf (record { phase = Up; timer = 0; emitted = n.emitted; took = n.took }) f to_n to_f r
@@ -543,8 +388,7 @@ module _ {kn kf : ℕ} {n f : Peer} {x : OnWire} {to_n to_f : List OnWire} {r : 
     where
       ahead : (rs : List ℕ) → Sure rs (n.emitted < f.emitted) → Ahead kn n f.emitted rs
           → Ahead kn (record { phase = Up; timer = 0; emitted = n.emitted; took = n.took }) f.emitted rs
-      ahead [] s g = tt
-      ahead (a ∷ rs) s g = (g.0, inl s)
+      ahead rs s g = grind arith
 
   -- a UA on its way to the near end is lost
   pub hand_lose_ua : x.frame ≡ Ua → Hand kn kf n f to_n to_f r
@@ -577,26 +421,11 @@ module _ {kn kf : ℕ} {n f : Peer} {x : OnWire} {to_n to_f : List OnWire} {r : 
 -- what an RSET in front tells
 pub rset_told : {kn : ℕ} {n f : Peer} {x : OnWire} {to_n to_f : List OnWire} {r : ℕ} → Hand kn 0 n f (x ∷ to_n) to_f r → (is : IsRset x)
     → RsetTells f x is.window to_n to_f
-rset_told {f = f} {x} {to_n} {to_f} h is =
-    let a : rsets (x ∷ to_n) ≡ x.age ∷ rsets to_n = rw is.frame refl in
-    let out = one_rset 0 f.phase f.timer x.age (rsets to_n) (uas to_f) (rw a at h.f_out) in
-    let num : NumberOk f.emitted (Rset is.window is.caps) x.number = rw is.frame at h.f_numbered.0 in
-    let after : AfterRset to_n = rw is.frame at h.n_tail in
-    record {
-      out = record { no_rset = out.0; no_ua = out.1 };
-      waiting = out.2;
-      timer = omega (arith, out.3, h.n_young.0);
-      number = num.0;
-      wide = num.1;
-      behind = after;
-    }
+rset_told h is = grind arith
 
 ua_added : (f : Peer) {y : OnWire} (to_f : List OnWire) → IsNewUa y → uas to_f ≡ [] → f.phase ≡ Waiting → f.timer ≤ 4
     → OneOut 0 f.phase f.timer [] (uas (to_f ++ y ∷ []))
-ua_added f {y} to_f new none waiting t =
-    let one : uas (to_f ++ y ∷ []) ≡ 0 ∷ [] =
-    uas-append to_f y ∙ ap (λ l. l ++ uas (y ∷ [])) none ∙ (ua_of y new.frame).1 ∙ ap (λ a. a ∷ []) new.age in
-    rw one (waiting, omega arith, omega arith)
+ua_added f to_f new none waiting t = grind (arith, uas-append, ua_of)
 
 -- an RSET is in front
 module _ {n f : Peer} {x : OnWire} {to_n to_f : List OnWire} {r : ℕ} (is : IsRset x) where
@@ -638,8 +467,7 @@ module _ {n f : Peer} {x : OnWire} {to_n to_f : List OnWire} {r : ℕ} (is : IsR
     where
       behind : (behind_ua (to_f ++ y ∷ []) ≡ None) ⊎ ((behind_ua (to_f ++ y ∷ []) ≡ Some []) × (rsets to_f ≡ []))
           → Behind (behind_ua (to_f ++ y ∷ [])) (f.emitted < n.emitted)
-      behind (inl e) = behind_none_fact (behind_ua (to_f ++ y ∷ [])) (f.emitted < n.emitted) e
-      behind (inr e) = rw e.0 tt
+      behind a = grind arith
 
   -- the near end, which waits, takes an RSET: UA is sent, and it goes on waiting
   pub hand_wait_rset : {y : OnWire} → n.phase ≡ Waiting → IsNewUa y → Hand 0 0 n f (x ∷ to_n) to_f r
@@ -675,22 +503,15 @@ module _ {n f : Peer} {x : OnWire} {to_n to_f : List OnWire} {r : ℕ} (is : IsR
       }
     where
       n_behind : (w : List OnWire) → AfterRset w → Behind (behind_ua w) (n.emitted < f.emitted)
-      n_behind [] g = tt
-      n_behind (z ∷ []) g = let e : behind_ua (z ∷ []) ≡ Some [] = rw g refl in rw e tt
-      n_behind (z ∷ v ∷ w) g = absurd g
+      n_behind w g = grind arith
 
       f_behind : (behind_ua (to_f ++ y ∷ []) ≡ None) ⊎ ((behind_ua (to_f ++ y ∷ []) ≡ Some []) × (rsets to_f ≡ []))
           → Behind (behind_ua (to_f ++ y ∷ [])) (f.emitted < n.emitted)
-      f_behind (inl e) = behind_none_fact (behind_ua (to_f ++ y ∷ [])) (f.emitted < n.emitted) e
-      f_behind (inr e) = rw e.0 tt
+      f_behind a = grind arith
 
       agree : (w : List OnWire) → AfterRset w → Sure (uas w) (f.took ≡ n.emitted)
           → Agrees (live Waiting w) (live f.phase (to_f ++ y ∷ [])) (max n.emitted f.emitted ≡ max f.emitted f.took)
-      agree [] g s = agrees_left_none None (live f.phase (to_f ++ y ∷ [])) (max n.emitted f.emitted ≡ max f.emitted f.took) refl
-      agree (z ∷ []) g s =
-          let q : f.took ≡ n.emitted = rw g at s in
-          agrees_from (live Waiting (z ∷ [])) (live f.phase (to_f ++ y ∷ [])) (max n.emitted f.emitted ≡ max f.emitted f.took) (omega arith)
-      agree (z ∷ v ∷ w) g s = absurd g
+      agree w g s = grind arith
 
   -- an RSET on its way to the near end is lost
   pub hand_lose_rset : {kn : ℕ} → Hand kn 0 n f (x ∷ to_n) to_f r → Hand kn 0 n f to_n to_f r
@@ -698,29 +519,7 @@ module _ {n f : Peer} {x : OnWire} {to_n to_f : List OnWire} {r : ℕ} (is : IsR
       let t = rset_told h is in
       let b : uas (x ∷ to_n) ≡ uas to_n = rw is.frame refl in
       let still : live f.phase to_f ≡ None = rw t.waiting (behind_none to_f t.out.no_ua) in
-      record {
-        n_out = rw b at h.n_out;
-        f_out = out_none 0 f.phase f.timer (rsets to_n) (uas to_f) t.out.no_rset t.out.no_ua;
-        n_numbered = h.n_numbered;
-        f_numbered = h.f_numbered.1;
-        n_ahead = ahead_none kn n f.emitted (rsets to_n) t.out.no_rset;
-        f_ahead = h.f_ahead;
-        n_took = h.n_took;
-        f_took = h.f_took;
-        n_sure = rw b at h.n_sure;
-        f_sure = h.f_sure;
-        n_behind =
-            by_option {P = Behind (behind_ua to_n) (n.emitted < f.emitted)} (behind_ua to_n) (λ e. behind_none_fact (behind_ua to_n) (n.emitted < f.emitted) e)
-            (λ ys e. rw e (sure_none (rsets ys) (n.emitted < f.emitted) (sym (behind_rsets to_n ys e).0 ∙ t.out.no_rset)));
-        f_behind = h.f_behind;
-        n_tail = tail_none to_n t.out.no_rset;
-        f_tail = h.f_tail;
-        n_young = young_later x.age 4 to_n h.n_young.0 h.n_young.1;
-        f_young = h.f_young;
-        agree = agrees_right_none (live n.phase to_n) (live f.phase to_f) (number n ≡ number f) still;
-        n_bound = h.n_bound;
-        f_bound = h.f_bound;
-      }
+      grind arith
 
 -- all frames grow older by a tick that both ends have still to count
 pub hand_older : {n f : Peer} {to_n to_f : List OnWire} {r : ℕ} → Young 4 (older to_n) → Young 4 (older to_f)
@@ -749,31 +548,17 @@ hand_older {n} {f} {to_n} {to_f} yn yf h =
     }
   where
     out : (p : Peer) (rs us : List ℕ) → OneOut 0 p.phase p.timer rs us → OneOut 1 p.phase p.timer (plus_one rs) (plus_one us)
-    out p [] [] g = tt
-    out p (a ∷ []) [] g = (g.0, omega (arith, g.1))
-    out p [] (a ∷ []) g = (g.0, omega (arith, g.1), omega (arith, g.2))
-    out p (a ∷ b ∷ rs) us g = absurd g
-    out p (a ∷ []) (b ∷ us) g = absurd g
-    out p [] (a ∷ b ∷ us) g = absurd g
+    out p rs us g = grind arith
 
     ahead : (p : Peer) (emitted : ℕ) (rs : List ℕ) → Ahead 0 p emitted rs → Ahead 1 p emitted (plus_one rs)
-    ahead p emitted [] g = tt
-    ahead p emitted (a ∷ rs) g = (g.0, pick g.1)
-      where
-        pick : (p.emitted < emitted) ⊎ ((p.phase ≡ Waiting) × (p.timer + 0 ≤ a)) → (p.emitted < emitted) ⊎ ((p.phase ≡ Waiting) × (p.timer + 1 ≤ a + 1))
-        pick (inl q) = inl q
-        pick (inr q) = inr (q.0, omega (arith, q.1))
+    ahead p emitted rs g = grind arith
 
     sure : (us : List ℕ) (P : Type 0) → Sure us P → Sure (plus_one us) P
-    sure [] P g = tt
-    sure (a ∷ us) P g = g
+    sure us P g = grind arith
 
     behind : (o : Option (List OnWire)) (P : Type 0) → Behind o P → Behind (older_part o) P
     behind None P g = tt
     behind (Some w) P g = rw (rsets-older w) (sure (rsets w) P g)
 
     agrees : (a b : Option (List OnWire)) → Agrees a b (number n ≡ number f) → Agrees (older_part a) (older_part b) (number n ≡ number f)
-    agrees None None g = tt
-    agrees None (Some b) g = tt
-    agrees (Some a) None g = tt
-    agrees (Some a) (Some b) g = g
+    agrees a b g = grind arith

@@ -1,43 +1,31 @@
 -- Each event keeps what joins two ends that are in one session.
-use Rattle.std.proofs.Common.{◌==◌, ◌&&◌, max}
-use Rattle.link_laws.proofs.Words.{Act, Activation, AllShdlcAllowed, AreTurns, Bool, BothDown, BothUp, Clt, Control, CoreActs as Acts}
-use Rattle.link_laws.proofs.Words.{CoreAtController as AtController, CoreAtHost as AtHost, CoreDeliver as Deliver, CoreEndEvent as ShdlcEndEvent}
-use Rattle.link_laws.proofs.Words.{CoreLink as ShdlcLink, CoreLose as Lose, CoreReset as Reset, CoreStop as Stop, CoreTurn as ShdlcTurn, Down, Due, EndState}
-use Rattle.link_laws.proofs.Words.{FragmentsDelivered, I, Ignore, IsShdlcQuiet, IsShdlcStart, IsTurn, LinkState, List, Losses, None, NumberedShdlc, Offer}
-use Rattle.link_laws.proofs.Words.{OnWire, Option, Rset, Rset_due, S, Session, SetReady, ShdlcLinkEvent, Some, Tick, TickWithout, Turns, Ua, Ua_due, Up}
-use Rattle.link_laws.proofs.Words.{Waiting, [], act_frame, ap, arith, asked_again, begun, came_up, cond, core_after as shdlc_after, core_aged as shdlc_aged}
-use Rattle.link_laws.proofs.Words.{core_all_here as shdlc_all_at_controller, core_happens_here as shdlc_happens_at_controller}
+use Rattle.std.proofs.Common.{◌&&◌, max}
+use Rattle.link_laws.proofs.Words.{Activation, AllShdlcAllowed, AreTurns, Bool, BothDown, BothUp, Control, CoreActs as Acts, CoreAtController as AtController}
+use Rattle.link_laws.proofs.Words.{CoreAtHost as AtHost, CoreDeliver as Deliver, CoreEndEvent as ShdlcEndEvent, CoreLink as ShdlcLink, CoreLose as Lose}
+use Rattle.link_laws.proofs.Words.{CoreReset as Reset, CoreStop as Stop, CoreTurn as ShdlcTurn, Down, EndState, FragmentsDelivered, Ignore, IsShdlcQuiet}
+use Rattle.link_laws.proofs.Words.{IsShdlcStart, IsTurn, LinkState, List, Losses, None, NumberedShdlc, OnWire, Option, ShdlcLinkEvent, Some, Tick, TickWithout}
+use Rattle.link_laws.proofs.Words.{Turns, Ua, Ua_due, Up, Waiting, [], act_frame, ap, arith, asked_again, begun, came_up, cond, core_after as shdlc_after}
+use Rattle.link_laws.proofs.Words.{core_aged as shdlc_aged, core_all_here as shdlc_all_at_controller, core_happens_here as shdlc_happens_at_controller}
 use Rattle.link_laws.proofs.Words.{core_ticks_if_waiting as ticks_if_waiting, core_ticks_or_cut as ticks_or_cut, core_turned as shdlc_turned}
-use Rattle.link_laws.proofs.Words.{core_with_ended as with_shdlc_ended, counts_first, drop, eqb-false, false, fits, frame_due, given_up, inl, inr, is_act}
-use Rattle.link_laws.proofs.Words.{is_some, is_up, is_up_with, is_waiting, length, loses_aged, losses_after, ltb-false, map, min, nat_lt, ne_eqb, new_end}
-use Rattle.link_laws.proofs.Words.{new_session, no_losses, no_session, noted_aged, noted_all, noted_event, noted_here, noted_if_waiting, noted_loss, noted_out}
-use Rattle.link_laws.proofs.Words.{noted_tick, noted_turns, or_parts, overflows, refl, reset_with, runs_timer, sans, shdlc_becomes, shdlc_exchanged}
-use Rattle.link_laws.proofs.Words.{shdlc_happens, shdlc_number_of, shdlc_put, shdlc_put_all, shdlc_silent, shdlc_ticks_at_controller, shdlc_turn, start_down}
-use Rattle.link_laws.proofs.Words.{stopped, subst, sym, take_answer, taken, tick_answer, ticked, took_with, true, true≢false, up_with, waiting_from}
-use Rattle.link_laws.proofs.Words.{with_shdlc_controller, ℕ, ◌++◌, ◌+◌, ◌<◌, ◌||◌, ◌∙◌, ◌∷◌, ◌≡◌, ◌≤◌, ◌⊎◌}
+use Rattle.link_laws.proofs.Words.{core_with_ended as with_shdlc_ended, counts_first, drop, false, fits, frame_due, given_up, inl, inr, is_act, is_some, is_up}
+use Rattle.link_laws.proofs.Words.{is_up_with, is_waiting, length, loses_aged, losses_after, ltb-false, map, min, nat_lt, new_end, no_losses, no_session}
+use Rattle.link_laws.proofs.Words.{noted_aged, noted_all, noted_event, noted_here, noted_if_waiting, noted_loss, noted_out, noted_tick, noted_turns, or_parts}
+use Rattle.link_laws.proofs.Words.{overflows, refl, reset_with, runs_timer, sans, shdlc_becomes, shdlc_exchanged, shdlc_happens, shdlc_number_of, shdlc_put}
+use Rattle.link_laws.proofs.Words.{shdlc_put_all, shdlc_silent, shdlc_ticks_at_controller, shdlc_turn, start_down, stopped, subst, sym, take_answer, taken}
+use Rattle.link_laws.proofs.Words.{tick_answer, ticked, took_with, true, true≢false, up_with, waiting_from, with_shdlc_controller, ℕ, ◌++◌, ◌+◌, ◌<◌, ◌||◌, ◌∙◌}
+use Rattle.link_laws.proofs.Words.{◌∷◌, ◌≡◌, ◌≤◌, ◌⊎◌}
 use Rattle.link_laws.proofs.places.Joined.{Joined, delivered, joined_taken, joined_ticked, tick_cases}
 use Rattle.link_laws.proofs.places.Flows.{AnswersOnly}
 use Rattle.link_laws.specs.sessions.Sessions.ShdlcEndEvent.{Cut}
-use Rattle.link_laws.proofs.sessions.Wire.{IsData, rsets, uas, behind_ua, live, behind_none, data_behind, AfterRset, after_rset_empty}
+use Rattle.link_laws.proofs.sessions.Wire.{IsData, rsets, uas, behind_ua, live, behind_none, data_behind, AfterRset}
 use Rattle.link_laws.proofs.sessions.Hand.{NothingIsOut, IsRset, idle_out, ua_told, rset_told, nothing_out}
-use Rattle.link_laws.proofs.sessions.Data.{IsAnswer, taken_up}
-use Rattle.link_laws.proofs.sessions.Safe.{Safe, agreed, pair_from, Idle, frame_cases, up_end, safe_swap, safe_lose}
-use Rattle.link_laws.proofs.sessions.Sending.{SafeLink, sans-push_act, fits_keeps, no_rset_out, room, ready_by, at_most_one}
-use Rattle.link_laws.proofs.sessions.Steps.{passes, passes_act, took, took_other, not_rset, fresh, aged-fresh, sans-aged, safe_fresh, safe_aged, safe_turn}
-use Rattle.link_laws.proofs.sessions.Steps.{safe_turns, safe_exchanged, tick_or_cut, tick_if_waiting, safe_event, safe_start}
+use Rattle.link_laws.proofs.sessions.Safe.{Safe, Idle, frame_cases, up_end, safe_swap, safe_lose}
+use Rattle.link_laws.proofs.sessions.Sending.{SafeLink, sans-push_act, fits_keeps, no_rset_out, room, at_most_one}
+use Rattle.link_laws.proofs.sessions.Steps.{passes_act, took, took_other, not_rset, fresh, aged-fresh, sans-aged, safe_fresh, safe_aged, safe_turn, safe_turns}
+use Rattle.link_laws.proofs.sessions.Steps.{safe_exchanged, tick_or_cut, tick_if_waiting, safe_event, safe_start}
 use Rattle.link_laws.proofs.sessions.Ties.{as_up, to_up, Meets, Tied, IsWhole, TiedLink, tied_swap, meets_like, none_due, IsNew, waiting_new, tied_new}
 use Rattle.link_laws.proofs.sessions.Ties.{new_meets, behind_fits, Rests, drains, sends_nothing, sends_ua, tied_none, tied_older, turned-phase}
 use Rattle.link_laws.proofs.Cases.{by_phase, by_test}
-
--- one answer at most
-one_answer : (due before : List Due) → before ≡ [] → (due ≡ before) ⊎ ((d : Due) × IsAnswer d × (due ≡ before ++ d ∷ [])) → AnswersOnly due × (length due ≤ 1)
-one_answer due before none (inl a) = rw (a, none) (tt, omega arith)
-one_answer due before none (inr a) = rw (a.2, none) (answer a.0 a.1, omega arith)
-  where
-    answer : (d : Due) → IsAnswer d → AnswersOnly (d ∷ [])
-    answer Rset_due h = absurd h
-    answer Ua_due h = absurd h
-    answer _ h = tt
 
 -- what an RSET tells that comes first
 pub record Tells (l : ShdlcLink) (xs : List OnWire) (v : ℕ) : Type 0 where
@@ -55,48 +43,7 @@ pub takes_by : (P : Type 0) (l : ShdlcLink) (x : OnWire) (xs : List OnWire) → 
     → ((v : ℕ) → Tells l xs v → xs ≡ [] → taken e x.frame ≡ up_with (record e { due = Ua_due ∷ [] }) (min e.own_window (min v 4)) → P)
     → ((v : ℕ) → Tells l xs v → e.phase ≡ Waiting → e.session ≡ no_session → taken e x.frame ≡ record e { due = Ua_due ∷ []; peer_window = min v 4 } → P)
     → (x.frame ≡ Ua → e.phase ≡ Waiting → rsets l.to_host ≡ [] → P) → P)
-takes_by P l x xs h session passed new waits confirmed = go (frame_cases x) e.phase refl
-  where
-    e : EndState
-    e = l.controller.side
-
-    in_session : IsData x.frame → e.phase ≡ Up → P
-    in_session d up =
-        let k = (taken_up e up d (pair_from h up)).0 in
-        let due = one_answer (taken e x.frame).due e.due h.n_due k.due in
-        session d up k.up due.0 due.1
-
-    passes_by : IsData x.frame → (e.phase ≡ Up → ⊥) → P
-    passes_by d no_up = passed d no_up (passes e x.frame d no_up).0
-
-    tells : (is : IsRset x) → Tells l xs is.window
-    tells is = let t = rset_told h.hand is in record { wide = t.wide; waiting = t.waiting; uas = t.out.no_ua; behind = t.behind }
-
-    zero : (is : IsRset x) → (is.window == 0) ≡ false
-    zero is = let t = tells is in ne_eqb is.window 0 (λ z. omega (arith, t.wide))
-
-    anew : (is : IsRset x) → (e.phase ≡ Waiting → ⊥) → taken e x.frame ≡ up_with (record e { due = Ua_due ∷ [] }) (min e.own_window (min is.window 4)) → P
-    anew is no_wait to =
-        let b : uas (x ∷ xs) ≡ uas xs = rw is.frame refl in
-        new is.window (tells is) (after_rset_empty xs (sym b ∙ (idle_out h.hand no_wait).no_ua) (tells is).behind) to
-
-    no_ua : x.frame ≡ Ua → (e.phase ≡ Waiting → ⊥) → P
-    no_ua is n = absurd (n (ua_told h.hand is).1)
-
-    comes_up : x.frame ≡ Ua → e.phase ≡ Waiting → P
-    comes_up is p = confirmed is p (ua_told h.hand is).0.no_rset
-
-    go : IsData x.frame ⊎ (IsRset x ⊎ (x.frame ≡ Ua)) → (p : LinkState) → e.phase ≡ p → P
-    go (inl d) Up p = in_session d p
-    go (inl d) Waiting p = passes_by d (λ u. let g = sym p ∙ u in cc)
-    go (inl d) Down p = passes_by d (λ u. let g = sym p ∙ u in cc)
-    go (inr (inl q)) Up p = anew q (λ w. let g = sym p ∙ w in cc) (rw (q.frame, p, zero q) refl)
-    go (inr (inl q)) Down p = anew q (λ w. let g = sym p ∙ w in cc) (rw (q.frame, p, zero q, h.n_due) refl)
-    go (inr (inl q)) Waiting p =
-        waits q.window (tells q) p (h.n_none (λ u. let g = sym p ∙ u in cc)) (rw (q.frame, p, zero q, h.n_due) refl)
-    go (inr (inr q)) Up p = no_ua q (λ w. let g = sym p ∙ w in cc)
-    go (inr (inr q)) Down p = no_ua q (λ w. let g = sym p ∙ w in cc)
-    go (inr (inr q)) Waiting p = comes_up q p
+takes_by P l x xs h session passed new waits confirmed = grind arith
 
 -- ## The controller's end is up
 
@@ -134,15 +81,7 @@ idle_end e due none = rw (due, none) refl
 
 -- its turns change nothing but its readiness
 turn_idle : (e : EndState) (t : ShdlcTurn) → (e.phase ≡ Up → ⊥) → e.session ≡ no_session → Idle e (shdlc_turn e t)
-turn_idle e (Offer fragments) no_up none =
-    by_phase {P = Idle e (shdlc_turn e (Offer fragments))} e.phase (λ q. absurd (no_up q)) (λ q. same (rw q refl)) (λ q. same (rw q refl))
-  where
-    same : shdlc_turn e (Offer fragments) ≡ e → Idle e (shdlc_turn e (Offer fragments))
-    same q = subst (Idle e) (sym q) (record { phase = refl; due = refl; session = none; own = refl; peer = refl })
-turn_idle e (SetReady r) no_up none =
-    ready_by (Idle e) e r (inl no_up) (λ _. none) (record { phase = refl; due = refl; session = none; own = refl; peer = refl })
-    (record { phase = refl; due = refl; session = ap (λ (s : Session). record s { answered_rnr = false }) none; own = refl; peer = refl })
-    (λ up. absurd (no_up up))
+turn_idle e t no_up none = grind arith
 
 idle_then : {d e f : EndState} → Idle d e → Idle e f → Idle d f
 idle_then a b = record { phase = b.phase ∙ a.phase; due = b.due ∙ a.due; session = b.session; own = b.own ∙ a.own; peer = b.peer ∙ a.peer }
@@ -163,9 +102,7 @@ waits_on n l {e} waiting on t w a b p q =
     let P : LinkState → Type 0 = λ s. Meets (as_up s l.controller.side) f a b in
     let back : live l.controller.side.phase (sans l.to_controller) ≡ Some a = rw waiting (rw ewait at p) in
     let m : Meets (as_up Waiting l.controller.side) f a b = subst P waiting (t (before w) a b back q) in
-    let g : Meets (as_up Waiting e) f a b =
-    meets_like (as_up Waiting l.controller.side) (as_up Waiting e) f a b refl refl (ap new_session windows)
-    (rw (none_due (min e.own_window e.peer_window)) refl) m in
+    let g : Meets (as_up Waiting e) f a b = grind arith in
     let Q : LinkState → Type 0 = λ s. Meets (as_up s e) f a b in
     subst Q (sym ewait) g
   where
@@ -174,8 +111,7 @@ waits_on n l {e} waiting on t w a b p q =
 
     before : (((e.phase ≡ Waiting) × (l.host.side.phase ≡ Waiting)) ⊎ IsWhole n)
         → ((l.controller.side.phase ≡ Waiting) × (l.host.side.phase ≡ Waiting)) ⊎ IsWhole n
-    before (inl u) = inl (waiting, u.1)
-    before (inr u) = inr u
+    before a = grind arith
 
 waits_turned : (n : Losses) (ts : List ShdlcTurn) (l : ShdlcLink) (e : EndState)
     → l.controller.side.phase ≡ Waiting → Idle l.controller.side e → l.controller.side.due ≡ [] → TiedLink n l → Goes n l ts e
@@ -224,12 +160,7 @@ resets kf n ts l w h t =
     none wait = (idle_out h.hand wait).no_ua
 
 silences : (n : Losses) (l : ShdlcLink) (q : EndState) → q.phase ≡ Down → TiedLink n (shdlc_silent l q)
-silences n l q down = tied_down n (shdlc_silent l q) (go l.controller.side.phase refl)
-  where
-    go : (p : LinkState) → l.controller.side.phase ≡ p → (shdlc_silent l q).controller.side.phase ≡ Down
-    go Up e = rw e down
-    go Waiting e = rw e down
-    go Down e = rw e down
+silences n l q down = grind arith
 
 -- a tick
 ticks : (kf : ℕ) (n : Losses) (ts : List ShdlcTurn) (l : ShdlcLink) → SafeLink 1 kf l → TiedLink n l
@@ -302,14 +233,7 @@ took_tied n l ts x xs q began a b h = rw (a, b) (go (is_some (take_answer l.cont
     go false = h (record l.controller { took = t }) refl refl
 
 pub began_data : (e : EndState) (c : Control) → IsData c → (take_answer e c).began ≡ false
-began_data e c d = go e.phase refl c d
-  where
-    go : (p : LinkState) → e.phase ≡ p → (c : Control) → IsData c → (take_answer e c).began ≡ false
-    go p q (Rset _ _) d = absurd d
-    go p q Ua d = absurd d
-    go Up q _ d = rw q refl
-    go Waiting q _ d = rw q refl
-    go Down q _ d = rw q refl
+began_data e c d = grind arith
 
 takes : (n : Losses) (l : ShdlcLink) (ts : List ShdlcTurn) (x : OnWire) (xs : List OnWire)
     → Safe 0 0 l.controller l.host (x ∷ sans xs) (sans l.to_host) l.resets
@@ -363,13 +287,7 @@ takes n l ts x xs h t = takes_by (TiedLink (noted_took n l ts x xs) (took l ts x
         → TiedLink (noted_took n l ts x xs) (took l ts x xs)
     anew u s gone to =
         let w : ℕ = min e.own_window (min u 4) in
-        let new : IsNew (up_end e w) = record {
-          up = refl;
-          due = refl;
-          window = w;
-          fits = (omega (arith, s.wide, h.n_windows.own.0), omega (arith, h.n_windows.own.1));
-          session = refl;
-        } in
+        let new : IsNew (up_end e w) = grind arith in
         took_tied n l ts x xs (up_with (record e { due = Ua_due ∷ [] }) w) (take_answer e x.frame).began to refl
         (λ c side k.
         let m : ShdlcLink = record l { to_controller = xs; controller = c } in
@@ -434,13 +352,7 @@ takes n l ts x xs h t = takes_by (TiedLink (noted_took n l ts x xs) (took l ts x
             → live l.host.side.phase (sans l.to_host) ≡ Some b
             → l.host.side.phase ≡ Waiting
         both c n off b r =
-            by_phase l.host.side.phase (λ q.
-            let same : shdlc_number_of l.controller ≡ shdlc_number_of l.host =
-            agreed (live e.phase (x ∷ sans xs)) (live l.host.side.phase (sans l.to_host)) (sans xs) b
-            (shdlc_number_of l.controller ≡ shdlc_number_of l.host)
-            lives r h.hand.agree in
-            let z : (shdlc_number_of l.host == shdlc_number_of c) ≡ false = rw q at off in
-            absurd (eqb-false (shdlc_number_of l.host) (shdlc_number_of c) z (sym same ∙ sym n)))
+            by_phase l.host.side.phase (grind arith)
             (λ q. q) (λ q. absurd (let z : None ≡ Some b = rw q at r in cc))
 
         first : (c : NumberedShdlc) → shdlc_number_of c ≡ shdlc_number_of l.controller → (o : Bool) → is_up_with l.host (shdlc_number_of c) ≡ o
@@ -449,12 +361,7 @@ takes n l ts x xs h t = takes_by (TiedLink (noted_took n l ts x xs) (took l ts x
         first c k false q = rw q (λ u b r. meets (inl (p, both c k q b r)) b r)
 
 pub act_data : (c : Control) → is_act c ≡ true → IsData c
-act_data (Act _ _) a = tt
-act_data (I _ _ _) a = tt
-act_data (S _ _) a = tt
-act_data (Rset _ _) a = absurd (let z : false ≡ true = a in cc)
-act_data Ua a = absurd (let z : false ≡ true = a in cc)
-act_data Clt a = tt
+act_data c a = grind arith
 
 delivers : (n : Losses) (ts : List ShdlcTurn) (l : ShdlcLink) → SafeLink 0 0 l → TiedLink n l
     → TiedLink (noted_here n l (Deliver ts)) (shdlc_happens_at_controller l (Deliver ts))

@@ -8,17 +8,16 @@ use Rattle.link_laws.proofs.Words.{SetReady, ShdlcLinkEvent, Some, Tick, TickWit
 use Rattle.link_laws.proofs.Words.{and_parts, ap, arith, asked_again, cond, core_after as shdlc_after, core_aged as shdlc_aged}
 use Rattle.link_laws.proofs.Words.{core_all_here as shdlc_all_at_controller, core_happens_here as shdlc_happens_at_controller}
 use Rattle.link_laws.proofs.Words.{core_ticks_if_waiting as ticks_if_waiting, core_ticks_or_cut as ticks_or_cut, core_turned as shdlc_turned}
-use Rattle.link_laws.proofs.Words.{core_with_ended as with_shdlc_ended, counts_first, drop, false, fetched, fits, frame_due, frames_of, given_up, inl, inr}
-use Rattle.link_laws.proofs.Words.{is_act, is_some, is_up, is_waiting, length, loses_aged, ltb-false, map, min, nat_lt, no_session, not-true, older, or_parts}
-use Rattle.link_laws.proofs.Words.{overflows, refl, reset_with, runs_timer, sans, shdlc_becomes, shdlc_exchanged, shdlc_happens, shdlc_number_of, shdlc_put}
-use Rattle.link_laws.proofs.Words.{shdlc_put_all, shdlc_ticks_at_controller, shdlc_turn, subst, suc, sure_after, sure_aged, sure_all, sure_event, sure_here}
-use Rattle.link_laws.proofs.Words.{sure_if_waiting, sure_out, sure_put, sure_tick, sure_turns, sym, take_answer, taken, tick_answer, ticked, took_with, true}
-use Rattle.link_laws.proofs.Words.{true≢false, up_with, waiting_from, with_shdlc_controller, zero, ℕ, ◌++◌, ◌+◌, ◌||◌, ◌∙◌, ◌∷◌, ◌≡◌, ◌⊎◌}
+use Rattle.link_laws.proofs.Words.{core_with_ended as with_shdlc_ended, drop, false, fetched, fits, frame_due, frames_of, given_up, inl, inr, is_act, is_some}
+use Rattle.link_laws.proofs.Words.{is_up, is_waiting, length, loses_aged, ltb-false, map, min, nat_lt, no_session, not-true, older, or_parts, overflows, refl}
+use Rattle.link_laws.proofs.Words.{reset_with, runs_timer, sans, shdlc_becomes, shdlc_exchanged, shdlc_happens, shdlc_put, shdlc_put_all}
+use Rattle.link_laws.proofs.Words.{shdlc_ticks_at_controller, shdlc_turn, subst, suc, sure_after, sure_aged, sure_all, sure_event, sure_here, sure_if_waiting}
+use Rattle.link_laws.proofs.Words.{sure_out, sure_put, sure_tick, sure_turns, sym, take_answer, taken, tick_answer, ticked, took_with, true, true≢false}
+use Rattle.link_laws.proofs.Words.{up_with, waiting_from, with_shdlc_controller, zero, ℕ, ◌++◌, ◌+◌, ◌||◌, ◌∙◌, ◌∷◌, ◌≡◌, ◌⊎◌}
 use Rattle.link_laws.proofs.places.Flows.{AnswersOnly}
-use Rattle.link_laws.proofs.places.Joined.{after_frames_idle, fetched_idle, ready_cases, tick_cases}
+use Rattle.link_laws.proofs.places.Joined.{ready_cases, tick_cases}
 use Rattle.link_laws.specs.sessions.Sessions.ShdlcEndEvent.{Cut}
-use Rattle.link_laws.proofs.sessions.Wire.{IsData, data_not_rset, data_not_ua, not_rset_adds, not_ua_adds, rsets, uas, rsets-append, uas-append, plus_one}
-use Rattle.link_laws.proofs.sessions.Wire.{rsets-older, uas-older}
+use Rattle.link_laws.proofs.sessions.Wire.{IsData, rsets, uas, rsets-append, uas-append, plus_one, rsets-older, uas-older}
 use Rattle.link_laws.proofs.sessions.Hand.{NothingIsOut, nothing_out}
 use Rattle.link_laws.proofs.sessions.Safe.{Safe, up_end}
 use Rattle.link_laws.proofs.sessions.Sending.{SafeLink, sans-push, sans-push_act}
@@ -68,11 +67,7 @@ holds_push w x =
     }
 
 holds_past : (x : OnWire) (w : List OnWire) → IsData x.frame → StillHolds (x ∷ w) w
-holds_past x w d =
-    record {
-      rset = λ e. not_rset_adds x.frame x.age (rsets w) (data_not_rset x.frame d) ∙ e;
-      ua = λ e. not_ua_adds x.frame x.age (uas w) (data_not_ua x.frame d) ∙ e;
-    }
+holds_past x w d = grind arith
 
 holds_older : (w : List OnWire) → StillHolds w (older w)
 holds_older w = record { rset = λ e. plus_empty (rsets w) (sym (rsets-older w) ∙ e); ua = λ e. plus_empty (uas w) (sym (uas-older w) ∙ e) }
@@ -80,11 +75,7 @@ holds_older w = record { rset = λ e. plus_empty (rsets w) (sym (rsets-older w) 
 -- what stands on the wires still does
 states_more : (p q : LinkState) {to_n to_f to_n' to_f' : List OnWire} → StillHolds to_n to_n' → StillHolds to_f to_f'
     → States p q to_n to_f → States p q to_n' to_f'
-states_more p q n f (inl (w, v, inl r)) = inl (w, v, inl (λ e. r (f.rset e)))
-states_more p q n f (inl (w, v, inr u)) = inl (w, v, inr (u.0, λ e. u.1 (n.ua e)))
-states_more p q n f (inr (inl (w, v, inl r))) = inr (inl (w, v, inl (λ e. r (n.rset e))))
-states_more p q n f (inr (inl (w, v, inr u))) = inr (inl (w, v, inr (u.0, λ e. u.1 (f.ua e))))
-states_more p q n f (inr (inr u)) = inr (inr u)
+states_more p q n f a = grind arith
 
 states_push : (p q : LinkState) (to_n to_f : List OnWire) (x : OnWire) → States p q to_n to_f → States p q to_n (to_f ++ x ∷ [])
 states_push p q to_n to_f x = states_more p q (holds to_n) (holds_push to_f x)
@@ -142,8 +133,7 @@ sends_sure P each (suc m) s e l h = go (frame_due e) refl (λ k. sends_sure P ea
         → ((k : Bool) (v : ShdlcLink) → P k (fetched e) v
         → P (sure_all k v (frames_of m (fetched e))) (after_frames m (fetched e)) (shdlc_put_all v (frames_of m (fetched e))))
         → P (sure_all s l (frames_of (suc m) e)) (after_frames (suc m) e) (shdlc_put_all l (frames_of (suc m) e))
-    go None q later = rw q (rw (fetched_idle e q, after_frames_idle m e q) h)
-    go (Some c) q later = rw q (later (sure_put s l c) (shdlc_put l c) (each s e l c q h))
+    go o q later = grind arith
 
 sends_all : (m : ℕ) (s : Bool) (e : EndState) (l : ShdlcLink) → Sends s e l
     → Sends (sure_all s l (frames_of m e)) (after_frames m e) (shdlc_put_all l (frames_of m e))
@@ -168,8 +158,7 @@ sure_drains m s ts e l a h =
     (sends_all m s (shdlc_turned e ts) l (turned_answers ts e a, λ n. rw (turned-phase ts e) (h n))).1
 
 sure_put_tells : (s : Bool) (l : ShdlcLink) (c : Control) → sure_put s l c ≡ true → s ≡ true
-sure_put_tells s l (Rset w v) e = absurd (true≢false (sym e))
-sure_put_tells s l _ e = (and_parts s _ e).0
+sure_put_tells s l c e = grind arith
 
 sure_all_tells : (cs : List Control) (s : Bool) (l : ShdlcLink) → sure_all s l cs ≡ true → s ≡ true
 sure_all_tells [] s l e = e
@@ -180,17 +169,7 @@ abbrev with_first : Due → EndState → EndState
 with_first d e = record e { due = d ∷ e.due }
 
 turn-first : (d : Due) (e : EndState) (t : ShdlcTurn) → shdlc_turn (with_first d e) t ≡ with_first d (shdlc_turn e t)
-turn-first d e (Offer fragments) =
-    by_phase {P = shdlc_turn (with_first d e) (Offer fragments) ≡ with_first d (shdlc_turn e (Offer fragments))} e.phase (λ q. rw q refl) (λ q. rw q refl)
-    (λ q. rw q refl)
-turn-first d e (SetReady r) = go e.ready r e.session.answered_rnr refl refl
-  where
-    go : (a b c : Bool) → e.ready ≡ a → e.session.answered_rnr ≡ c → shdlc_turn (with_first d e) (SetReady b) ≡ with_first d (shdlc_turn e (SetReady b))
-    go true true c p q = rw p refl
-    go false false c p q = rw p refl
-    go true false c p q = rw p refl
-    go false true true p q = rw (p, q) refl
-    go false true false p q = rw (p, q) refl
+turn-first d e t = grind arith
 
 turned-first : (d : Due) (ts : List ShdlcTurn) (e : EndState) → shdlc_turned (with_first d e) ts ≡ with_first d (shdlc_turned e ts)
 turned-first d [] e = refl
@@ -239,8 +218,7 @@ resets kf s ts l w h t =
         (subst (λ c. P k c (reset_with l.controller.side w)) (sym up) (subst (P k b) (sym is) a))
 
     same : (ends : Bool) → (with_shdlc_ended l ends).host.side.phase ≡ l.host.side.phase
-    same true = refl
-    same false = refl
+    same ends = grind arith
 
     asked : (m : ShdlcLink) → m.host.side.phase ≡ l.host.side.phase → e.due ≡ Rset_due ∷ []
         → SureLink (not (is_waiting l.host.side)) (shdlc_becomes m (shdlc_turned e ts))
@@ -257,10 +235,7 @@ resets kf s ts l w h t =
 
 -- an end that gives up had nothing out
 no_asks : (q : LinkState) (to_n to_f : List OnWire) (P : Type 0) → rsets to_f ≡ [] → uas to_n ≡ [] → States Waiting q to_n to_f → P
-no_asks q to_n to_f P none empty (inl (w, v, inl r)) = absurd (r none)
-no_asks q to_n to_f P none empty (inl (w, v, inr u)) = absurd (u.1 empty)
-no_asks q to_n to_f P none empty (inr (inl (w, v, r))) = absurd (v refl)
-no_asks q to_n to_f P none empty (inr (inr u)) = absurd (let z : Waiting ≡ Up = u.0 in cc)
+no_asks q to_n to_f P none empty a = grind arith
 
 ticks : (kf : ℕ) (s : Bool) (ts : List ShdlcTurn) (l : ShdlcLink) → SafeLink 1 kf l → SureLink s l
     → SureLink (sure_tick s (Some ts) l) (shdlc_ticks_at_controller l ts)
@@ -325,8 +300,7 @@ took_sure s l ts x xs q a h = rw a (go (is_some (take_answer l.controller.side x
 
     go : (ends : Bool) → (let m : ShdlcLink = with_shdlc_ended (record l { to_controller = xs }) ends in
         Goes s (record m { controller = record m.controller { took = t } }) ts q)
-    go true = h (record l.controller { took = t; past = (shdlc_number_of l.controller, l.controller.side.session) ∷ l.controller.past })
-    go false = h (record l.controller { took = t })
+    go ends = grind arith
 
 takes : (s : Bool) (l : ShdlcLink) (ts : List ShdlcTurn) (x : OnWire) (xs : List OnWire) → Safe 0 0 l.controller l.host (x ∷ sans xs) (sans l.to_host) l.resets
     → (s ≡ true → States l.controller.side.phase l.host.side.phase (x ∷ sans xs) (sans l.to_host)) → SureLink (sure_took s l ts x xs) (took l ts x xs)
@@ -422,15 +396,7 @@ delivers s ts l h t = go l.to_controller h t
     go (x ∷ xs) g t = first x xs (is_act x.frame) refl g t
 
 loses : (s : Bool) (l : ShdlcLink) → SureLink s l → SureLink (sure_here s l Lose) (shdlc_happens_at_controller l Lose)
-loses s l t = go l.to_controller t
-  where
-    go : (wire : List OnWire) → (s ≡ true → States l.controller.side.phase l.host.side.phase (sans wire) (sans l.to_host))
-        → SureLink (sure_here s (record l { to_controller = wire }) Lose) (shdlc_happens_at_controller (record l { to_controller = wire }) Lose)
-    go [] t n = t (and_parts s true n).0
-    go (x ∷ xs) t n =
-        by_test {P = States l.controller.side.phase l.host.side.phase (sans xs) (sans l.to_host)} (is_act x.frame)
-        (λ q. let k = t (and_parts s (not (counts_first (x ∷ xs))) n).0 in rw q at k)
-        (λ q. absurd (let z : false ≡ true = rw q at ((and_parts s (not (counts_first (x ∷ xs))) n).1) in true≢false (sym z)))
+loses s l t = grind arith
 
 -- frames of activation stand beside the others
 acts_then : (ts : List ShdlcTurn) (acts : List Activation) (s : Bool) (l : ShdlcLink) → l.controller.side.due ≡ [] → SureLink s l
@@ -446,17 +412,7 @@ acts_then ts (a ∷ acts) s l due t =
     subst R (sym same) (t parts.0))
 
 ignores : (s : Bool) (ts : List ShdlcTurn) (l : ShdlcLink) → SureLink s l → SureLink (sure_here s l (Ignore ts)) (shdlc_happens_at_controller l (Ignore ts))
-ignores s ts l t = go l.controller.side.phase refl l.to_controller refl
-  where
-    by_parts : (k : Bool) (m : ShdlcLink) → sure_here s l (Ignore ts) ≡ k → shdlc_happens_at_controller l (Ignore ts) ≡ m → SureLink k m
-        → SureLink (sure_here s l (Ignore ts)) (shdlc_happens_at_controller l (Ignore ts))
-    by_parts k m p q g = subst (λ i. SureLink i (shdlc_happens_at_controller l (Ignore ts))) (sym p) (subst (SureLink k) (sym q) g)
-
-    go : (p : LinkState) → l.controller.side.phase ≡ p → (wire : List OnWire)
-        → l.to_controller ≡ wire → SureLink (sure_here s l (Ignore ts)) (shdlc_happens_at_controller l (Ignore ts))
-    go Down q [] w = by_parts s l (rw (q, w) refl) (rw (q, w) refl) t
-    go Down q (x ∷ xs) w = λ n. absurd (let z : false ≡ true = rw (q, w) at n in true≢false (sym z))
-    go _ q wire w = by_parts s l (rw q refl) (rw q refl) t
+ignores s ts l t = grind arith
 
 none_lost : (w : List OnWire) → loses_aged w ≡ false → aged_wire w ≡ older w
 none_lost [] e = refl
@@ -474,13 +430,7 @@ ages s l t n =
     (states_older l.controller.side.phase l.host.side.phase (sans l.to_controller) (sans l.to_host) (t parts.0))
 
 swaps : (s : Bool) (l : ShdlcLink) → SureLink s l → SureLink s (shdlc_exchanged l)
-swaps s l t n = swapped (t n)
-  where
-    swapped : States l.controller.side.phase l.host.side.phase (sans l.to_controller) (sans l.to_host)
-        → States l.host.side.phase l.controller.side.phase (sans l.to_host) (sans l.to_controller)
-    swapped (inl a) = inr (inl a)
-    swapped (inr (inl a)) = inl a
-    swapped (inr (inr u)) = inr (inr (u.1, u.0))
+swaps s l t n = grind arith
 
 -- ## All events
 
@@ -551,11 +501,7 @@ sure_from (e ∷ es) s l a h t = let k = safe_event l e es a h in sure_from es (
 both_up : (l : ShdlcLink) → States l.controller.side.phase l.host.side.phase (sans l.to_controller) (sans l.to_host)
     → sans l.to_controller ≡ [] → sans l.to_host ≡ []
     → (l.controller.side.phase ≡ Up) × (l.host.side.phase ≡ Up)
-both_up l (inl (w, v, inl r)) a b = absurd (r (rw b refl))
-both_up l (inl (w, v, inr u)) a b = absurd (u.1 (rw a refl))
-both_up l (inr (inl (w, v, inl r))) a b = absurd (r (rw a refl))
-both_up l (inr (inl (w, v, inr u))) a b = absurd (u.1 (rw b refl))
-both_up l (inr (inr u)) a b = u
+both_up l a b c = grind arith
 
 pub up_together : (l : ShdlcLink) → IsShdlcStart l → (events : List ShdlcLinkEvent) → AllShdlcAllowed events
     → IsShdlcSettled (shdlc_after l events) (sure_after false l events)

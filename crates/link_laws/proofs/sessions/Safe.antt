@@ -1,14 +1,14 @@
 -- All that is true of a link over resets, and how each thing that one end does keeps it.
 use Rattle.std.proofs.Common.{◌==◌}
-use Rattle.link_laws.proofs.Words.{Control, Down, EndState, LinkState, List, None, NumberedShdlc, OnWire, Option, Rset, Session, Some, Ua, Up, Waiting, [], ap}
-use Rattle.link_laws.proofs.Words.{arith, ended_session, eqb-true, inl, inr, new_session, no_session, older, refl, shdlc_number_of, shdlc_session_of, subst}
-use Rattle.link_laws.proofs.Words.{sym, ℕ, ◌++◌, ◌+◌, ◌<◌, ◌∙◌, ◌∷◌, ◌≡◌, ◌≤◌, ◌⊎◌}
+use Rattle.link_laws.proofs.Words.{Down, EndState, LinkState, List, None, NumberedShdlc, OnWire, Option, Session, Some, Ua, Up, Waiting, [], arith}
+use Rattle.link_laws.proofs.Words.{ended_session, eqb-true, inl, inr, new_session, no_session, older, refl, shdlc_number_of, shdlc_session_of, subst, sym, ℕ}
+use Rattle.link_laws.proofs.Words.{◌++◌, ◌+◌, ◌<◌, ◌∙◌, ◌∷◌, ◌≡◌, ◌≤◌, ◌⊎◌}
 use Rattle.link_laws.proofs.sessions.Wire.{IsData, rsets, uas, AfterRset, behind_ua, live, Young, behind_none, behind_push, behind_push_none, behind_new}
-use Rattle.link_laws.proofs.sessions.Wire.{behind_rsets, data_behind, after_rset_empty, live-older, older_part}
-use Rattle.link_laws.proofs.sessions.Hand.{peer_of, Hand, Agrees, NothingIsOut, IsRset, IsNextRset, IsNewUa, hand_swap, hand_empty, idle_out, ua_told}
-use Rattle.link_laws.proofs.sessions.Hand.{rset_told, hand_past, hand_ask, hand_down, hand_up_ua, hand_up_rset, hand_wait_rset, hand_lose_rset, hand_lose_ua}
-use Rattle.link_laws.proofs.sessions.Hand.{hand_ignore, hand_older}
-use Rattle.link_laws.proofs.sessions.Data.{Base, Active, OnLive, active_empty, active_lost, Below, below_more, none_ended, bound, of_up, of_update, of_none}
+use Rattle.link_laws.proofs.sessions.Wire.{behind_rsets, after_rset_empty, live-older, older_part}
+use Rattle.link_laws.proofs.sessions.Hand.{peer_of, Hand, Agrees, NothingIsOut, IsRset, IsNextRset, IsNewUa, hand_empty, idle_out, ua_told, rset_told}
+use Rattle.link_laws.proofs.sessions.Hand.{hand_past, hand_ask, hand_down, hand_up_ua, hand_up_rset, hand_wait_rset, hand_lose_rset, hand_lose_ua, hand_ignore}
+use Rattle.link_laws.proofs.sessions.Hand.{hand_older}
+use Rattle.link_laws.proofs.sessions.Data.{Base, Active, OnLive, active_empty, active_lost, Below, below_more, none_ended, bound, of_update, of_none}
 use Rattle.link_laws.proofs.sessions.Data.{base_begins, base_begins_there, Pair, shows_push_rset, shows_older}
 use Rattle.link_laws.proofs.Cases.{by_test}
 
@@ -48,9 +48,7 @@ on_live_part o p m t a h = rw a h
 
 -- where both are in a session it has one number
 pub agreed : (a b : Option (List OnWire)) (v w : List OnWire) (P : Type 0) → a ≡ Some v → b ≡ Some w → Agrees a b P → P
-agreed (Some x) (Some y) v w P e f h = h
-agreed None b v w P e f h = cc
-agreed (Some x) None v w P e f h = cc
+agreed a b v w P e f h = grind arith
 
 not_up : (p : LinkState) → p ≡ Waiting → p ≡ Up → ⊥
 not_up p a b = let e = sym a ∙ b in cc
@@ -70,48 +68,10 @@ pub record GoesOn (e q : EndState) : Type 0 where
 
 module _ {kn kf : ℕ} {n f : NumberedShdlc} {to_n to_f : List OnWire} {r : ℕ} (h : Safe kn kf n f to_n to_f r) where
   pub safe_swap : Safe kf kn f n to_f to_n r
-  safe_swap =
-      record {
-        hand = hand_swap h.hand;
-        n_base = h.f_base;
-        f_base = h.n_base;
-        n_live = h.f_live;
-        f_live = h.n_live;
-        n_past = h.f_past;
-        f_past = h.n_past;
-        n_none = h.f_none;
-        f_none = h.n_none;
-        n_due = h.f_due;
-        f_due = h.n_due;
-        n_windows = h.f_windows;
-        f_windows = h.n_windows;
-      }
+  safe_swap = grind arith
 
   pub pair_from : n.side.phase ≡ Up → Pair n.side.session (session_with f n) to_n (live f.side.phase to_f)
-  pair_from up =
-      record {
-        mine = rw (of_up n up) at (h.n_base (shdlc_number_of n));
-        theirs = rw (of_up n up) at (h.f_base (shdlc_number_of n));
-        comes =
-            let a : OnLive (live Up to_n) (session_with n n) (session_with f n) =
-            live_to n.side.phase Up to_n (session_with n n) (session_with f n) up h.n_live in
-            on_live_same (Some to_n) (session_with n n) n.side.session (session_with f n) (session_with f n) (sym (of_up n up)) refl a;
-        goes = goes (live f.side.phase to_f) refl h.f_live;
-      }
-    where
-      moved : (k m : ℕ) (w : List OnWire) → k ≡ m → OnLive (Some w) (shdlc_session_of f k) (shdlc_session_of n k)
-          → OnLive (Some w) (shdlc_session_of f m) (shdlc_session_of n m)
-      moved k m w e g = let P : ℕ → Type 0 = λ j. OnLive (Some w) (shdlc_session_of f j) (shdlc_session_of n j) in subst P e g
-
-      goes : (o : Option (List OnWire)) → live f.side.phase to_f ≡ o → OnLive o (session_with f f) (session_with n f)
-          → OnLive o (session_with f n) n.side.session
-      goes None e g = tt
-      goes (Some w) e g =
-          let lives : live n.side.phase to_n ≡ Some to_n = rw up refl in
-          let same : shdlc_number_of n ≡ shdlc_number_of f =
-          agreed (live n.side.phase to_n) (live f.side.phase to_f) to_n w (shdlc_number_of n ≡ shdlc_number_of f) lives e h.hand.agree in
-          let b : OnLive (Some w) (session_with f n) (session_with n n) = moved (shdlc_number_of f) (shdlc_number_of n) w (sym same) g in
-          on_live_same (Some w) (session_with f n) (session_with f n) (session_with n n) n.side.session refl (sym (of_up n up)) b
+  pair_from up = grind arith
 
   -- the near end goes on in its session
   pub safe_up : {kn' : ℕ} {q : EndState} {to_n' to_f' : List OnWire} → GoesOn n.side q
@@ -138,11 +98,7 @@ module _ {kn kf : ℕ} {n f : NumberedShdlc} {to_n to_f : List OnWire} {r : ℕ}
       g = record n { side = q }
 
       n_live : OnLive (live q.phase to_n') (session_with g n) (session_with f n)
-      n_live =
-          let is : session_with g n ≡ q.session = of_up g on.up in
-          let a : OnLive (live Up to_n') (session_with g n) (session_with f n) =
-          on_live_same (Some to_n') q.session (session_with g n) (session_with f n) (session_with f n) is refl pair.comes in
-          live_to Up q.phase to_n' (session_with g n) (session_with f n) (sym on.up) a
+      n_live = grind arith
 
       past : Below (bound g) n.past
       past = let a : Below (shdlc_number_of n) n.past = rw on.was_up at h.n_past in rw on.up a
@@ -153,15 +109,7 @@ module _ {kn kf : ℕ} {n f : NumberedShdlc} {to_n to_f : List OnWire} {r : ℕ}
 
       f_live : (o : Option (List OnWire)) → live f.side.phase to_f' ≡ o → OnLive o (session_with f n) q.session
           → OnLive o (session_with f f) (session_with g f)
-      f_live None e lives = tt
-      f_live (Some w) e lives =
-          let near : live q.phase to_n' ≡ Some to_n' = rw on.up refl in
-          let same : shdlc_number_of n ≡ shdlc_number_of f =
-          agreed (live q.phase to_n') (live f.side.phase to_f') to_n' w (shdlc_number_of n ≡ shdlc_number_of f) near e hand.agree in
-          let is : session_with g n ≡ q.session = of_up g on.up in
-          let a : OnLive (Some w) (session_with f n) (session_with g n) =
-          on_live_same (Some w) (session_with f n) (session_with f n) q.session (session_with g n) refl is lives in
-          moved (shdlc_number_of n) (shdlc_number_of f) w same a
+      f_live o e lives = grind arith
 
 -- ## Parts of wires with one frame more or less
 
@@ -189,19 +137,13 @@ live_push_ua : (p : LinkState) (w : List OnWire) (x : OnWire) (mine theirs : Ses
 live_push_ua p w x mine theirs e none waiting b = rw waiting (go (behind_new w x e none))
   where
     go : (behind_ua (w ++ x ∷ []) ≡ None) ⊎ ((behind_ua (w ++ x ∷ []) ≡ Some []) × (rsets w ≡ [])) → OnLive (behind_ua (w ++ x ∷ [])) mine theirs
-    go (inl q) = rw q tt
-    go (inr q) = rw q.0 (active_empty mine theirs b)
+    go a = grind arith
 
 live_after_rset : (p : LinkState) (w : List OnWire) (mine theirs : Session) → (p ≡ Up → ⊥) → AfterRset w → Base mine theirs → OnLive (live p w) mine theirs
-live_after_rset Up w mine theirs no_up a b = absurd (no_up refl)
-live_after_rset Down w mine theirs no_up a b = tt
-live_after_rset Waiting [] mine theirs no_up a b = tt
-live_after_rset Waiting (z ∷ []) mine theirs no_up a b = let e : behind_ua (z ∷ []) ≡ Some [] = rw a refl in rw e (active_empty mine theirs b)
-live_after_rset Waiting (z ∷ v ∷ w) mine theirs no_up a b = absurd a
+live_after_rset p w mine theirs no_up a b = grind arith
 
 pub live_empty : (p : LinkState) (mine theirs : Session) → Base mine theirs → OnLive (live p []) mine theirs
-live_empty Up mine theirs b = active_empty mine theirs b
-live_empty _ mine theirs b = tt
+live_empty p mine theirs b = grind arith
 
 -- what is true of each session, by its number, is true of what it has become
 abbrev pub AllStay : (ℕ → Session) → (ℕ → Session) → Type 1
@@ -237,8 +179,7 @@ pub moves_none : (n : NumberedShdlc) → (n.side.phase ≡ Up → ⊥) → Moves
 moves_none n no_up P all k = go n.side.phase refl (all k)
   where
     go : (p : LinkState) → n.side.phase ≡ p → P k (shdlc_session_of n k) → P k (ended_session n.past k)
-    go Up e a = absurd (no_up e)
-    go _ e a = rw e at a
+    go p e a = grind arith
 
 -- all sessions of an end have ended, and are kept with numbers below b
 pub record HaveEnded (n : NumberedShdlc) (past : List (ℕ × Session)) (b : ℕ) : Type 1 where
@@ -246,9 +187,7 @@ pub record HaveEnded (n : NumberedShdlc) (past : List (ℕ × Session)) (b : ℕ
   pub below : Below b past
 
 agrees_down : (p : LinkState) (P : Type 0) → Agrees None (live p []) P
-agrees_down Up P = tt
-agrees_down Waiting P = tt
-agrees_down Down P = tt
+agrees_down p P = grind arith
 
 module _ {kn kf : ℕ} {n f : NumberedShdlc} {to_n to_f : List OnWire} {r : ℕ} (h : Safe kn kf n f to_n to_f r) where
   -- it goes on as it is, and a frame of a session on its way to it is passed over
@@ -262,9 +201,7 @@ module _ {kn kf : ℕ} {n f : NumberedShdlc} {to_n to_f : List OnWire} {r : ℕ}
         hand = hand;
         n_base = m (λ k t. Base t (shdlc_session_of f k)) h.n_base;
         f_base = m (λ k t. Base (shdlc_session_of f k) t) h.f_base;
-        n_live = live_to n.side.phase q.phase to_n' (session_with g n) (session_with f n) (sym on.phase)
-            (on_live_part (live n.side.phase to_n) (live n.side.phase to_n') (session_with g n) (session_with f n) lives
-            (at_number (λ t. OnLive (live n.side.phase to_n) t (session_with f n)) (shdlc_number_of n) m h.n_live));
+        n_live = grind arith;
         f_live = at_number (λ t. OnLive (live f.side.phase to_f) (session_with f f) t) (shdlc_number_of f) m h.f_live;
         n_past = rw on.phase h.n_past;
         f_past = h.f_past;
@@ -356,10 +293,6 @@ pub record IsNewlyUp (g : NumberedShdlc) (w : ℕ) : Type 0 where
   pub windows : HasWindows g.side
   pub fits : w ≤ 4
 
-on_live_begins : (o : Option (List OnWire)) (m : Session) (w : ℕ) → OnLive o m no_session → OnLive o m (new_session w)
-on_live_begins None m w h = tt
-on_live_begins (Some l) m w h = record { marks = h.marks; shows = h.shows; places = h.places; counts = h.counts }
-
 begins_at : (P : ℕ → Session → Type 0) (g : NumberedShdlc) → g.side.phase ≡ Up → ((k : ℕ) → P k (ended_session g.past k)) → P (shdlc_number_of g) g.side.session
     → (k : ℕ) → P k (shdlc_session_of g k)
 begins_at P g up all new k = by_test (k == shdlc_number_of g) (λ q. rw (up, q) (rw (← eqb-true k (shdlc_number_of g) q) at new)) (λ q. rw (up, q) (all k))
@@ -379,12 +312,8 @@ module _ {kn kf : ℕ} {n f : NumberedShdlc} {to_n to_f : List OnWire} {r : ℕ}
         hand = hand;
         n_base = begins_at (λ k t. Base t (shdlc_session_of f k)) g new.up n_base (rw new.session mine);
         f_base = begins_at (λ k t. Base (shdlc_session_of f k) t) g new.up f_base (rw new.session theirs);
-        n_live = live_to Up g.side.phase to_n' (session_with g g) (session_with f g) (sym new.up)
-            (on_live_same (Some to_n') (new_session w) (session_with g g) (session_with f g) (session_with f g) (of_up g new.up ∙ new.session) refl
-            (record { marks = active.marks; shows = active.shows; places = active.places; counts = active.counts }));
-        f_live = begins_at (λ k t. k ≡ shdlc_number_of f → OnLive (live f.side.phase to_f') (session_with f f) t) g new.up (λ k q. rw q there)
-            (λ q. rw new.session (on_live_begins (live f.side.phase to_f') (session_with f f) w
-            (rw (sym (ap (ended_session g.past) q) ∙ gone) at there))) (shdlc_number_of f) refl;
+        n_live = grind arith;
+        f_live = grind arith;
         n_past = rw new.up ended.below;
         f_past = h.f_past;
         n_none = λ no. absurd (no new.up);
@@ -404,12 +333,9 @@ safe_up_ua {n = n} {f} {x} {to_n} {to_f} h w frame waiting fits =
     let below : Below (shdlc_number_of n) n.past = below_more n.emitted (shdlc_number_of n) n.past (omega arith) early in
     let gone : ended_session n.past (shdlc_number_of n) ≡ no_session = none_ended (shdlc_number_of n) (shdlc_number_of n) n.past (omega arith) below in
     let c : behind_ua (x ∷ to_n) ≡ Some to_n = rw frame refl in
-    let a : OnLive (behind_ua (x ∷ to_n)) (session_with n n) (session_with f n) =
-    live_to n.side.phase Waiting (x ∷ to_n) (session_with n n) (session_with f n) waiting h.n_live in
-    let b : OnLive (Some to_n) (session_with n n) (session_with f n) =
-    on_live_part (behind_ua (x ∷ to_n)) (Some to_n) (session_with n n) (session_with f n) (sym c) a in
-    let d : OnLive (Some to_n) (ended_session n.past (shdlc_number_of n)) (session_with f n) =
-    at_number (λ t. OnLive (Some to_n) t (session_with f n)) (shdlc_number_of n) move b in
+    let a : OnLive (behind_ua (x ∷ to_n)) (session_with n n) (session_with f n) = grind arith in
+    let b : OnLive (Some to_n) (session_with n n) (session_with f n) = grind arith in
+    let d : OnLive (Some to_n) (ended_session n.past (shdlc_number_of n)) (session_with f n) = grind arith in
     safe_begins h (record { up = refl; session = refl; due = refl; windows = record { own = h.n_windows.own; peer = h.n_windows.peer }; fits = fits })
     (record { moves = move; below = below }) (hand_up_ua h.hand frame)
     (on_live_same (Some to_n) (ended_session n.past (shdlc_number_of n)) no_session (session_with f n) (session_with f n) (sym gone) refl d)
@@ -475,34 +401,14 @@ module _ {n f : NumberedShdlc} {x : OnWire} {to_n to_f : List OnWire} {r : ℕ} 
 
 -- which frame it is
 pub frame_cases : (x : OnWire) → IsData x.frame ⊎ (IsRset x ⊎ (x.frame ≡ Ua))
-frame_cases x = go x.frame refl
-  where
-    go : (c : Control) → x.frame ≡ c → IsData x.frame ⊎ (IsRset x ⊎ (x.frame ≡ Ua))
-    go (Rset w c) e = inr (inl (record { window = w; caps = c; frame = e }))
-    go Ua e = inr (inr e)
-    go _ e = inl (rw e tt)
+frame_cases x = grind arith
 
 -- the first frame on its way to the near end
 pub safe_lose : {kn : ℕ} {n f : NumberedShdlc} {x : OnWire} {to_n to_f : List OnWire} {r : ℕ} → Safe kn 0 n f (x ∷ to_n) to_f r → Safe kn 0 n f to_n to_f r
 safe_lose {kn} {n} {f} {x} {to_n} {to_f} {r} h = go (frame_cases x)
   where
     with : Hand kn 0 (peer_of n) (peer_of f) to_n to_f r → OnLive (live n.side.phase to_n) (session_with n n) (session_with f n) → Safe kn 0 n f to_n to_f r
-    with hand lives =
-        record {
-          hand = hand;
-          n_base = h.n_base;
-          f_base = h.f_base;
-          n_live = lives;
-          f_live = h.f_live;
-          n_past = h.n_past;
-          f_past = h.f_past;
-          n_none = h.n_none;
-          f_none = h.f_none;
-          n_due = h.n_due;
-          f_due = h.f_due;
-          n_windows = h.n_windows;
-          f_windows = h.f_windows;
-        }
+    with hand lives = grind arith
 
     s : Session
     s = session_with n n
@@ -518,17 +424,10 @@ safe_lose {kn} {n} {f} {x} {to_n} {to_f} {r} h = go (frame_cases x)
     data_live : IsData x.frame → (p : LinkState) → n.side.phase ≡ p → OnLive (live n.side.phase to_n) s t
     data_live d Up e = up e
     data_live d Down e = live_to Down n.side.phase to_n s t (sym e) tt
-    data_live d Waiting e =
-        let a : OnLive (behind_ua (x ∷ to_n)) s t = live_to n.side.phase Waiting (x ∷ to_n) s t e h.n_live in
-        live_to Waiting n.side.phase to_n s t (sym e)
-        (on_live_part (behind_ua (x ∷ to_n)) (behind_ua to_n) s t (sym (data_behind x.frame to_n (behind_ua to_n) d)) a)
+    data_live d Waiting e = grind arith
 
     rset_live : IsRset x → (p : LinkState) → n.side.phase ≡ p → OnLive (live n.side.phase to_n) s t
-    rset_live is Up e = up e
-    rset_live is Down e = live_to Down n.side.phase to_n s t (sym e) tt
-    rset_live is Waiting e =
-        live_after_rset n.side.phase to_n s t (not_up n.side.phase e) (rset_told h.hand is).behind
-        (h.n_base (shdlc_number_of n))
+    rset_live is p e = grind arith
 
     go : IsData x.frame ⊎ (IsRset x ⊎ (x.frame ≡ Ua)) → Safe kn 0 n f to_n to_f r
     go (inl d) = with (hand_past h.hand d) (data_live d n.side.phase refl)

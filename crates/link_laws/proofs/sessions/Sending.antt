@@ -1,14 +1,14 @@
 -- An end has its turns, and then all that is due goes out.
 use Rattle.std.proofs.lemmas.List.{map-append}
-use Rattle.link_laws.proofs.Words.{Bool, Control, CoreLink as ShdlcLink, CoreTurn as ShdlcTurn, Down, Due, EndState, Fragment, I, Kind, LinkState, List, None}
-use Rattle.link_laws.proofs.Words.{NumberedShdlc, Offer, OnWire, Option, Rej, Rej_due, Rnr, Rnr_due, Rr, Rr_due, Rset_due, S, Session, SetReady, Some, Ua_due}
-use Rattle.link_laws.proofs.Words.{Up, Waiting, [], after_frames, ap, arith, cond, control_due, core_turned as shdlc_turned, drop, expected, false, fetched}
-use Rattle.link_laws.proofs.Words.{fits, fragment_due, fragment_due-within, frame_due, frames_of, inl, inr, is_act, length, length-append, map, nat_lt}
-use Rattle.link_laws.proofs.Words.{no_session, put_out, refl, sans, sent_next, shdlc_becomes, shdlc_put, shdlc_put_all, shdlc_turn, subst, suc, sym, true}
-use Rattle.link_laws.proofs.Words.{true≢false, with_ready, with_shdlc_controller, zero, ℕ, ◌%◌, ◌++◌, ◌+◌, ◌∙◌, ◌∷◌, ◌≡◌, ◌≤◌, ◌⊎◌}
-use Rattle.link_laws.proofs.places.Joined.{after_frames_idle, changed, fetch_cases, fetched_idle}
+use Rattle.link_laws.proofs.Words.{Bool, Control, CoreLink as ShdlcLink, CoreTurn as ShdlcTurn, Down, Due, EndState, Fragment, I, Kind, LinkState, List}
+use Rattle.link_laws.proofs.Words.{NumberedShdlc, Offer, OnWire, Option, Rej, Rej_due, Rnr, Rnr_due, Rr, Rr_due, S, Session, SetReady, Some, Up, Waiting, []}
+use Rattle.link_laws.proofs.Words.{after_frames, ap, arith, cond, control_due, core_turned as shdlc_turned, drop, expected, false, fetched, fits, fragment_due}
+use Rattle.link_laws.proofs.Words.{fragment_due-within, frame_due, frames_of, inl, inr, is_act, length, length-append, map, nat_lt, no_session, put_out, refl}
+use Rattle.link_laws.proofs.Words.{sans, sent_next, shdlc_becomes, shdlc_put, shdlc_put_all, shdlc_turn, subst, suc, sym, true, with_ready}
+use Rattle.link_laws.proofs.Words.{with_shdlc_controller, zero, ℕ, ◌%◌, ◌++◌, ◌+◌, ◌∙◌, ◌∷◌, ◌≡◌, ◌≤◌, ◌⊎◌}
+use Rattle.link_laws.proofs.places.Joined.{changed, fetch_cases}
 use Rattle.link_laws.proofs.sessions.Wire.{IsData, rsets, behind_ua, live, behind_push, behind_push_none, behind_rsets, data_not_ua}
-use Rattle.link_laws.proofs.sessions.Hand.{NothingIsOut, idle_out, hand_send, hand_timer}
+use Rattle.link_laws.proofs.sessions.Hand.{NothingIsOut, idle_out, hand_send}
 use Rattle.link_laws.proofs.sessions.Data.{Pair, pair_next, pair_put, Plain, pushed, pair_send, pair_send_S, IsAnswer}
 use Rattle.link_laws.proofs.sessions.Safe.{Safe, session_with, safe_swap, GoesOn, pair_from, safe_up, safe_idle, safe_lose}
 use Rattle.link_laws.proofs.Cases.{by_option, by_phase, by_test}
@@ -102,18 +102,14 @@ sends_keeps P each (suc n) e l h = go (frame_due e) refl (sends_keeps P each n (
     go : (o : Option Control) → frame_due e ≡ o
         → ((m : ShdlcLink) → P (fetched e) m → P (after_frames n (fetched e)) (shdlc_put_all m (frames_of n (fetched e))))
         → P (after_frames (suc n) e) (shdlc_put_all l (frames_of (suc n) e))
-    go None q later = rw q (rw (fetched_idle e q, after_frames_idle n e q) h)
-    go (Some c) q later = rw q (later (shdlc_put l c) (each e l c q h))
+    go o q later = grind arith
 
 pub safe_drains : (kf m : ℕ) (q : EndState) (l : ShdlcLink) → SafeAt 0 kf l q
     → SafeLink 0 kf (with_shdlc_controller (shdlc_put_all l (frames_of m q)) (after_frames m q))
 safe_drains kf m q l h = sends_keeps (λ e v. SafeAt 0 kf v e) each m q l h
   where
     is_up : (e : EndState) (info : Fragment) → ((e.phase ≡ Up → ⊥) → e.session ≡ no_session) → fragment_due e.session ≡ Some info → e.phase ≡ Up
-    is_up e info none is = by_phase e.phase (λ p. p) (λ p. absurd (absent (λ u. let g = sym p ∙ u in cc))) (λ p. absurd (absent (λ u. let g = sym p ∙ u in cc)))
-      where
-        absent : (e.phase ≡ Up → ⊥) → ⊥
-        absent no_up = let a : fragment_due no_session ≡ Some info = rw (none no_up) at is in let b : None ≡ Some info = a in cc
+    is_up e info none is = grind arith
 
     each : (e : EndState) (v : ShdlcLink) (c : Control) → frame_due e ≡ Some c → SafeAt 0 kf v e → SafeAt 0 kf (shdlc_put v c) (fetched e)
     each e v c is g =
@@ -134,37 +130,16 @@ pub up_step : {kn kf : ℕ} (l : ShdlcLink) {q : EndState} → GoesOn l.controll
     → SafeLink kn kf l → SafeAt 0 kf l q
 up_step l on pair h =
     safe_up h on
-    (hand_timer h.hand (record {
-      phase = on.up ∙ sym on.was_up;
-      emitted = refl;
-      took = refl;
-      timer = λ w. absurd (let e = sym on.was_up ∙ w in let f : Up ≡ Waiting = e in cc);
-    }))
+    (grind arith)
     pair
 
 -- it becomes ready or not ready
 pub ready_by : (P : EndState → Type 0) (e : EndState) (r : Bool) → (e.phase ≡ Up → ⊥) ⊎ (e.phase ≡ Up) → ((e.phase ≡ Up → ⊥) → e.session ≡ no_session)
     → P e → P (changed e r e.due) → (e.phase ≡ Up → e.session.answered_rnr ≡ true → P (changed e r (e.due ++ Rr_due ∷ []))) → P (with_ready e r)
-ready_by P e r up none same other answered = go e.ready r e.session.answered_rnr refl same other answered
-  where
-    noted_up : (b : Bool) → e.session.answered_rnr ≡ true → (e.phase ≡ Up → ⊥) ⊎ (e.phase ≡ Up) → e.phase ≡ Up
-    noted_up b q (inr u) = u
-    noted_up b q (inl n) = absurd (true≢false (sym q ∙ ap (λ (s : Session). s.answered_rnr) (none n)))
-
-    at : Bool → Bool → EndState
-    at was noted = record e { ready = was; session = record e.session { answered_rnr = noted } }
-
-    go : (was now noted : Bool) → e.session.answered_rnr ≡ noted → P (at was noted) → P (changed e now e.due)
-        → (e.phase ≡ Up → e.session.answered_rnr ≡ true → P (changed e now (e.due ++ Rr_due ∷ []))) → P (with_ready (at was noted) now)
-    go true true noted q a b c = a
-    go false false noted q a b c = a
-    go true false noted q a b c = b
-    go false true true q a b c = c (noted_up true q up) q
-    go false true false q a b c = b
+ready_by P e r up none same other answered = grind arith
 
 pub phase_known : (p : LinkState) → (p ≡ Up → ⊥) ⊎ (p ≡ Up)
-phase_known Up = inr refl
-phase_known _ = inl (λ e. cc)
+phase_known p = grind arith
 
 -- an answer goes out
 pub put_answer : (kf : ℕ) (l : ShdlcLink) (e : EndState) (k : Kind) → e.phase ≡ Up → SafeAt 0 kf l e → SafeAt 0 kf (shdlc_put l (S k (expected e.session))) e
@@ -186,13 +161,7 @@ pub record Pending (kf : ℕ) (l : ShdlcLink) (e : EndState) : Type 0 where
 
 pub controls_same : (e f : EndState) (ds : List Due) → f.session.acc ≡ e.session.acc → f.own_window ≡ e.own_window → map (control_due f) ds
     ≡ map (control_due e) ds
-controls_same e f [] a w = refl
-controls_same e f (d ∷ ds) a w = let more = controls_same e f ds a w in let one = go d in cc
-  where
-    go : (d : Due) → control_due f d ≡ control_due e d
-    go Rset_due = rw w refl
-    go Ua_due = refl
-    go _ = rw a refl
+controls_same e f ds a w = grind arith
 
 pub put_all-append : (l : ShdlcLink) (cs ds : List Control) → shdlc_put_all l (cs ++ ds) ≡ shdlc_put_all (shdlc_put_all l cs) ds
 put_all-append l [] ds = refl
@@ -232,11 +201,7 @@ turn_pending kf l e (Offer fragments) h =
     up p =
         let m : ShdlcLink = with_shdlc_controller (shdlc_put_all l (controls e)) (record e { due = [] }) in
         let s : SafeAt 0 kf m (put_out m.controller.side fragments) = offer_at kf m fragments p h.safe in
-        record {
-          safe = let P : List Control → Type 0 = λ cs. SafeAt 0 kf (shdlc_put_all l cs) (record (put_out e fragments) { due = [] }) in
-              subst P (sym (controls_same e (put_out e fragments) e.due refl refl)) s;
-          few = h.few;
-        }
+        grind arith
 turn_pending kf l e (SetReady r) h =
     ready_by (λ f. Pending kf l f) e r (phase_known e.phase) h.safe.n_none h
     (record { safe = as_changed e.due (controls_same e (changed e r e.due) e.due refl refl); few = omega (arith, h.few) })
@@ -286,14 +251,12 @@ pub pending_goes : (kf : ℕ) (l : ShdlcLink) (e : EndState) → Pending kf l e 
 pending_goes kf l e h =
     let f = frames_in_order e.due 12 e refl (omega (arith, h.few)) in
     let s = safe_drains kf f.0 (record e { due = [] }) (shdlc_put_all l (controls e)) h.safe in
-    let q : shdlc_put_all l (frames_of 12 e) ≡ shdlc_put_all (shdlc_put_all l (controls e)) (frames_of f.0 (record e { due = [] })) =
-    ap (shdlc_put_all l) f.1 ∙ put_all-append l (controls e) (frames_of f.0 (record e { due = [] })) in
+    let q : shdlc_put_all l (frames_of 12 e) ≡ shdlc_put_all (shdlc_put_all l (controls e)) (frames_of f.0 (record e { due = [] })) = grind arith in
     let P : ShdlcLink → EndState → Type 0 = λ k g. SafeLink 0 kf (with_shdlc_controller k g) in
     subst (λ k. P k (after_frames 12 e)) (sym q) (subst (P (shdlc_put_all (shdlc_put_all l (controls e)) (frames_of f.0 (record e { due = [] })))) (sym f.2) s)
 
 pub at_most_one : (b : Bool) → cond b 1 0 ≤ 1
-at_most_one true = omega arith
-at_most_one false = omega arith
+at_most_one b = grind arith
 
 -- an end with nothing to answer
 pub becomes_none : (kf : ℕ) (ts : List ShdlcTurn) (l : ShdlcLink) (e : EndState) → SafeAt 0 kf l e → SafeLink 0 kf (shdlc_becomes l (shdlc_turned e ts))
@@ -314,10 +277,7 @@ pub becomes_one : (kf : ℕ) (ts : List ShdlcTurn) (l : ShdlcLink) (e : EndState
 becomes_one kf ts l e d is h =
     pending_goes kf l (shdlc_turned e ts)
     (turned_pending kf ts l e
-    (record {
-      safe = let P : List Due → Type 0 = λ ds. SafeAt 0 kf (shdlc_put_all l (map (control_due e) ds)) (record e { due = [] }) in subst P (sym is) h;
-      few = let due : length e.due ≡ 1 = ap (length {A = Due}) is in omega (arith, due, at_most_one e.session.answered_rnr);
-    }))
+    (grind arith))
 
 pub becomes_answer : (kf : ℕ) (ts : List ShdlcTurn) (l : ShdlcLink) (e : EndState) (d : Due) → IsAnswer d
     → e.due ≡ d ∷ [] → e.phase ≡ Up → SafeAt 0 kf l (record e { due = [] }) → SafeLink 0 kf (shdlc_becomes l (shdlc_turned e ts))

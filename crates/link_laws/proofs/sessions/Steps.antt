@@ -1,31 +1,28 @@
 -- Each event keeps all that is true of a link.
 use Rattle.std.proofs.Common.{◌==◌, max}
-use Rattle.link_laws.proofs.Words.{Activation, AllShdlcAllowed, AreTurns, Bool, BothDown, BothUp, Control, CoreActs as Acts, CoreAtController as AtController}
+use Rattle.link_laws.proofs.Words.{Activation, AllShdlcAllowed, AreTurns, Bool, Control, CoreActs as Acts, CoreAtController as AtController}
 use Rattle.link_laws.proofs.Words.{CoreAtHost as AtHost, CoreDeliver as Deliver, CoreEndEvent as ShdlcEndEvent, CoreInOrder as FragmentsInOrder}
 use Rattle.link_laws.proofs.Words.{CoreIsAllowed as IsShdlcAllowed, CoreLink as ShdlcLink, CoreLose as Lose, CoreReset as Reset, CoreStop as Stop}
 use Rattle.link_laws.proofs.Words.{CoreTurn as ShdlcTurn, Down, Due, EndState, Ignore, IsShdlcStart, IsTurn, LinkState, List, None, NumberedShdlc, OnWire}
 use Rattle.link_laws.proofs.Words.{Option, Rset, Rset_due, Session, ShdlcLinkEvent, Some, Tick, TickWithout, Turns, Ua, Ua_due, Up, Waiting, [], act_frame}
-use Rattle.link_laws.proofs.Words.{aged_wire, ap, arith, asked_again, begun, cond, core_after as shdlc_after, core_aged as shdlc_aged}
+use Rattle.link_laws.proofs.Words.{aged_wire, ap, arith, asked_again, cond, core_after as shdlc_after, core_aged as shdlc_aged}
 use Rattle.link_laws.proofs.Words.{core_all_here as shdlc_all_at_controller, core_happens_here as shdlc_happens_at_controller}
 use Rattle.link_laws.proofs.Words.{core_ticks_if_waiting as ticks_if_waiting, core_ticks_or_cut as ticks_or_cut, core_turned as shdlc_turned}
 use Rattle.link_laws.proofs.Words.{core_with_ended as with_shdlc_ended, ended_session, false, given_up, inl, inr, is_act, is_rset, is_some, is_up, is_waiting}
-use Rattle.link_laws.proofs.Words.{ltb-false, ltb-true, map, min, nat_lt, ne_eqb, new_end, new_session, no_session, older, refl, reset_with, runs_timer, sans}
-use Rattle.link_laws.proofs.Words.{sent_again, shdlc_becomes, shdlc_exchanged, shdlc_happens, shdlc_number_of, shdlc_put, shdlc_put_all, shdlc_session_of}
-use Rattle.link_laws.proofs.Words.{shdlc_silent, shdlc_ticks_at_controller, stopped, subst, sym, take_answer, taken, tick_answer, ticked, took_with, true}
-use Rattle.link_laws.proofs.Words.{true≢false, up_with, waiting_from, ℕ, ◌++◌, ◌+◌, ◌<◌, ◌∙◌, ◌∷◌, ◌≡◌, ◌≤◌, ◌⊎◌}
-use Rattle.link_laws.specs.sessions.Sessions.{new_numbered_shdlc, bare}
+use Rattle.link_laws.proofs.Words.{ltb-false, ltb-true, map, min, nat_lt, ne_eqb, new_end, no_session, older, refl, reset_with, runs_timer, sans, sent_again}
+use Rattle.link_laws.proofs.Words.{shdlc_becomes, shdlc_exchanged, shdlc_happens, shdlc_number_of, shdlc_put, shdlc_put_all, shdlc_session_of, shdlc_silent}
+use Rattle.link_laws.proofs.Words.{shdlc_ticks_at_controller, stopped, subst, sym, take_answer, taken, tick_answer, ticked, took_with, true, up_with}
+use Rattle.link_laws.proofs.Words.{waiting_from, ℕ, ◌++◌, ◌+◌, ◌<◌, ◌∙◌, ◌∷◌, ◌≡◌, ◌≤◌, ◌⊎◌}
 use Rattle.link_laws.specs.sessions.Sessions.ShdlcEndEvent.{Cut}
-use Rattle.link_laws.proofs.sessions.Wire.{IsData, rsets, behind_ua, live, Young, data_behind, young_later, young_older}
-use Rattle.link_laws.proofs.sessions.Hand.{peer_of, NothingIsOut, IsRset, IsNextRset, hand_empty, agrees_from, idle_out, ua_told, rset_told, ahead_not_waiting}
-use Rattle.link_laws.proofs.sessions.Hand.{hand_past, hand_timer, nothing_out}
-use Rattle.link_laws.proofs.sessions.Data.{Base, Below, below_more, none_ended, bound, OnLive, Pair, pair_next, IsAnswer, taken_up}
+use Rattle.link_laws.proofs.sessions.Wire.{IsData, behind_ua, live, Young, data_behind, young_later, young_older}
+use Rattle.link_laws.proofs.sessions.Hand.{NothingIsOut, IsRset, IsNextRset, idle_out, ua_told, rset_told, hand_past, hand_timer, nothing_out}
+use Rattle.link_laws.proofs.sessions.Data.{Base, Below, below_more, none_ended, bound, Pair, pair_next, IsAnswer, taken_up}
 use Rattle.link_laws.proofs.sessions.Safe.{HasWindows, Safe, session_with, agreed, safe_swap, pair_from, safe_up, safe_idle, Idle, HaveEnded, moves_end}
 use Rattle.link_laws.proofs.sessions.Safe.{moves_none, waiting_end, safe_asks, safe_down, up_end, safe_up_ua, safe_up_rset, WaitsOn, safe_wait_rset}
-use Rattle.link_laws.proofs.sessions.Safe.{frame_cases, safe_lose, safe_ignore, safe_older, live_empty, safe_silent}
+use Rattle.link_laws.proofs.sessions.Safe.{frame_cases, safe_lose, safe_ignore, safe_older, safe_silent}
 use Rattle.link_laws.proofs.sessions.Sending.{SafeAt, SafeLink, sans-push_act, fits_keeps, safe_fits, no_rset_out, up_step, becomes_none, becomes_one}
 use Rattle.link_laws.proofs.sessions.Sending.{becomes_taken}
 use Rattle.link_laws.proofs.Cases.{by_phase, by_test}
-use Rattle.link_laws.proofs.machine.Sound.{by_taken}
 
 -- ## It sends an RSET and waits
 
@@ -159,8 +156,7 @@ ticks kf ts l h = go e.phase (runs_timer e.session) (nat_lt (e.timer + 1) 10) (n
         → SafeLink 0 kf (shdlc_becomes l (shdlc_turned (record e { timer = n }) ts))
     idles n no_up counts =
         becomes_none kf ts l (record e { timer = n })
-        (safe_idle h no_up (record { phase = refl; due = refl; session = h.n_none no_up; own = refl; peer = refl }) refl
-        (hand_timer h.hand (record { phase = refl; emitted = refl; took = refl; timer = counts })))
+        (grind arith)
 
     late : nat_lt (e.timer + 1) 10 ≡ false → NothingIsOut (sans l.to_controller) (sans l.to_host)
     late r = nothing_out h.hand (let g = ltb-false (e.timer + 1) 10 r in omega arith)
@@ -216,15 +212,11 @@ pub took_other : (t : ℕ) (x : OnWire) → is_rset x.frame ≡ false → took_w
 took_other t x e = rw e refl
 
 pub not_rset : (c : Control) → IsData c ⊎ (c ≡ Ua) → is_rset c ≡ false
-not_rset (Rset _ _) (inl d) = absurd d
-not_rset (Rset _ _) (inr d) = cc
-not_rset _ d = refl
+not_rset c a = grind arith
 
 -- an end that isn't Up passes over the frames of a session
 pub passes : (e : EndState) (c : Control) → IsData c → (e.phase ≡ Up → ⊥) → (taken e c ≡ e) × (is_some (take_answer e c).ended ≡ false)
-passes e c d no_up =
-    by_taken (λ c f answer. IsData c → (f ≡ e) × (is_some answer.ended ≡ false)) e (λ _ _ _ p _. absurd (no_up p)) (λ _ _ p _. absurd (no_up p))
-    (λ _ _. (refl, refl)) (λ _ _ _ d. absurd d) (λ _ _ _ d. absurd d) (λ _ _ _ d. absurd d) (λ _ d. absurd d) c d
+passes e c d no_up = grind arith
 
 -- the link after the controller's end took x
 abbrev pub took : ShdlcLink → List ShdlcTurn → OnWire → List OnWire → ShdlcLink
@@ -264,15 +256,9 @@ takes ts l x xs h = go (frame_cases x) e.phase refl
         let q : EndState = taken e x.frame in
         let s : SafeAt 0 0 next (record q { due = [] }) =
         safe_up h (record { was_up = up; up = t.0.up; due = refl; own = t.0.own; peer = t.0.peer })
-        (hand_timer (hand_past h.hand d) (record {
-          phase = t.0.up ∙ sym up;
-          emitted = refl;
-          took = refl;
-          timer = λ w. absurd (let g = sym up ∙ w in let f : Up ≡ Waiting = g in cc);
-        }))
+        (hand_timer (hand_past h.hand d) (grind arith))
         t.0.pair in
-        let so : TakesSo l x false l.controller.took q =
-        record { ended = rw t.1 refl; took = took_other l.controller.took x (not_rset x.frame (inl d)); end = refl } in
+        let so : TakesSo l x false l.controller.took q = grind arith in
         took_is ts xs so (becomes_taken 0 ts next q t.0.up (due q t.0.due) s)
       where
         due : (q : EndState) → (q.due ≡ e.due) ⊎ ((d : Due) × IsAnswer d × (q.due ≡ e.due ++ d ∷ []))
@@ -284,8 +270,7 @@ takes ts l x xs h = go (frame_cases x) e.phase refl
     passed : IsData x.frame → (e.phase ≡ Up → ⊥) → live e.phase (sans xs) ≡ live e.phase (x ∷ sans xs) → SafeLink 0 0 (took l ts x xs)
     passed d no_up lives =
         let t = passes e x.frame d no_up in
-        let so : TakesSo l x false l.controller.took e =
-        record { ended = t.1; took = took_other l.controller.took x (not_rset x.frame (inl d)); end = t.0 } in
+        let so : TakesSo l x false l.controller.took e = grind arith in
         let idle : Idle e e = record { phase = refl; due = refl; session = h.n_none no_up; own = refl; peer = refl } in
         took_is ts xs so (becomes_none 0 ts next e (safe_idle h no_up idle lives (hand_past h.hand d)))
 
@@ -293,9 +278,7 @@ takes ts l x xs h = go (frame_cases x) e.phase refl
     zero is = let t = rset_told h.hand is in ne_eqb is.window 0 (λ z. omega (arith, t.wide))
 
     ahead : IsRset x → (e.phase ≡ Waiting → ⊥) → (l.controller.took < l.host.emitted) × (l.controller.emitted < l.host.emitted)
-    ahead is n =
-        let a : rsets (x ∷ sans xs) ≡ x.age ∷ rsets (sans xs) = rw is.frame refl in
-        ahead_not_waiting 0 (peer_of l.controller) l.host.emitted x.age (rsets (sans xs)) n (rw a at h.hand.n_ahead)
+    ahead is n = grind arith
 
     -- an end that doesn't wait begins a new session
     anew : (is : IsRset x) {past : List (ℕ × Session)} (ends : Bool) → (e.phase ≡ Waiting → ⊥) → HaveEnded l.controller past l.host.emitted
@@ -344,17 +327,8 @@ takes ts l x xs h = go (frame_cases x) e.phase refl
         let f : EndState = record e { due = []; peer_window = min q.window 4 } in
         let y : OnWire = record { frame = Ua; age = 0; number = 0 } in
         let m : ShdlcLink = record l { to_controller = xs; controller = record l.controller { took = l.host.emitted } } in
-        let so : TakesSo l x false l.host.emitted b =
-        record { ended = rw (q.frame, p) refl; took = took_rset l q t.number h.hand.n_took; end = waits q p } in
-        let on : WaitsOn e f =
-        record {
-          was_waiting = p;
-          waiting = p;
-          timer = refl;
-          session = h.n_none (λ u. let g = sym p ∙ u in cc);
-          due = refl;
-          windows = record { own = h.n_windows.own; peer = (omega (arith, t.wide), omega arith) };
-        } in
+        let so : TakesSo l x false l.host.emitted b = grind arith in
+        let on : WaitsOn e f = grind arith in
         took_is ts xs so (becomes_one 0 ts m b Ua_due refl (safe_fits l.to_host y refl (safe_wait_rset q h on (record { frame = refl; age = refl }))))
     go (inr (inr q)) Up p = absurd (no_ua q (λ w. let g = sym p ∙ w in cc))
     go (inr (inr q)) Down p = absurd (no_ua q (λ w. let g = sym p ∙ w in cc))
@@ -362,24 +336,17 @@ takes ts l x xs h = go (frame_cases x) e.phase refl
         let w : ℕ = min e.own_window e.peer_window in
         let s : SafeAt 0 0 next (up_end e w) = safe_up_ua h w q p (omega (arith, h.n_windows.own.1)) in
         let same : up_end e w ≡ up_with e w = rw h.n_due refl in
-        let so : TakesSo l x false l.controller.took (up_with e w) =
-        record { ended = rw (q, p) refl; took = took_other l.controller.took x (not_rset x.frame (inr q)); end = confirmed q p } in
+        let so : TakesSo l x false l.controller.took (up_with e w) = grind arith in
         took_is ts xs so (becomes_none 0 ts next (up_with e w) (let P : EndState → Type 0 = λ v. SafeAt 0 0 next v in subst P same s))
 
 -- ## Whole events
 
 -- a frame of activation is passed over
 pub passes_act : (e : EndState) (c : Control) → is_act c ≡ true → (taken e c ≡ e) × (is_some (take_answer e c).ended ≡ false)
-passes_act e c a =
-    by_taken (λ c f answer. is_act c ≡ true → (f ≡ e) × (is_some answer.ended ≡ false)) e (λ _ _ _ _. other) (λ _ _ _. other) (λ _ _. (refl, refl))
-    (λ _ _ _. other) (λ _ _ _. other) (λ _ _ _. other) (λ _. other) c a
-  where
-    other : {G : Type 0} → false ≡ true → G
-    other a = absurd (true≢false (sym a))
+passes_act e c a = grind arith
 
 pub act_not_rset : (c : Control) → is_act c ≡ true → is_rset c ≡ false
-act_not_rset (Rset _ _) a = absurd (let z : false ≡ true = a in cc)
-act_not_rset _ a = refl
+act_not_rset c a = grind arith
 
 delivers : (ts : List ShdlcTurn) (l : ShdlcLink) → SafeLink 0 0 l → SafeLink 0 0 (shdlc_happens_at_controller l (Deliver ts))
 delivers ts l h = go l.to_controller h
@@ -390,8 +357,7 @@ delivers ts l h = go l.to_controller h
     first x xs true q g =
         let m : ShdlcLink = record l { to_controller = x ∷ xs } in
         let t = passes_act l.controller.side x.frame q in
-        let so : TakesSo m x false l.controller.took l.controller.side =
-        record { ended = t.1; took = took_other l.controller.took x (act_not_rset x.frame q); end = t.0 } in
+        let so : TakesSo m x false l.controller.took l.controller.side = grind arith in
         took_is ts xs so (becomes_none 0 ts (record l { to_controller = xs }) l.controller.side (rw q at g))
 
     go : (wire : List OnWire) → Safe 0 0 l.controller l.host (sans wire) (sans l.to_host) l.resets
@@ -503,10 +469,7 @@ sans-aged (x ∷ xs) = go (nat_lt x.age 4) (is_act x.frame) refl refl (sans-aged
   where
     go : (a b : Bool) → nat_lt x.age 4 ≡ a → is_act x.frame ≡ b → sans (aged_wire xs) ≡ aged_wire (sans xs)
         → sans (aged_wire (x ∷ xs)) ≡ aged_wire (sans (x ∷ xs))
-    go true true p q later = rw (p, q) later
-    go true false p q later = rw (p, q, p) (ap (λ v. record x { age = x.age + 1 } ∷ v) later)
-    go false true p q later = rw (p, q) later
-    go false false p q later = rw (p, q, p) later
+    go a b p q later = grind arith
 
 pub safe_fresh : {n f : NumberedShdlc} (to_n : List OnWire) {to_f : List OnWire} {r : ℕ} → Safe 0 0 n f to_n to_f r → Safe 0 0 n f (fresh to_n) to_f r
 safe_fresh [] h = h
@@ -531,25 +494,7 @@ tick_or_cut kf None l h = cuts 1 kf l h
 
 -- an end that doesn't wait may do without its tick
 not_ticked : (kf : ℕ) (l : ShdlcLink) → is_waiting l.controller.side ≡ false → SafeLink 1 kf l → SafeLink 0 kf l
-not_ticked kf l q h =
-    record {
-      hand = hand_timer h.hand (record { phase = refl; emitted = refl; took = refl; timer = λ w. absurd (waits w) });
-      n_base = h.n_base;
-      f_base = h.f_base;
-      n_live = h.n_live;
-      f_live = h.f_live;
-      n_past = h.n_past;
-      f_past = h.f_past;
-      n_none = h.n_none;
-      f_none = h.f_none;
-      n_due = h.n_due;
-      f_due = h.f_due;
-      n_windows = h.n_windows;
-      f_windows = h.f_windows;
-    }
-  where
-    waits : l.controller.side.phase ≡ Waiting → ⊥
-    waits w = let z : true ≡ false = rw w at q in cc
+not_ticked kf l q h = grind arith
 
 pub tick_if_waiting : (kf : ℕ) (l : ShdlcLink) → SafeLink 1 kf l → SafeLink 0 kf (ticks_if_waiting l)
 tick_if_waiting kf l h = by_test (is_waiting l.controller.side) (λ q. rw q (ticks kf [] l h)) (λ q. rw q (not_ticked kf l q h))
@@ -575,55 +520,8 @@ safe_after : (events : List ShdlcLinkEvent) (l : ShdlcLink) → AllShdlcAllowed 
 safe_after [] l a h = h
 safe_after (e ∷ es) l a h = let s = safe_event l e es a h in safe_after es (shdlc_happens l e) s.1 s.0
 
-base_new : (w : ℕ) → w ≤ 4 → Base (new_session w) (new_session w)
-base_new w i =
-    record {
-      from = omega arith;
-      sent = omega arith;
-      offered = omega arith;
-      within = omega arith;
-      most = i;
-      front = ([], refl);
-      fits = omega arith;
-      acked = omega arith;
-    }
-
-safe_bare : (e : EndState) → e.due ≡ [] → HasWindows e → ((e.phase ≡ Up → ⊥) → e.session ≡ no_session)
-    → ((k : ℕ) → Base (shdlc_session_of (new_numbered_shdlc e) k) (shdlc_session_of (new_numbered_shdlc e) k)) → SafeLink 0 0 (bare e)
-safe_bare e due windows none base =
-    record {
-      hand = hand_empty 0 0 (peer_of (new_numbered_shdlc e)) (peer_of (new_numbered_shdlc e)) 0 (omega arith) (omega arith) (omega arith) (omega arith)
-          (agrees_from (live e.phase []) (live e.phase []) (0 ≡ 0) refl);
-      n_base = base;
-      f_base = base;
-      n_live = lives;
-      f_live = lives;
-      n_past = tt;
-      f_past = tt;
-      n_none = none;
-      f_none = none;
-      n_due = due;
-      f_due = due;
-      n_windows = windows;
-      f_windows = windows;
-    }
-  where
-    lives : OnLive (live e.phase []) (shdlc_session_of (new_numbered_shdlc e) 0) (shdlc_session_of (new_numbered_shdlc e) 0)
-    lives = live_empty e.phase (shdlc_session_of (new_numbered_shdlc e) 0) (shdlc_session_of (new_numbered_shdlc e) 0) (base 0)
-
 pub safe_start : (l : ShdlcLink) → IsShdlcStart l → SafeLink 0 0 l
-safe_start l BothDown =
-    safe_bare (new_end 4) refl (record { own = (omega arith, omega arith); peer = (omega arith, omega arith) }) (λ _. refl) (λ k. base_new 0 (omega arith))
-safe_start l BothUp =
-    safe_bare (begun (new_end 4)) refl (record { own = (omega arith, omega arith); peer = (omega arith, omega arith) }) (λ no. absurd (no refl))
-    (λ k. go k (k == 0) refl)
-  where
-    h : NumberedShdlc
-    h = new_numbered_shdlc (begun (new_end 4))
-
-    go : (k : ℕ) (b : Bool) → (k == 0) ≡ b → Base (shdlc_session_of h k) (shdlc_session_of h k)
-    go k true q = rw q (base_new 4 (omega arith))
-    go k false q = rw q (base_new 0 (omega arith))
+safe_start l a = grind arith
 
 pub safe : (l : ShdlcLink) → IsShdlcStart l → (events : List ShdlcLinkEvent) → AllShdlcAllowed events → SafeLink 0 0 (shdlc_after l events)
 safe l s events a = safe_after events l a (safe_start l s)

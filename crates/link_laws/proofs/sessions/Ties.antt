@@ -1,21 +1,20 @@
 -- Two ends that are in one session, or will be once they took the UAs on their way to them: what joins them while nothing of
 -- the session was lost and no RNR made.
-use Rattle.std.proofs.Common.{◌&&◌}
-use Rattle.link_laws.proofs.Words.{Act, Bool, Clt, Control, CoreLink as ShdlcLink, CoreTurn as ShdlcTurn, Down, Due, EndState, Fragment, I, LinkState, List}
-use Rattle.link_laws.proofs.Words.{Losses, None, Offer, OnWire, Option, Rej_due, Rnr_due, Rr_due, Rset, Rset_due, S, SetReady, Some, Ua, Ua_due, Up, Waiting}
-use Rattle.link_laws.proofs.Words.{[], after_frames, ap, arith, cond, control_due, core_turned as shdlc_turned, counts_first, drop, expected, false, fetched}
-use Rattle.link_laws.proofs.Words.{fits, fragment_due, frame_due, frames_of, inl, inr, is_act, is_rnr, length, length-append, min, nat_lt, new_session}
-use Rattle.link_laws.proofs.Words.{noted_all, noted_loss, older, or_parts, overflows, put_out, refl, sans, shdlc_put, shdlc_put_all, shdlc_turn, subst, suc}
-use Rattle.link_laws.proofs.Words.{sym, true, with_frame, with_ready, with_shdlc_controller, zero, ℕ, ◌%◌, ◌++◌, ◌+◌, ◌<◌, ◌||◌, ◌∙◌, ◌∷◌, ◌≡◌, ◌≤◌, ◌⊎◌}
+use Rattle.link_laws.proofs.Words.{Bool, Control, CoreLink as ShdlcLink, CoreTurn as ShdlcTurn, Down, Due, EndState, Fragment, LinkState, List, Losses, None}
+use Rattle.link_laws.proofs.Words.{Offer, OnWire, Option, Rej_due, Rnr_due, Rr_due, Rset_due, SetReady, Some, Ua, Ua_due, Up, Waiting, [], after_frames, ap}
+use Rattle.link_laws.proofs.Words.{arith, cond, core_turned as shdlc_turned, drop, false, fetched, fits, fragment_due, frame_due, frames_of, inl, inr, is_act}
+use Rattle.link_laws.proofs.Words.{is_rnr, length, length-append, min, nat_lt, new_session, noted_all, noted_loss, older, overflows, put_out, refl, sans}
+use Rattle.link_laws.proofs.Words.{shdlc_put, shdlc_put_all, shdlc_turn, subst, suc, sym, true, with_frame, with_ready, with_shdlc_controller, zero, ℕ, ◌++◌}
+use Rattle.link_laws.proofs.Words.{◌+◌, ◌<◌, ◌||◌, ◌∙◌, ◌∷◌, ◌≡◌, ◌≤◌, ◌⊎◌}
 use Rattle.link_laws.proofs.places.Flows.{AnswersOnly, Whole, flows_new}
 use Rattle.link_laws.proofs.places.Joined.{Joined, after_frames_idle, fetch_cases, fetched_idle, idle_after, joined_exchanged, joined_fetched, joined_older}
 use Rattle.link_laws.proofs.places.Joined.{joined_put, joined_ready, left, ready_cases}
-use Rattle.link_laws.proofs.sessions.Wire.{IsData, rsets, uas, behind_ua, live, no_ua_step, behind_new, live-older, older_part}
+use Rattle.link_laws.proofs.sessions.Wire.{IsData, rsets, uas, behind_ua, live, behind_new, live-older, older_part}
 use Rattle.link_laws.proofs.sessions.Data.{pushed}
 use Rattle.link_laws.proofs.sessions.Safe.{HasWindows, up_end}
 use Rattle.link_laws.proofs.sessions.Sending.{sans-push, live-push, room, ready_by}
 use Rattle.link_laws.proofs.sessions.Steps.{not_rset}
-use Rattle.link_laws.proofs.Cases.{by_phase, by_option}
+use Rattle.link_laws.proofs.Cases.{by_option}
 
 -- the end as it will be once it took its UA
 abbrev pub as_up : LinkState → EndState → EndState
@@ -53,32 +52,12 @@ tied_swap W n f to_n to_f h w a b p q =
     record { joined = joined_exchanged (Unit {0}) (as_up n.phase n) (as_up f.phase f) b a m.joined; near = m.far; far = m.near }
   where
     shdlc_turned : (((f.phase ≡ Waiting) × (n.phase ≡ Waiting)) ⊎ W) → ((n.phase ≡ Waiting) × (f.phase ≡ Waiting)) ⊎ W
-    shdlc_turned (inl e) = inl (e.1, e.0)
-    shdlc_turned (inr v) = inr v
+    shdlc_turned a = grind arith
 
 -- only what an end notes of itself has changed
 pub meets_like : (n m f : EndState) (to_n to_f : List OnWire) → m.phase ≡ n.phase → m.due ≡ n.due → m.session ≡ n.session → frame_due m ≡ None
     → Meets n f to_n to_f → Meets m f to_n to_f
-meets_like n m f to_n to_f phase due session idle h =
-    let j = h.joined in
-    record {
-      joined = record {
-        near_up = phase ∙ j.near_up;
-        far_up = j.far_up;
-        near_due = rw due j.near_due;
-        far_due = j.far_due;
-        near_marks = j.near_marks;
-        far_marks = j.far_marks;
-        near_shows = j.near_shows;
-        far_shows = j.far_shows;
-        near_sends = rw session j.near_sends;
-        far_sends = rw session j.far_sends;
-        near_whole = λ v d. rw session (j.near_whole v d);
-        far_whole = λ v d. rw (session, due) (j.far_whole v (rw due at d));
-      };
-      near = idle;
-      far = h.far;
-    }
+meets_like n m f to_n to_f phase due session idle h = grind arith
 
 -- ## A new session
 
@@ -91,21 +70,11 @@ pub record IsNew (e : EndState) : Type 0 where
 
 pub waiting_new : (e : EndState) → e.phase ≡ Waiting → HasWindows e → IsNew (as_up e.phase e)
 waiting_new e waiting h =
-    let n : IsNew (as_up Waiting e) = record {
-      up = refl;
-      due = refl;
-      window = min e.own_window e.peer_window;
-      fits = (omega (arith, h.own.0, h.peer.0), omega (arith, h.own.1));
-      session = refl;
-    } in
+    let n : IsNew (as_up Waiting e) = grind arith in
     rw waiting n
 
 pub none_due : (v : ℕ) → fragment_due (new_session v) ≡ None
-none_due v = same (nat_lt 0 (0 + v)) None
-  where
-    same : (b : Bool) (o : Option Fragment) → cond b o o ≡ o
-    same true o = refl
-    same false o = refl
+none_due v = grind arith
 
 new_idle : (e : EndState) → IsNew e → frame_due e ≡ None
 new_idle e h = rw (h.due, h.session, none_due h.window) refl
@@ -158,8 +127,7 @@ behind_fits w x ua none b = go (nat_lt 64 (length (w ++ x ∷ []))) w none
         by_new (inr r) = let z = sym r.0 ∙ q2 in cc
 
     less : (y : OnWire) (v : List OnWire) (o : Bool) → is_act y.frame ≡ o → uas (sans (y ∷ v)) ≡ [] → uas (sans v) ≡ []
-    less y v true p e = rw p at e
-    less y v false p e = (no_ua_step y.frame y.age (uas (sans v)) (rw p at e)).0
+    less y v o p e = grind arith
 
     go : (o : Bool) (v : List OnWire) → uas (sans v) ≡ [] → behind_ua (sans (cond o (drop 1 (v ++ x ∷ [])) (v ++ x ∷ []))) ≡ Some b → b ≡ []
     go false v e q = new v e q
@@ -168,16 +136,7 @@ behind_fits w x ua none b = go (nat_lt 64 (length (w ++ x ∷ []))) w none
 
 -- a wire that loses no frame that counts
 pub fits_sans : (w : List OnWire) → overflows w ≡ false → sans (fits w) ≡ sans w
-fits_sans w h = go (nat_lt 64 (length w)) w h
-  where
-    first : (y : OnWire) (v : List OnWire) (o : Bool) → is_act y.frame ≡ o → counts_first (y ∷ v) ≡ false → sans v ≡ sans (y ∷ v)
-    first y v true p e = rw p refl
-    first y v false p e = absurd (let z : true ≡ false = rw p at e in cc)
-
-    go : (o : Bool) (v : List OnWire) → (o && counts_first v) ≡ false → sans (cond o (drop 1 v) v) ≡ sans v
-    go false v e = refl
-    go true [] e = refl
-    go true (y ∷ v) e = first y v (is_act y.frame) refl e
+fits_sans w h = grind arith
 
 -- ## Sending
 
@@ -188,33 +147,13 @@ Rests G W e f to_n to_f =
     → Joined (Unit {0}) e (as_up f.phase f) to_n b × (frame_due (as_up f.phase f) ≡ None) × G
 
 pub data_due : (e : EndState) (c : Control) → AnswersOnly e.due → frame_due e ≡ Some c → IsData c × (is_act c ≡ false)
-data_due e c a is =
-    fetch_cases (λ f o. o ≡ Some c → IsData c × (is_act c ≡ false)) e (λ d ds p q. control d ds (rw p at a) q) (λ p q n. cc)
-    (λ info p q n. let P : Control → Type 0 = λ k. IsData k × (is_act k ≡ false) in
-    subst P (some (I (e.session.next % 8) (expected e.session) info) c n) (tt, refl)) is
-  where
-    some : (k c : Control) → Some k ≡ Some c → k ≡ c
-    some k c e = cc
-
-    P : Control → Type 0
-    P k = IsData k × (is_act k ≡ false)
-
-    control : (d : Due) (ds : List Due) → AnswersOnly (d ∷ ds) → Some (control_due e d) ≡ Some c → IsData c × (is_act c ≡ false)
-    control Rset_due ds h q = absurd h
-    control Ua_due ds h q = absurd h
-    control frame ds h q = subst P (some (control_due e frame) c q) (tt, refl)
-
-answers_rest : (d : Due) (ds : List Due) → AnswersOnly (d ∷ ds) → AnswersOnly ds
-answers_rest Rset_due ds h = absurd h
-answers_rest Ua_due ds h = absurd h
-answers_rest _ ds h = h
+data_due e c a is = grind arith
 
 pub fetched-phase : (e : EndState) → (fetched e).phase ≡ e.phase
 fetched-phase e = fetch_cases (λ f o. f.phase ≡ e.phase) e (λ d ds p. refl) (λ p q. refl) (λ info p q. refl)
 
 pub fetched_answers : (e : EndState) → AnswersOnly e.due → AnswersOnly (fetched e).due
-fetched_answers e a =
-    fetch_cases (λ f o. AnswersOnly f.due) e (λ d ds p. answers_rest d ds (rw p at a)) (λ p q. a) (λ info p q. a)
+fetched_answers e a = grind arith
 
 -- V says what W says, and that the frame c, put on the wire w, makes it lose no frame that counts and is no RNR
 record SaysMore (W V : Type 0) (w : List OnWire) (c : Control) : Type 0 where
@@ -254,12 +193,7 @@ keeps_each G n e v c is k =
     let d = data_due e c k.1 is in
     let over : Bool = overflows (with_frame v.to_host c) in
     let V : Type 0 = ((n.lost || over) ≡ false) × ((n.rnr || is_rnr c) ≡ false) in
-    let more : SaysMore (IsWhole n) V v.to_host c =
-    record {
-      weaker = λ w. ((or_parts n.lost over w.0).0, (or_parts n.rnr (is_rnr c) w.1).0);
-      fits = λ w. (or_parts n.lost over w.0).1;
-      no_rnr = λ w. (or_parts n.rnr (is_rnr c) w.1).1;
-    } in
+    let more : SaysMore (IsWhole n) V v.to_host c = grind arith in
     let r : Rests G V (fetched e) v.host.side (sans v.to_controller) (sans (fits (with_frame v.to_host c))) =
     rests_put G e v.host.side (sans v.to_controller) is d more k.2 in
     (fetched-phase e ∙ k.0, fetched_answers e k.1, rw (not_rset c (inl d.0)) r)
@@ -314,8 +248,7 @@ pub offer_up : (e : EndState) (fragments : List Fragment) → e.phase ≡ Up →
 offer_up e fragments up = rw up refl
 
 pub turn-phase : (e : EndState) (t : ShdlcTurn) → (shdlc_turn e t).phase ≡ e.phase
-turn-phase e (SetReady r) = ready-phase e r
-turn-phase e (Offer fragments) = by_phase {P = (shdlc_turn e (Offer fragments)).phase ≡ e.phase} e.phase (λ q. rw q refl) (λ q. rw q refl) (λ q. rw q refl)
+turn-phase e t = grind arith
 
 -- turns leave few answers to send
 few_turn : (e : EndState) (t : ShdlcTurn) → e.phase ≡ Up → room e ≤ 2 → room (shdlc_turn e t) ≤ 2
@@ -362,8 +295,7 @@ drains m i n ts l e up answers few h =
 
 -- an end with nothing to send
 pub nothing_sent : (m : ℕ) (e : EndState) → frame_due e ≡ None → frames_of m e ≡ []
-nothing_sent zero e none = refl
-nothing_sent (suc m) e none = rw none refl
+nothing_sent m e none = grind arith
 
 pub sends_nothing : (m : ℕ) (n : Losses) (l : ShdlcLink) (e : EndState) → frame_due e ≡ None → TiedLink n (with_shdlc_controller l e)
     → TiedLink (noted_all n l (frames_of m e)) (with_shdlc_controller (shdlc_put_all l (frames_of m e)) (after_frames m e))
@@ -374,17 +306,7 @@ abbrev pub with_ua : EndState → EndState
 with_ua e = record e { due = Ua_due ∷ e.due }
 
 turn-ua : (e : EndState) (t : ShdlcTurn) → shdlc_turn (with_ua e) t ≡ with_ua (shdlc_turn e t)
-turn-ua e (Offer fragments) =
-    by_phase {P = shdlc_turn (with_ua e) (Offer fragments) ≡ with_ua (shdlc_turn e (Offer fragments))} e.phase (λ q. rw q refl) (λ q. rw q refl)
-    (λ q. rw q refl)
-turn-ua e (SetReady r) = go e.ready r e.session.answered_rnr refl refl
-  where
-    go : (a b c : Bool) → e.ready ≡ a → e.session.answered_rnr ≡ c → shdlc_turn (with_ua e) (SetReady b) ≡ with_ua (shdlc_turn e (SetReady b))
-    go true true c p q = rw p refl
-    go false false c p q = rw p refl
-    go true false c p q = rw p refl
-    go false true true p q = rw (p, q) refl
-    go false true false p q = rw (p, q) refl
+turn-ua e t = grind arith
 
 turned-ua : (ts : List ShdlcTurn) (e : EndState) → shdlc_turned (with_ua e) ts ≡ with_ua (shdlc_turned e ts)
 turned-ua [] e = refl
@@ -406,12 +328,7 @@ after_frames-phase zero e = refl
 after_frames-phase (suc m) e = after_frames-phase m (fetched e) ∙ fetched-phase e
 
 put-to_controller : (l : ShdlcLink) (c : Control) → (shdlc_put l c).to_controller ≡ l.to_controller
-put-to_controller l (Rset _ _) = refl
-put-to_controller l (I _ _ _) = refl
-put-to_controller l (S _ _) = refl
-put-to_controller l Ua = refl
-put-to_controller l (Act _ _) = refl
-put-to_controller l Clt = refl
+put-to_controller l c = grind arith
 
 pub put_all-to_controller : (cs : List Control) (l : ShdlcLink) → (shdlc_put_all l cs).to_controller ≡ l.to_controller
 put_all-to_controller [] l = refl

@@ -1,6 +1,6 @@
 -- What stands on a wire: RSETs, UAs, and the frames that the end will take in a session.
-use Rattle.link_laws.proofs.Words.{Act, Clt, Control, Down, I, LinkState, List, None, OnWire, Option, Rset, S, Some, Ua, Up, Waiting, [], ap, arith, inl, inr}
-use Rattle.link_laws.proofs.Words.{older, refl, ℕ, ◌++◌, ◌+◌, ◌<◌, ◌∙◌, ◌∷◌, ◌≡◌, ◌≤◌, ◌⊎◌}
+use Rattle.link_laws.proofs.Words.{Control, Down, LinkState, List, None, OnWire, Option, Rset, Some, Ua, Up, Waiting, [], ap, arith, inr, older, refl, ℕ, ◌++◌}
+use Rattle.link_laws.proofs.Words.{◌+◌, ◌<◌, ◌∙◌, ◌∷◌, ◌≡◌, ◌≤◌, ◌⊎◌}
 
 -- a frame of a session
 abbrev pub IsData : Control → Type 0
@@ -72,24 +72,14 @@ Young b (x ∷ xs) = (x.age ≤ b) × Young x.age xs
 -- ## One frame more
 
 add_rset-append : (c : Control) (a : ℕ) (r s : List ℕ) → add_rset c a (r ++ s) ≡ add_rset c a r ++ s
-add_rset-append (Rset _ _) a r s = refl
-add_rset-append (I _ _ _) a r s = refl
-add_rset-append (S _ _) a r s = refl
-add_rset-append Ua a r s = refl
-add_rset-append (Act _ _) a r s = refl
-add_rset-append Clt a r s = refl
+add_rset-append c a r s = grind arith
 
 pub rsets-append : (w : List OnWire) (x : OnWire) → rsets (w ++ x ∷ []) ≡ rsets w ++ rsets (x ∷ [])
 rsets-append [] x = refl
 rsets-append (y ∷ w) x = ap (add_rset y.frame y.age) (rsets-append w x) ∙ add_rset-append y.frame y.age (rsets w) (rsets (x ∷ []))
 
 add_ua-append : (c : Control) (a : ℕ) (r s : List ℕ) → add_ua c a (r ++ s) ≡ add_ua c a r ++ s
-add_ua-append (Rset _ _) a r s = refl
-add_ua-append (I _ _ _) a r s = refl
-add_ua-append (S _ _) a r s = refl
-add_ua-append Ua a r s = refl
-add_ua-append (Act _ _) a r s = refl
-add_ua-append Clt a r s = refl
+add_ua-append c a r s = grind arith
 
 pub uas-append : (w : List OnWire) (x : OnWire) → uas (w ++ x ∷ []) ≡ uas w ++ uas (x ∷ [])
 uas-append [] x = refl
@@ -108,16 +98,13 @@ NotUa Ua = ⊥
 NotUa _ = Unit {0}
 
 pub no_rset_step : (c : Control) (a : ℕ) (r : List ℕ) → add_rset c a r ≡ [] → (r ≡ []) × NotRset c
-no_rset_step (Rset _ _) a r h = cc
-no_rset_step _ a r h = (h, tt)
+no_rset_step c a r h = grind arith
 
 pub no_ua_step : (c : Control) (a : ℕ) (r : List ℕ) → add_ua c a r ≡ [] → (r ≡ []) × NotUa c
-no_ua_step Ua a r h = cc
-no_ua_step _ a r h = (h, tt)
+no_ua_step c a r h = grind arith
 
 pub number_ok : (m k : ℕ) (c : Control) → NotRset c → NumberOk m c k
-number_ok m k (Rset _ _) h = absurd h
-number_ok m k _ h = tt
+number_ok m k c h = grind arith
 
 pub numbered_none : (m : ℕ) (w : List OnWire) → rsets w ≡ [] → Numbered m w
 numbered_none m [] h = tt
@@ -126,8 +113,7 @@ numbered_none m (x ∷ xs) h =
     (number_ok m x.number x.frame s.1, numbered_none m xs s.0)
 
 pub tail_step_other : (c : Control) (xs : List OnWire) (P : Type 0) → NotRset c → P → tail_step c xs P
-tail_step_other (Rset _ _) xs P h p = absurd h
-tail_step_other _ xs P h p = p
+tail_step_other c xs P h p = grind arith
 
 pub tail_none : (w : List OnWire) → rsets w ≡ [] → Tail w
 tail_none [] h = tt
@@ -136,12 +122,7 @@ tail_none (x ∷ xs) h =
     tail_step_other x.frame xs (Tail xs) s.1 (tail_none xs s.0)
 
 tail_one : (c : Control) → tail_step c [] (Unit {0})
-tail_one (Rset _ _) = tt
-tail_one (I _ _ _) = tt
-tail_one (S _ _) = tt
-tail_one Ua = tt
-tail_one (Act _ _) = tt
-tail_one Clt = tt
+tail_one c = grind arith
 
 -- any frame may stand behind frames without an RSET
 pub tail_push : (w : List OnWire) (x : OnWire) → rsets w ≡ [] → Tail (w ++ x ∷ [])
@@ -150,14 +131,8 @@ tail_push (y ∷ w) x h =
     let s = no_rset_step y.frame y.age (rsets w) h in
     tail_step_other y.frame (w ++ x ∷ []) (Tail (w ++ x ∷ [])) s.1 (tail_push w x s.0)
 
-after_rset_ua : (w : List OnWire) (x : OnWire) → x.frame ≡ Ua → uas w ≡ [] → AfterRset w → AfterRset (w ++ x ∷ [])
-after_rset_ua [] x e u h = e
-after_rset_ua (y ∷ []) x e u h = absurd (let q : add_ua Ua y.age [] ≡ [] = rw h at u in let r : y.age ∷ [] ≡ [] = q in cc)
-after_rset_ua (y ∷ z ∷ w) x e u h = absurd h
-
 tail_step_ua : (c : Control) (w : List OnWire) (x : OnWire) (P Q : Type 0) → x.frame ≡ Ua → uas w ≡ [] → (P → Q) → tail_step c w P → tail_step c (w ++ x ∷ []) Q
-tail_step_ua (Rset _ _) w x P Q e u f h = after_rset_ua w x e u h
-tail_step_ua _ w x P Q e u f h = f h
+tail_step_ua c w x P Q e u f h = grind arith
 
 -- a UA may stand behind an RSET where there is none yet
 pub tail_push_ua : (w : List OnWire) (x : OnWire) → x.frame ≡ Ua → uas w ≡ [] → Tail w → Tail (w ++ x ∷ [])
@@ -169,9 +144,7 @@ tail_push_ua (y ∷ w) x e u h =
 -- ## Behind a UA
 
 behind_step_none : (c : Control) (xs : List OnWire) (o : Option (List OnWire)) → NotUa c → o ≡ None → behind_step c xs o ≡ None
-behind_step_none (Rset _ _) xs o h e = refl
-behind_step_none Ua xs o h e = absurd h
-behind_step_none _ xs o h e = e
+behind_step_none c xs o h e = grind arith
 
 pub behind_none : (w : List OnWire) → uas w ≡ [] → behind_ua w ≡ None
 behind_none [] h = refl
@@ -181,9 +154,7 @@ behind_none (x ∷ xs) h =
 
 behind_step_push : (c : Control) (w ys : List OnWire) (x : OnWire) (o p : Option (List OnWire)) → (o ≡ Some ys → p ≡ Some (ys ++ x ∷ []))
     → behind_step c w o ≡ Some ys → behind_step c (w ++ x ∷ []) p ≡ Some (ys ++ x ∷ [])
-behind_step_push (Rset _ _) w ys x o p f h = cc
-behind_step_push Ua w ys x o p f h = let e : w ≡ ys = cc in ap (λ (l : List OnWire). Some (l ++ x ∷ [])) e
-behind_step_push _ w ys x o p f h = f h
+behind_step_push c w ys x o p f h = grind arith
 
 pub behind_push : (w ys : List OnWire) (x : OnWire) → behind_ua w ≡ Some ys → behind_ua (w ++ x ∷ []) ≡ Some (ys ++ x ∷ [])
 behind_push [] ys x h = cc
@@ -191,9 +162,7 @@ behind_push (y ∷ w) ys x h = behind_step_push y.frame w ys x (behind_ua w) (be
 
 behind_step_push_none : (c : Control) (w : List OnWire) (x : OnWire) (o p : Option (List OnWire)) → (o ≡ None → p ≡ None)
     → behind_step c w o ≡ None → behind_step c (w ++ x ∷ []) p ≡ None
-behind_step_push_none (Rset _ _) w x o p f h = refl
-behind_step_push_none Ua w x o p f h = cc
-behind_step_push_none _ w x o p f h = f h
+behind_step_push_none c w x o p f h = grind arith
 
 pub behind_push_none : (w : List OnWire) (x : OnWire) → NotUa x.frame → behind_ua w ≡ None → behind_ua (w ++ x ∷ []) ≡ None
 behind_push_none [] x n h = behind_step_none x.frame [] None n refl
@@ -209,9 +178,7 @@ behind_new (y ∷ w) x e u = go y.frame y.age u (behind_new w x e)
         → (uas w ≡ [] → (behind_ua (w ++ x ∷ []) ≡ None) ⊎ ((behind_ua (w ++ x ∷ []) ≡ Some []) × (rsets w ≡ [])))
         → (behind_step c (w ++ x ∷ []) (behind_ua (w ++ x ∷ [])) ≡ None)
         ⊎ ((behind_step c (w ++ x ∷ []) (behind_ua (w ++ x ∷ [])) ≡ Some []) × (add_rset c a (rsets w) ≡ []))
-    go (Rset _ _) a q f = inl refl
-    go Ua a q f = cc
-    go _ a q f = f q
+    go c a q f = grind arith
 
 -- no RSET stands before the UA, and one UA less behind it
 pub behind_rsets : (w ys : List OnWire) → behind_ua w ≡ Some ys → (rsets w ≡ rsets ys) × ((a : ℕ) × (uas w ≡ a ∷ uas ys))
@@ -232,24 +199,14 @@ plus_one [] = []
 plus_one (a ∷ r) = (a + 1) ∷ plus_one r
 
 add_rset-plus : (c : Control) (a : ℕ) (r : List ℕ) → add_rset c (a + 1) (plus_one r) ≡ plus_one (add_rset c a r)
-add_rset-plus (Rset _ _) a r = refl
-add_rset-plus (I _ _ _) a r = refl
-add_rset-plus (S _ _) a r = refl
-add_rset-plus Ua a r = refl
-add_rset-plus (Act _ _) a r = refl
-add_rset-plus Clt a r = refl
+add_rset-plus c a r = grind arith
 
 pub rsets-older : (w : List OnWire) → rsets (older w) ≡ plus_one (rsets w)
 rsets-older [] = refl
 rsets-older (x ∷ xs) = ap (add_rset x.frame (x.age + 1)) (rsets-older xs) ∙ add_rset-plus x.frame x.age (rsets xs)
 
 add_ua-plus : (c : Control) (a : ℕ) (r : List ℕ) → add_ua c (a + 1) (plus_one r) ≡ plus_one (add_ua c a r)
-add_ua-plus (Rset _ _) a r = refl
-add_ua-plus (I _ _ _) a r = refl
-add_ua-plus (S _ _) a r = refl
-add_ua-plus Ua a r = refl
-add_ua-plus (Act _ _) a r = refl
-add_ua-plus Clt a r = refl
+add_ua-plus c a r = grind arith
 
 pub uas-older : (w : List OnWire) → uas (older w) ≡ plus_one (uas w)
 uas-older [] = refl
@@ -259,14 +216,8 @@ pub numbered_older : (m : ℕ) (w : List OnWire) → Numbered m w → Numbered m
 numbered_older m [] h = tt
 numbered_older m (x ∷ xs) h = (h.0, numbered_older m xs h.1)
 
-after_rset_older : (w : List OnWire) → AfterRset w → AfterRset (older w)
-after_rset_older [] h = tt
-after_rset_older (x ∷ []) h = h
-after_rset_older (x ∷ y ∷ ys) h = absurd h
-
 tail_step_older : (c : Control) (w : List OnWire) (P Q : Type 0) → (P → Q) → tail_step c w P → tail_step c (older w) Q
-tail_step_older (Rset _ _) w P Q f h = after_rset_older w h
-tail_step_older _ w P Q f h = f h
+tail_step_older c w P Q f h = grind arith
 
 pub tail_older : (w : List OnWire) → Tail w → Tail (older w)
 tail_older [] h = tt
@@ -277,12 +228,7 @@ older_part None = None
 older_part (Some w) = Some (older w)
 
 behind_step-older : (c : Control) (w : List OnWire) (o : Option (List OnWire)) → behind_step c (older w) (older_part o) ≡ older_part (behind_step c w o)
-behind_step-older (Rset _ _) w o = refl
-behind_step-older (I _ _ _) w o = refl
-behind_step-older (S _ _) w o = refl
-behind_step-older Ua w o = refl
-behind_step-older (Act _ _) w o = refl
-behind_step-older Clt w o = refl
+behind_step-older c w o = grind arith
 
 pub behind_ua-older : (w : List OnWire) → behind_ua (older w) ≡ older_part (behind_ua w)
 behind_ua-older [] = refl
@@ -307,48 +253,37 @@ young_older b (x ∷ xs) h = (omega (arith, h.0), young_older x.age xs h.1)
 -- ## A frame of a session changes none of these
 
 pub data_not_rset : (c : Control) → IsData c → NotRset c
-data_not_rset (Rset _ _) h = absurd h
-data_not_rset _ h = tt
+data_not_rset c h = grind arith
 
 pub data_not_ua : (c : Control) → IsData c → NotUa c
-data_not_ua Ua h = absurd h
-data_not_ua _ h = tt
+data_not_ua c h = grind arith
 
 pub not_rset_adds : (c : Control) (a : ℕ) (r : List ℕ) → NotRset c → add_rset c a r ≡ r
-not_rset_adds (Rset _ _) a r h = absurd h
-not_rset_adds _ a r h = refl
+not_rset_adds c a r h = grind arith
 
 pub not_ua_adds : (c : Control) (a : ℕ) (r : List ℕ) → NotUa c → add_ua c a r ≡ r
-not_ua_adds Ua a r h = absurd h
-not_ua_adds _ a r h = refl
+not_ua_adds c a r h = grind arith
 
 pub data_behind : (c : Control) (w : List OnWire) (o : Option (List OnWire)) → IsData c → behind_step c w o ≡ o
-data_behind (Rset _ _) w o h = absurd h
-data_behind Ua w o h = absurd h
-data_behind _ w o h = refl
+data_behind c w o h = grind arith
 
 pub not_rset_tail : (c : Control) (w : List OnWire) (P : Type 0) → NotRset c → tail_step c w P → P
-not_rset_tail (Rset _ _) w P h p = absurd h
-not_rset_tail _ w P h p = p
+not_rset_tail c w P h p = grind arith
 
 pub rset_young : (b a : ℕ) (r : List ℕ) (w : List OnWire) → Young b w → rsets w ≡ a ∷ r → a ≤ b
 rset_young b a r [] y h = cc
 rset_young b a r (x ∷ xs) y h = go x.frame h (rset_young b a r xs (young_later x.age b xs y.0 y.1))
   where
     go : (c : Control) → add_rset c x.age (rsets xs) ≡ a ∷ r → (rsets xs ≡ a ∷ r → a ≤ b) → a ≤ b
-    go (Rset _ _) q f = let e : x.age ≡ a = cc in omega (arith, y.0)
-    go _ q f = f q
+    go c q f = grind arith
 
 pub ua_young : (b a : ℕ) (r : List ℕ) (w : List OnWire) → Young b w → uas w ≡ a ∷ r → a ≤ b
 ua_young b a r [] y h = cc
 ua_young b a r (x ∷ xs) y h = go x.frame h (ua_young b a r xs (young_later x.age b xs y.0 y.1))
   where
     go : (c : Control) → add_ua c x.age (uas xs) ≡ a ∷ r → (uas xs ≡ a ∷ r → a ≤ b) → a ≤ b
-    go Ua q f = let e : x.age ≡ a = cc in omega (arith, y.0)
-    go _ q f = f q
+    go c q f = grind arith
 
 -- behind an RSET without a UA stands nothing
 pub after_rset_empty : (w : List OnWire) → uas w ≡ [] → AfterRset w → w ≡ []
-after_rset_empty [] u h = refl
-after_rset_empty (y ∷ []) u h = absurd (let q : add_ua Ua y.age [] ≡ [] = rw h at u in let r : y.age ∷ [] ≡ [] = q in cc)
-after_rset_empty (y ∷ z ∷ w) u h = absurd h
+after_rset_empty w u h = grind arith
