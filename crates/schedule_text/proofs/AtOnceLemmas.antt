@@ -1,7 +1,8 @@
 -- Lines that are read at once are what their rows say.
 use Rattle.std.proofs.Common.{◌≡◌, ℕ, List, [], ◌∷◌, false, refl, sym, ap, ◌∙◌, subst, arith, Option, Some, None, Ok, codes, is_some}
-use Rattle.std.proofs.Common.{◌==◌, ◌≤◌, true, Bool, length}
+use Rattle.std.proofs.Common.{◌==◌, ◌≤◌, ◌-◌, true, Bool, length, take, drop, get_or}
 use Rattle.std.proofs.lemmas.Bool.{eqb-true}
+use Rattle.std.proofs.lemmas.List.{take_all}
 use Rattle.std.proofs.lemmas.List.Sums.{list_all-from_AllPass}
 use Rattle.std.specs.Option.{option_map, option_and_then}
 use Rattle.hex.specs.Hex.{decode_of, hex_digit_value, is_hex_digit}
@@ -158,19 +159,37 @@ message_is_word word bytes h some =
     let read = decode_of-ok word bytes (ok_of (decode_of word) bytes h) in
     (omega (arith, read.2, some), list_all-from_AllPass is_letter word (λ k d within. digit_is_letter _ (read.1 k d within)))
 
--- a space and one word
-pub one_word : (word : List ℕ) → IsWord word → words (32 ∷ word) ≡ word ∷ []
-one_word word h = words-spaced (word ∷ []) (h, tt)
+-- a space and the word of an end
+pub end_alone : (rest : List ℕ) (at : End) → 1 ≤ length rest → get_or rest 0 0 ≡ 32 → end_value (take (length rest - 1) (drop 1 rest)) ≡ Some at
+    → words rest ≡ take (length rest - 1) (drop 1 rest) ∷ []
+end_alone (a ∷ word) at some space is =
+    let all : take (length (a ∷ word) - 1) word ≡ word = take_all _ word (omega arith) in
+    let read : end_value word ≡ Some at = ap end_value (sym all) ∙ is in
+    ap (λ x. words (x ∷ word)) space ∙ words-spaced (word ∷ []) (end_is_word word at read, tt) ∙ ap (λ w. w ∷ []) (sym all)
+end_alone [] at some space is = absurd (omega (arith, some))
 
 -- a byte is one word
 pub byte_is_word : (word : List ℕ) (n : ℕ) → byte_value word ≡ Some n → IsWord word
-byte_is_word [] n h = cc (sym (byte_of_others [] (λ e. omega arith)) ∙ h)
-byte_is_word (a ∷ []) n h = cc (sym (byte_of_others (a ∷ []) (λ e. omega arith)) ∙ h)
 byte_is_word (a ∷ b ∷ []) n h = let digits = byte_letters a b n h in (omega arith, rw (digits.0, digits.1) refl)
-byte_is_word (a ∷ b ∷ c ∷ ws) n h = cc (sym (byte_of_others (a ∷ b ∷ c ∷ ws) (λ e. omega arith)) ∙ h)
+byte_is_word word n h = cc (sym (byte_of_others word (λ e. omega arith)) ∙ h)
 
 -- three words, a space before each
-pub send_words : (a b c : List ℕ) (at : End) (pid : ℕ) (bytes : List ℕ) → end_value a ≡ Some at → byte_value b ≡ Some pid → bytes_value c ≡ Some bytes
-    → 1 ≤ length bytes → words (32 ∷ spaced (a ∷ b ∷ c ∷ [])) ≡ a ∷ b ∷ c ∷ []
-send_words a b c at pid bytes is_end is_byte is_message some =
-    words-spaced (a ∷ b ∷ c ∷ []) (end_is_word a at is_end, (byte_is_word b pid is_byte, (message_is_word c bytes is_message some, tt)))
+send_begins : (rest : List ℕ) → 8 ≤ length rest → get_or rest 0 0 ≡ 32 → get_or rest 4 0 ≡ 32 → get_or rest 7 0 ≡ 32
+    → rest ≡ 32 ∷ spaced ((get_or rest 1 0 ∷ get_or rest 2 0 ∷ get_or rest 3 0 ∷ []) ∷ (get_or rest 5 0 ∷ get_or rest 6 0 ∷ [])
+    ∷ take (length rest - 8) (drop 8 rest) ∷ [])
+send_begins (a ∷ b ∷ c ∷ d ∷ e ∷ f ∷ g ∷ h ∷ digits) long one two three =
+    let all : take (length (a ∷ b ∷ c ∷ d ∷ e ∷ f ∷ g ∷ h ∷ digits) - 8) digits ≡ digits = take_all _ digits (omega arith) in cc
+send_begins rest long one two three = absurd (omega (arith, long))
+
+pub send_words : (rest : List ℕ) (at : End) (pid : ℕ) (bytes : List ℕ) → 8 ≤ length rest → get_or rest 0 0 ≡ 32 → get_or rest 4 0 ≡ 32
+    → get_or rest 7 0 ≡ 32 → end_value (get_or rest 1 0 ∷ get_or rest 2 0 ∷ get_or rest 3 0 ∷ []) ≡ Some at
+    → byte_value (get_or rest 5 0 ∷ get_or rest 6 0 ∷ []) ≡ Some pid → bytes_value (take (length rest - 8) (drop 8 rest)) ≡ Some bytes → 1 ≤ length bytes
+    → words rest ≡ (get_or rest 1 0 ∷ get_or rest 2 0 ∷ get_or rest 3 0 ∷ []) ∷ (get_or rest 5 0 ∷ get_or rest 6 0 ∷ [])
+    ∷ take (length rest - 8) (drop 8 rest) ∷ []
+send_words rest at pid bytes long one two three is_end is_byte is_message some =
+    ap words (send_begins rest long one two three)
+    ∙ words-spaced ((get_or rest 1 0 ∷ get_or rest 2 0 ∷ get_or rest 3 0 ∷ []) ∷ (get_or rest 5 0 ∷ get_or rest 6 0 ∷ [])
+    ∷ take (length rest - 8) (drop 8 rest) ∷ []) (
+      end_is_word (get_or rest 1 0 ∷ get_or rest 2 0 ∷ get_or rest 3 0 ∷ []) at is_end,
+      (byte_is_word (get_or rest 5 0 ∷ get_or rest 6 0 ∷ []) pid is_byte, (message_is_word (take (length rest - 8) (drop 8 rest)) bytes is_message some, tt)),
+    )

@@ -1,5 +1,5 @@
 -- How growing text goes on.
-use Rattle.std.proofs.Common.{◌≡◌, ℕ, ◌+◌, ◌*◌, ◌≤◌, ◌/◌, ◌%◌, ◌<◌, List, [], ◌∷◌, ◌++◌, length, take, refl, sym, ◌∙◌, ap, ap₂, subst, slice_index}
+use Rattle.std.proofs.Common.{◌≡◌, ℕ, ◌+◌, ◌*◌, ◌≤◌, ◌/◌, ◌%◌, ◌<◌, List, [], ◌∷◌, ◌++◌, length, take, refl, sym, ◌∙◌, ap, subst, slice_index}
 use Rattle.std.proofs.Common.{append_assoc, get_or, ◌^◌, append-nil, length-append, arith, false}
 use Rattle.std.proofs.lemmas.List.{take_at, take_more, take-append-le}
 use Rattle.std.proofs.lemmas.Grind.{flat_map-append}
@@ -63,14 +63,22 @@ holds_more start text more t later h mark grown still =
           ∙ (h.kept ∙ sym (ap (λ xs. take start.mark xs) e ∙ take-append-le start.mark (start.before ++ text) more h.within)));
     }
 
--- the four letters of a word
+-- the letters of a word, one by one
+pub two_are : (ws : List ℕ) → length ws ≡ 2 → get_or ws 0 0 ∷ get_or ws 1 0 ∷ [] ≡ ws
+two_are (a ∷ b ∷ []) h = refl
+two_are ws h = absurd (omega arith)
+
+pub three_are : (ws : List ℕ) → length ws ≡ 3 → get_or ws 0 0 ∷ get_or ws 1 0 ∷ get_or ws 2 0 ∷ [] ≡ ws
+three_are (a ∷ b ∷ c ∷ []) h = refl
+three_are ws h = absurd (omega arith)
+
 pub four_are : (ws : List ℕ) → length ws ≡ 4 → get_or ws 0 0 ∷ get_or ws 1 0 ∷ get_or ws 2 0 ∷ get_or ws 3 0 ∷ [] ≡ ws
-four_are [] h = absurd (omega arith)
-four_are (a ∷ []) h = absurd (omega arith)
-four_are (a ∷ b ∷ []) h = absurd (omega arith)
-four_are (a ∷ b ∷ c ∷ []) h = absurd (omega arith)
 four_are (a ∷ b ∷ c ∷ d ∷ []) h = refl
-four_are (a ∷ b ∷ c ∷ d ∷ e ∷ xs) h = absurd (omega arith)
+four_are ws h = absurd (omega arith)
+
+-- three words that are those
+pub three_words : {a b c x y z : List ℕ} → a ≡ x → b ≡ y → c ≡ z → spaced (a ∷ b ∷ c ∷ []) ≡ spaced (x ∷ y ∷ z ∷ [])
+three_words p q r = cc
 
 -- one more word
 pub spaced-push : (first word : List ℕ) (more : List (List ℕ)) → spaced (first ∷ (more ++ word ∷ [])) ≡ spaced (first ∷ more) ++ (32 ∷ word)
@@ -96,14 +104,6 @@ holds_two start first word other more t h =
     (sym (spaced-push first other (more ++ word ∷ []) ∙ ap (λ t. t ++ (32 ∷ other)) (spaced-push first word more)
     ∙ append_assoc (spaced (first ∷ more)) (32 ∷ word) (32 ∷ other))) h
 
--- behind a word more letters of it
-pub holds_longer : (start : Start) (first word letters : List ℕ) (more : List (List ℕ)) (t : Text)
-    → HoldsText start (spaced (first ∷ (more ++ word ∷ [])) ++ letters) t → HoldsWords start (first ∷ (more ++ (word ++ letters) ∷ [])) t
-holds_longer start first word letters more t h =
-    subst (λ x. HoldsText start x t)
-    (ap (λ t. t ++ letters) (spaced-push first word more) ∙ append_assoc (spaced (first ∷ more)) (32 ∷ word) letters
-    ∙ sym (spaced-push first (word ++ letters) more)) h
-
 -- the digits of bytes and of more bytes
 pub encode-append : (bytes more : List ℕ) → encode_upper (bytes ++ more) ≡ encode_upper bytes ++ encode_upper more
 unfolding encode_with
@@ -114,11 +114,15 @@ pub encode-nil : encode_upper [] ≡ []
 unfolding encode_with
 encode-nil = refl
 
--- the two digits of a byte
-pub two_digits_are : (b high low : ℕ) → high ≡ slice_index upper_digits (b / 16) → low ≡ slice_index upper_digits (b % 16)
-    → high ∷ low ∷ [] ≡ encode_upper (b ∷ [])
-unfolding encode_with
-two_digits_are b high low h l = ap₂ (λ x y. x ∷ y ∷ []) h l
+pub encode-none : (bytes : List ℕ) → length bytes ≡ 0 → [] ≡ encode_upper bytes
+encode-none [] h = sym encode-nil
+encode-none (b ∷ bytes) h = absurd (omega arith)
+
+-- the two digits of the first byte, and those of the rest
+pub digits_from : (digits bytes rest : List ℕ) (first : ℕ) → length digits ≡ 2 → digits ≡ encode_upper (first ∷ []) → bytes ≡ first ∷ rest
+    → get_or digits 0 0 ∷ get_or digits 1 0 ∷ encode_upper rest ≡ encode_upper bytes
+digits_from digits bytes rest first two is cut =
+    ap (λ ds. ds ++ encode_upper rest) (two_are digits two ∙ is) ∙ (sym (encode-append (first ∷ []) rest) ∙ ap encode_upper (sym cut))
 
 -- the digits of more bytes behind those of a front
 pub holds_digits : (start : Start) (text front more digits : List ℕ) (t : Text) → digits ≡ encode_upper more

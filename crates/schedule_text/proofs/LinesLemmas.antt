@@ -69,9 +69,6 @@ abbrev pub Says : Header → FormRow → List (List ℕ) → Type 0
 Says header row ws = Right header.hci header.hosts.items row ws → (said : Line) × (read_of row.name ws ≡ Some (read.Line said)) × MayFollow header said
 
 pub says_send : (header : Header) (ws : List (List ℕ)) → Says header send_row ws
-says_send header [] right = absurd (let h = right.least in omega arith)
-says_send header (a ∷ []) right = absurd (let h = right.least in omega arith)
-says_send header (a ∷ b ∷ []) right = absurd (let h = right.least in omega arith)
 says_send header (a ∷ b ∷ c ∷ ws) right =
     let at = right.words.0 in
     let pid = right.words.1.0 in
@@ -86,6 +83,7 @@ says_send header (a ∷ b ∷ c ∷ ws) right =
         bytes = are_bytes c message.0 message.1;
       },
     )
+says_send header ws right = absurd (let h = right.least in omega arith)
 
 pub says_deliver : (header : Header) (ws : List (List ℕ)) → Says header deliver_row ws
 says_deliver header [] right = absurd (let h = right.least in omega arith)
@@ -159,9 +157,6 @@ bytes_below : (bytes : List ℕ) (k : ℕ) → All (λ b. b < 256) bytes → k <
 bytes_below bytes k small within = small k 0 within
 
 pub says_activate : (header : Header) (ws : List (List ℕ)) → header.hci ≡ true → Says header activate_row ws
-says_activate header [] nodes right = absurd (let h = right.least in omega arith)
-says_activate header (a ∷ []) nodes right = absurd (let h = right.least in omega arith)
-says_activate header (a ∷ b ∷ []) nodes right = absurd (let h = right.least in omega arith)
 says_activate header (a ∷ b ∷ c ∷ ws) nodes right =
     let host = right.words.0 in
     let sync = right.words.1.0 in
@@ -182,14 +177,12 @@ says_activate header (a ∷ b ∷ c ∷ ws) nodes right =
         },
       ),
     )
+says_activate header ws nodes right = absurd (let h = right.least in omega arith)
 
 number_there : (high : ℕ) (word : List ℕ) (n : ℕ) → number_in 1 high word ≡ Some n → (1 ≤ n) × (n ≤ high)
 number_there high word n h = let range = number-range 1 high n word h in (range.1, range.2)
 
 pub says_arm : (header : Header) (ws : List (List ℕ)) → header.hci ≡ true → Says header arm_row ws
-says_arm header [] nodes right = absurd (let h = right.least in omega arith)
-says_arm header (a ∷ []) nodes right = absurd (let h = right.least in omega arith)
-says_arm header (a ∷ b ∷ []) nodes right = absurd (let h = right.least in omega arith)
 says_arm header (a ∷ b ∷ c ∷ ws) nodes right =
     let node = right.words.0 in
     let nth = right.words.1.0 in
@@ -206,6 +199,7 @@ says_arm header (a ∷ b ∷ c ∷ ws) nodes right =
         },
       ),
     )
+says_arm header ws nodes right = absurd (let h = right.least in omega arith)
 
 -- pipes, each of three bytes
 abbrev IsPipe : List ℕ → Type 0
@@ -235,8 +229,6 @@ sender_hosts true at_host nodes h = h
 sender_hosts false at_host nodes h = cc
 
 pub says_init : (header : Header) (ws : List (List ℕ)) → header.hci ≡ true → Says header init_row ws
-says_init header [] nodes right = absurd (let h = right.least in omega arith)
-says_init header (a ∷ []) nodes right = absurd (let h = right.least in omega arith)
 says_init header (a ∷ b ∷ ws) nodes right =
     let at = right.words.0 in
     let identity = right.words.1.0 in
@@ -260,6 +252,7 @@ says_init header (a ∷ b ∷ ws) nodes right =
         },
       ),
     )
+says_init header ws nodes right = absurd (let h = right.least in omega arith)
 
 pub says_settle : (header : Header) (ws : List (List ℕ)) → Says header settle_row ws
 says_settle header [] right = absurd (let h = right.least in omega arith)
@@ -272,15 +265,13 @@ one_host host range = λ k d within. let z : k ≡ 0 = omega arith in subst (λ 
 
 -- what a header says
 pub says_header : (ws : List (List ℕ)) → Right false [] header_row ws → (said : Header) × (read_of name.Header ws ≡ Some (read.Header said)) × IsHeader said
-says_header [] right = absurd (let h = right.least in omega arith)
-says_header (a ∷ []) right = absurd (let h = right.least in omega arith)
-says_header (a ∷ b ∷ []) right = absurd (let h = right.least in omega arith)
 says_header (a ∷ b ∷ c ∷ ws) right =
     let host = right.words.1.1.0 in (
       record { hci = false; hosts = record { items = host.0 ∷ [] } },
       rw host.1 refl,
       record { bare = refl; one = refl; hosts = one_host host.0 (host.2, host.4) },
     )
+says_header ws right = absurd (let h = right.least in omega arith)
 
 -- hosts that rise from one on
 abbrev pub HostsFrom : ℕ → List ℕ → Type 0
@@ -327,8 +318,6 @@ hosts_few (x ∷ xs) h =
 
 pub says_nodes : (ws : List (List ℕ)) → Right false [] nodes_row ws
     → (said : Header) × (read_of name.NodesHeader ws ≡ Some (read.Header said)) × IsNodeHeader said × (length ws ≤ 9)
-says_nodes [] right = absurd (let h = right.least in omega arith)
-says_nodes (a ∷ []) right = absurd (let h = right.least in omega arith)
 says_nodes (a ∷ b ∷ ws) right =
     let hosts = hosts_read 0 ws right.words.1.1 in
     let least = right.least in
@@ -344,6 +333,7 @@ says_nodes (a ∷ b ∷ ws) right =
       },
       omega (arith, few, long),
     )
+says_nodes ws right = absurd (let h = right.least in omega arith)
 
 -- a header, or a line below it
 abbrev pub IsWhole : Option Header → Read → Type 0
@@ -498,12 +488,9 @@ row_whole (Some header) first ws r =
 fits_whole : (header : Option Header) (r : Read) → IsWhole header r → IsInGrammar header r
 fits_whole None (read.Header said) h = h
 fits_whole None (read.Line said) h = absurd h
-fits_whole None read.Skip h = tt
-fits_whole None read.NoMemory h = tt
 fits_whole (Some header) (read.Header said) h = absurd h
 fits_whole (Some header) (read.Line said) h = h
-fits_whole (Some header) read.Skip h = tt
-fits_whole (Some header) read.NoMemory h = tt
+fits_whole header said h = tt
 
 pub row_fits : (header : Option Header) (first : List ℕ) (ws : List (List ℕ)) (r : Read) → by_row header (row_for first ws) ws ≡ Ok r → IsInGrammar header r
 row_fits header first ws r h = fits_whole header r (row_whole header first ws r h)
@@ -553,17 +540,13 @@ Ready hci hosts ws None = Unit {0}
 Ready hci hosts ws (Some row) = Right hci hosts row ws → CanBeRead row.name ws
 
 ready_send : (hci : Bool) (hosts : List ℕ) (ws : List (List ℕ)) → Ready hci hosts ws (Some send_row)
-ready_send hci hosts [] right = absurd (let h = right.least in omega arith)
-ready_send hci hosts (a ∷ []) right = absurd (let h = right.least in omega arith)
-ready_send hci hosts (a ∷ b ∷ []) right = absurd (let h = right.least in omega arith)
 ready_send hci hosts (a ∷ b ∷ c ∷ ws) right = let message = right.words.1.1.0 in subst IsSome (sym message.1) refl
+ready_send hci hosts ws right = absurd (let h = right.least in omega arith)
 
 ready_arm : (hci : Bool) (hosts : List ℕ) (ws : List (List ℕ)) → Ready hci hosts ws (Some arm_row)
-ready_arm hci hosts [] right = absurd (let h = right.least in omega arith)
-ready_arm hci hosts (a ∷ []) right = absurd (let h = right.least in omega arith)
-ready_arm hci hosts (a ∷ b ∷ []) right = absurd (let h = right.least in omega arith)
 ready_arm hci hosts (a ∷ b ∷ c ∷ ws) right =
     let fill = right.words.1.1.0 in subst (λ o. IfSome o (λ bytes. length bytes ≤ 64)) (sym fill.1) fill.3
+ready_arm hci hosts ws right = absurd (let h = right.least in omega arith)
 
 hosts_known : (hci : Bool) (hosts : List ℕ) (from : ℕ) (ws : List (List ℕ)) → AllFit hci hosts from (slots (kind.NewHost ∷ []) ws)
     → AllFit false [] from (slots (kind.NewHost ∷ []) ws)

@@ -1,17 +1,17 @@
 -- What pairs of hexadecimal digits stand for is what the kit reads of them.
-use Rattle.std.proofs.Common.{◌≡◌, ℕ, ◌+◌, ◌*◌, ◌<◌, List, [], ◌∷◌, ◌++◌, length, take, slice_index, refl, sym, ap, ◌∙◌, subst, arith, append_assoc, append-nil}
+use Rattle.std.proofs.Common.{◌≡◌, ℕ, ◌+◌, ◌*◌, ◌<◌, List, [], ◌∷◌, ◌++◌, ◌-◌, ◌≤◌, length, take, drop, get_or, slice_index, refl, sym, ap, ◌∙◌, subst, arith, append_assoc, append-nil}
 use Rattle.std.proofs.Common.{Option, Some, None, Ok, unwrap_or}
 use Rattle.std.specs.Result.{result_ok}
-use Rattle.std.proofs.lemmas.List.{take_more}
+use Rattle.std.proofs.lemmas.List.{take_all, take_more}
 use Rattle.hex.specs.Hex.{decode_pairs, hex_digit_value, pair_value}
 use Rattle.hex.proofs.Pairs.{cons_byte, decode_pairs-ok_pair}
 use Rattle.hex.proofs.HexLemmas.{decode_of-even}
 use Rattle.schedule_text.specs.Values.{byte_value, bytes_value}
-use Rattle.schedule_text.specs.Pairs.{IsPair, IsPairs, IsNextPair}
+use Rattle.schedule_text.specs.Pairs.{IsPair, IsPairs}
 use Rattle.schedule_text.proofs.HexLemmas.{no_high, no_low, two_digits}
 
 -- two digits that stand for a byte
-pub pair_of_value : (high low byte : ℕ) → byte_value (high ∷ low ∷ []) ≡ Some byte → IsPair high low byte
+pair_of_value : (high low byte : ℕ) → byte_value (high ∷ low ∷ []) ≡ Some byte → IsPair high low byte
 pair_of_value high low byte h = go (hex_digit_value high) refl (hex_digit_value low) refl
   where
     go : (x : Option ℕ) → hex_digit_value high ≡ x → (y : Option ℕ) → hex_digit_value low ≡ y → IsPair high low byte
@@ -23,17 +23,13 @@ pair_of_value high low byte h = go (hex_digit_value high) refl (hex_digit_value 
 pub pairs_append : (a x b y : List ℕ) → IsPairs a x → IsPairs b y → IsPairs (a ++ b) (x ++ y)
 pairs_append [] [] b y h k = k
 pairs_append (c ∷ d ∷ a) (v ∷ x) b y h k = (h.0, pairs_append a x b y h.1 k)
-pairs_append [] (v ∷ x) b y h k = absurd h
-pairs_append (c ∷ []) x b y h k = absurd h
-pairs_append (c ∷ d ∷ a) [] b y h k = absurd h
+pairs_append a x b y h k = absurd h
 
 -- two digits for each byte
 pub pairs_twice : (digits bytes : List ℕ) → IsPairs digits bytes → length digits ≡ 2 * length bytes
 pairs_twice [] [] h = refl
 pairs_twice (c ∷ d ∷ digits) (v ∷ bytes) h = let more = pairs_twice digits bytes h.1 in omega (arith, more)
-pairs_twice [] (v ∷ bytes) h = absurd h
-pairs_twice (c ∷ []) bytes h = absurd h
-pairs_twice (c ∷ d ∷ digits) [] h = absurd h
+pairs_twice digits bytes h = absurd h
 
 -- the kit reads them
 pairs_decode : (i : ℕ) (digits bytes : List ℕ) → IsPairs digits bytes → decode_pairs i digits ≡ Ok bytes
@@ -43,9 +39,7 @@ pairs_decode i (c ∷ d ∷ digits) (v ∷ bytes) h =
     let pair : pair_value c d i ≡ Ok (h.0.0 * 16 + h.0.2.0) = rw (h.0.1, h.0.2.1) refl in
     decode_pairs-ok_pair i c d _ digits pair ∙ ap (cons_byte (h.0.0 * 16 + h.0.2.0)) (pairs_decode (i + 2) digits bytes h.1)
     ∙ ap (λ (b : ℕ). Ok (b ∷ bytes)) h.0.2.2
-pairs_decode i [] (v ∷ bytes) h = absurd h
-pairs_decode i (c ∷ []) bytes h = absurd h
-pairs_decode i (c ∷ d ∷ digits) [] h = absurd h
+pairs_decode i digits bytes h = absurd h
 
 pub pairs_read : (digits bytes : List ℕ) → IsPairs digits bytes → bytes_value digits ≡ Some bytes
 pairs_read digits bytes h =
@@ -72,13 +66,16 @@ pairs_all front [] digits bytes is none h = pairs_read digits bytes (subst (λ x
 pairs_all front (d ∷ left) digits bytes is none h = absurd (omega (arith, none))
 
 -- one pair behind a front
-pub pairs_next : (front left digits bytes : List ℕ) (byte : ℕ) (more : List ℕ) → front ++ left ≡ digits → IsPairs front bytes → IsNextPair left byte more
-    → (x : List ℕ) × ((x ++ more ≡ digits) × IsPairs x (bytes ++ byte ∷ []))
-pairs_next front left digits bytes byte more is h next =
-    let two : List ℕ = next.0 ∷ next.1.0 ∷ [] in (
-      front ++ two,
+pub pairs_next : (front left digits bytes : List ℕ) (byte : ℕ) → front ++ left ≡ digits → IsPairs front bytes → 2 ≤ length left
+    → byte_value (get_or left 0 0 ∷ get_or left 1 0 ∷ []) ≡ Some byte
+    → (x : List ℕ) × ((x ++ take (length left - 2) (drop 2 left) ≡ digits) × IsPairs x (bytes ++ byte ∷ []))
+pairs_next front (high ∷ low ∷ more) digits bytes byte is h two read =
+    let pair : List ℕ = high ∷ low ∷ [] in
+    let all : take (length (high ∷ low ∷ more) - 2) more ≡ more = take_all (length (high ∷ low ∷ more) - 2) more (omega arith) in (
+      front ++ pair,
       (
-        append_assoc front two more ∙ ap (λ xs. front ++ xs) (sym next.1.1.0) ∙ is,
-        pairs_append front bytes two (byte ∷ []) h (next.1.1.1, tt),
+        ap (λ xs. (front ++ pair) ++ xs) all ∙ (append_assoc front pair more ∙ is),
+        pairs_append front bytes pair (byte ∷ []) h (pair_of_value high low byte read, tt),
       ),
     )
+pairs_next front left digits bytes byte is h two read = absurd (omega (arith, two))

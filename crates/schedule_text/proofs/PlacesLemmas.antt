@@ -60,12 +60,11 @@ places-read hci hosts from (w ∷ ws) h =
     (h.0.0 ∷ more.0, rw (number-in 0 399 h.0.0 w range.0 (omega arith) range.2, more.1) refl, ap suc more.2, (range.1, range.2, more.3))
 
 pub rise-increasing : (from : ℕ) (ps : List ℕ) → RiseFrom from ps → IsStrictlyIncreasing ps
-rise-increasing from [] h k within = absurd (omega arith)
-rise-increasing from (p ∷ []) h k within = absurd (omega arith)
 rise-increasing from (p ∷ q ∷ ps) h zero within = let next : p + 1 ≤ q = h.2.0 in omega arith
 rise-increasing from (p ∷ q ∷ ps) h (suc k) within =
     let next : suc (k + 1) ≡ suc k + 1 = omega arith in
     subst (λ m. slice_index (q ∷ ps) k < slice_index (p ∷ q ∷ ps) m) next (rise-increasing (p + 1) (q ∷ ps) h.2 k (omega arith))
+rise-increasing from ps h k within = absurd (omega arith)
 
 pub rise-below : (from : ℕ) (ps : List ℕ) → RiseFrom from ps → All (λ p. p < 400) ps
 rise-below from [] h k d within = absurd (omega arith)

@@ -381,9 +381,8 @@ line_again header (line.Settle rounds) world fits short =
 -- ## Headers
 
 one_item : (items : List ℕ) → length items ≡ 1 → (h : ℕ) × (items ≡ h ∷ [])
-one_item [] e = absurd (omega arith)
 one_item (h ∷ []) e = (h, refl)
-one_item (h ∷ k ∷ items) e = absurd (omega arith)
+one_item items e = absurd (omega arith)
 
 one_again : (h : ℕ) → IsHost h → line_of None (spaced (codes "swp" ∷ codes "1" ∷ codes "bare" ∷ byte_text h ∷ []))
     ≡ Ok (read.Header (record { hci = false; hosts = record { items = h ∷ [] } }))

@@ -12,7 +12,3 @@ abbrev pub IsPairs : List ℕ → List ℕ → Type 0
 IsPairs [] [] = Unit {0}
 IsPairs (high ∷ low ∷ digits) (byte ∷ bytes) = IsPair high low byte × IsPairs digits bytes
 IsPairs digits bytes = ⊥
-
--- digits that begin with a pair that stands for this byte, before these digits
-abbrev pub IsNextPair : List ℕ → ℕ → List ℕ → Type 0
-IsNextPair digits byte more = (high : ℕ) × ((low : ℕ) × ((digits ≡ high ∷ low ∷ more) × IsPair high low byte))

@@ -1,18 +1,18 @@
 //! Lines of the few forms that most lines have are read at once where they have no fault and their words stand as they are written.
 //! Each other line is left to the table of the forms.
-ghost use Rattle.std.specs.Prelude.{◌≡◌, ◌==◌, ◌||◌, ◌≤◌, not, false, [], ◌∷◌, length, codes, Some, None, Ok, IfSome};
+ghost use Rattle.std.specs.Prelude.{◌≡◌, ◌==◌, ◌≤◌, false, length, codes, Some, None, Ok, IfSome};
 ghost use Rattle.std.specs.List.{list_any};
 ghost use Rattle.trace_model.specs.declared.line.Line.TheVariants as line;
 ghost use Rattle.schedule_text.specs.declared.read.Read.TheVariants as read;
 ghost use Rattle.trace_model.specs.Lines.{MayFollow};
-ghost use Rattle.schedule_text.specs.Words.{words, spaced};
+ghost use Rattle.schedule_text.specs.Words.{words};
 ghost use Rattle.schedule_text.specs.Forms.{row_for};
 ghost use Rattle.schedule_text.specs.Lines.{by_row, line_of};
 ghost use Rattle.schedule_text.specs.AtOnce.{EndAndWord};
 
 use crate::pairs::bytes_of;
 use crate::read::{MAX_LINE, small_number};
-use crate::values::{byte_of, end_of, number_of};
+use crate::values::{end_of, number_of, pair_of, side_of};
 use crate::words::{
     behind_busy, behind_damage, behind_deliver, behind_lose, behind_ready, behind_reset,
     behind_send, behind_settle, behind_tick, next_word,
@@ -163,16 +163,19 @@ fn send_at_once(header: &Header, rest: &[u8], spare: &mut Vec<u8>, line: &mut Op
     ensures { IfSome line.new (λ said. Ok (read.Line said)
         ≡ by_row (Some header.now) (row_for (codes "send") (words rest.now)) (words rest.now)) }
 {
-    let Some((first, second, digits)) = three_words(rest) else {
+    let [b' ', high, low, side, b' ', one, two, b' ', digits @ ..] = rest else {
         return;
     };
-    let Some(at) = end_of(first) else {
+    let Some(link) = pair_of(*high, *low) else {
         return;
     };
-    let Some(pid) = byte_of(second) else {
+    let Some(at_host) = side_of(*side) else {
         return;
     };
-    if !knows(header, at.link) || !may_send(header, at) || 0x70 <= pid {
+    let Some(pid) = pair_of(*one, *two) else {
+        return;
+    };
+    if !knows(header, link) || (header.hci && !at_host) || 0x70 <= pid {
         return;
     }
     if digits.len() < 2 || MOST_DIGITS < digits.len() {
@@ -180,40 +183,11 @@ fn send_at_once(header: &Header, rest: &[u8], spare: &mut Vec<u8>, line: &mut Op
     }
     if let Some(bytes) = bytes_of(spare, digits) {
         *line = Some(Line::Send {
-            at,
+            at: End { link, at_host },
             pid,
             message: Octets { bytes },
         });
     }
-}
-
-/// Three words, the first of three letters and the second of two, if one space stands before each.
-#[inline(always)]
-fn three_words(rest: &[u8]) -> Option<(&[u8], &[u8], &[u8])>
-    ensures { IfSome result (λ found. rest.now ≡ 32 ∷ spaced (found.0.now ∷ found.1.now ∷ found.2.now ∷ [])) }
-{
-    let behind = behind_space(rest)?;
-    let (first, more) = behind.split_first_chunk::<3>()?;
-    let behind = behind_space(more)?;
-    let (second, more) = behind.split_first_chunk::<2>()?;
-    let third = behind_space(more)?;
-    Some((first, second, third))
-}
-
-/// What stands behind a space.
-#[inline(always)]
-fn behind_space(line: &[u8]) -> Option<&[u8]>
-    ensures { IfSome result (λ more. line.now ≡ 32 ∷ more.now) }
-{
-    let (letter, more) = line.split_first()?;
-    if *letter == b' ' { Some(more) } else { None }
-}
-
-/// Whether an end of this world may send.
-fn may_send(header: &Header, at: End) -> bool
-    ensures { result ≡ (not header.now.hci || at.at_host) }
-{
-    !header.hci || at.at_host
 }
 
 /// The end of a line `deliver E`, `lose E`, `reset E`, `busy E` or `ready E`, if it has no fault and one space stands before the end.
@@ -230,7 +204,10 @@ fn end_at_once(header: &Header, rest: &[u8]) -> Option<End>
     ensures ready { header.now.hci ≡ false → IfSome result (λ at. Ok (read.Line (line.Ready at))
         ≡ by_row (Some header.now) (row_for (codes "ready") (words rest.now)) (words rest.now)) }
 {
-    let at = end_of(behind_space(rest)?)?;
+    let [b' ', word @ ..] = rest else {
+        return None;
+    };
+    let at = end_of(word)?;
     if knows(header, at.link) {
         Some(at)
     } else {

@@ -1,9 +1,9 @@
 //! The bytes that pairs of hexadecimal digits stand for, many at once.
-ghost use Rattle.std.specs.Prelude.{◌≡◌, ◌<◌, ◌≤◌, length, [], Some, true, IfSome};
+ghost use Rattle.std.specs.Prelude.{◌≡◌, ◌<◌, Some, true, IfSome};
 ghost use Rattle.std.specs.List.{list_all};
 ghost use Rattle.hex.specs.Hex.{hex_digit_value, is_hex_digit};
 ghost use Rattle.schedule_text.specs.Values.{bytes_value};
-ghost use Rattle.schedule_text.specs.Pairs.{IsNextPair, IsPairs};
+ghost use Rattle.schedule_text.specs.Pairs.{IsPairs};
 
 use crate::rules::is_hex;
 use crate::values::pair_of;
@@ -18,7 +18,9 @@ const AT_ONCE: usize = 32;
 pub(crate) fn bytes_of(spare: &mut Vec<u8>, digits: &[u8]) -> Option<Vec<u8>>
     ensures { IfSome result (λ bytes. bytes_value digits.now ≡ Some bytes.items) }
 {
-    let mut bytes = left_over(spare);
+    let alloc = *spare.allocator();
+    let mut bytes = replace(spare, Vec::new(alloc));
+    bytes.clear();
     let mut left = digits;
     'pieces: while let Some((piece, more)) = left.split_first_chunk::<AT_ONCE>() {
         if !all_hex(piece) {
@@ -30,7 +32,8 @@ pub(crate) fn bytes_of(spare: &mut Vec<u8>, digits: &[u8]) -> Option<Vec<u8>>
         }
         left = more;
     }
-    'pairs: while let Some((byte, more)) = next_pair(left) {
+    'pairs: while let [high, low, more @ ..] = left {
+        let byte = pair_of(*high, *low)?;
         match bytes.push(byte) {
             Ok(()) => {}
             Err(_) => return None,
@@ -38,27 +41,6 @@ pub(crate) fn bytes_of(spare: &mut Vec<u8>, digits: &[u8]) -> Option<Vec<u8>>
         left = more;
     }
     if left.is_empty() { Some(bytes) } else { None }
-}
-
-/// No bytes, in memory that is left over.
-#[inline(always)]
-fn left_over(spare: &mut Vec<u8>) -> Vec<u8>
-    ensures { result.items ≡ [] }
-{
-    let alloc = *spare.allocator();
-    let mut bytes = replace(spare, Vec::new(alloc));
-    bytes.clear();
-    bytes
-}
-
-/// The byte of the next two digits, and what stands behind them.
-#[inline(always)]
-fn next_pair(digits: &[u8]) -> Option<(u8, &[u8])>
-    ensures { IfSome result (λ found. IsNextPair digits.now found.0 found.1.now) }
-{
-    let (high, behind) = digits.split_first()?;
-    let (low, more) = behind.split_first()?;
-    Some((pair_of(*high, *low)?, more))
 }
 
 /// Whether all digits are hexadecimal. All of them are looked at, so that many are tested at once.

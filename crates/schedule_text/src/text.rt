@@ -1,6 +1,6 @@
 //! Text that grows at the end of a vector until memory runs out.
 ghost use Rattle.std.specs.Prelude.{◌≡◌, ◌<◌, ◌≤◌, true, false, List, ℕ, [], ◌∷◌, ◌++◌, ◌+◌, ◌*◌, ◌/◌, ◌%◌, map, take, length, slice_index};
-ghost use Rattle.std.specs.Prelude.{OnOk, OnErr, if◌then◌else◌};
+ghost use Rattle.std.specs.Prelude.{OnOk, OnErr};
 ghost use Rattle.std.specs.Fmt.{decimal};
 ghost use Rattle.hex.specs.Hex.{encode_upper, upper_digits};
 ghost use Rattle.schedule_text.specs.Entries.{end_text, byte_text, two_bytes_text, number_words};
@@ -56,6 +56,8 @@ pub(crate) enum Part<'a> {
     Bytes(&'a [u8]),
     /// A decimal number.
     Number(u32),
+    /// A decimal number, if there is one.
+    Maybe(Option<u8>),
     /// How many there are of something, decimal.
     Count(usize),
     /// Decimal numbers, each a word.
@@ -223,6 +225,7 @@ impl Text {
             Part::TwoBytes(number) => self.two_bytes(*number),
             Part::Bytes(bytes) => self.hex(bytes),
             Part::Number(number) => self.short_number(*number),
+            Part::Maybe(number) => self.maybe(*number),
             Part::Count(count) => self.number(*count as u64),
             Part::Numbers(numbers) => self.numbers(numbers),
             Part::EachByte(bytes) => self.each_byte(bytes),
@@ -291,12 +294,8 @@ impl Text {
         ensures { (start : Start) (first : List ℕ) (more : List (List ℕ)) → HoldsWords start (first ∷ more) self.old
             → HoldsWords start (first ∷ (more ++ end_text at ∷ [])) self.new }
     {
-        self.push_few(&[
-            b' ',
-            high_digit(at.link),
-            low_digit(at.link),
-            side_letter(at.at_host),
-        ]);
+        let [high, low, side] = letters_of(at);
+        self.push_few(&[b' ', high, low, side]);
     }
 
     /// Appends a space and a byte as two hexadecimal digits.
@@ -305,7 +304,8 @@ impl Text {
         ensures { (start : Start) (first : List ℕ) (more : List (List ℕ)) → HoldsWords start (first ∷ more) self.old
             → HoldsWords start (first ∷ (more ++ byte_text byte ∷ [])) self.new }
     {
-        self.push_few(&[b' ', high_digit(byte), low_digit(byte)]);
+        let [high, low] = digits_of(byte);
+        self.push_few(&[b' ', high, low]);
     }
 
     /// Appends a word of four letters, an end and bytes as pairs of hexadecimal digits, as the first ones of a line.
@@ -314,54 +314,19 @@ impl Text {
         ensures { (start : Start) → HoldsText start [] self.old
             → HoldsWords start (word.now ∷ end_text at ∷ encode_upper bytes.now ∷ []) self.new }
     {
+        let [high, low, side] = letters_of(at);
         match bytes.split_first() {
             Some((first, rest)) => {
-                self.word_end_and_byte(word, at, *first);
+                let [one, two] = digits_of(*first);
+                self.push_few(&[
+                    word[0], word[1], word[2], word[3], b' ', high, low, side, b' ', one, two,
+                ]);
                 self.pairs(rest);
             }
-            None => {
-                self.push(word);
-                self.end_and_hex(at, bytes);
-            }
+            None => self.push_few(&[
+                word[0], word[1], word[2], word[3], b' ', high, low, side, b' ',
+            ]),
         }
-    }
-
-    /// Appends a word of four letters, an end and a byte, as the first ones of a line.
-    #[inline(always)]
-    pub(crate) fn word_end_and_byte(&mut self, word: &[u8; 4], at: End, byte: u8)
-        ensures { (start : Start) → HoldsText start [] self.old
-            → HoldsWords start (word.now ∷ end_text at ∷ byte_text byte ∷ []) self.new }
-    {
-        self.push_few(&[
-            word[0],
-            word[1],
-            word[2],
-            word[3],
-            b' ',
-            high_digit(at.link),
-            low_digit(at.link),
-            side_letter(at.at_host),
-            b' ',
-            high_digit(byte),
-            low_digit(byte),
-        ]);
-    }
-
-    /// Appends an end and a byte, a space before each.
-    #[inline(always)]
-    pub(crate) fn end_and_byte(&mut self, at: End, byte: u8)
-        ensures { (start : Start) (first : List ℕ) (more : List (List ℕ)) → HoldsWords start (first ∷ more) self.old
-            → HoldsWords start (first ∷ ((more ++ end_text at ∷ []) ++ byte_text byte ∷ [])) self.new }
-    {
-        self.push_few(&[
-            b' ',
-            high_digit(at.link),
-            low_digit(at.link),
-            side_letter(at.at_host),
-            b' ',
-            high_digit(byte),
-            low_digit(byte),
-        ]);
     }
 
     /// Appends an end and a decimal number, a space before each.
@@ -371,52 +336,12 @@ impl Text {
             → HoldsWords start (first ∷ ((more ++ end_text at ∷ []) ++ decimal number ∷ [])) self.new }
     {
         if number < 10 {
-            self.push_few(&[
-                b' ',
-                high_digit(at.link),
-                low_digit(at.link),
-                side_letter(at.at_host),
-                b' ',
-                b'0' + number as u8,
-            ]);
+            let [high, low, side] = letters_of(at);
+            self.push_few(&[b' ', high, low, side, b' ', b'0' + number as u8]);
             return;
         }
         self.end(at);
         self.short_number(number);
-    }
-
-    /// Appends two bytes as two hexadecimal digits each, a space before each.
-    #[inline(always)]
-    pub(crate) fn byte_and_byte(&mut self, byte: u8, other: u8)
-        ensures { (start : Start) (first : List ℕ) (more : List (List ℕ)) → HoldsWords start (first ∷ more) self.old
-            → HoldsWords start (first ∷ ((more ++ byte_text byte ∷ []) ++ byte_text other ∷ [])) self.new }
-    {
-        self.push_few(&[
-            b' ',
-            high_digit(byte),
-            low_digit(byte),
-            b' ',
-            high_digit(other),
-            low_digit(other),
-        ]);
-    }
-
-    /// Appends an end and bytes as pairs of hexadecimal digits, a space before each.
-    #[inline(always)]
-    pub(crate) fn end_and_hex(&mut self, at: End, bytes: &[u8])
-        ensures { (start : Start) (first : List ℕ) (more : List (List ℕ)) → HoldsWords start (first ∷ more) self.old
-            → HoldsWords start (first ∷ ((more ++ end_text at ∷ []) ++ encode_upper bytes.now ∷ [])) self.new }
-    {
-        match bytes.split_first() {
-            Some((first, rest)) => {
-                self.end_and_byte(at, *first);
-                self.pairs(rest);
-            }
-            None => {
-                self.end(at);
-                self.hex(bytes);
-            }
-        }
     }
 
     /// Appends a byte and bytes as pairs of hexadecimal digits, a space before each.
@@ -425,31 +350,25 @@ impl Text {
         ensures { (start : Start) (first : List ℕ) (more : List (List ℕ)) → HoldsWords start (first ∷ more) self.old
             → HoldsWords start (first ∷ ((more ++ byte_text byte ∷ []) ++ encode_upper bytes.now ∷ [])) self.new }
     {
+        let [high, low] = digits_of(byte);
         match bytes.split_first() {
             Some((first, rest)) => {
-                self.byte_and_byte(byte, *first);
+                let [one, two] = digits_of(*first);
+                self.push_few(&[b' ', high, low, b' ', one, two]);
                 self.pairs(rest);
             }
-            None => {
-                self.byte(byte);
-                self.hex(bytes);
-            }
+            None => self.push_few(&[b' ', high, low, b' ']),
         }
     }
 
     /// Appends a space and bytes as pairs of hexadecimal digits.
-    #[inline(always)]
+    #[inline]
     pub(crate) fn hex(&mut self, bytes: &[u8])
         ensures { (start : Start) (first : List ℕ) (more : List (List ℕ)) → HoldsWords start (first ∷ more) self.old
             → HoldsWords start (first ∷ (more ++ encode_upper bytes.now ∷ [])) self.new }
     {
-        match bytes.split_first() {
-            Some((first, rest)) => {
-                self.byte(*first);
-                self.pairs(rest);
-            }
-            None => self.push_few(b" "),
-        }
+        self.push_few(b" ");
+        self.pairs(bytes);
     }
 
     /// Appends bytes as pairs of hexadecimal digits.
@@ -458,10 +377,12 @@ impl Text {
         ensures { (start : Start) (text : List ℕ) → HoldsText start text self.old
             → HoldsText start (text ++ encode_upper bytes.now) self.new }
     {
-        if bytes.len() < 8 {
-            self.each_pair(bytes);
-        } else {
+        if 8 <= bytes.len() {
             self.many_pairs(bytes);
+            return;
+        }
+        for byte in bytes {
+            self.push_few(&digits_of(*byte));
         }
     }
 
@@ -479,16 +400,6 @@ impl Text {
             left = more;
         }
         self.few_pairs(left);
-    }
-
-    /// Appends bytes as pairs of hexadecimal digits, one by one.
-    fn each_pair(&mut self, bytes: &[u8])
-        ensures { (start : Start) (text : List ℕ) → HoldsText start text self.old
-            → HoldsText start (text ++ encode_upper bytes.now) self.new }
-    {
-        for byte in bytes {
-            self.push_few(&[high_digit(*byte), low_digit(*byte)]);
-        }
     }
 
     /// Appends fewer than 32 bytes as pairs of hexadecimal digits, as the front of 16 or of 32.
@@ -605,24 +516,19 @@ fn digit(value: u8) -> u8
     value + b'0' + if value > 9 { b'A' - b'0' - 10 } else { 0 }
 }
 
-/// The first of a byte's two hexadecimal digits.
+/// The two hexadecimal digits of a byte.
 #[inline(always)]
-fn high_digit(byte: u8) -> u8
-    ensures { result ≡ slice_index upper_digits (byte / 16) }
+fn digits_of(byte: u8) -> [u8; 2]
+    ensures { result ≡ byte_text byte }
 {
-    PAIRS[byte as usize][0]
+    PAIRS[byte as usize]
 }
 
-/// The second of a byte's two hexadecimal digits.
+/// The two hexadecimal digits of an end's link, and the letter of its side.
 #[inline(always)]
-fn low_digit(byte: u8) -> u8
-    ensures { result ≡ slice_index upper_digits (byte % 16) }
+fn letters_of(at: End) -> [u8; 3]
+    ensures { result ≡ end_text at }
 {
-    PAIRS[byte as usize][1]
-}
-
-fn side_letter(at_host: bool) -> u8
-    ensures { result ≡ (if at_host then 104 else 99) }
-{
-    if at_host { b'h' } else { b'c' }
+    let [high, low] = digits_of(at.link);
+    [high, low, if at.at_host { b'h' } else { b'c' }]
 }

@@ -56,7 +56,8 @@ pub(crate) fn end_of(word: &[u8]) -> Option<End>
     }
 }
 
-fn side_of(letter: u8) -> Option<bool>
+/// Whether the letter of a side names the host's end.
+pub(crate) fn side_of(letter: u8) -> Option<bool>
     ensures { result ≡ side_value letter }
 {
     match letter {

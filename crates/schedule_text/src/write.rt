@@ -1,14 +1,14 @@
 //! An entry of a transcript is written.
-ghost use Rattle.std.specs.Prelude.{◌≡◌, List, ℕ, [], ◌∷◌, ◌++◌, OnOk, OnErr, IfOk, codes, take, false, if◌then◌else◌};
+ghost use Rattle.std.specs.Prelude.{◌≡◌, List, ℕ, [], ◌∷◌, ◌++◌, OnOk, OnErr, IfOk, codes, false, if◌then◌else◌};
 ghost use Rattle.std.specs.Fmt.{decimal};
 ghost use Rattle.hex.specs.Hex.{encode_upper};
 ghost use Rattle.tables_text.specs.Tables.{hex_or_dash};
-ghost use Rattle.schedule_text.specs.Entries.{end_text, byte_text, number_words, header_words, line_words, down_word, lost_word, cause_words, command_words};
+ghost use Rattle.schedule_text.specs.Entries.{end_text, byte_text, header_words, line_words, down_word, lost_word, cause_words, command_words};
 ghost use Rattle.schedule_text.specs.Entries.{count_words, entry_words, lines_behind, entry_line, entry_lines};
 ghost use Rattle.schedule_text.specs.Growth.{Start, all_text, HoldsText, HoldsWords};
 
 use crate::text::Part::{
-    Byte, Bytes, Count, EachByte, EachThree, End, Number, Numbers, TwoBytes, Word,
+    Byte, Bytes, Count, EachByte, EachThree, End, Maybe, Number, Numbers, TwoBytes, Word,
 };
 use crate::text::Text;
 use crate::transcript::Transcript;
@@ -58,7 +58,9 @@ pub fn write_step(
     ensures err { OnErr result (out.new.items ≡ out.old.items) }
 {
     out.text.begin();
-    write_echo(&mut out.text, line);
+    out.text.push(b">");
+    write_line(&mut out.text, line);
+    out.text.push_few(b"\n");
     write_each(alloc, &mut out.text, entries);
     out.text.finish()
 }
@@ -85,7 +87,9 @@ pub fn write_opening(
     ensures err { OnErr result (out.new.items ≡ out.old.items) }
 {
     out.text.begin();
-    write_head(&mut out.text, header);
+    out.text.entry(b">", &[]);
+    write_header(&mut out.text, header);
+    out.text.push_few(b"\n");
     write_each(alloc, &mut out.text, entries);
     out.text.finish()
 }
@@ -111,7 +115,7 @@ fn write_whole(alloc: Global, text: &mut Text, entry: &Entry)
         return;
     }
     write_frequent(text, entry);
-    end_line(text);
+    text.push_few(b"\n");
 }
 
 fn has_rows(entry: &Entry) -> bool
@@ -132,7 +136,7 @@ fn write_with_rows(alloc: Global, text: &mut Text, entry: &Entry)
     match lines_behind(alloc, entry) {
         Ok(lines) => {
             write_words(text, entry);
-            end_line(text);
+            text.push_few(b"\n");
             text.push_behind(lines.as_slice());
         }
         Err(_) => text.give_up(),
@@ -147,29 +151,6 @@ fn lines_behind(alloc: Global, entry: &Entry) -> Result<Vec<u8>, AllocError>
         tables_text::write_rows(alloc, tables.tables(), &mut lines)?;
     }
     Ok(lines)
-}
-
-#[inline(always)]
-fn end_line(text: &mut Text)
-    ensures { (start : Start) (line : List ℕ) → HoldsText start line text.old → HoldsText start (line ++ 10 ∷ []) text.new }
-{
-    text.push_few(b"\n");
-}
-
-fn write_head(text: &mut Text, header: &Header)
-    ensures { (start : Start) → HoldsText start [] text.old → HoldsText start (entry_line (Entry.Head header.now)) text.new }
-{
-    text.entry(b">", &[]);
-    write_header(text, header);
-    end_line(text);
-}
-
-fn write_echo(text: &mut Text, line: &Line)
-    ensures { (start : Start) → HoldsText start [] text.old → HoldsText start (entry_line (Entry.Echo line.now)) text.new }
-{
-    text.push(b">");
-    write_line(text, line);
-    end_line(text);
 }
 
 /// Appends the words of an entry; the kinds that most entries have stand first.
@@ -193,15 +174,24 @@ fn write_frequent(text: &mut Text, entry: &Entry)
             pid,
             message,
         } => write_message(text, b"got", *at, *session, *pid, message.as_slice()),
-        Entry::Acked { at, session, count } => write_at_numbers(
-            text, b"acked", *at, *session, *count,
-        ),
-        Entry::Turn { at, pid, message } => write_turn(text, *at, *pid, message.as_slice()),
-        Entry::Dropped { at, pid } => text.word_end_and_byte(b"drop", *at, *pid),
-        Entry::Settled { rounds } => write_settled(text, *rounds),
+        Entry::Acked { at, session, count } => {
+            text.push(b"acked");
+            text.end_and_number(*at, *session);
+            text.short_number(*count);
+        }
+        Entry::Turn { at, pid, message } => {
+            text.push(b"turn");
+            text.end(*at);
+            text.byte_and_hex(*pid, message.as_slice());
+        }
+        Entry::Dropped { at, pid } => text.frame(b"drop", *at, &[*pid]),
+        Entry::Settled { rounds } => {
+            text.push(b"settled");
+            text.short_number(*rounds);
+        }
         Entry::No {
             cause: NoCause::Empty,
-        } => write_empty(text),
+        } => text.push(b"no empty"),
         _ => write_words(text, entry),
     }
 }
@@ -222,93 +212,91 @@ fn write_words(text: &mut Text, entry: &Entry)
             text.entry(b">", &[]);
             write_by_parts(text, line);
         }
-        Entry::Up { at, session } => write_at_number(text, b"up", *at, *session),
-        Entry::Down { at, cause } => write_at_word(text, b"down", *at, cause_of_end(*cause)),
-        Entry::Active { at } => write_at(text, b"active", *at),
-        Entry::GaveUp { at, tries } => write_at_number(text, b"gaveup", *at, u32::from(*tries)),
+        Entry::Up { at, session } => text.entry(b"up", &[End(*at), Number(*session)]),
+        Entry::Down { at, cause } => text.entry(b"down", &[End(*at), Word(cause_of_end(*cause))]),
+        Entry::Active { at } => text.entry(b"active", &[End(*at)]),
+        Entry::GaveUp { at, tries } => text.entry(
+            b"gaveup",
+            &[End(*at), Number(u32::from(*tries))],
+        ),
         Entry::Sent {
             at,
             session,
             pid,
             message,
-        } => write_message(text, b"sent", *at, *session, *pid, message.as_slice()),
+        } => text.entry(
+            b"sent",
+            &[
+                End(*at),
+                Number(*session),
+                Byte(*pid),
+                Bytes(message.as_slice()),
+            ],
+        ),
         Entry::Got {
             at,
             session,
             pid,
             message,
-        } => write_message(text, b"got", *at, *session, *pid, message.as_slice()),
-        Entry::Acked { at, session, count } => write_at_numbers(
-            text, b"acked", *at, *session, *count,
+        } => text.entry(
+            b"got",
+            &[
+                End(*at),
+                Number(*session),
+                Byte(*pid),
+                Bytes(message.as_slice()),
+            ],
         ),
-        Entry::Emit { at, lpdu } => text.frame(b"emit", *at, lpdu.bytes()),
-        Entry::Took { at, lpdu } => text.frame(b"took", *at, lpdu.bytes()),
-        Entry::Lost { at, lpdu, cause } => write_loss(text, *at, lpdu.bytes(), *cause),
-        Entry::Turn { at, pid, message } => write_turn(text, *at, *pid, message.as_slice()),
-        Entry::Held { at, need, spare } => write_at_numbers(
-            text,
+        Entry::Acked { at, session, count } => text.entry(
+            b"acked",
+            &[End(*at), Number(*session), Number(*count)],
+        ),
+        Entry::Emit { at, lpdu } => text.entry(b"emit", &[End(*at), Bytes(lpdu.bytes())]),
+        Entry::Took { at, lpdu } => text.entry(b"took", &[End(*at), Bytes(lpdu.bytes())]),
+        Entry::Lost { at, lpdu, cause } => text.entry(
+            b"lost",
+            &[End(*at), Bytes(lpdu.bytes()), Word(cause_of_loss(*cause))],
+        ),
+        Entry::Turn { at, pid, message } => text.entry(
+            b"turn",
+            &[End(*at), Byte(*pid), Bytes(message.as_slice())],
+        ),
+        Entry::Held { at, need, spare } => text.entry(
             b"held",
-            *at,
-            u32::from(*need),
-            u32::from(*spare),
+            &[
+                End(*at),
+                Number(u32::from(*need)),
+                Number(u32::from(*spare)),
+            ],
         ),
-        Entry::Ask { host, message } => write_ask(text, *host, message.as_slice()),
-        Entry::Dropped { at, pid } => text.word_end_and_byte(b"drop", *at, *pid),
+        Entry::Ask { host, message } => text.entry(
+            b"ask",
+            &[Byte(*host), Bytes(message.as_slice())],
+        ),
+        Entry::Dropped { at, pid } => text.entry(b"drop", &[End(*at), Byte(*pid)]),
         Entry::Command { node, command } => {
             write_node(text, b"command", *node);
             write_command(text, command);
         }
         Entry::AnyOk { node, count } => write_node_number(text, b"ok", *node, *count),
-        Entry::InitSame { at } => write_at_word(text, b"init", *at, b"same"),
-        Entry::InitMade { at, count } => write_init_made(text, *at, u32::from(*count)),
-        Entry::InitFailed { at, code } => write_init_failed(text, *at, *code),
-        Entry::Cut { node } => write_node(text, b"cut", *node),
+        Entry::InitSame { at } => text.entry(b"init", &[End(*at), Word(b"same")]),
+        Entry::InitMade { at, count } => text.entry(
+            b"init",
+            &[End(*at), Word(b"made"), Number(u32::from(*count))],
+        ),
+        Entry::InitFailed { at, code } => text.entry(
+            b"init",
+            &[End(*at), Word(b"failed"), Byte(*code)],
+        ),
+        Entry::Cut { node } => text.entry(b"cut", &[Byte(*node)]),
         Entry::Booted { node, count } => write_node_number(text, b"booted", *node, *count),
         Entry::Tables { node, tables } => write_counts(text, *node, tables.tables()),
-        Entry::Settled { rounds } => write_settled(text, *rounds),
+        Entry::Settled { rounds } => text.entry(b"settled", &[Number(*rounds)]),
         Entry::No { cause } => {
             text.push(b"no");
             write_cause(text, *cause);
         }
     }
-}
-
-#[inline(never)]
-fn write_at(text: &mut Text, word: &[u8], at: At)
-    ensures { (start : Start) → HoldsText start [] text.old
-        → HoldsWords start (word.now ∷ end_text at ∷ []) text.new }
-{
-    text.entry(word, &[End(at)]);
-}
-
-#[inline(never)]
-fn write_at_word(text: &mut Text, word: &[u8], at: At, other: &[u8])
-    ensures { (start : Start) → HoldsText start [] text.old
-        → HoldsWords start (word.now ∷ end_text at ∷ other.now ∷ []) text.new }
-{
-    text.push(word);
-    text.end(at);
-    text.word(other);
-}
-
-#[inline(never)]
-fn write_at_number(text: &mut Text, word: &[u8], at: At, number: u32)
-    ensures { (start : Start) → HoldsText start [] text.old
-        → HoldsWords start (word.now ∷ end_text at ∷ decimal number ∷ []) text.new }
-{
-    text.push(word);
-    text.end(at);
-    text.short_number(number);
-}
-
-#[inline(always)]
-fn write_at_numbers(text: &mut Text, word: &[u8], at: At, first: u32, second: u32)
-    ensures { (start : Start) → HoldsText start [] text.old
-        → HoldsWords start (word.now ∷ end_text at ∷ decimal first ∷ decimal second ∷ []) text.new }
-{
-    text.push(word);
-    text.end_and_number(at, first);
-    text.short_number(second);
 }
 
 #[inline(always)]
@@ -338,69 +326,6 @@ fn write_node_number(text: &mut Text, word: &[u8], node: u8, number: u32)
     text.push(word);
     text.byte(node);
     text.short_number(number);
-}
-
-#[inline(never)]
-fn write_loss(text: &mut Text, at: At, bytes: &[u8], cause: LostCause)
-    ensures { (start : Start) → HoldsText start [] text.old
-        → HoldsWords start (codes "lost" ∷ end_text at ∷ encode_upper bytes.now ∷ lost_word cause ∷ []) text.new }
-{
-    text.push(b"lost");
-    text.end(at);
-    text.hex(bytes);
-    text.word(cause_of_loss(cause));
-}
-
-#[inline(always)]
-fn write_turn(text: &mut Text, at: At, pid: u8, message: &[u8])
-    ensures { (start : Start) → HoldsText start [] text.old
-        → HoldsWords start (codes "turn" ∷ end_text at ∷ byte_text pid ∷ encode_upper message.now ∷ []) text.new }
-{
-    text.push(b"turn");
-    text.end_and_byte(at, pid);
-    text.hex(message);
-}
-
-#[inline(always)]
-fn write_settled(text: &mut Text, rounds: u32)
-    ensures { (start : Start) → HoldsText start [] text.old
-        → HoldsWords start (codes "settled" ∷ decimal rounds ∷ []) text.new }
-{
-    text.push(b"settled");
-    text.short_number(rounds);
-}
-
-#[inline(always)]
-fn write_empty(text: &mut Text)
-    ensures { (start : Start) → HoldsText start [] text.old
-        → HoldsWords start (codes "no" ∷ codes "empty" ∷ []) text.new }
-{
-    text.push(b"no");
-    text.word(b"empty");
-}
-
-#[inline(never)]
-fn write_ask(text: &mut Text, host: u8, message: &[u8])
-    ensures { (start : Start) → HoldsText start [] text.old
-        → HoldsWords start (codes "ask" ∷ byte_text host ∷ encode_upper message.now ∷ []) text.new }
-{
-    text.entry(b"ask", &[Byte(host), Bytes(message)]);
-}
-
-#[inline(never)]
-fn write_init_made(text: &mut Text, at: At, count: u32)
-    ensures { (start : Start) → HoldsText start [] text.old
-        → HoldsWords start (codes "init" ∷ end_text at ∷ codes "made" ∷ decimal count ∷ []) text.new }
-{
-    text.entry(b"init", &[End(at), Word(b"made"), Number(count)]);
-}
-
-#[inline(never)]
-fn write_init_failed(text: &mut Text, at: At, code: u8)
-    ensures { (start : Start) → HoldsText start [] text.old
-        → HoldsWords start (codes "init" ∷ end_text at ∷ codes "failed" ∷ byte_text code ∷ []) text.new }
-{
-    text.entry(b"init", &[End(at), Word(b"failed"), Byte(code)]);
 }
 
 #[inline(never)]
@@ -473,12 +398,33 @@ fn write_line(text: &mut Text, line: &Line)
         → HoldsWords start (first ∷ (more ++ line_words line.now)) text.new }
 {
     match line {
-        Line::Send { at, pid, message } => write_send(text, *at, *pid, message.as_slice()),
-        Line::Deliver { at, count } => write_deliver(text, *at, *count),
-        Line::Lose { at } => write_lose(text, *at),
-        Line::Tick { times } => write_tick(text, *times),
-        Line::Reset { at, window } => write_reset(text, *at, *window),
-        Line::Settle { rounds } => write_settle(text, *rounds),
+        Line::Send { at, pid, message } => {
+            text.push(b" send");
+            text.end(*at);
+            text.byte_and_hex(*pid, message.as_slice());
+        }
+        Line::Deliver { at, count } => {
+            text.push(b" deliver");
+            text.end(*at);
+            text.maybe(*count);
+        }
+        Line::Lose { at } => {
+            text.push(b" lose");
+            text.end(*at);
+        }
+        Line::Tick { times } => {
+            text.push(b" tick");
+            text.maybe(*times);
+        }
+        Line::Reset { at, window } => {
+            text.push(b" reset");
+            text.end(*at);
+            text.maybe(*window);
+        }
+        Line::Settle { rounds } => {
+            text.push(b" settle");
+            text.short_number(*rounds);
+        }
         _ => write_by_parts(text, line),
     }
 }
@@ -491,16 +437,21 @@ fn write_by_parts(text: &mut Text, line: &Line)
         → HoldsWords start (first ∷ (more ++ line_words line.now)) text.new }
 {
     match line {
-        Line::Send { at, pid, message } => write_send(text, *at, *pid, message.as_slice()),
-        Line::Deliver { at, count } => write_deliver(text, *at, *count),
-        Line::Lose { at } => write_lose(text, *at),
+        Line::Send { at, pid, message } => text.parts(&[
+            Word(b"send"),
+            End(*at),
+            Byte(*pid),
+            Bytes(message.as_slice()),
+        ]),
+        Line::Deliver { at, count } => text.parts(&[Word(b"deliver"), End(*at), Maybe(*count)]),
+        Line::Lose { at } => text.parts(&[Word(b"lose"), End(*at)]),
         Line::Damage { at, places } => text.parts(&[
             Word(b"damage"),
             End(*at),
             Numbers(places.as_slice()),
         ]),
-        Line::Tick { times } => write_tick(text, *times),
-        Line::Reset { at, window } => write_reset(text, *at, *window),
+        Line::Tick { times } => text.parts(&[Word(b"tick"), Maybe(*times)]),
+        Line::Reset { at, window } => text.parts(&[Word(b"reset"), End(*at), Maybe(*window)]),
         Line::Busy { at } => text.parts(&[Word(b"busy"), End(*at)]),
         Line::Ready { at } => text.parts(&[Word(b"ready"), End(*at)]),
         Line::Boot { node } => text.parts(&[Word(b"boot"), Byte(*node)]),
@@ -528,65 +479,8 @@ fn write_by_parts(text: &mut Text, line: &Line)
             EachThree(pipes.as_slice()),
         ]),
         Line::Tables { node } => text.parts(&[Word(b"tables"), Byte(*node)]),
-        Line::Settle { rounds } => write_settle(text, *rounds),
+        Line::Settle { rounds } => text.parts(&[Word(b"settle"), Number(*rounds)]),
     }
-}
-
-#[inline(always)]
-fn write_send(text: &mut Text, at: At, pid: u8, message: &[u8])
-    ensures { (start : Start) (first : List ℕ) (more : List (List ℕ)) → HoldsWords start (first ∷ more) text.old
-        → HoldsWords start (first ∷ (more ++ codes "send" ∷ end_text at ∷ byte_text pid ∷ encode_upper message.now ∷ [])) text.new }
-{
-    text.push(b" send");
-    text.end_and_byte(at, pid);
-    text.hex(message);
-}
-
-#[inline(always)]
-fn write_deliver(text: &mut Text, at: At, count: Option<u8>)
-    ensures { (start : Start) (first : List ℕ) (more : List (List ℕ)) → HoldsWords start (first ∷ more) text.old
-        → HoldsWords start (first ∷ (more ++ codes "deliver" ∷ end_text at ∷ number_words count)) text.new }
-{
-    text.push(b" deliver");
-    text.end(at);
-    text.maybe(count);
-}
-
-#[inline(always)]
-fn write_lose(text: &mut Text, at: At)
-    ensures { (start : Start) (first : List ℕ) (more : List (List ℕ)) → HoldsWords start (first ∷ more) text.old
-        → HoldsWords start (first ∷ (more ++ codes "lose" ∷ end_text at ∷ [])) text.new }
-{
-    text.push(b" lose");
-    text.end(at);
-}
-
-#[inline(always)]
-fn write_tick(text: &mut Text, times: Option<u8>)
-    ensures { (start : Start) (first : List ℕ) (more : List (List ℕ)) → HoldsWords start (first ∷ more) text.old
-        → HoldsWords start (first ∷ (more ++ codes "tick" ∷ number_words times)) text.new }
-{
-    text.push(b" tick");
-    text.maybe(times);
-}
-
-#[inline(always)]
-fn write_reset(text: &mut Text, at: At, window: Option<u8>)
-    ensures { (start : Start) (first : List ℕ) (more : List (List ℕ)) → HoldsWords start (first ∷ more) text.old
-        → HoldsWords start (first ∷ (more ++ codes "reset" ∷ end_text at ∷ number_words window)) text.new }
-{
-    text.push(b" reset");
-    text.end(at);
-    text.maybe(window);
-}
-
-#[inline(always)]
-fn write_settle(text: &mut Text, rounds: u32)
-    ensures { (start : Start) (first : List ℕ) (more : List (List ℕ)) → HoldsWords start (first ∷ more) text.old
-        → HoldsWords start (first ∷ (more ++ codes "settle" ∷ decimal rounds ∷ [])) text.new }
-{
-    text.push(b" settle");
-    text.short_number(rounds);
 }
 
 #[inline(never)]
@@ -649,7 +543,8 @@ fn write_setting(text: &mut Text, host: u8, gate: u8, param: u8, value: &[u8])
         → HoldsWords start (first ∷ (more ++ codes "set" ∷ byte_text host ∷ byte_text gate ∷ byte_text param ∷ hex_or_dash value.now ∷ [])) text.new }
 {
     text.word(b"set");
-    text.byte_and_byte(host, gate);
+    text.byte(host);
+    text.byte(gate);
     text.byte(param);
     write_value(text, value);
 }

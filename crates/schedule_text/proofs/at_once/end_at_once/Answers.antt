@@ -1,46 +1,36 @@
 -- One word that fits its kind.
-use Rattle.std.proofs.Common.{◌≡◌, [], ◌∷◌, Some, sym, ap, ◌∙◌}
+use Rattle.std.proofs.Common.{◌≡◌, ◌-◌, List, ℕ, [], ◌∷◌, Some, length, take, drop, sym, ◌∙◌, arith}
 use Rattle.schedule_text.specs.Words.{words}
 use Rattle.schedule_text.specs.Values.{end_value}
-use Rattle.schedule_text.proofs.AtOnceLemmas.{end_is_word, one_word, delivers, loses, resets, busies, readies}
+use Rattle.schedule_text.proofs.AtOnceLemmas.{end_alone, delivers, loses, resets, busies, readies}
+use Rattle.schedule_text.proofs.at_once.end_at_once.Goals.{Then-knows}
 use Rattle.schedule_text.proofs.at_once.end_at_once.Goals as goal
+
+abbrev word : Then-knows → List ℕ
+word c = take (length c.args.rest.now - 1) (drop 1 c.args.rest.now)
+
+is_end : (c : Then-knows) → end_value (word c) ≡ Some c.in_ok-at.at
+is_end c = sym c.end_of.ensures ∙ c.in_ok-at.was
+
+alone : (c : Then-knows) → words c.args.rest.now ≡ word c ∷ []
+alone c = end_alone c.args.rest.now c.in_ok-at.at (omega arith) (omega arith) (is_end c)
 
 pub returns-then-knows-clause-deliver : goal.returns-then-knows-clause-deliver
 returns-then-knows-clause-deliver c =
-    let word = c.in_ok-behind_space.field-0.now in
-    let at = c.in_ok-at.at in
-    let read : end_value word ≡ Some at = sym c.end_of.ensures ∙ c.in_ok-at.was in
-    let is : words c.args.rest.now ≡ word ∷ [] = ap words c.in_ok-behind_space.ensures ∙ one_word word (end_is_word word at read) in
-    delivers c.args.header.now (words c.args.rest.now) word is (at, read, sym c.knows.ensures ∙ c.if-knows.true)
+    delivers c.args.header.now (words c.args.rest.now) (word c) (alone c) (c.in_ok-at.at, is_end c, sym c.knows.ensures ∙ c.if-knows.true)
 
 pub returns-then-knows-clause-lose : goal.returns-then-knows-clause-lose
 returns-then-knows-clause-lose c =
-    let word = c.in_ok-behind_space.field-0.now in
-    let at = c.in_ok-at.at in
-    let read : end_value word ≡ Some at = sym c.end_of.ensures ∙ c.in_ok-at.was in
-    let is : words c.args.rest.now ≡ word ∷ [] = ap words c.in_ok-behind_space.ensures ∙ one_word word (end_is_word word at read) in
-    loses c.args.header.now (words c.args.rest.now) word is (at, read, sym c.knows.ensures ∙ c.if-knows.true)
+    loses c.args.header.now (words c.args.rest.now) (word c) (alone c) (c.in_ok-at.at, is_end c, sym c.knows.ensures ∙ c.if-knows.true)
 
 pub returns-then-knows-clause-reset : goal.returns-then-knows-clause-reset
 returns-then-knows-clause-reset c =
-    let word = c.in_ok-behind_space.field-0.now in
-    let at = c.in_ok-at.at in
-    let read : end_value word ≡ Some at = sym c.end_of.ensures ∙ c.in_ok-at.was in
-    let is : words c.args.rest.now ≡ word ∷ [] = ap words c.in_ok-behind_space.ensures ∙ one_word word (end_is_word word at read) in
-    resets c.args.header.now (words c.args.rest.now) word is (at, read, sym c.knows.ensures ∙ c.if-knows.true)
+    resets c.args.header.now (words c.args.rest.now) (word c) (alone c) (c.in_ok-at.at, is_end c, sym c.knows.ensures ∙ c.if-knows.true)
 
 pub returns-then-knows-clause-busy : goal.returns-then-knows-clause-busy
 returns-then-knows-clause-busy c bare =
-    let word = c.in_ok-behind_space.field-0.now in
-    let at = c.in_ok-at.at in
-    let read : end_value word ≡ Some at = sym c.end_of.ensures ∙ c.in_ok-at.was in
-    let is : words c.args.rest.now ≡ word ∷ [] = ap words c.in_ok-behind_space.ensures ∙ one_word word (end_is_word word at read) in
-    busies c.args.header.now (words c.args.rest.now) word is bare (at, read, sym c.knows.ensures ∙ c.if-knows.true)
+    busies c.args.header.now (words c.args.rest.now) (word c) (alone c) bare (c.in_ok-at.at, is_end c, sym c.knows.ensures ∙ c.if-knows.true)
 
 pub returns-then-knows-clause-ready : goal.returns-then-knows-clause-ready
 returns-then-knows-clause-ready c bare =
-    let word = c.in_ok-behind_space.field-0.now in
-    let at = c.in_ok-at.at in
-    let read : end_value word ≡ Some at = sym c.end_of.ensures ∙ c.in_ok-at.was in
-    let is : words c.args.rest.now ≡ word ∷ [] = ap words c.in_ok-behind_space.ensures ∙ one_word word (end_is_word word at read) in
-    readies c.args.header.now (words c.args.rest.now) word is bare (at, read, sym c.knows.ensures ∙ c.if-knows.true)
+    readies c.args.header.now (words c.args.rest.now) (word c) (alone c) bare (c.in_ok-at.at, is_end c, sym c.knows.ensures ∙ c.if-knows.true)

@@ -1,24 +1,32 @@
 -- Three words that fit their kinds.
-use Rattle.std.proofs.Common.{◌≡◌, [], ◌∷◌, Some, arith, sym, ap, ◌∙◌}
+use Rattle.std.proofs.Common.{◌≡◌, ◌-◌, List, ℕ, true, not, ◌||◌, [], ◌∷◌, Some, arith, refl, sym, ◌∙◌, length, take, drop, get_or}
+use Rattle.std.proofs.lemmas.Grind.{common_steps}
+use Rattle.trace_model.specs.declared.line.End.{End}
 use Rattle.schedule_text.specs.Words.{words}
-use Rattle.schedule_text.specs.Values.{end_value, byte_value}
+use Rattle.schedule_text.specs.Values.{end_value, byte_value, side_value}
 use Rattle.schedule_text.proofs.AtOnceLemmas.{sends, send_words, message_sizes}
+use Rattle.schedule_text.proofs.at_once.send_at_once.Goals.{then-header, else-header}
 use Rattle.schedule_text.proofs.at_once.send_at_once.Goals as goal
 
 pub returns-in-Some-bytes_of : goal.returns-in-Some-bytes_of
 returns-in-Some-bytes_of c =
-    let first = c.in-Some.first.now in
-    let second = c.in-Some.second.now in
-    let digits = c.in-Some.digits.now in
-    let at = c.in-Some-end_of.at in
-    let pid = c.in-Some-byte_of.pid in
+    let rest = c.args.rest.now in
+    let first : List ℕ = get_or rest 1 0 ∷ get_or rest 2 0 ∷ get_or rest 3 0 ∷ [] in
+    let second : List ℕ = get_or rest 5 0 ∷ get_or rest 6 0 ∷ [] in
+    let digits = take (length rest - 8) (drop 8 rest) in
     let bytes = c.in-Some-bytes_of.bytes.items in
+    let at : End = record { link = c.in-Some.link; at_host = c.in-Some-side_of.at_host } in
+    let pid = c.in-Some-pair_of.pid in
     let sizes = message_sizes digits bytes c.in-Some-bytes_of.ensures (omega arith) (omega arith) in
-    let is_end : end_value first ≡ Some at = sym c.end_of.ensures ∙ c.in-Some-end_of.is in
-    let is_byte : byte_value second ≡ Some pid = sym c.byte_of.ensures ∙ c.in-Some-byte_of.is in
-    let is : words c.args.rest.now ≡ first ∷ second ∷ digits ∷ [] =
-    ap words c.in-Some.ensures ∙ send_words first second digits at pid bytes is_end is_byte sizes.0 sizes.1 in
-    sends c.args.header.now (words c.args.rest.now) first second digits is
-    (at, is_end, sym c.knows.ensures ∙ c.if-not-knows.false, sym c.may_send.ensures ∙ c.if-not-may_send.false)
-    (pid, is_byte, omega (arith, c.if-pid-ge112.false))
-    (bytes, sizes.0, sizes.1, sizes.2)
+    let is_link : byte_value (get_or rest 1 0 ∷ get_or rest 2 0 ∷ []) ≡ Some c.in-Some.link = sym c.pair_of.ensures ∙ c.in-Some.is in
+    let is_side : side_value (get_or rest 3 0) ≡ Some c.in-Some-side_of.at_host = sym c.side_of.ensures ∙ c.in-Some-side_of.is in
+    let is_end : end_value first ≡ Some at = rw (is_link, is_side) refl in
+    let is_byte : byte_value second ≡ Some pid = sym c.pair_of-2.ensures ∙ c.in-Some-pair_of.is in
+    let may : (not c.args.header.now.hci || c.in-Some-side_of.at_host) ≡ true =
+    elim c.if-header.branch [
+      | then-header w ↦ grind (arith, common_steps, w.if-header.true, w.t-38-is)
+      | else-header w ↦ grind (arith, common_steps, w.if-header.false, w.t-38-is)
+    ] in
+    sends c.args.header.now (words rest) first second digits
+    (send_words rest at pid bytes (omega arith) (omega arith) (omega arith) (omega arith) is_end is_byte sizes.0 sizes.1)
+    (at, is_end, sym c.knows.ensures ∙ c.if-not-knows.false, may) (pid, is_byte, omega (arith, c.if-pid-ge112.false)) (bytes, sizes.0, sizes.1, sizes.2)

@@ -22,8 +22,8 @@ pieces-preserved c =
 pub pairs-preserved : goal.pairs-preserved
 pairs-preserved c =
     let next =
-    pairs_next c.pairs.invariant.0 c.pairs.left.now c.args.digits.now c.pairs.bytes.items c.in-Some-next_pair.byte c.in-Some-next_pair.more.now
-    c.pairs.invariant.1.0 c.pairs.invariant.1.1 c.in-Some-next_pair.ensures in
+    pairs_next c.pairs.invariant.0 c.pairs.left.now c.args.digits.now c.pairs.bytes.items c.in_ok-byte.byte c.pairs.invariant.1.0 c.pairs.invariant.1.1
+    c.in-len2-up.len_at_least (sym c.pair_of.ensures ∙ c.in_ok-byte.was) in
     (next.0, (next.1.0, subst (λ bytes. IsPairs next.0 bytes) (sym c.in-Ok-push.ensures.items) next.1.1))
 
 pub returns-then-is_empty : goal.returns-then-is_empty

@@ -1,22 +1,21 @@
 -- The text stands behind what there was, or it is as it was.
-use Rattle.std.proofs.Common.{[], ◌∙◌, arith, length, subst}
-use Rattle.std.proofs.lemmas.List.{take-append-le, take_all}
+use Rattle.std.proofs.Common.{[], ◌∙◌, refl, length, subst}
+use Rattle.std.proofs.lemmas.List.{take_at}
 use Rattle.std.proofs.lemmas.Result.{on_ok_weaker, on_err_weaker}
+use Rattle.schedule_text.specs.Entries.{entry_lines}
 use Rattle.schedule_text.specs.Growth.{start_in, HoldsText}
 use Rattle.schedule_text.proofs.write.write_entries.Goals as goal
 
-begun : (c : goal.After-finish) → HoldsText (start_in c.args.out.now.items) [] c.begin.new.self
-begun c = subst (λ v. HoldsText (start_in v.items) [] c.begin.new.self) c.out.view_is c.begin.ensures
+whole : (c : goal.After-finish) → HoldsText (start_in c.args.out.now.items) (entry_lines c.args.entries.now) c.write_each.new.text
+whole c =
+    let start = start_in c.args.out.now.items in
+    let begun : HoldsText start [] c.begin.new.self = subst (λ v. HoldsText (start_in v.items) [] c.begin.new.self) c.out.view_is c.begin.ensures in
+    c.write_each.ensures start [] begun
 
 pub returns-clause-err : goal.returns-clause-err
 returns-clause-err c =
     let old = c.args.out.now.items in
-    let start = start_in old in
-    on_err_weaker c.finish.result
-    (λ back. back start _ (c.write_each.ensures start [] (begun c))
-    ∙ (take-append-le (length old) old _ (omega arith) ∙ take_all (length old) old (omega arith))) c.finish.ensures.err
+    on_err_weaker c.finish.result (λ back. back (start_in old) _ (whole c) ∙ take_at old _ (length old) refl) c.finish.ensures.err
 
 pub returns-clause-ok : goal.returns-clause-ok
-returns-clause-ok c =
-    let start = start_in c.args.out.now.items in
-    on_ok_weaker c.finish.result (λ behind. behind start _ (c.write_each.ensures start [] (begun c))) c.finish.ensures.ok
+returns-clause-ok c = on_ok_weaker c.finish.result (λ behind. behind (start_in c.args.out.now.items) _ (whole c)) c.finish.ensures.ok

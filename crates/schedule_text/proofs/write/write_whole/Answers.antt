@@ -9,5 +9,5 @@ pub returns : goal.returns
 returns c = λ start before h.
     let words = spaced (entry_words c.args.entry.now) in
     holds_back start before (words ++ (10 ∷ lines_behind c.args.entry.now)) _
-    (subst (λ more. HoldsText (behind start before) (words ++ (10 ∷ more)) c.end_line.new.text) (sym (c.has_rows.ensures c.if-has_rows.false))
-    (c.end_line.ensures (behind start before) words (c.write_frequent.ensures (behind start before) (holds_from start before c.args.text.now h))))
+    (subst (λ more. HoldsText (behind start before) (words ++ (10 ∷ more)) c.push_few.new.self) (sym (c.has_rows.ensures c.if-has_rows.false))
+    (c.push_few.ensures (behind start before) words (c.write_frequent.ensures (behind start before) (holds_from start before c.args.text.now h))))

@@ -11,7 +11,7 @@ returns-in-Ok c = λ start before h.
     holds_back start before (words ++ (10 ∷ lines_behind c.args.entry.now)) _
     (holds_line (behind start before) words c.as_slice.result.now (lines_behind c.args.entry.now) _ rows
     (c.push_behind.ensures (behind start before) (words ++ 10 ∷ [])
-    (c.end_line.ensures (behind start before) words (c.write_words.ensures (behind start before) (holds_from start before c.args.text.now h)))))
+    (c.push_few.ensures (behind start before) words (c.write_words.ensures (behind start before) (holds_from start before c.args.text.now h)))))
 
 pub returns-in-Err : goal.returns-in-Err
 returns-in-Err c start before h = c.give_up.ensures start before (entry_line c.args.entry.now) h

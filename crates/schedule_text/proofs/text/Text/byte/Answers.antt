@@ -1,14 +1,12 @@
-use Rattle.std.proofs.Common.{◌∷◌, ◌++◌, subst}
+use Rattle.std.proofs.Common.{◌∷◌, ◌++◌, ◌∙◌, arith, subst}
 use Rattle.schedule_text.specs.Words.{spaced}
 use Rattle.schedule_text.specs.Entries.{byte_text}
 use Rattle.schedule_text.specs.Growth.{HoldsText}
-use Rattle.schedule_text.proofs.GrowthLemmas.{holds_spaced, two_digits_are}
+use Rattle.schedule_text.proofs.GrowthLemmas.{holds_spaced, two_are}
 use Rattle.schedule_text.proofs.text.Text.byte.Goals as goal
 
 pub returns : goal.returns
-returns c =
-    λ start first more h.
+returns c start first more h =
     holds_spaced start first (byte_text c.args.byte) more _
     (subst (λ digits. HoldsText start (spaced (first ∷ more) ++ (32 ∷ digits)) c.push_few.new.self)
-    (two_digits_are c.args.byte c.high_digit.result c.low_digit.result c.high_digit.ensures c.low_digit.ensures)
-    (c.push_few.ensures start (spaced (first ∷ more)) h))
+    (two_are c.digits_of.result (omega arith) ∙ c.digits_of.ensures) (c.push_few.ensures start (spaced (first ∷ more)) h))

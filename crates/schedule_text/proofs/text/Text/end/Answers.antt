@@ -1,15 +1,12 @@
-use Rattle.std.proofs.Common.{[], ◌∷◌, ◌++◌, subst}
+use Rattle.std.proofs.Common.{◌∷◌, ◌++◌, ◌∙◌, arith, subst}
 use Rattle.schedule_text.specs.Words.{spaced}
-use Rattle.schedule_text.specs.Entries.{byte_text, end_text}
+use Rattle.schedule_text.specs.Entries.{end_text}
 use Rattle.schedule_text.specs.Growth.{HoldsText}
-use Rattle.schedule_text.proofs.GrowthLemmas.{holds_spaced, two_digits_are}
+use Rattle.schedule_text.proofs.GrowthLemmas.{holds_spaced, three_are}
 use Rattle.schedule_text.proofs.text.Text.end.Goals as goal
 
 pub returns : goal.returns
-returns c =
-    λ start first more h.
+returns c start first more h =
     holds_spaced start first (end_text c.args.at) more _
-    (subst (λ letter. HoldsText start (spaced (first ∷ more) ++ (32 ∷ (byte_text c.args.at.link ++ letter ∷ []))) c.push_few.new.self) c.side_letter.ensures
-    (subst (λ digits. HoldsText start (spaced (first ∷ more) ++ (32 ∷ (digits ++ c.side_letter.result ∷ []))) c.push_few.new.self)
-    (two_digits_are c.args.at.link c.high_digit.result c.low_digit.result c.high_digit.ensures c.low_digit.ensures)
-    (c.push_few.ensures start (spaced (first ∷ more)) h)))
+    (subst (λ letters. HoldsText start (spaced (first ∷ more) ++ (32 ∷ letters)) c.push_few.new.self)
+    (three_are c.letters_of.result (omega arith) ∙ c.letters_of.ensures) (c.push_few.ensures start (spaced (first ∷ more)) h))

@@ -1,22 +1,21 @@
-use Rattle.std.proofs.Common.{[], ◌∷◌, sym, subst}
-use Rattle.hex.specs.Hex.{encode_upper}
-use Rattle.schedule_text.specs.Words.{spaced}
-use Rattle.schedule_text.specs.Entries.{end_text}
-use Rattle.schedule_text.specs.Growth.{HoldsWords}
-use Rattle.schedule_text.proofs.GrowthLemmas.{encode-append, holds_longer}
+use Rattle.std.proofs.Common.{[], ◌∙◌, arith, subst}
+use Rattle.schedule_text.specs.Growth.{HoldsText}
+use Rattle.schedule_text.proofs.GrowthLemmas.{encode-none, digits_from, three_words, three_are, four_are}
 use Rattle.schedule_text.proofs.text.Text.frame.Goals as goal
 
 pub returns-in-Some : goal.returns-in-Some
-returns-in-Some c =
-    λ start h.
+returns-in-Some c start h =
     let word = c.args.word.now in
-    let at = end_text c.args.at in
-    let byte = c.in-Some.first.now in
+    let bytes = c.args.bytes.now in
     let rest = c.in-Some.rest.now in
-    subst (λ bytes. HoldsWords start (word ∷ at ∷ encode_upper bytes ∷ []) c.pairs.new.self) (sym c.in-Some.ensures.cases.0)
-    (subst (λ digits. HoldsWords start (word ∷ at ∷ digits ∷ []) c.pairs.new.self) (sym (encode-append (byte ∷ []) rest))
-    (holds_longer start word (encode_upper (byte ∷ [])) (encode_upper rest) (at ∷ []) _
-    (c.pairs.ensures start (spaced (word ∷ at ∷ encode_upper (byte ∷ []) ∷ [])) (c.word_end_and_byte.ensures start h))))
+    subst (λ t. HoldsText start t c.pairs.new.self)
+    (three_words (four_are word (omega arith)) (three_are c.letters_of.result (omega arith) ∙ c.letters_of.ensures)
+    (digits_from c.digits_of.result bytes rest c.in-Some.first.now (omega arith) c.digits_of.ensures c.in-Some.ensures.cases.0))
+    (c.pairs.ensures start _ (c.push_few.ensures start [] h))
 
 pub returns-in-None : goal.returns-in-None
-returns-in-None c = λ start h. c.end_and_hex.ensures start c.args.word.now [] (c.push.ensures start [] h)
+returns-in-None c start h =
+    subst (λ t. HoldsText start t c.push_few-in-None.new.self)
+    (three_words (four_are c.args.word.now (omega arith)) (three_are c.letters_of.result (omega arith) ∙ c.letters_of.ensures)
+    (encode-none c.args.bytes.now c.in-None.ensures.cases))
+    (c.push_few-in-None.ensures start [] h)

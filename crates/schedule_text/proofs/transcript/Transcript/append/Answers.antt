@@ -1,22 +1,19 @@
 -- The bytes stand behind what there was, or it is as it was.
-use Rattle.std.proofs.Common.{[], ◌∙◌, arith, length, subst}
-use Rattle.std.proofs.lemmas.List.{take-append-le, take_all}
+use Rattle.std.proofs.Common.{[], ◌∙◌, refl, length, subst}
+use Rattle.std.proofs.lemmas.List.{take_at}
 use Rattle.std.proofs.lemmas.Result.{on_ok_weaker, on_err_weaker}
 use Rattle.schedule_text.specs.Growth.{start_in, HoldsText}
 use Rattle.schedule_text.proofs.transcript.Transcript.append.Goals as goal
 
-begun : (c : goal.After-finish) → HoldsText (start_in c.args.self.now.items) [] c.begin.new.self
-begun c = subst (λ v. HoldsText (start_in v.items) [] c.begin.new.self) c.self.view_is c.begin.ensures
+whole : (c : goal.After-finish) → HoldsText (start_in c.args.self.now.items) c.args.bytes.now c.push.new.self
+whole c =
+    c.push.ensures (start_in c.args.self.now.items) []
+    (subst (λ v. HoldsText (start_in v.items) [] c.begin.new.self) c.self.view_is c.begin.ensures)
 
 pub returns-clause-ok : goal.returns-clause-ok
-returns-clause-ok c =
-    let start = start_in c.args.self.now.items in
-    on_ok_weaker c.finish.result (λ behind. behind start _ (c.push.ensures start [] (begun c))) c.finish.ensures.ok
+returns-clause-ok c = on_ok_weaker c.finish.result (λ behind. behind (start_in c.args.self.now.items) _ (whole c)) c.finish.ensures.ok
 
 pub returns-clause-err : goal.returns-clause-err
 returns-clause-err c =
     let old = c.args.self.now.items in
-    let start = start_in old in
-    on_err_weaker c.finish.result
-    (λ back. back start _ (c.push.ensures start [] (begun c))
-    ∙ (take-append-le (length old) old _ (omega arith) ∙ take_all (length old) old (omega arith))) c.finish.ensures.err
+    on_err_weaker c.finish.result (λ back. back (start_in old) _ (whole c) ∙ take_at old _ (length old) refl) c.finish.ensures.err

@@ -2,8 +2,8 @@ use Rattle.std.proofs.Common.{◌++◌, [], ◌∷◌, take, get_or, sym, ◌∙
 use Rattle.std.proofs.lemmas.List.{take_more}
 use Rattle.hex.specs.Hex.{encode_upper}
 use Rattle.schedule_text.specs.Growth.{HoldsText}
-use Rattle.schedule_text.proofs.GrowthLemmas.{encode-nil, holds_digits, two_digits_are}
-use Rattle.schedule_text.proofs.text.Text.each_pair.Goals as goal
+use Rattle.schedule_text.proofs.GrowthLemmas.{encode-nil, holds_digits}
+use Rattle.schedule_text.proofs.text.Text.pairs.Goals as goal
 
 pub loop-byte-init : goal.loop-byte-init
 loop-byte-init c = λ start text h. subst (λ t. HoldsText start t c.args.self.now) (sym (ap (λ t. text ++ t) encode-nil ∙ append-nil text)) h
@@ -14,6 +14,5 @@ loop-byte-preserved c =
     let k = c.loop-byte.byte-index in
     let bytes = c.args.bytes.now in
     subst (λ bs. HoldsText start (text ++ encode_upper bs) c.push_few.new.self) (sym (take_more bytes k 0 c.loop-byte-test.true))
-    (holds_digits start text (take k bytes) (get_or bytes k 0 ∷ []) _ c.push_few.new.self
-    (two_digits_are (get_or bytes k 0) c.high_digit.result c.low_digit.result c.high_digit.ensures c.low_digit.ensures)
+    (holds_digits start text (take k bytes) (get_or bytes k 0 ∷ []) _ c.push_few.new.self c.digits_of.ensures
     (c.push_few.ensures start (text ++ encode_upper (take k bytes)) (c.loop-byte.invariant start text h)))
