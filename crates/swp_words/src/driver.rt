@@ -1,5 +1,5 @@
 //! One driver for every command that reads its input piece by piece.
-ghost use Rattle.std.specs.Prelude.{◌≡◌, ◌≢◌, ◌≤◌, ◌<◌, ◌++◌, [], List, ℕ, Bool, length, IsTrue, OnOk, OnErr, IfErr, Ok, Err, true, false};
+ghost use Rattle.std.specs.Prelude.{◌≡◌, ◌≢◌, ◌≤◌, ◌<◌, ◌++◌, [], List, ℕ, Bool, length, IsTrue, OnOk, IfErr, Err, false};
 ghost use Rattle.swp_base.specs.Outside.{Rose};
 ghost use Rattle.swp_words.specs.declared.status.Status.{Status as Ending};
 
@@ -96,51 +96,7 @@ pub trait Job {
             → is_ahead input left };
 }
 
-/// Reads a piece of the input and takes it. `Ok(false)` says that the input has ended.
-fn pump<S: Source, K: Sink, J: Job>(
-    alloc: Global,
-    source: &mut S,
-    sink: &mut K,
-    job: &mut J,
-    buffer: &mut [u8],
-) -> Result<bool, Status>
-    requires goes { J.goes_on job.old }
-    requires room { length buffer.old ≡ 8192 }
-    ensures reads { S.faults source.old ≤ S.faults source.new }
-    ensures writes { K.faults sink.old ≤ K.faults sink.new }
-    ensures read_fault { result ≡ Err Ending.ReadFault → Rose (S.faults source.old) (S.faults source.new) }
-    ensures write_fault { result ≡ Err Ending.WriteFault → Rose (K.faults sink.old) (K.faults sink.new) }
-    ensures memory { J.memory_faults job.old ≤ J.memory_faults job.new }
-    ensures nv_fault { result ≡ Err Ending.NvFault → Rose (J.memory_faults job.old) (J.memory_faults job.new) }
-    ensures words { result ≢ Err Ending.BadWords }
-    ensures ending { IfErr result J.is_ending }
-    ensures goes { OnOk result (J.goes_on job.new) }
-    ensures progress { result ≡ Ok true → J.bound job.new < J.bound job.old }
-    ensures end { IsTrue S.tells → result ≡ Ok false → S.left source.new ≡ [] }
-    ensures on { IsTrue S.tells → OnOk result ((o : J.Origin) (input before : List ℕ) →
-        J.under_way K.tells o job.old input (S.left source.old) before (K.written sink.old)
-        → J.under_way K.tells o job.new input (S.left source.new) before (K.written sink.new)) }
-    ensures ends { IsTrue S.tells → IfErr result (λ status. (o : J.Origin) (input before : List ℕ) →
-        J.under_way K.tells o job.old input (S.left source.old) before (K.written sink.old)
-        → J.ended K.tells (S.end source.new).given o job.new status input (S.left source.new) before (K.written sink.new)) }
-    ensures ahead { IsTrue S.tells → OnErr result ((o : J.Origin) (input before : List ℕ) →
-        J.under_way K.tells o job.old input (S.left source.old) before (K.written sink.old)
-        → J.is_ahead input (S.left source.new)) }
-    ensures late { (S.end source.old).ended ≡ false → (S.end source.new).late ≡ (S.end source.old).late }
-    ensures more { (S.end source.old).ended ≡ false → result ≡ Ok true → (S.end source.new).ended ≡ false }
-{
-    let piece = &mut buffer[..job.piece()];
-    match source.read(piece) {
-        Err(Failed) => Err(job.cut_off()),
-        Ok(0) => Ok(false),
-        Ok(n) => match job.take(alloc, sink, &piece[..n]) {
-            Ok(()) => Ok(true),
-            Err(status) => Err(status),
-        },
-    }
-}
-
-/// Runs a command over the input that the source has left.
+/// Runs a command over the input that the source has left: a piece is read, and taken before the next one is read.
 pub fn drive<S: Source, K: Sink, J: Job>(
     alloc: Global,
     source: &mut S,
@@ -163,10 +119,14 @@ pub fn drive<S: Source, K: Sink, J: Job>(
 {
     let mut buffer = [0; MOST_PIECE];
     'input: loop {
-        match pump(alloc, source, sink, job, &mut buffer) {
-            Ok(true) => {}
-            Ok(false) => return job.close(alloc, sink),
-            Err(status) => return status,
+        let piece = &mut buffer[..job.piece()];
+        match source.read(piece) {
+            Err(Failed) => return job.cut_off(),
+            Ok(0) => return job.close(alloc, sink),
+            Ok(n) => match job.take(alloc, sink, &piece[..n]) {
+                Ok(()) => {}
+                Err(status) => return status,
+            },
         }
     }
 }

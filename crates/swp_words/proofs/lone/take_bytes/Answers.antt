@@ -1,10 +1,10 @@
 -- A piece comes to a node alone.
-use Rattle.std.proofs.Common.{◌≡◌, ◌≤◌, ◌+◌, ◌++◌, ◌∙◌, ℕ, List, true, false, length, take, arith, subst, refl, ap}
+use Rattle.std.proofs.Common.{◌≡◌, ◌≤◌, ◌+◌, ◌++◌, ◌∙◌, ℕ, true, false, length, take, arith, subst, refl, ap}
 use Rattle.std.proofs.Common.{take_all}
-use Rattle.std.proofs.lemmas.List.{length-take-le}
+use Rattle.std.proofs.lemmas.List.{take-take, length-take-le}
 use Rattle.swp_words.specs.Records.{most_bytes}
 use Rattle.swp_words.specs.Ends.{IsWaitingAlone, IsCutAlone, HasHeardAlone}
-use Rattle.swp_words.proofs.Alone.{take-take, waits, waits_no_more, is_cut, broken_in, stopped_in, too_long_in}
+use Rattle.swp_words.proofs.Alone.{waits, waits_no_more, is_cut, broken_in, stopped_in, too_long_in}
 use Rattle.swp_words.proofs.lone.take_bytes.Goals as goal
 
 pub returns-in-Err-clause-ends : goal.returns-in-Err-clause-ends

@@ -1,15 +1,10 @@
-use Rattle.std.proofs.Common.{◌≡◌, ◌≤◌, ◌+◌, ◌++◌, ◌∷◌, [], ℕ, zero, suc, List, length, take, drop, refl, arith, subst, sym, ap, ◌∙◌, append_assoc, length-drop}
+use Rattle.std.proofs.Common.{◌≡◌, ◌≤◌, ◌+◌, ◌++◌, ℕ, List, length, take, drop, arith, subst, sym, ap, ◌∙◌, append_assoc, length-drop}
 use Rattle.std.proofs.Math.Seq.{take-add}
+use Rattle.std.proofs.lemmas.List.{take-take}
 use Rattle.swp_words.specs.Records.{IsFrontOfSome}
 use Rattle.swp_words.proofs.Taken.{whole_after, left_of}
 use Rattle.swp_words.proofs.Recording.{on_err}
 use Rattle.swp_words.proofs.records.take_many.Goals as goal
-
-take-take : (n m : ℕ) (xs : List ℕ) → n ≤ m → take n (take m xs) ≡ take n xs
-take-take zero m xs h = refl
-take-take (suc n) zero xs h = absurd (omega arith)
-take-take (suc n) (suc m) [] h = refl
-take-take (suc n) (suc m) (x ∷ xs) h = ap (λ ys. x ∷ ys) (take-take n m xs (omega arith))
 
 -- the first of the bytes behind a place
 further : (piece first : List ℕ) (at n : ℕ) → first ≡ take 64 (drop at piece) → n ≤ 64 → take at piece ++ take n first ≡ take (at + n) piece
