@@ -22,7 +22,7 @@ use Rattle.swp_tool.specs.declared.replay.Replay.{Replay}
 use Rattle.swp_tool.specs.declared.replay.Halt.{Halt}
 use Rattle.swp_tool.specs.declared.replay.Halt.TheVariants as halt
 use Rattle.swp_tool.specs.Schedules.{Schedule, Too_many, most_lines, misread_there, with_played, and_said, and_line}
-use Rattle.swp_tool.specs.Replays.{Runs, IsAt, WasStepped, HasRoundsLeft, HasPlayed, halt_of, HaltsOn, HaltsBefore}
+use Rattle.swp_tool.specs.Replays.{Runs, IsAt, WasStepped, HasRoundsLeft, HasPlayed, HasFew, halt_of, HaltsOn, HaltsBefore}
 
 -- it stands so below its own header
 pub under_own_header : (w : World) (header : Header) (plays : List Play) → IsWorldAt w header plays → IsWorldAt w (world_header w) plays
@@ -56,6 +56,15 @@ begun_few w most was v is =
     record { plays = was.plays; stands = was.stands; few = omega (arith, said); rounds = omega (arith, rounds) } in
     subst (λ (x : World). WasStepped x most) same now
 
+-- a replay whose world was stepped by one line more has few still
+pub few_more : {r : Replay} {w : World} {count : ℕ} → count < 20000 → r.world ≡ Some w → r.count ≡ count + 1 → WasStepped w (count + 1) → HasFew r
+few_more {r} {w} {count} few world_is count_is was = record {
+  count = omega (arith, few, count_is);
+  steps = λ v is.
+      let same : w ≡ v = cc in
+      subst (λ n. WasStepped v n) (sym count_is) (subst (λ (x : World). WasStepped x (count + 1)) same was);
+}
+
 -- it is so behind a line that lets the links settle
 pub stepped_settled : (w v : World) (most count : ℕ) (was : WasStepped w count) → most ≤ 20000
     → IsWorldAt v (world_header w) (was.plays ++ plays_of_line (world_header w) was.plays (saying.Settle most)) → WasStepped v (count + 1)
@@ -79,6 +88,14 @@ stepped_settled w v most count was long stands =
 -- there is room for its rounds
 pub settles_few : (header : Header) (line : Line) (rounds : ℕ) → line ≡ saying.Settle rounds → MayFollow header line → rounds ≤ 20000
 settles_few header line rounds is may = let within : MayFollow header (saying.Settle rounds) = subst (MayFollow header) is may in within.1
+
+-- it damages no frame
+same_both : (b : Bool) (o : Option (List ℕ)) → cond b o o ≡ o
+same_both true o = refl
+same_both false o = refl
+
+pub settles_well : (header : Header) (lines : List Line) (rounds : ℕ) → misread_below header lines (saying.Settle rounds) ≡ None
+settles_well header lines rounds = same_both header.hci None
 
 -- a line that is no such one
 pub settles_not : (line : Line) → ((rounds : ℕ) → line ≡ saying.Settle rounds → ⊥) → is_settling line ≡ false

@@ -1,13 +1,11 @@
 //! The lines of a schedule are played one by one, and the transcript is gathered.
-ghost use Rattle.std.specs.Prelude.{◌≡◌, ◌+◌, ◌<◌, ◌++◌, ◌∷◌, [], List, ℕ, Ok, None, OnOk, OnErr, IfOk, IfErr, IsSomeAnd, ◌⊎◌, ◌≢◌};
+ghost use Rattle.std.specs.Prelude.{◌≡◌, ◌+◌, ◌<◌, ◌++◌, [], List, ℕ, Ok, None, OnOk, OnErr, IfErr, IsSomeAnd, ◌⊎◌, ◌≢◌};
 ghost use Rattle.trace_model.specs.declared.line.Header.{Header};
 ghost use Rattle.trace_model.specs.declared.line.Line.{Line};
 ghost use Rattle.trace_model.specs.Lines.{MayBegin, MayFollow};
-ghost use Rattle.lines_told.specs.lines.Below.{misread_below};
-ghost use Rattle.lines_told.specs.lines.Plays.{Play, lines_played};
-ghost use Rattle.world.specs.Worlds.{IsWorldAt, world_header};
+ghost use Rattle.world.specs.Worlds.{world_header};
 ghost use Rattle.swp_tool.specs.Schedules.{Schedule, and_line, and_said, nothing_read};
-ghost use Rattle.swp_tool.specs.Replays.{Runs, WasStepped, HasPlayed, HasFew, HaltsOn, HaltsBefore, HaltsAt};
+ghost use Rattle.swp_tool.specs.Replays.{HasPlayed, HasFew, HaltsBefore, HaltsAt};
 ghost use Rattle.swp_tool.specs.Transcripts.{done_line};
 
 use crate::settling::settle;
@@ -174,7 +172,8 @@ impl Replay {
         Ok(())
     }
 
-    /// Steps the world by the next line, which is one below the header.
+    /// Has the world play the next line, which is one below the header, by rounds where it lets the links settle and else by a step, and
+    /// gathers the text of the line and of what it caused.
     #[inline(always)]
     fn go_on(&mut self, alloc: Global, line: &Line) -> Result<(), Halt>
         requires world { IsSomeAnd self.old.world (λ w. MayFollow (world_header w) line.now) }
@@ -192,7 +191,13 @@ impl Replay {
         let Some(world) = &mut self.world else {
             return Err(Halt::Fault(LineFault::Order));
         };
-        play_line(alloc, world, line, &mut self.text)?;
+        match line {
+            Line::Settle { rounds } => settle(alloc, world, *rounds, &mut self.text)?,
+            _ => {
+                world.step(alloc, line)?;
+                write_step(alloc, line, world.entries(), &mut self.text)?;
+            }
+        }
         self.count += 1;
         Ok(())
     }
@@ -212,35 +217,5 @@ impl Replay {
         };
         self.text.append(line.as_bytes())?;
         Ok(())
-    }
-}
-
-/// Has a world play a line, by rounds where it lets the links settle and else by a step, and gathers the text of the line and of what it
-/// caused.
-#[inline(always)]
-fn play_line(
-    alloc: Global,
-    world: &mut World,
-    line: &Line,
-    text: &mut Transcript,
-) -> Result<(), Halt>
-    requires line { MayFollow (world_header world.old) line.now }
-    requires room { (count : ℕ) × WasStepped world.old count × (count < 20000) }
-    ensures runs { OnOk result ((header : Header) (lines : List Line) (before : List ℕ) → Runs world.old header lines (before ++ text.old.items)
-        → Runs world.new header (lines ++ line.now ∷ []) (before ++ text.new.items)) }
-    ensures told { OnOk result ((header : Header) (plays : List Play) → IsWorldAt world.old header plays
-        → misread_below header (lines_played header plays) line.now ≡ None) }
-    ensures stepped { OnOk result ((count : ℕ) → WasStepped world.old count → WasStepped world.new (count + 1)) }
-    ensures halts { IfErr result (λ why. (header : Header) (plays : List Play) → IsWorldAt world.old header plays
-        → HaltsOn why (misread_below header (lines_played header plays) line.now)) }
-    ensures same { OnErr result (text.new.items ≡ text.old.items) }
-{
-    match line {
-        Line::Settle { rounds } => settle(alloc, world, *rounds, text),
-        _ => {
-            world.step(alloc, line)?;
-            write_step(alloc, line, world.entries(), text)?;
-            Ok(())
-        }
     }
 }

@@ -1,5 +1,5 @@
 //! The command `replay`: a schedule in, its transcript out.
-ghost use Rattle.std.specs.Prelude.{◌≡◌, ◌≢◌, ◌≤◌, ◌<◌, ◌+◌, ◌++◌, [], List, ℕ, length, take, Err, false, IsTrue, OnOk, OnErr, IfOk, IfErr};
+ghost use Rattle.std.specs.Prelude.{◌≡◌, ◌≢◌, ◌≤◌, ◌<◌, ◌+◌, ◌++◌, [], List, ℕ, take, Err, false, IsTrue, OnOk, OnErr};
 ghost use Rattle.swp_base.specs.Outside.{Rose};
 ghost use Rattle.swp_tool.specs.Runs.{status_of, AppendsText, Replayed, IsUnderWay, IsOfReplay};
 ghost use Rattle.swp_tool.specs.Schedules.{schedule_in};
@@ -8,7 +8,6 @@ ghost use Rattle.swp_tool.specs.Pieces.{HasRead, IsReading, IsReadAhead, bytes_l
 
 use crate::pieces::Pieces;
 use crate::replay::Halt;
-use schedule_text::Transcript;
 use std::alloc::Global;
 use swp_base::{Failed, Sink, Source};
 use swp_words::driver::{Job, drive};
@@ -35,21 +34,7 @@ fn halted(why: Halt, count: u64) -> Status
     }
 }
 
-/// Writes a text that was gathered, at once where there is memory to join its pieces. Where a call fails, a front of it was written.
-fn write_text<K: Sink>(sink: &mut K, text: &mut Transcript) -> Result<(), Failed>
-    ensures count { K.faults sink.old ≤ K.faults sink.new }
-    ensures fault { OnErr result (Rose (K.faults sink.old) (K.faults sink.new)) }
-    ensures wrote { IsTrue K.tells → OnOk result (K.written sink.new ≡ K.written sink.old ++ text.old.items) }
-    ensures front { OnErr result ((n : ℕ) × (IsTrue K.tells → K.written sink.new ≡ K.written sink.old ++ take n text.old.items)) }
-    ensures same { text.new.items ≡ text.old.items }
-{
-    text.join();
-    let (first, rest) = text.pieces();
-    write_all(sink, first)?;
-    write_all(sink, rest)
-}
-
-/// Writes what a replay has gathered. Where a call fails, a front of it was written.
+/// Writes what a replay has gathered, at once where there is memory to join its pieces. Where a call fails, a front of it was written.
 fn flush<K: Sink>(sink: &mut K, pieces: &mut Pieces) -> Result<(), Failed>
     ensures count { K.faults sink.old ≤ K.faults sink.new }
     ensures fault { OnErr result (Rose (K.faults sink.old) (K.faults sink.new)) }
@@ -62,43 +47,12 @@ fn flush<K: Sink>(sink: &mut K, pieces: &mut Pieces) -> Result<(), Failed>
     ensures lines { pieces.new.replay.count ≡ pieces.old.replay.count }
     ensures left { bytes_left pieces.new ≡ bytes_left pieces.old }
 {
-    write_text(sink, &mut pieces.replay.text)?;
+    pieces.replay.text.join();
+    let (first, rest) = pieces.replay.text.pieces();
+    write_all(sink, first)?;
+    write_all(sink, rest)?;
     pieces.replay.text.clear();
     Ok(())
-}
-
-/// Takes the first bytes of a piece, one at least, and writes what they cause: it stops behind a line that causes much. It gives the bytes
-/// that are left.
-fn take_part<'a, K: Sink>(
-    alloc: Global,
-    sink: &mut K,
-    pieces: &mut Pieces,
-    piece: &'a [u8],
-) -> Result<&'a [u8], Status>
-    requires goes { IsReading pieces.old }
-    requires some { 0 < length piece.now }
-    requires size { length piece.now ≤ 4096 }
-    ensures count { K.faults sink.old ≤ K.faults sink.new }
-    ensures write_fault { result ≡ Err Status.WriteFault → Rose (K.faults sink.old) (K.faults sink.new) }
-    ensures read_fault { result ≢ Err Status.ReadFault }
-    ensures kind { IfErr result IsOfReplay }
-    ensures goes { OnOk result (IsReading pieces.new) }
-    ensures part { IfOk result (λ left. length left.now < length piece.now) }
-    ensures fewer { IfOk result (λ left. bytes_left pieces.new + length piece.now ≤ bytes_left pieces.old + length left.now) }
-    ensures on { IfOk result (λ left. (input rest before : List ℕ) → IsUnderWay K.tells pieces.old input (piece.now ++ rest) before (K.written sink.old)
-        → IsUnderWay K.tells pieces.new input (left.now ++ rest) before (K.written sink.new)) }
-    ensures ends { IfErr result (λ status. (given : ℕ) (input rest before : List ℕ) → length piece.now ≤ given
-        → IsUnderWay K.tells pieces.old input (piece.now ++ rest) before (K.written sink.old)
-        → Replayed K.tells given status input rest before (K.written sink.new)) }
-{
-    let fed = pieces.feed(alloc, piece);
-    if flush(sink, pieces).is_err() {
-        return Err(Status::WriteFault);
-    }
-    match fed {
-        Ok(left) => Ok(left),
-        Err(why) => Err(halted(why, pieces.replay.count)),
-    }
 }
 
 impl Job for Pieces {
@@ -130,9 +84,13 @@ impl Job for Pieces {
     fn take<K: Sink>(&mut self, alloc: Global, sink: &mut K, piece: &[u8]) -> Result<(), Status> {
         let mut left = piece;
         'parts: while !left.is_empty() {
-            match take_part(alloc, sink, self, left) {
+            let fed = self.feed(alloc, left);
+            if flush(sink, self).is_err() {
+                return Err(Status::WriteFault);
+            }
+            match fed {
                 Ok(more) => left = more,
-                Err(status) => return Err(status),
+                Err(why) => return Err(halted(why, self.replay.count)),
             }
         }
         Ok(())
@@ -140,7 +98,7 @@ impl Job for Pieces {
 
     fn close<K: Sink>(&mut self, alloc: Global, sink: &mut K) -> Status {
         let finished = self.finish(alloc);
-        if write_text(sink, &mut self.replay.text).is_err() {
+        if flush(sink, self).is_err() {
             return Status::WriteFault;
         }
         match finished {
