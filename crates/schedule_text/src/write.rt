@@ -212,8 +212,15 @@ fn write_words(text: &mut Text, entry: &Entry)
             text.entry(b">", &[]);
             write_by_parts(text, line);
         }
-        Entry::Up { at, session } => text.entry(b"up", &[End(*at), Number(*session)]),
-        Entry::Down { at, cause } => text.entry(b"down", &[End(*at), Word(cause_of_end(*cause))]),
+        Entry::Up { at, session } => {
+            text.push(b"up");
+            text.end_and_number(*at, *session);
+        }
+        Entry::Down { at, cause } => {
+            text.push(b"down");
+            text.end(*at);
+            text.word(cause_of_end(*cause));
+        }
         Entry::Active { at } => text.entry(b"active", &[End(*at)]),
         Entry::GaveUp { at, tries } => text.entry(
             b"gaveup",
@@ -253,10 +260,10 @@ fn write_words(text: &mut Text, entry: &Entry)
         ),
         Entry::Emit { at, lpdu } => text.entry(b"emit", &[End(*at), Bytes(lpdu.bytes())]),
         Entry::Took { at, lpdu } => text.entry(b"took", &[End(*at), Bytes(lpdu.bytes())]),
-        Entry::Lost { at, lpdu, cause } => text.entry(
-            b"lost",
-            &[End(*at), Bytes(lpdu.bytes()), Word(cause_of_loss(*cause))],
-        ),
+        Entry::Lost { at, lpdu, cause } => {
+            text.frame(b"lost", *at, lpdu.bytes());
+            text.word(cause_of_loss(*cause));
+        }
         Entry::Turn { at, pid, message } => text.entry(
             b"turn",
             &[End(*at), Byte(*pid), Bytes(message.as_slice())],
