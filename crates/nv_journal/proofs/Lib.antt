@@ -1,11 +1,7 @@
 pub mod Appending
 pub mod Snapshotting
 pub mod Compacting
-pub mod ReadHeads
-pub mod PassedBegun
 pub mod PassedSteps
-pub mod PassedReads
-pub mod PassedGates
 pub mod Formatting
 pub mod Refusing
 pub mod Standing

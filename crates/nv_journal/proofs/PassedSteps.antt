@@ -1,8 +1,8 @@
--- The gate that comes next in a pass, by the bytes ahead.
+-- The gate that comes next in a pass, by the bytes ahead, and the reads of a pass.
 use Rattle.std.proofs.Common.{◌≡◌, ◌⊎◌, inl, inr, ℕ, zero, suc, ◌+◌, ◌-◌, ◌*◌, ◌<◌, ◌≤◌, ◌==◌, ◌||◌, ◌&&◌, min, Bool, true, false, cond, nat_le, nat_lt, List}
 use Rattle.std.proofs.Common.{[], ◌∷◌, ◌++◌, length, take, drop, slice_index, slice_range, slice_get, Option, Some, None, IsTrue, sym, refl, ap, ap₂, ◌∙◌}
 use Rattle.std.proofs.Common.{subst, arith, append_assoc, append-nil, length-append, length-take, length-drop, take-take, take_at, add-zero, zero-add, suc-add}
-use Rattle.std.proofs.Common.{add_assoc}
+use Rattle.std.proofs.Common.{add_assoc, if◌then◌else◌}
 use Rattle.std.specs.Option.{option_map_or}
 use Rattle.std.specs.Int.{w16, from_be_bytes}
 use Rattle.std.proofs.lemmas.List.{drop-take, drop-drop}
@@ -10,19 +10,21 @@ use Rattle.std.proofs.lemmas.Bool.{cases_lt, true≢false}
 use Rattle.nv_journal.specs.declared.JournalFault.TheVariants.{UnknownFormat, BadRecord}
 use Rattle.nv_journal.specs.declared.gates.Gate.{Gate}
 use Rattle.nv_journal.specs.declared.gates.Gate.TheVariants.{Closed, Bad, Record}
-use Rattle.journal_laws.specs.declared.banks.Side.{Side}
-use Rattle.journal_laws.specs.declared.state.State.{State}
-use Rattle.journal_laws.specs.Banks.{other, bank_place, bank, is_opened_gate, head}
-use Rattle.journal_laws.specs.Records.{index_len, gap, body, is_record, Found, nothing_found, bad, behind, found_from, size_in}
-use Rattle.journal_laws.specs.Journal.{Journal, found_in, journal_at, journal, records, gate_at, next_gate, next_place}
-use Rattle.journal_laws.proofs.Places.{length-bank}
-use Rattle.journal_laws.proofs.Reading.{window, first, is_good_parts, found_good, bad_found, found_closed}
-use Rattle.journal_laws.proofs.InUse.{journal_in_use, state_at}
-use Rattle.nv_journal.specs.Faults.{fault}
+use Rattle.nv_journal.specs.Faults.{fault, IsFaulty}
 use Rattle.nv_journal.specs.Gates.{gate_of}
 use Rattle.nv_journal.specs.Kept.{Says}
-use Rattle.nv_journal.specs.Scanning.{passed_on, IsPassed, SaysSoFar, IsFilled}
+use Rattle.nv_journal.specs.Scanning.{passed_on, IsPassed, SaysSoFar, IsFilled, Scanned, IsReadSoFar}
 use Rattle.nv_journal.proofs.Snapshotting.{size_in-append}
+use Rattle.journal_laws.specs.declared.banks.Side.{Side}
+use Rattle.journal_laws.specs.declared.state.State.{State}
+use Rattle.journal_laws.specs.Banks.{other, bank_place, bank, is_opened_gate, head, current}
+use Rattle.journal_laws.specs.Records.{index_len, gap, body, is_record, Found, nothing_found, bad, behind, found_from, size_in}
+use Rattle.journal_laws.specs.Journal.{Journal, found_in, journal_at, journal, records, gate_at, next_gate, next_place, left}
+use Rattle.journal_laws.proofs.Places.{length-bank}
+use Rattle.journal_laws.proofs.Reading.{window, first, is_good_parts, found_good, bad_found, found_closed}
+use Rattle.journal_laws.proofs.InUse.{journal_in_use, state_at, no_journal}
+use Rattle.journal_laws.specs.Writes.{AreRead}
+use Rattle.journal_laws.proofs.ReadFirst.{one_more_read, reads_up_to}
 
 -- ---- the first bytes decide
 
@@ -210,13 +212,13 @@ module _ (c : List ℕ) (side : Side) (state : State) (ahead : List ℕ) (p : Is
     body_len =
         omega (arith, length-take (slice_index bytes 1) (drop (2 + index_len state.version) bytes), length-drop (2 + index_len state.version) bytes, within)
 
-    abbrev then : State
-    then = passed_on state b
+    abbrev state_behind : State
+    state_behind = passed_on state b
 
     gap_is : 2 + index_len state.version + length b ≡ g
     gap_is = ap (λ n. 2 + index_len state.version + n) body_len
 
-    further : drop g bytes ≡ drop (next_gate then) (bank c side)
+    further : drop g bytes ≡ drop (next_gate state_behind) (bank c side)
     further = drop_further (next_gate state) g (bank c side) ∙ ap (λ n. drop n (bank c side)) (regroup (sym gap_is))
       where
         regroup : g ≡ 2 + index_len state.version + length b → 12 + state.size + g ≡ 12 + (state.size + (2 + index_len state.version + length b))
@@ -231,7 +233,7 @@ module _ (c : List ℕ) (side : Side) (state : State) (ahead : List ℕ) (p : Is
             → state.size + (g + later.size) ≡ state.size + (2 + index_len state.version + length b) + later.size
         regroup is = omega arith
 
-    pub passed_then : g ≤ length ahead → IsPassed c side then (drop g ahead)
+    pub passed_then : g ≤ length ahead → IsPassed c side state_behind (drop g ahead)
     passed_then enough = record {
       in_use = p.in_use;
       version = p.version;
@@ -310,3 +312,160 @@ piece_says {c} {state} {ahead} {now} {at} says going few inside known at_is more
     regroup : (side : Side) → state.in_use ≡ Some side → next_place state + length ahead ≡ bank_place side + (next_gate state + length ahead)
     regroup side used = ap (λ o. option_map_or bank_place o 0 + next_gate state + length ahead) used
         ∙ add_assoc (bank_place side) (next_gate state) (length ahead)
+
+-- ---- how often a pass reads
+
+module _ {N : Type 0} (reads : N → Bool → N → Type 0) (first : N) where
+  abbrev at : N → State → List ℕ → Bool → Scanned N
+  at nv state ahead ended = record { nv = nv; state = state; ahead = ahead; ended = ended }
+
+  -- nothing more is read, or a piece is
+  pub filled_so_far : (nv new : N) (state : State) (ahead now : List ℕ) (ended : Bool) → IsReadSoFar reads first (at nv state ahead ended)
+      → state.size + length ahead ≤ 32756 → IsFilled reads (32768 - (next_gate state + length ahead)) nv ahead new now
+      → IsReadSoFar reads first (at new state now ended)
+  filled_so_far nv new state ahead now ended r fits (inl same) =
+      subst (λ m. IsReadSoFar reads first (at m state now ended)) (sym same.0) (subst (λ l. IsReadSoFar reads first (at nv state l ended)) (sym same.1) r)
+  filled_so_far nv new state ahead now ended r fits (inr piece) = record {
+    pieces = r.pieces + 1;
+    few = omega (arith, r.long, piece.some);
+    long = λ more. omega (arith, r.long, piece.some, piece.size);
+    read = subst (λ n. AreRead reads n first true new) (one_more r.pieces) (one_more_read reads (2 + r.pieces) first nv true new r.read piece.read);
+  }
+    where
+      one_more : (n : ℕ) → suc (2 + n) ≡ 2 + (n + 1)
+      one_more n = omega arith
+
+  pub failed_so_far : (nv new : N) (state : State) (ahead : List ℕ) (ended : Bool) → IsReadSoFar reads first (at nv state ahead ended)
+      → state.size + length ahead ≤ 32756 → 0 < 32768 - (next_gate state + length ahead) → reads nv false new → AreRead reads 37 first false new
+  failed_so_far nv new state ahead ended r fits some failed =
+      reads_up_to reads (suc (2 + r.pieces)) 37 first false new (one_more_read reads (2 + r.pieces) first nv false new r.read failed)
+      (omega (arith, r.long))
+
+  -- since the two heads
+  pub begun_so_far : (nv : N) (state : State) (ahead : List ℕ) (ended : Bool) → AreRead reads 2 first true nv → state.size ≡ 0 → length ahead ≡ 0
+      → IsReadSoFar reads first (at nv state ahead ended)
+  begun_so_far nv state ahead ended read none nothing = record { pieces = 0; few = omega arith; long = λ more. omega (arith, none, nothing); read = read }
+
+-- ---- what a memory says where a pass comes to a gate
+
+some_side : (o : Option Side) (ended : Bool) → (o ≡ None → IsTrue ended) → ended ≡ false → (side : Side) × (o ≡ Some side)
+some_side None ended idle going = absurd (true≢false (sym (idle refl) ∙ going))
+some_side (Some side) ended idle going = (side, refl)
+
+module _ (c : List ℕ) (state : State) (ahead : List ℕ) (ended : Bool) (says : SaysSoFar c state ahead ended) (going : ended ≡ false)
+    (idle : state.in_use ≡ None → IsTrue ended)
+    (few : 3 * state.many ≤ state.size) (inside : state.size < 32756) (known : IsTrue (state.version == 1 || state.version == 2))
+    (enough : min 65 (left state) ≤ length ahead) where
+  abbrev side : Side
+  side = (some_side state.in_use ended idle going).0
+
+  abbrev gate_bytes : List ℕ
+  gate_bytes = drop (next_gate state) (bank c side)
+
+  used : state.in_use ≡ Some side
+  used = (some_side state.in_use ended idle going).1
+
+  p : IsPassed c side state ahead
+  p = says.passed side used
+
+  rest : length gate_bytes ≡ left state
+  rest = rest_is c side state ahead p says.size used few inside known
+
+  gate_now : gate_of state.version state.many (left state) ahead ≡ gate_of state.version state.many (length gate_bytes) gate_bytes
+  gate_now =
+      ap₂ (gate_of state.version state.many) (sym rest) p.ahead_is
+      ∙ same_gate state.version state.many gate_bytes (length ahead) (omega (arith, rest, enough))
+
+  pub closed_so_far : Closed ≡ gate_of state.version state.many (left state) ahead → Says c state
+  closed_so_far is =
+      closed_says c side state ahead p says.size used few inside known (closed_gate state.version state.many (length gate_bytes) gate_bytes (sym gate_now ∙ sym is))
+
+  pub ended_so_far : Closed ≡ gate_of state.version state.many (left state) ahead → SaysSoFar c state ahead true
+  ended_so_far is = record { size = says.size; in_use = says.in_use; passed = says.passed; at_end = λ _. closed_so_far is }
+
+  pub bad_so_far : Bad ≡ gate_of state.version state.many (left state) ahead → fault c ≡ Some (BadRecord (next_place state))
+  bad_so_far is =
+      let wrong = bad_gate state.version state.many (length gate_bytes) gate_bytes (sym gate_now ∙ sym is) in
+      bad_says c side state ahead p says.size used few inside known wrong.0 wrong.1
+
+  pub bad_is_last : Bad ≡ gate_of state.version state.many (left state) ahead → length (records c) ≡ state.many
+  bad_is_last is =
+      let wrong = bad_gate state.version state.many (length gate_bytes) gate_bytes (sym gate_now ∙ sym is) in
+      bad_last c side state ahead p says.size used few inside known wrong.0 wrong.1
+
+  pub faulty_so_far : Bad ≡ gate_of state.version state.many (left state) ahead → IsFaulty c state.many (BadRecord (next_place state))
+  faulty_so_far is = record { fault_is = bad_so_far is; last = bad_is_last is }
+
+  module _ (len : ℕ) (is : Record len ≡ gate_of state.version state.many (left state) ahead) (short : len ≤ 61)
+      (fits : 2 + index_len state.version + len < left state) where
+    right : (is_opened_gate (slice_index gate_bytes 0) ≡ true) × (is_record state.version state.many (length gate_bytes) gate_bytes ≡ true) × (slice_index gate_bytes 1 ≡ len)
+    right = record_gate state.version state.many (length gate_bytes) len gate_bytes (sym gate_now ∙ sym is)
+
+    len_within : 2 + index_len state.version + len ≤ length ahead
+    len_within = omega (arith, low_index state.version, enough)
+      where
+        low_index : (v : ℕ) → index_len v ≤ 2
+        low_index v = by (v == 1)
+          where
+            by : (b : Bool) → (if b then 0 else 2) ≤ 2
+            by true = omega arith
+            by false = omega arith
+
+    body_is : take len (drop (2 + index_len state.version) ahead) ≡ body state.version gate_bytes
+    body_is =
+        window ahead gate_bytes (length ahead) (2 + index_len state.version) len
+        (ap (take (length ahead)) p.ahead_is ∙ take-take (length ahead) (length ahead) gate_bytes (omega arith)) len_within
+        ∙ ap (λ n. take n (drop (2 + index_len state.version) gate_bytes)) (sym right.2)
+
+    pub record_so_far : slice_get (records c) state.many ≡ Some (take len (drop (2 + index_len state.version) ahead))
+    record_so_far = record_there c side state ahead p says.size used few inside known right.0 right.1 ∙ ap Some (sym body_is)
+
+    -- what is known behind the record
+    abbrev next_state : State
+    next_state = record state { many = state.many + 1; size = state.size + (2 + index_len state.version + len) }
+
+    body_size : length (body state.version gate_bytes) ≡ len
+    body_size = body_len c side state ahead p says.size used few inside known right.0 right.1 ∙ right.2
+
+    gap_len_is : gap state.version gate_bytes ≡ 2 + index_len state.version + len
+    gap_len_is = ap (λ n. 2 + index_len state.version + n) right.2
+
+    passed_now : IsPassed c side next_state (drop (2 + index_len state.version + len) ahead)
+    passed_now =
+        subst (λ n. IsPassed c side (record state { many = state.many + 1; size = state.size + (2 + index_len state.version + n) })
+        (drop (2 + index_len state.version + len) ahead)) body_size
+        (subst (λ n. IsPassed c side (passed_on state (body state.version gate_bytes)) (drop n ahead)) gap_len_is
+        (passed_then c side state ahead p says.size used few inside known right.0 right.1 (omega (arith, gap_len_is, len_within))))
+
+    pub says_then : SaysSoFar c next_state (drop (2 + index_len state.version + len) ahead) ended
+    says_then = record {
+      size = says.size;
+      in_use = says.in_use;
+      passed = λ s used_too. subst (λ t. IsPassed c t next_state (drop (2 + index_len state.version + len) ahead))
+          (same_side side s (sym used ∙ used_too)) passed_now;
+      at_end = λ at_end. absurd (true≢false (sym at_end ∙ going));
+    }
+      where
+        same_side : (s t : Side) → Some s ≡ Some t → s ≡ t
+        same_side s t e = cc
+
+-- the next gate is that of the record that comes next
+pub next_gate_is : (c : List ℕ) (state : State) (ahead : List ℕ) (ended : Bool) → SaysSoFar c state ahead ended → (state.in_use ≡ None → IsTrue ended)
+    → 3 * state.many ≤ state.size → state.size < 32756 → IsTrue (state.version == 1 || state.version == 2) → next_place state ≡ gate_at c state.many
+next_gate_is c state ahead ended says idle few inside known = by_bank state.in_use refl
+  where
+    by_bank : (o : Option Side) → state.in_use ≡ o → next_place state ≡ gate_at c state.many
+    by_bank (Some s) is = sym (gate_is c s state ahead (says.passed s is) says.size is few inside known)
+    by_bank None is =
+        let said = says.at_end (idle is) in
+        let unused : current c ≡ None = says.in_use ∙ is in
+        let says_nothing = no_journal c unused in
+        let none : state.size ≡ 0 = ap (λ (s : State). s.size) (sym said.state_is) ∙ ap (λ (j : Journal). j.found.size) says_nothing in
+        let no_bodies : records c ≡ [] = ap (λ (j : Journal). j.found.bodies) says_nothing in
+        ap₂ (λ o n. option_map_or bank_place o 0 + (12 + n)) is none
+        ∙ sym (ap₂ (λ o l. option_map_or bank_place o 0 + 12 + size_in (journal c).head.version (take state.many l)) unused no_bodies
+        ∙ ap (λ l. 0 + 12 + size_in (journal c).head.version l) (no_part state.many))
+      where
+        no_part : (m : ℕ) → take {A = List ℕ} m [] ≡ []
+        no_part zero = refl
+        no_part (suc m) = refl

@@ -7,7 +7,7 @@ ghost use Rattle.journal_laws.specs.Journal.{records, count_of, count, left, nex
 ghost use Rattle.journal_laws.specs.Operations.{append_writes, compact_writes, HasRoomForBody, appended, compacted, LeftByCut};
 
 use crate::gates::read_record;
-use crate::records::write_record;
+use crate::records::record;
 use crate::{JournalFault, Scan, Snapshot, StartRefused, banks};
 use arrayvec::ArrayVec;
 use journal_laws::State;
@@ -103,8 +103,11 @@ impl<N: Nv + Drop> Journal<N> {
             (LeftByCut (append_writes self.old.state body.now) (N.content self.old.nv) (N.content self.new.nv)) }
     {
         let at = self.state.next_place();
+        let mut bytes = record(self.state.many, body);
+        bytes.push(0xFF);
         self.live = false;
-        write_record(&mut self.nv, at, self.state.many, body)?;
+        self.nv.write(at + 1, bytes.as_slice())?;
+        self.nv.write(at, &[0x5A])?;
         self.state.many += 1;
         self.state.size += 4 + body.len() as u32;
         self.live = true;

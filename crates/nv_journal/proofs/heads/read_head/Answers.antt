@@ -1,7 +1,55 @@
-use Rattle.std.proofs.Common.{◌≡◌, length, ap, ◌∙◌}
-use Rattle.journal_laws.specs.Banks.{head_of}
-use Rattle.nv_journal.proofs.ReadHeads.{head_of_twelve, head_bytes, read_fields}
+use Rattle.std.proofs.Common.{◌≡◌, ℕ, ◌+◌, ◌-◌, List, [], ◌∷◌, length, take, drop, slice_index, slice_range, sym, refl, ap, ap₂, ◌∙◌, arith, take-take, w16}
+use Rattle.std.proofs.Common.{w32}
+use Rattle.std.specs.Int.{from_be_bytes}
+use Rattle.journal_laws.specs.declared.banks.Side.{Side}
+use Rattle.journal_laws.specs.declared.state.Head.{Head}
+use Rattle.journal_laws.specs.Banks.{bank_place, bank, head_of}
 use Rattle.nv_journal.proofs.heads.read_head.Goals as goal
+
+-- The head that is read of a bank.
+-- the head, byte by byte
+abbrev head_by_bytes : List ℕ → Head
+head_by_bytes x = record {
+  gate = slice_index x 0;
+  version = slice_index x 1;
+  generation = from_be_bytes w32 (slice_index x 2 ∷ slice_index x 3 ∷ slice_index x 4 ∷ slice_index x 5 ∷ []);
+  base = from_be_bytes w32 (slice_index x 6 ∷ slice_index x 7 ∷ slice_index x 8 ∷ slice_index x 9 ∷ []);
+  snapshot = from_be_bytes w16 (slice_index x 10 ∷ slice_index x 11 ∷ []);
+}
+
+head_of_twelve : (x : List ℕ) → length x ≡ 12 → head_by_bytes x ≡ head_of x
+head_of_twelve [] size = absurd (omega arith)
+head_of_twelve (a ∷ []) size = absurd (omega arith)
+head_of_twelve (a ∷ b ∷ []) size = absurd (omega arith)
+head_of_twelve (a ∷ b ∷ c ∷ []) size = absurd (omega arith)
+head_of_twelve (a ∷ b ∷ c ∷ d ∷ []) size = absurd (omega arith)
+head_of_twelve (a ∷ b ∷ c ∷ d ∷ e ∷ []) size = absurd (omega arith)
+head_of_twelve (a ∷ b ∷ c ∷ d ∷ e ∷ f ∷ []) size = absurd (omega arith)
+head_of_twelve (a ∷ b ∷ c ∷ d ∷ e ∷ f ∷ g ∷ []) size = absurd (omega arith)
+head_of_twelve (a ∷ b ∷ c ∷ d ∷ e ∷ f ∷ g ∷ h ∷ []) size = absurd (omega arith)
+head_of_twelve (a ∷ b ∷ c ∷ d ∷ e ∷ f ∷ g ∷ h ∷ i ∷ []) size = absurd (omega arith)
+head_of_twelve (a ∷ b ∷ c ∷ d ∷ e ∷ f ∷ g ∷ h ∷ i ∷ j ∷ []) size = absurd (omega arith)
+head_of_twelve (a ∷ b ∷ c ∷ d ∷ e ∷ f ∷ g ∷ h ∷ i ∷ j ∷ k ∷ []) size = absurd (omega arith)
+head_of_twelve (a ∷ b ∷ c ∷ d ∷ e ∷ f ∷ g ∷ h ∷ i ∷ j ∷ k ∷ l ∷ []) size = refl
+head_of_twelve (a ∷ b ∷ c ∷ d ∷ e ∷ f ∷ g ∷ h ∷ i ∷ j ∷ k ∷ l ∷ m ∷ n) size = absurd (omega arith)
+
+-- the first bytes of a bank, in the memory
+head_bytes : (content : List ℕ) (side : Side) (at : ℕ) → at ≡ bank_place side → slice_range content at (at + 12) ≡ take 12 (bank content side)
+head_bytes content side at is =
+    ap (λ n. take n (drop at content)) (twelve at)
+    ∙ sym (take-take 12 32768 (drop at content) (omega arith))
+    ∙ ap (λ p. take 12 (take 32768 (drop p content))) is
+  where
+    twelve : (n : ℕ) → n + 12 - n ≡ 12
+    twelve n = omega arith
+
+-- a head, by the numbers that were read of its bytes
+read_fields : (x : List ℕ) (generation base snapshot : ℕ) → generation ≡ (head_by_bytes x).generation → base ≡ (head_by_bytes x).base
+    → snapshot ≡ (head_by_bytes x).snapshot
+    → record { gate = slice_index x 0; version = slice_index x 1; generation = generation; base = base; snapshot = snapshot } ≡ head_by_bytes x
+read_fields x generation base snapshot g b s =
+    ap (λ n. record { gate = slice_index x 0; version = slice_index x 1; generation = n; base = base; snapshot = snapshot }) g
+    ∙ ap₂ (λ m n. record (head_by_bytes x) { base = m; snapshot = n }) b s
 
 pub returns-clause-head : goal.returns-clause-head
 returns-clause-head g c = λ tells.

@@ -1,21 +1,38 @@
-use Rattle.std.proofs.Common.{arith}
-use Rattle.journal_laws.specs.Operations.{append_writes}
+use Rattle.std.proofs.Common.{Bool, true, false, ℕ, List, rules, arith}
+use Rattle.swp_base.specs.Outside.{IsWritten}
+use Rattle.journal_laws.specs.declared.state.State.{State}
+use Rattle.journal_laws.specs.Writes.{AreMade}
+use Rattle.journal_laws.specs.Operations.{append_writes, HasRoomForBody, LeftByCut}
 use Rattle.journal_laws.proofs.Made.{made_whole, made_in_part}
+use Rattle.nv_journal.specs.Kept.{Says}
 use Rattle.nv_journal.proofs.Appending.{says_after, records_after, all_or_nothing, left_by_cut, on_err}
 use Rattle.nv_journal.proofs.journal.Journal.append.Goals as goal
 
-pub returns-in_err-write_record-clause-cut : goal.returns-in_err-write_record-clause-cut
-returns-in_err-write_record-clause-cut g c = λ tells.
+cut_short : {M : Type 0} (writes : M → ℕ → List ℕ → Bool → M → Type 0) (content : M → List ℕ)
+    → ((old : M) (at : ℕ) (bytes : List ℕ) (ok : Bool) (new : M) → writes old at bytes ok new → IsWritten ok (content old) (content new) at bytes)
+    → (body : List ℕ) (s : State) (old new : M) → Says (content old) s → HasRoomForBody s body → AreMade writes (append_writes s body) old false new
+    → LeftByCut (append_writes s body) (content old) (content new)
+cut_short writes content told body s old new says room made =
+    left_by_cut (append_writes s body) (content old) (content new) (all_or_nothing (content old) body s says room)
+    (made_in_part writes content told (append_writes s body) old new made)
+
+pub returns-in_err-write-clause-cut : goal.returns-in_err-write-clause-cut
+returns-in_err-write-clause-cut g c = λ tells.
     let k = c.self.inside in
-    let body = c.args.body.now in
-    let room = rw (← c.self.view_is) at c.requires.room in
-    let says = c.self.invariant.says (rw (← c.self.view_is) at c.requires.live) tells in
-    let made = rw c.next_place-at.ensures.place at c.in_err-write_record.ensures.made in
-    let cut = made_in_part g.N.Nv.writes g.N.Nv.content (λ m at bytes ok n step. g.met.N.Nv.told m at bytes ok n tells step)
-    (append_writes k.state body) k.nv c.write_record.new.nv made in
+    let made : AreMade g.N.Nv.writes (append_writes k.state c.args.body.now) k.nv false c.write.new.self = search rules in
     rw (← c.self.view_is)
-    (on_err c.from_residual.result _ (left_by_cut (append_writes k.state body) (g.N.Nv.content k.nv) (g.N.Nv.content c.write_record.new.nv)
-    (all_or_nothing (g.N.Nv.content k.nv) body k.state says room) cut))
+    (on_err c.from_residual.result _ (cut_short g.N.Nv.writes g.N.Nv.content (λ m at bytes ok n step. g.met.N.Nv.told m at bytes ok n tells step)
+    c.args.body.now k.state k.nv c.write.new.self (c.self.invariant.says (rw (← c.self.view_is) at c.requires.live) tells)
+    (rw (← c.self.view_is) at c.requires.room) made))
+
+pub returns-in_err-write-2-clause-cut : goal.returns-in_err-write-2-clause-cut
+returns-in_err-write-2-clause-cut g c = λ tells.
+    let k = c.self.inside in
+    let made : AreMade g.N.Nv.writes (append_writes k.state c.args.body.now) k.nv false c.write-2.new.self = search rules in
+    rw (← c.self.view_is)
+    (on_err c.from_residual-in_err-write-2.result _ (cut_short g.N.Nv.writes g.N.Nv.content (λ m at bytes ok n step. g.met.N.Nv.told m at bytes ok n tells step)
+    c.args.body.now k.state k.nv c.write-2.new.self (c.self.invariant.says (rw (← c.self.view_is) at c.requires.live) tells)
+    (rw (← c.self.view_is) at c.requires.room) made))
 
 pub invariant_of-self-2 : goal.invariant_of-self-2
 invariant_of-self-2 g c =
@@ -23,14 +40,14 @@ invariant_of-self-2 g c =
     let body = c.args.body.now in
     let room = rw (← c.self.view_is) at c.requires.room in
     record {
-      size = omega (arith, c.write_record.ensures.size, c.self.invariant.size);
+      size = omega (arith, c.write.ensures.size, c.write-2.ensures.size, c.self.invariant.size);
       inside = omega (arith, room.room);
       few = omega (arith, c.self.invariant.few);
       says = λ live tells.
           let says = c.self.invariant.says (rw (← c.self.view_is) at c.requires.live) tells in
-          let made = rw c.next_place-at.ensures.place at c.in_ok-write_record.ensures.made in
+          let made : AreMade g.N.Nv.writes (append_writes k.state body) k.nv true c.write-2.new.self = search rules in
           let whole = made_whole g.N.Nv.writes g.N.Nv.content (λ m at bytes ok n step. g.met.N.Nv.told m at bytes ok n tells step)
-          (append_writes k.state body) k.nv c.write_record.new.nv made in
+          (append_writes k.state body) k.nv c.write-2.new.self made in
           rw whole (says_after (g.N.Nv.content k.nv) body k.state says room);
     }
 
@@ -40,7 +57,7 @@ returns-clause-records g c = λ tells.
     let body = c.args.body.now in
     let room = rw (← c.self.view_is) at c.requires.room in
     let says = c.self.invariant.says (rw (← c.self.view_is) at c.requires.live) tells in
-    let made = rw c.next_place-at.ensures.place at c.in_ok-write_record.ensures.made in
+    let made : AreMade g.N.Nv.writes (append_writes k.state body) k.nv true c.write-2.new.self = search rules in
     let whole = made_whole g.N.Nv.writes g.N.Nv.content (λ m at bytes ok n step. g.met.N.Nv.told m at bytes ok n tells step)
-    (append_writes k.state body) k.nv c.write_record.new.nv made in
+    (append_writes k.state body) k.nv c.write-2.new.self made in
     rw (← c.self.view_is, whole) (records_after (g.N.Nv.content k.nv) body k.state says room)

@@ -1,13 +1,131 @@
-use Rattle.std.proofs.Common.{subst, sym, ◌≡◌, ◌≤◌, ◌==◌, ◌||◌, inl, inr, true, false, IsTrue, length, refl, ap, ap₂, ◌∙◌, arith}
-use Rattle.journal_laws.specs.declared.banks.Side.TheVariants.{First, Second}
-use Rattle.journal_laws.specs.declared.state.State.{State}
-use Rattle.journal_laws.specs.Banks.{head}
-use Rattle.journal_laws.proofs.ReadFirst.{reads_up_to}
-use Rattle.nv_journal.specs.Faults.{is_known, IsKnown}
-use Rattle.nv_journal.specs.Scanning.{begun_scan}
-use Rattle.nv_journal.proofs.PassedBegun.{says_begun, version_begun, unknown_version, unknown_is_told, idle_begun, known_begun, begun_size}
+use Rattle.std.proofs.Common.{◌≡◌, ◌≢◌, ◌⊎◌, inl, inr, ℕ, ◌≤◌, ◌==◌, ◌||◌, Bool, true, false, cond, List, [], length, drop, Option, Some, None, IsTrue, is_some}
+use Rattle.std.proofs.Common.{not, sym, refl, ap, ap₂, ◌∙◌, subst, arith}
+use Rattle.std.specs.Option.{option_map_or}
+use Rattle.std.proofs.lemmas.Bool.{true≢false}
+use Rattle.std.proofs.lemmas.Bool.Decides.{nat_tests}
+use Rattle.nv_journal.specs.declared.JournalFault.TheVariants.{UnknownFormat, BadRecord}
+use Rattle.nv_journal.specs.Faults.{fault, is_known, IsKnown}
+use Rattle.nv_journal.specs.Kept.{Says}
+use Rattle.nv_journal.specs.Scanning.{head_at, begun_in, begun_scan, IsPassed, SaysSoFar}
 use Rattle.nv_journal.proofs.scan.Scan.open.Goals as goal
 use Rattle.nv_journal.proofs.scan.Scan.open.Goals.{else-state-ne1-via-then-state-ne1+else-state-ne2, else-state-ne1-via-else-state-ne1}
+use Rattle.journal_laws.specs.declared.banks.Side.{Side}
+use Rattle.journal_laws.specs.declared.banks.Side.TheVariants.{First, Second}
+use Rattle.journal_laws.specs.declared.state.Head.{Head}
+use Rattle.journal_laws.specs.declared.state.State.{State}
+use Rattle.journal_laws.specs.Banks.{other, bank, is_opened_gate, head, newer, current}
+use Rattle.journal_laws.specs.Records.{found_from}
+use Rattle.journal_laws.specs.Journal.{Journal, unformatted, journal, state_by, gate_at, records}
+use Rattle.journal_laws.proofs.Places.{length-bank}
+use Rattle.journal_laws.proofs.Reading.{behind-none}
+use Rattle.journal_laws.proofs.InUse.{journal_in_use, no_journal}
+use Rattle.journal_laws.proofs.ReadFirst.{reads_up_to}
+
+-- A pass in front of the first record.
+head_at_side : (c : List ℕ) (side : Side) → head_at (head c First) (head c Second) side ≡ head c side
+head_at_side c First = refl
+head_at_side c Second = refl
+
+module _ (c : List ℕ) (long : 65536 ≤ length c) where
+  abbrev state : State
+  state = begun_scan (head c First) (head c Second)
+
+  abbrev state_in : Option Side → State
+  state_in o = option_map_or
+      (λ side. begun_in side (head_at (head c First) (head c Second) side) (is_opened_gate (head_at (head c First) (head c Second) (other side)).gate))
+      o (state_by None unformatted false)
+
+  begun_side : (side : Side) → current c ≡ Some side → state ≡ begun_in side (head c side) (is_opened_gate (head c (other side)).gate)
+  begun_side side is =
+      ap state_in is
+      ∙ ap₂ (λ (h : Head) (k : Head). begun_in side h (is_opened_gate k.gate)) (head_at_side c side) (head_at_side c (other side))
+
+  passed_side : (side : Side) → current c ≡ Some side → IsPassed c side (begun_in side (head c side) (is_opened_gate (head c (other side)).gate)) []
+  passed_side side is = record {
+    in_use = is;
+    version = refl;
+    generation = refl;
+    base = refl;
+    snapshot = refl;
+    beside = refl;
+    passed = [];
+    many = refl;
+    size = refl;
+    found = ap (λ n. found_from (head c side).version n 0 (drop 12 (bank c side))) (length-bank c side long)
+        ∙ sym (behind-none (found_from (head c side).version 32768 0 (drop 12 (bank c side))));
+    ahead_is = refl;
+  }
+
+  in_use_begun : current c ≡ state.in_use
+  in_use_begun = by_bank (current c) refl
+    where
+      by_bank : (o : Option Side) → current c ≡ o → current c ≡ state.in_use
+      by_bank None is = is ∙ ap (λ (s : State). s.in_use) (sym (ap state_in is))
+      by_bank (Some side) is = is ∙ ap (λ (s : State). s.in_use) (sym (begun_side side is))
+
+  version_begun : (journal c).head.version ≡ state.version
+  version_begun = by_bank (current c) refl
+    where
+      by_bank : (o : Option Side) → current c ≡ o → (journal c).head.version ≡ state.version
+      by_bank None is = ap (λ (j : Journal). j.head.version) (no_journal c is) ∙ ap (λ (s : State). s.version) (sym (ap state_in is))
+      by_bank (Some side) is = ap (λ (j : Journal). j.head.version) (journal_in_use c side is) ∙ ap (λ (s : State). s.version) (sym (begun_side side is))
+
+  none_begun : current c ≡ None → IsTrue (state.version == 1 || state.version == 2) → Says c state
+  none_begun is known = record {
+    size = long;
+    state_is = ap₂ (λ o (j : Journal). state_by o j (option_map_or (λ side. is_opened_gate (head c (other side)).gate) o false)) is (no_journal c is)
+        ∙ sym (ap state_in is);
+    sound = record {
+      known = subst (λ v. IsTrue (v == 1 || v == 2)) (sym version_begun) known;
+      good = ap (λ (j : Journal). j.found.is_bad) (no_journal c is);
+    };
+  }
+
+  -- a pass ends before its first record exactly where no bank is in use
+  says_begun : (ended : Bool) → is_some state.in_use ≡ not ended → IsTrue (state.version == 1 || state.version == 2) → SaysSoFar c state [] ended
+  says_begun ended is known = record {
+    size = long;
+    in_use = in_use_begun;
+    passed = λ side used. let now : current c ≡ Some side = in_use_begun ∙ used in
+        subst (λ s. IsPassed c side s []) (sym (begun_side side now)) (passed_side side now);
+    at_end = λ at_end. none_begun (in_use_begun ∙ none state.in_use (is ∙ ap not at_end)) known;
+  }
+    where
+      none : (o : Option Side) → is_some o ≡ false → o ≡ None
+      none None e = refl
+      none (Some side) e = absurd (true≢false e)
+
+  unknown_is_told : state.version ≢ 1 → state.version ≢ 2 → fault c ≡ Some (UnknownFormat state.version)
+  unknown_is_told not_1 not_2 =
+      ap (λ v. cond (v == 1 || v == 2) (cond (journal c).found.is_bad (Some (BadRecord (gate_at c (length (records c))))) None)
+      (Some (UnknownFormat v))) version_begun
+      ∙ ap (λ b. cond b (cond (journal c).found.is_bad (Some (BadRecord (gate_at c (length (records c))))) None) (Some (UnknownFormat state.version)))
+      (unknown state.version not_1 not_2)
+    where
+      unknown : (v : ℕ) → v ≢ 1 → v ≢ 2 → (v == 1 || v == 2) ≡ false
+      unknown v a b = grind (arith, nat_tests)
+
+idle_begun : (o : Option Side) (ended : Bool) → is_some o ≡ not ended → o ≡ None → IsTrue ended
+idle_begun o true is none = refl
+idle_begun o false is none = absurd (true≢false (sym is ∙ ap is_some none))
+
+known_begun : (v : ℕ) → (v ≡ 1) ⊎ (v ≡ 2) → IsTrue (v == 1 || v == 2)
+known_begun v (inl one) = subst (λ n. IsTrue (n == 1 || n == 2)) (sym one) refl
+known_begun v (inr two) = subst (λ n. IsTrue (n == 1 || n == 2)) (sym two) refl
+
+-- a pass begins at the first gate
+begun_size : (h k : Head) → ((begun_scan h k).size ≡ 0) × ((begun_scan h k).many ≡ 0)
+begun_size h k = by_bank (newer h k)
+  where
+    state_in' : Option Side → State
+    state_in' o = option_map_or (λ side. begun_in side (head_at h k side) (is_opened_gate (head_at h k (other side)).gate)) o (state_by None unformatted false)
+
+    by_bank : (o : Option Side) → ((state_in' o).size ≡ 0) × ((state_in' o).many ≡ 0)
+    by_bank None = (refl, refl)
+    by_bank (Some side) = (refl, refl)
+
+unknown_version : (v : ℕ) → v ≢ 1 → v ≢ 2 → (v == 1 || v == 2) ≡ false
+unknown_version v a b = grind (arith, nat_tests)
 
 pub returns-in-Err-clause-refused : goal.returns-in-Err-clause-refused
 returns-in-Err-clause-refused g c = (

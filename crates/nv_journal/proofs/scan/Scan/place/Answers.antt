@@ -1,5 +1,5 @@
 use Rattle.std.proofs.Common.{◌∙◌}
-use Rattle.nv_journal.proofs.PassedGates.{next_gate_is}
+use Rattle.nv_journal.proofs.PassedSteps.{next_gate_is}
 use Rattle.nv_journal.proofs.scan.Scan.place.Goals as goal
 
 pub returns-clause-gate : goal.returns-clause-gate

@@ -2,8 +2,7 @@ use Rattle.std.proofs.Common.{◌≡◌, ◌+◌, ◌-◌, ◌≤◌, length, ap
 use Rattle.journal_laws.specs.Journal.{next_gate}
 use Rattle.nv_journal.specs.Scanning.{IsFilled}
 use Rattle.nv_journal.proofs.Appending.{on_err}
-use Rattle.nv_journal.proofs.PassedReads.{filled_so_far, failed_so_far}
-use Rattle.nv_journal.proofs.PassedSteps.{filled_len, piece_says}
+use Rattle.nv_journal.proofs.PassedSteps.{filled_so_far, failed_so_far, filled_len, piece_says}
 use Rattle.nv_journal.proofs.scan.Scan.read_on.Goals as goal
 
 pub returns-in_err-fill-clause-unread : goal.returns-in_err-fill-clause-unread

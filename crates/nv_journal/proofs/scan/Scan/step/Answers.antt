@@ -1,7 +1,7 @@
 use Rattle.std.proofs.Common.{◌+◌, take, drop, length-drop, refl, ap₂, ◌∙◌, arith}
 use Rattle.journal_laws.specs.Records.{index_len}
 use Rattle.nv_journal.specs.Gates.{gate_of}
-use Rattle.nv_journal.proofs.PassedGates.{closed_so_far, ended_so_far, faulty_so_far, record_so_far, says_then}
+use Rattle.nv_journal.proofs.PassedSteps.{closed_so_far, ended_so_far, faulty_so_far, record_so_far, says_then}
 use Rattle.nv_journal.proofs.scan.Scan.step.Goals as goal
 
 pub invariant_of-self : goal.invariant_of-self
