@@ -1,31 +1,495 @@
--- What a commit leaves.
-use Rattle.std.proofs.Common.{◌≡◌, ◌⊎◌, inl, inr, ℕ, Bool, true, false, not, ◌&&◌, ◌==◌, cond, nat_le, nat_lt, List, [], ◌∷◌, ◌++◌, map, filter, fold, Result}
-use Rattle.std.proofs.Common.{Ok, Err, OnOk, IfErr, is_some, IsTrue, sym, ap, ◌∙◌, subst, arith}
+-- The tables that the commands of a journal's records make, their snapshot, and what a commit or a cut of it leaves.
+use Rattle.std.proofs.Common.{◌≡◌, ℕ, ◌+◌, ◌*◌, ◌/◌, ◌%◌, ◌≤◌, Bool, true, false, not, cond, ◌&&◌, ◌==◌, nat_le, List, [], ◌∷◌, length, fold, map, Some, None}
+use Rattle.std.proofs.Common.{is_some, sym, refl, ap, ◌∙◌, arith, eqb-true, nat_lt, ◌++◌, filter, ap₂, subst, append_assoc, append-nil, ◌⊎◌, inl, inr, zero}
+use Rattle.std.proofs.Common.{suc, take, slice_get, add-one, add-zero, Result, Ok, Err, OnOk, IfErr, IsTrue, ◌<◌, ◌^◌, slice_index, IsSome}
 use Rattle.std.specs.Option.{option_map_or}
-use Rattle.std.specs.List.{AllByRecursion}
-use Rattle.std.proofs.lemmas.Bool.{and_parts, and_from, true≢false}
-use Rattle.nv_journal.specs.declared.JournalFault.{JournalFault}
-use Rattle.nv_journal.specs.declared.JournalFault.TheVariants.{NvFault, GenerationsSpent}
-use Rattle.pipe_table.specs.declared.row.PipeRow.{PipeRow}
-use Rattle.journal_laws.specs.Writes.{Write, AreMade}
-use Rattle.journal_laws.specs.Journal.{records}
+use Rattle.std.specs.List.{AllByRecursion, All}
+use Rattle.std.proofs.lemmas.Bool.{and_parts, leb-true, le-leb, not-true, and_from, lt-ltb, true≢false}
+use Rattle.std.proofs.lemmas.List.Elements.{All-from_recursion}
+use Rattle.std.proofs.lemmas.Bool.Decides.{nat_tests}
+use Rattle.whitelist.specs.Whitelist.{holds, all_differ, is_whitelist}
+use Rattle.registry.specs.Values.{is_kept, is_default, value_place, place_of_value, IsPresent}
+use Rattle.registry.specs.declared.value.RegValue.{RegValue}
 use Rattle.hci_tables.specs.declared.command.Command.{Command}
-use Rattle.hci_tables.specs.Commands.{is_dynamic, is_host, IsCommand}
-use Rattle.hci_tables.specs.Bodies.{body_of, command_of}
-use Rattle.hci_tables.specs.Tables.{HciTables, AreTables, no_tables, apply, close}
-use Rattle.hci_store.specs.Image.{applied, tables_of, are_commands}
-use Rattle.hci_store.specs.Stored.{HoldsTables}
-use Rattle.hci_store.specs.Snapshots.{sync_command, set_command, create_command, open_command, static_command, snapshot_of}
+use Rattle.hci_tables.specs.declared.command.Command.TheVariants.{Create, Delete, Clear, SetOpened, Set, Sync}
+use Rattle.hci_tables.specs.Commands.{is_dynamic, is_host, is_allowed, IsCommand}
+use Rattle.hci_tables.specs.Bodies.{body_of, command_of, if_command}
+use Rattle.hci_tables.specs.Tables.{HciTables, apply, no_tables, with_static, is_kept_sync, without_identity, close, sync_host, static_place, AreTables}
+use Rattle.hci_store.specs.Image.{applied, are_commands, first_other, image_fault, tables_of}
+use Rattle.hci_store.specs.Snapshots.{create_command, set_command, sync_command, open_command, static_command, snapshot_of}
 use Rattle.hci_store.specs.Recordable.{IsRecordable}
+use Rattle.hci_store.specs.Stored.{HoldsTables, Keeps}
+use Rattle.hci_store.specs.Committing.{room_writes, with_room, commit_writes, record_fits, snapshot_bodies, committed}
+use Rattle.pipe_table.specs.declared.row.PipeRow.{PipeRow}
+use Rattle.pipe_table.specs.PipeRows.{as_opened, joins_host, all_closed, with_pipe, with_opened, pid_of, ArePipeRows}
+use Rattle.sorted_rows.specs.Rows.{AreRows, rows_before, rows_behind, with_row}
+use Rattle.sorted_rows.proofs.RowLemmas.{AreRows-map}
+use Rattle.nv_journal.specs.declared.JournalFault.{JournalFault}
+use Rattle.nv_journal.specs.declared.JournalFault.TheVariants.{BadRecord, UnknownFormat, NvFault, GenerationsSpent}
+use Rattle.nv_journal.specs.Faults.{IsKnown, is_known, IsFaulty, fault}
+use Rattle.nv_journal.specs.Kept.{Says}
+use Rattle.nv_journal.proofs.Appending as appending
+use Rattle.nv_journal.proofs.Compacting as compacting
+use Rattle.journal_laws.specs.Journal.{journal, records, gate_at, IsSound, Journal, count_of}
+use Rattle.journal_laws.specs.Writes.{Write, AreMade, after_writes, last_place}
 use Rattle.journal_laws.specs.declared.state.State.{State}
-use Rattle.journal_laws.specs.Operations.{append_writes}
-use Rattle.hci_store.specs.Committing.{room_writes, with_room, commit_writes}
-use Rattle.hci_store.proofs.Applying.{fold-push, are_commands-push}
-use Rattle.hci_store.proofs.Closing.{same_closed}
-use Rattle.hci_store.proofs.SnapshotLaw.{snapshot_again}
-use Rattle.hci_store.proofs.SnapshotParts.{syncs_by_rows, statics_by_rows}
-use Rattle.hci_store.proofs.Recorded.{all-filter, all-append}
-use Rattle.hci_store.proofs.ReadAgain.{read_again, applied_commands, commands_again}
+use Rattle.journal_laws.specs.Operations.{append_writes, compact_writes, HasRoomForBody, CanCompact, appended, compacted, LeftByCut}
+use Rattle.journal_laws.specs.Banks.{is_opened_gate}
+use Rattle.journal_laws.specs.Records.{IsBody, used}
+use Rattle.journal_laws.proofs.Kept.{compact_count, same_count}
+
+-- a value that is allowed is short
+pub short_value : (host param : ℕ) (value : List ℕ) → is_allowed host param value ≡ true → length value ≤ 20
+short_value host param value is = by_param (param == 1) is
+  where
+    by_param : (b : Bool) → cond b (length value == 8) (is_whitelist host value) ≡ true → length value ≤ 20
+    by_param true e = omega (arith, eqb-true (length value) 8 e)
+    by_param false e =
+        let front = and_parts (nat_le (length value) 7 && not (holds value host)) (all_differ value) e in
+        omega (arith, leb-true (length value) 7 (and_parts (nat_le (length value) 7) (not (holds value host)) front.0).0)
+
+pub read_again : (c : Command) → IsCommand c → command_of (body_of c) ≡ Some c
+read_again (Create row) may =
+    let front = is_dynamic row.pid && is_host row.creator && is_host row.dest && not (row.creator == row.dest) in
+    let parts = and_parts front (not row.opened) may in
+    let closed = not-true row.opened parts.1 in
+    ap (λ b. cond (b && true) (Some (Create (record row { opened = false }))) None) parts.0 ∙ ap (λ o. Some (Create (record row { opened = o }))) (sym closed)
+read_again (Delete pid) may = ap (λ b. cond b (Some (Delete pid)) None) may
+read_again (Clear host) may = ap (λ b. cond b (Some (Clear host)) None) may
+read_again (SetOpened host pid true) may = ap (λ b. cond b (Some (SetOpened host pid true)) None) may
+read_again (SetOpened host pid false) may = ap (λ b. cond b (Some (SetOpened host pid false)) None) may
+read_again (Set host gate param value) may =
+    ap (λ b. if_command (cond b (Some (Set host gate param value)) None))
+    (le-leb (length value.items) 20 (short_value host param value.items (and_parts (is_kept host gate param) (is_allowed host param value.items) may).1))
+    ∙ ap (λ b. cond b (Some (Set host gate param value)) None) may
+read_again (Sync host id) may =
+    ap (λ n. if_command (Some (Sync host n))) (whole id) ∙ ap (λ b. cond b (Some (Sync host id)) None) may
+  where
+    whole : (n : ℕ) → n / 256 * 256 + n % 256 ≡ n
+    whole n = omega arith
+
+pub applied_commands : (t : HciTables) (cs : List Command) → AllByRecursion IsCommand cs → fold applied t (map body_of cs) ≡ fold apply t cs
+applied_commands t [] all = refl
+applied_commands t (c ∷ cs) all =
+    ap (λ o. fold applied (option_map_or (apply t) o t) (map body_of cs)) (read_again c all.0) ∙ applied_commands (apply t c) cs all.1
+
+pub commands_again : (cs : List Command) → AllByRecursion IsCommand cs → are_commands (map body_of cs) ≡ true
+commands_again [] all = refl
+commands_again (c ∷ cs) all = ap (λ o. is_some o && are_commands (map body_of cs)) (read_again c all.0) ∙ commands_again cs all.1
+
+-- ---- tables stay recordable
+
+module _ {X : Type 0} (P : X → Type 0) where
+  pub all-filter : (p : X → Bool) (xs : List X) → AllByRecursion P xs → AllByRecursion P (filter p xs)
+  all-filter p [] all = tt
+  all-filter p (x ∷ xs) all = by_test (p x) (all-filter p xs all.1)
+    where
+      by_test : (b : Bool) → AllByRecursion P (filter p xs) → AllByRecursion P (cond b (x ∷ filter p xs) (filter p xs))
+      by_test true rest = (all.0, rest)
+      by_test false rest = rest
+
+  pub all-append : (xs ys : List X) → AllByRecursion P xs → AllByRecursion P ys → AllByRecursion P (xs ++ ys)
+  all-append [] ys a b = b
+  all-append (x ∷ xs) ys a b = (a.0, all-append xs ys a.1 b)
+
+  all-map : (f : X → X) → ((x : X) → P x → P (f x)) → (xs : List X) → AllByRecursion P xs → AllByRecursion P (map f xs)
+  all-map f keeps [] all = tt
+  all-map f keeps (x ∷ xs) all = (keeps x all.0, all-map f keeps xs all.1)
+
+abbrev MayCreate : PipeRow → Type 0
+MayCreate row = IsCommand (create_command row)
+
+abbrev MaySet : RegValue → Type 0
+MaySet v = IsCommand (set_command v)
+
+created : (row : PipeRow) → IsCommand (Create row) → MayCreate (as_opened false row)
+created row is =
+    let front = is_dynamic row.pid && is_host row.creator && is_host row.dest && not (row.creator == row.dest) in
+    and_from front true (and_parts front (not row.opened) is).0 refl
+
+set_again : (t : HciTables) (host gate param : ℕ) (v : RegValue) → MaySet v → AllByRecursion MaySet t.values
+    → (b : Bool) → AllByRecursion MaySet (cond b (filter (λ row. not (place_of_value row == value_place host param)) t.values)
+    (filter (λ row. nat_lt (place_of_value row) (place_of_value v)) t.values ++ v ∷ filter (λ row. nat_lt (place_of_value v) (place_of_value row)) t.values))
+set_again t host gate param v may all true = all-filter MaySet (λ row. not (place_of_value row == value_place host param)) t.values all
+set_again t host gate param v may all false =
+    all-append MaySet (filter (λ row. nat_lt (place_of_value row) (place_of_value v)) t.values)
+    (v ∷ filter (λ row. nat_lt (place_of_value v) (place_of_value row)) t.values)
+    (all-filter MaySet (λ row. nat_lt (place_of_value row) (place_of_value v)) t.values all)
+    (may, all-filter MaySet (λ row. nat_lt (place_of_value v) (place_of_value row)) t.values all)
+
+pub recordable-none : IsRecordable no_tables
+recordable-none = record { rows = tt; values = tt }
+
+pub recordable-close : (t : HciTables) → IsRecordable t → IsRecordable (close t)
+recordable-close t is = record { rows = all-map MayCreate (as_opened false) (λ row may. may) t.rows is.rows; values = is.values }
+
+pub recordable-apply : (t : HciTables) (c : Command) → IsRecordable t → IsCommand c → IsRecordable (apply t c)
+recordable-apply t (Create row) is may = record {
+  rows = all-append MayCreate (filter (λ r. nat_lt r.pid row.pid) t.rows) (as_opened false row ∷ filter (λ r. nat_lt row.pid r.pid) t.rows)
+      (all-filter MayCreate (λ r. nat_lt r.pid row.pid) t.rows is.rows) (created row may, all-filter MayCreate (λ r. nat_lt row.pid r.pid) t.rows is.rows);
+  values = is.values;
+}
+recordable-apply t (Delete pid) is may = record { rows = all-filter MayCreate (λ r. not (r.pid == pid)) t.rows is.rows; values = is.values }
+recordable-apply t (Clear host) is may = record {
+  rows = all-filter MayCreate (λ r. not (joins_host r host)) t.rows is.rows;
+  values = all-filter MaySet (λ v. not (v.host == host)) t.values is.values;
+}
+recordable-apply t (SetOpened host pid opened) is may = by_pipe (nat_lt pid 2)
+  where
+    state : (row : PipeRow) → MayCreate row → (b : Bool) → MayCreate (cond b (as_opened opened row) row)
+    state row m true = m
+    state row m false = m
+
+    by_pipe : (b : Bool) → IsRecordable (cond b (record t { statics = with_static t.statics host pid opened })
+        (record t { rows = map (λ row. cond (row.pid == pid) (as_opened opened row) row) t.rows }))
+    by_pipe true = record { rows = is.rows; values = is.values }
+    by_pipe false = record {
+      rows =
+          all-map MayCreate (λ row. cond (row.pid == pid) (as_opened opened row) row) (λ row m. state row m (row.pid == pid)) t.rows is.rows;
+      values =
+          is.values;
+    }
+recordable-apply t (Set host gate param value) is may = record {
+  rows = is.rows;
+  values = set_again t host gate param (record { host = host; gate = gate; param = param; value = record { items = value.items } }) may is.values
+      (is_default param value.items);
+}
+recordable-apply t (Sync host id) is may = record { rows = is.rows; values = by_kept (is_kept_sync t.syncs host id) }
+  where
+    by_kept : (b : Bool) → AllByRecursion MaySet (cond b t.values (without_identity t.values host))
+    by_kept true = is.values
+    by_kept false = all-filter MaySet (λ row. not (place_of_value row == value_place host 1)) t.values is.values
+
+-- ---- the parts of a snapshot
+
+pub syncs_by_rows : (low : ℕ) (xs : List (ℕ × ℕ)) → 1 ≤ low → AreRows sync_host low 8 xs → AllByRecursion (λ s. IsCommand (sync_command s)) xs
+syncs_by_rows low [] some rows = tt
+syncs_by_rows low (x ∷ xs) some rows = (
+  and_from (nat_le 1 x.0) (nat_le x.0 7) (le-leb 1 x.0 (omega (arith, rows.0))) (le-leb x.0 7 (omega (arith, rows.1))),
+  syncs_by_rows (x.0 + 1) xs
+      (omega arith) rows.2,
+)
+
+pub statics_by_rows : (low : ℕ) (xs : List (ℕ × ℕ)) → AreRows static_place low 16 xs → AllByRecursion (λ s. IsCommand (static_command s)) xs
+statics_by_rows low [] rows = tt
+statics_by_rows low (x ∷ xs) rows = (
+  and_from (nat_le x.0 7) (nat_lt x.1 112) (le-leb x.0 7 (omega (arith, rows.1))) (lt-ltb x.1 112 (omega (arith, rows.1))),
+  statics_by_rows
+      (static_place x + 1) xs rows.2,
+)
+
+pub syncs_may : (xs : List (ℕ × ℕ)) → AreRows sync_host 1 8 xs → All (λ s. IsCommand (sync_command s)) xs
+syncs_may xs rows = All-from_recursion (λ s. IsCommand (sync_command s)) xs (syncs_by_rows 1 xs (omega arith) rows)
+
+pub statics_may : (xs : List (ℕ × ℕ)) → AreRows static_place 0 16 xs → All (λ s. IsCommand (static_command s)) xs
+statics_may xs rows = All-from_recursion (λ s. IsCommand (static_command s)) xs (statics_by_rows 0 xs rows)
+
+map-map_bodies : {X : Type 0} (g : X → Command) (xs : List X) → map (λ x. body_of (g x)) xs ≡ map body_of (map g xs)
+map-map_bodies g [] = refl
+map-map_bodies g (x ∷ xs) = ap (λ l. body_of (g x) ∷ l) (map-map_bodies g xs)
+
+map-append_bodies : (xs ys : List Command) → map body_of (xs ++ ys) ≡ map body_of xs ++ map body_of ys
+map-append_bodies [] ys = refl
+map-append_bodies (x ∷ xs) ys = ap (λ l. body_of x ∷ l) (map-append_bodies xs ys)
+
+joined : (bodies : List (List ℕ)) (commands : List Command) (more : List (List ℕ)) (next : List Command) → bodies ≡ map body_of commands
+    → more ≡ map body_of next
+    → bodies ++ more ≡ map body_of (commands ++ next)
+joined bodies commands more next a b = ap₂ (λ x y. x ++ y) a b ∙ sym (map-append_bodies commands next)
+
+pub bodies_of_snapshot : (t : HciTables) →
+    [] ++ map (λ s. body_of (sync_command s)) t.syncs ++ map (λ v. body_of (set_command v)) t.values ++ map (λ r. body_of (create_command r)) t.rows
+    ++ map (λ r. body_of (open_command r)) (filter (λ r. r.opened) t.rows) ++ map (λ s. body_of (static_command s)) t.statics ≡ map body_of (snapshot_of t)
+bodies_of_snapshot t =
+    let syncs = map sync_command t.syncs in
+    let values = map set_command t.values in
+    let rows = map create_command t.rows in
+    let opened = map open_command (filter (λ row. row.opened) t.rows) in
+    joined _ (syncs ++ values ++ rows ++ opened) _ (map static_command t.statics)
+    (joined _ (syncs ++ values ++ rows) _ opened
+    (joined _ (syncs ++ values) _ rows
+    (joined _ syncs _ values (map-map_bodies sync_command t.syncs) (map-map_bodies set_command t.values))
+    (map-map_bodies create_command t.rows))
+    (map-map_bodies open_command (filter (λ row. row.opened) t.rows)))
+    (map-map_bodies static_command t.statics)
+
+-- ---- what is left of tables where all pipes are closed
+
+closed_twice : (rows : List PipeRow) → all_closed (all_closed rows) ≡ all_closed rows
+closed_twice [] = refl
+closed_twice (row ∷ rows) = ap (λ l. as_opened false row ∷ l) (closed_twice rows)
+
+pub close-close : (t : HciTables) → close (close t) ≡ close t
+close-close t = ap (λ l. record t { rows = l; statics = [] }) (closed_twice t.rows)
+
+-- a filter that looks at no states
+closed-filter : (p : PipeRow → Bool) → ((row : PipeRow) → p (as_opened false row) ≡ p row) → (rows : List PipeRow)
+    → filter p (all_closed rows) ≡ all_closed (filter p rows)
+closed-filter p same [] = refl
+closed-filter p same (row ∷ rows) =
+    ap (λ b. cond b (as_opened false row ∷ filter p (all_closed rows)) (filter p (all_closed rows))) (same row)
+    ∙ ap (λ l. cond (p row) (as_opened false row ∷ l) l) (closed-filter p same rows)
+    ∙ inside (p row)
+  where
+    inside : (b : Bool)
+        → cond b (as_opened false row ∷ all_closed (filter p rows)) (all_closed (filter p rows)) ≡ all_closed (cond b (row ∷ filter p rows) (filter p rows))
+    inside true = refl
+    inside false = refl
+
+pub closed-append : (xs ys : List PipeRow) → all_closed (xs ++ ys) ≡ all_closed xs ++ all_closed ys
+closed-append [] ys = refl
+closed-append (x ∷ xs) ys = ap (λ l. as_opened false x ∷ l) (closed-append xs ys)
+
+closed-with_pipe : (rows : List PipeRow) (row : PipeRow) → all_closed (with_pipe (all_closed rows) row) ≡ all_closed (with_pipe rows row)
+closed-with_pipe rows row =
+    ap₂ (λ xs ys. all_closed (xs ++ row ∷ ys)) (closed-filter (λ r. nat_lt r.pid row.pid) (λ r. refl) rows)
+    (closed-filter (λ r. nat_lt row.pid r.pid) (λ r. refl) rows)
+    ∙ closed-append (all_closed (rows_before pid_of row.pid rows)) (row ∷ all_closed (rows_behind pid_of row.pid rows))
+    ∙ ap₂ (λ xs ys. xs ++ as_opened false row ∷ ys) (closed_twice (rows_before pid_of row.pid rows)) (closed_twice (rows_behind pid_of row.pid rows))
+    ∙ sym (closed-append (rows_before pid_of row.pid rows) (row ∷ rows_behind pid_of row.pid rows))
+
+closed-filtered : (p : PipeRow → Bool) → ((row : PipeRow) → p (as_opened false row) ≡ p row) → (rows : List PipeRow)
+    → all_closed (filter p (all_closed rows)) ≡ all_closed (filter p rows)
+closed-filtered p same rows = ap all_closed (closed-filter p same rows) ∙ closed_twice (filter p rows)
+
+closed-with_opened : (rows : List PipeRow) (pid : ℕ) (opened : Bool) → all_closed (with_opened rows pid opened) ≡ all_closed rows
+closed-with_opened [] pid opened = refl
+closed-with_opened (row ∷ rows) pid opened = ap₂ (λ r l. r ∷ l) (state (row.pid == pid)) (closed-with_opened rows pid opened)
+  where
+    state : (b : Bool) → as_opened false (cond b (as_opened opened row) row) ≡ as_opened false row
+    state true = refl
+    state false = refl
+
+-- a state that is set is closed again
+pub close-opened : (t : HciTables) (host pid : ℕ) (opened : Bool) → close (apply t (SetOpened host pid opened)) ≡ close t
+close-opened t host pid opened = by_pipe (nat_lt pid 2)
+  where
+    by_pipe : (b : Bool)
+        → close (cond b (record t { statics = with_static t.statics host pid opened }) (record t { rows = with_opened t.rows pid opened })) ≡ close t
+    by_pipe true = refl
+    by_pipe false = ap (λ l. record t { rows = l; statics = [] }) (closed-with_opened t.rows pid opened)
+
+-- closing first changes nothing
+pub close-apply : (t : HciTables) (c : Command) → close (apply (close t) c) ≡ close (apply t c)
+close-apply t (Create row) = ap (λ l. record t { rows = l; statics = [] }) (closed-with_pipe t.rows (as_opened false row))
+close-apply t (Delete pid) = ap (λ l. record t { rows = l; statics = [] }) (closed-filtered (λ r. not (r.pid == pid)) (λ r. refl) t.rows)
+close-apply t (Clear host) =
+    ap (λ l. record (apply t (Clear host)) { rows = l; statics = [] }) (closed-filtered (λ r. not (joins_host r host)) (λ r. refl) t.rows)
+close-apply t (SetOpened host pid opened) = close-opened (close t) host pid opened ∙ close-close t ∙ sym (close-opened t host pid opened)
+close-apply t (Set host gate param value) = ap (λ l. record (apply t (Set host gate param value)) { rows = l; statics = [] }) (closed_twice t.rows)
+close-apply t (Sync host id) = ap (λ l. record (apply t (Sync host id)) { rows = l; statics = [] }) (closed_twice t.rows)
+
+pub same_closed : (t u : HciTables) (c : Command) → close t ≡ close u → close (apply t c) ≡ close (apply u c)
+same_closed t u c same = sym (close-apply t c) ∙ ap (λ x. close (apply x c)) same ∙ close-apply u c
+
+-- ---- a snapshot makes the same tables again, all pipes closed
+
+-- ---- a row behind all others
+
+module _ {X : Type 0} (key : X → ℕ) (high : ℕ) where
+  below : (low : ℕ) (front : List X) (row : X) (rest : List X) → AreRows key low high (front ++ row ∷ rest) → low ≤ key row
+  below low [] row rest h = h.0
+  below low (x ∷ front) row rest h = omega (arith, h.0, below (key x + 1) front row rest h.2)
+
+  before_all : (low : ℕ) (front : List X) (row : X) (rest : List X) → AreRows key low high (front ++ row ∷ rest)
+      → filter (λ r. nat_lt (key r) (key row)) front ≡ front
+  before_all low [] row rest h = refl
+  before_all low (x ∷ front) row rest h =
+      ap (λ b. cond b (x ∷ filter (λ r. nat_lt (key r) (key row)) front) (filter (λ r. nat_lt (key r) (key row)) front))
+      (lt-ltb (key x) (key row) (omega (arith, below (key x + 1) front row rest h.2)))
+      ∙ ap (λ l. x ∷ l) (before_all (key x + 1) front row rest h.2)
+
+  behind_none : (low : ℕ) (front : List X) (row : X) (rest : List X) → AreRows key low high (front ++ row ∷ rest)
+      → filter (λ r. nat_lt (key row) (key r)) front ≡ []
+  behind_none low [] row rest h = refl
+  behind_none low (x ∷ front) row rest h =
+      ap (λ b. cond b (x ∷ filter (λ r. nat_lt (key row) (key r)) front) (filter (λ r. nat_lt (key row) (key r)) front))
+      (not_less (key row) (key x) (omega (arith, below (key x + 1) front row rest h.2)))
+      ∙ behind_none (key x + 1) front row rest h.2
+    where
+      not_less : (a b : ℕ) → b ≤ a → nat_lt a b ≡ false
+      not_less a b h = grind (arith, nat_tests)
+
+  pub put_last : (low : ℕ) (front : List X) (row : X) (rest : List X) → AreRows key low high (front ++ row ∷ rest) → with_row key row front ≡ front ++ row ∷ []
+  put_last low front row rest h = ap₂ (λ a b. a ++ row ∷ b) (before_all low front row rest h) (behind_none low front row rest h)
+
+fold-append : (t : HciTables) (xs ys : List Command) → fold apply t (xs ++ ys) ≡ fold apply (fold apply t xs) ys
+fold-append t [] ys = refl
+fold-append t (x ∷ xs) ys = fold-append (apply t x) xs ys
+
+-- ---- the parts
+
+no_values : (b : Bool) (host : ℕ) → cond b [] (without_identity [] host) ≡ []
+no_values true host = refl
+no_values false host = refl
+
+syncs_again : (front rest : List (ℕ × ℕ)) → AreRows sync_host 1 8 (front ++ rest)
+    → fold apply (record no_tables { syncs = front }) (map sync_command rest) ≡ record no_tables { syncs = front ++ rest }
+syncs_again front [] h = ap (λ l. record no_tables { syncs = l }) (sym (append-nil front))
+syncs_again front (s ∷ rest) h =
+    ap₂ (λ v l. fold apply (record no_tables { values = v; syncs = l }) (map sync_command rest)) (no_values (is_kept_sync front s.0 s.1) s.0)
+    (put_last sync_host 8 1 front s rest h)
+    ∙ syncs_again (front ++ s ∷ []) rest (subst (AreRows sync_host 1 8) (sym (append_assoc front (s ∷ []) rest)) h)
+    ∙ ap (λ l. record no_tables { syncs = l }) (append_assoc front (s ∷ []) rest)
+
+values_again : (t : HciTables) (front rest : List RegValue) → AreRows place_of_value 2 16 (front ++ rest) → AllByRecursion IsPresent rest
+    → fold apply (record t { values = front }) (map set_command rest) ≡ record t { values = front ++ rest }
+values_again t front [] h p = ap (λ l. record t { values = l }) (sym (append-nil front))
+values_again t front (v ∷ rest) h p =
+    let other = not-true (is_default v.param v.value.items) (and_parts (is_kept v.host v.gate v.param) (not (is_default v.param v.value.items)) p.0).1 in
+    ap (λ l. fold apply (record t { values = l }) (map set_command rest))
+    (ap (λ b. cond b (filter (λ row. not (place_of_value row == value_place v.host v.param)) front) (with_row place_of_value v front)) other
+    ∙ put_last place_of_value 16 2 front v rest h)
+    ∙ values_again t (front ++ v ∷ []) rest (subst (AreRows place_of_value 2 16) (sym (append_assoc front (v ∷ []) rest)) h) p.1
+    ∙ ap (λ l. record t { values = l }) (append_assoc front (v ∷ []) rest)
+
+rows_again : (t : HciTables) (front rest : List PipeRow) → ArePipeRows (all_closed front ++ all_closed rest)
+    → fold apply (record t { rows = all_closed front }) (map create_command rest) ≡ record t { rows = all_closed front ++ all_closed rest }
+rows_again t front [] h = ap (λ l. record t { rows = l }) (sym (append-nil (all_closed front)))
+rows_again t front (row ∷ rest) h =
+    let grown : all_closed front ++ as_opened false row ∷ [] ≡ all_closed (front ++ row ∷ []) = sym (closed-append front (row ∷ [])) in
+    let again = append_assoc (all_closed front) (as_opened false row ∷ []) (all_closed rest) in
+    ap (λ l. fold apply (record t { rows = l }) (map create_command rest))
+    (put_last pid_of 112 2 (all_closed front) (as_opened false row) (all_closed rest) h ∙ grown)
+    ∙ rows_again t (front ++ row ∷ []) rest (subst (λ l. ArePipeRows (l ++ all_closed rest)) grown (subst ArePipeRows (sym again) h))
+    ∙ ap (λ l. record t { rows = l ++ all_closed rest }) (sym grown) ∙ ap (λ l. record t { rows = l }) again
+
+opened_again : (t : HciTables) (rows : List PipeRow) → close (fold apply t (map open_command rows)) ≡ close t
+opened_again t [] = refl
+opened_again t (row ∷ rows) = opened_again (apply t (SetOpened row.creator row.pid true)) rows ∙ close-opened t row.creator row.pid true
+
+statics_again : (t : HciTables) (statics : List (ℕ × ℕ)) → close (fold apply t (map static_command statics)) ≡ close t
+statics_again t [] = refl
+statics_again t (s ∷ statics) = statics_again (apply t (SetOpened s.0 s.1 true)) statics ∙ close-opened t s.0 s.1 true
+
+pub snapshot_again : (t : HciTables) → AreTables t → close (fold apply no_tables (snapshot_of t)) ≡ close t
+snapshot_again t are =
+    let syncs = map sync_command t.syncs in
+    let values = map set_command t.values in
+    let rows = map create_command t.rows in
+    let opened = map open_command (filter (λ row. row.opened) t.rows) in
+    let statics = map static_command t.statics in
+    let closed : fold apply no_tables (syncs ++ values ++ rows) ≡ close t =
+    fold-append no_tables (syncs ++ values) rows
+    ∙ ap (λ u. fold apply u rows) (fold-append no_tables syncs values ∙ ap (λ u. fold apply u values) (syncs_again [] t.syncs are.syncs)
+    ∙ values_again (record no_tables { syncs = t.syncs }) [] t.values are.values.sorted are.values.present)
+    ∙ rows_again (record no_tables { syncs = t.syncs; values = t.values }) [] t.rows
+    (AreRows-map pid_of (as_opened false) 2 112 t.rows (λ row. refl) are.rows) in
+    ap close (fold-append no_tables (syncs ++ values ++ rows ++ opened) statics)
+    ∙ statics_again (fold apply no_tables (syncs ++ values ++ rows ++ opened)) t.statics
+    ∙ ap close (fold-append no_tables (syncs ++ values ++ rows) opened)
+    ∙ opened_again (fold apply no_tables (syncs ++ values ++ rows)) (filter (λ row. row.opened) t.rows)
+    ∙ ap close closed ∙ close-close t
+
+-- ---- the commands of the records of a memory, one after another
+
+-- the first so many bodies are commands, and these tables are what they make
+pub record AreApplied (bodies : List (List ℕ)) (many : ℕ) (tables : HciTables) : Type 0 where
+  pub tables_are : tables ≡ fold applied no_tables (take many bodies)
+  pub commands : are_commands (take many bodies) ≡ true
+
+pub fold-push : (t : HciTables) (xs : List (List ℕ)) (x : List ℕ) → fold applied t (xs ++ x ∷ []) ≡ applied (fold applied t xs) x
+fold-push t [] x = refl
+fold-push t (y ∷ xs) x = fold-push (applied t y) xs x
+
+pub are_commands-push : (xs : List (List ℕ)) (x : List ℕ) → are_commands xs ≡ true → is_some (command_of x) ≡ true → are_commands (xs ++ x ∷ []) ≡ true
+are_commands-push [] x all one = and_from (is_some (command_of x)) true one refl
+are_commands-push (y ∷ xs) x all one =
+    let both = and_parts (is_some (command_of y)) (are_commands xs) all in
+    and_from (is_some (command_of y)) (are_commands (xs ++ x ∷ [])) both.0 (are_commands-push xs x both.1 one)
+
+take-push : (bodies : List (List ℕ)) (k : ℕ) (b : List ℕ) → slice_get bodies k ≡ Some b → take (suc k) bodies ≡ take k bodies ++ b ∷ []
+take-push [] k b is = cc
+take-push (x ∷ bodies) zero b is = ap (λ y. y ∷ []) (same x b is)
+  where
+    same : (y z : List ℕ) → Some y ≡ Some z → y ≡ z
+    same y z e = cc
+take-push (x ∷ bodies) (suc k) b is = ap (λ l. x ∷ l) (take-push bodies k b is)
+
+take-whole : (bodies : List (List ℕ)) (k : ℕ) → k ≡ length bodies → take k bodies ≡ bodies
+take-whole [] zero is = refl
+take-whole [] (suc k) is = refl
+take-whole (x ∷ bodies) zero is = absurd (omega arith)
+take-whole (x ∷ bodies) (suc k) is = ap (λ l. x ∷ l) (take-whole bodies k (omega arith))
+
+pub applied_none : (bodies : List (List ℕ)) (many : ℕ) (t : HciTables) → many ≡ 0 → t ≡ no_tables → AreApplied bodies many t
+applied_none bodies many t none empty = subst (λ n. AreApplied bodies n t) (sym none) (record { tables_are = empty; commands = refl })
+
+pub applied_more : (bodies : List (List ℕ)) (many : ℕ) (t : HciTables) (b : List ℕ) (c : Command) → AreApplied bodies many t → slice_get bodies many ≡ Some b
+    → command_of b ≡ Some c → AreApplied bodies (many + 1) (apply t c)
+applied_more bodies many t b c so_far there is =
+    let grown = ap (λ n. take n bodies) (add-one many) ∙ take-push bodies many b there in
+    record {
+      tables_are = ap (λ o. option_map_or (apply t) o t) (sym is) ∙ ap (λ u. applied u b) so_far.tables_are ∙ sym (fold-push no_tables (take many bodies) b)
+          ∙ ap (fold applied no_tables) (sym grown);
+      commands = ap are_commands grown ∙ are_commands-push (take many bodies) b so_far.commands (ap is_some is);
+    }
+
+pub applied_all : (bodies : List (List ℕ)) (many : ℕ) (t : HciTables) → AreApplied bodies many t → many ≡ length bodies
+    → (t ≡ fold applied no_tables bodies) × (are_commands bodies ≡ true)
+applied_all bodies many t so_far last =
+    let whole = take-whole bodies many last in
+    (so_far.tables_are ∙ ap (fold applied no_tables) whole, sym (ap are_commands whole) ∙ so_far.commands)
+
+none_other : (bodies : List (List ℕ)) (j : ℕ) → are_commands bodies ≡ true → first_other j bodies ≡ None
+none_other [] j all = refl
+none_other (b ∷ bodies) j all =
+    let both = and_parts (is_some (command_of b)) (are_commands bodies) all in
+    ap (λ o. cond o (first_other (j + 1) bodies) (Some j)) both.0 ∙ none_other bodies (j + 1) both.1
+
+other_found : (bodies : List (List ℕ)) (j k : ℕ) (b : List ℕ) → are_commands (take k bodies) ≡ true → slice_get bodies k ≡ Some b → command_of b ≡ None
+    → first_other j bodies ≡ Some (j + k)
+other_found [] j k b all there none = cc
+other_found (x ∷ bodies) j zero b all there none =
+    ap (λ o. cond (is_some o) (first_other (j + 1) bodies) (Some j)) (ap command_of (same x b there) ∙ none) ∙ ap Some (sym (add-zero j))
+  where
+    same : (y z : List ℕ) → Some y ≡ Some z → y ≡ z
+    same y z e = cc
+other_found (x ∷ bodies) j (suc k) b all there none =
+    let both = and_parts (is_some (command_of x)) (are_commands (take k bodies)) all in
+    ap (λ o. cond o (first_other (j + 1) bodies) (Some j)) both.0 ∙ other_found bodies (j + 1) k b both.1 there none ∙ ap Some (omega arith)
+
+-- the first record that is no command is told
+pub other_is_told : (content : List ℕ) (many : ℕ) (t : HciTables) (b : List ℕ) (at : ℕ) → AreApplied (records content) many t
+    → slice_get (records content) many ≡ Some b
+    → command_of b ≡ None → IsKnown (journal content).head.version → at ≡ gate_at content many → image_fault content ≡ Some (BadRecord at)
+unfolding image_fault
+other_is_told content many t b at so_far there none known at_is =
+    ap (λ k. cond k (option_map_or (λ n. Some (BadRecord (gate_at content n))) (first_other 0 (records content)) (fault content)) (fault content)) known
+    ∙ ap (λ o. option_map_or (λ n. Some (BadRecord (gate_at content n))) o (fault content)) (other_found (records content) 0 many b so_far.commands there none)
+    ∙ ap (λ n. Some (BadRecord (gate_at content n))) (omega arith)
+    ∙ ap (λ n. Some (BadRecord n)) (sym at_is)
+
+-- and else what is wrong with the journal
+pub fault_is_told : (content : List ℕ) → are_commands (records content) ≡ true → image_fault content ≡ fault content
+unfolding image_fault
+fault_is_told content all = by_version (is_known (journal content).head.version)
+  where
+    by_version : (k : Bool)
+        → cond k (option_map_or (λ n. Some (BadRecord (gate_at content n))) (first_other 0 (records content)) (fault content)) (fault content) ≡ fault content
+    by_version true = ap (λ o. option_map_or (λ n. Some (BadRecord (gate_at content n))) o (fault content)) (none_other (records content) 0 all)
+    by_version false = refl
+
+-- a sound journal whose records are commands has no fault
+pub sound_has_no_fault : (content : List ℕ) → are_commands (records content) ≡ true → IsSound (journal content) → image_fault content ≡ None
+sound_has_no_fault content all sound =
+    fault_is_told content all
+    ∙ ap (λ k. cond k (cond (journal content).found.is_bad (Some (BadRecord (gate_at content (length (records content))))) None)
+    (Some (UnknownFormat (journal content).head.version))) sound.known
+    ∙ ap (λ b. cond b (Some (BadRecord (gate_at content (length (records content))))) None) sound.good
+
+pub journal_fault_is_told : (content now : List ℕ) (many : ℕ) (t : HciTables) (f : JournalFault) → now ≡ content → AreApplied (records content) many t
+    → IsFaulty now many f
+    → image_fault content ≡ Some f
+journal_fault_is_told content now many t f same so_far faulty =
+    let last = sym faulty.last ∙ ap (λ c. length (records c)) same in
+    fault_is_told content (applied_all (records content) many t so_far last).1 ∙ ap fault (sym same) ∙ faulty.fault_is
+
+pub carried : {A B C T K D : Type 0} → A ⊎ (B × (T → C)) → (T → C → K → D) → A ⊎ (B × (T → K → D))
+carried (inl a) step = inl a
+carried (inr b) step = inr (b.0, λ t k. step t (b.1 t) k)
+
+-- ---- what a commit leaves
 
 -- one more command
 pub holds_more : (content new body : List ℕ) (t : HciTables) (c : Command) → HoldsTables content t → records new ≡ records content ++ body ∷ []
@@ -112,3 +576,98 @@ module _ {M : Type 0} (writes : M → ℕ → List ℕ → Bool → M → Type 0
   commit_cut body first old new is made =
       made-cut writes (room_writes s t body) (append_writes (with_room s t body) body) old new
       (subst (λ l. AreMade writes (room_writes s t l) old false new) is made)
+
+-- ---- what a failed write of a commit leaves
+
+-- the body of a command may be appended
+pub is_body : (c : Command) → IsCommand c → IsBody (body_of c)
+is_body (Create row) may = (omega arith, omega arith)
+is_body (Delete pid) may = (omega arith, omega arith)
+is_body (Clear host) may = (omega arith, omega arith)
+is_body (SetOpened host pid opened) may = (omega arith, omega arith)
+is_body (Set host gate param value) may =
+    let short = short_value host param value.items (and_parts (is_kept host gate param) (is_allowed host param value.items) may).1 in
+    (omega arith, omega (arith, short))
+is_body (Sync host id) may = (omega arith, omega arith)
+
+pub are_bodies : (cs : List Command) → AllByRecursion IsCommand cs → AllByRecursion IsBody (map body_of cs)
+are_bodies [] all = tt
+are_bodies (c ∷ cs) all = (is_body c all.0, are_bodies cs all.1)
+
+-- what was said before the writes, or behind all of them
+pub journal_left : (writes : List Write) (content left : List ℕ) → LeftByCut writes content left
+    → (journal left ≡ journal content) ⊎ (journal left ≡ journal (after_writes writes content))
+journal_left writes content left cut = either (cut.whole + 1 == length writes && is_opened_gate (slice_index left (last_place writes))) cut.says
+  where
+    either : (b : Bool) → journal left ≡ journal (cond b (after_writes writes content) content)
+        → (journal left ≡ journal content) ⊎ (journal left ≡ journal (after_writes writes content))
+    either true is = inr is
+    either false is = inl is
+
+pub holds_still : (content new : List ℕ) (t : HciTables) → HoldsTables content t → records new ≡ records content → HoldsTables new t
+holds_still content new t holds same = record {
+  commands = ap are_commands same ∙ holds.commands;
+  tables_are = ap (λ l. close (fold applied no_tables l)) same ∙ holds.tables_are;
+}
+
+-- a memory that says what another one says keeps what that keeps
+pub keeps_still : (content new : List ℕ) (s : State) (t : HciTables) (many : ℕ) → Says content s
+    → HoldsTables content t → count_of s ≡ many → journal new ≡ journal content
+    → Keeps new t many
+keeps_still content new s t many says holds is same = record {
+  sound = subst IsSound (sym same) says.sound;
+  holds = holds_still content new t holds (ap (λ (j : Journal). j.found.bodies) same);
+  count_is = same_count new content same ∙ ap count_of says.state_is ∙ is;
+}
+
+module _ (content left : List ℕ) (s : State) (t : HciTables) (says : Says content s) (holds : HoldsTables content t) where
+  -- a record that was cut
+  pub append_left : (body : List ℕ) (c : Command) → HasRoomForBody s body → body ≡ body_of c → IsCommand c → LeftByCut (append_writes s body) content left
+      → Keeps left t (count_of s) ⊎ Keeps left (apply t c) (count_of (appended s body))
+  append_left body c room is may cut = either (journal_left (append_writes s body) content left cut)
+    where
+      either : (journal left ≡ journal content) ⊎ (journal left ≡ journal (after_writes (append_writes s body) content))
+          → Keeps left t (count_of s) ⊎ Keeps left (apply t c) (count_of (appended s body))
+      either (inl same) = inl (keeps_still content left s t (count_of s) says holds refl same)
+      either (inr more) =
+          inr (keeps_still (after_writes (append_writes s body) content) left (appended s body) (apply t c) (count_of (appended s body))
+          (appending.says_after content body s says room)
+          (holds_more content (after_writes (append_writes s body) content) body t c holds (appending.records_after content body s says room) is may) refl more)
+
+  -- a snapshot that was cut
+  pub compact_left : (bodies : List (List ℕ)) → IsSome s.in_use → s.generation + 1 < 2 ^ 32 → IsRecordable t → AreTables t
+      → bodies ≡ map body_of (snapshot_of t)
+      → used bodies ≤ 2560 → LeftByCut (compact_writes s bodies) content left → Keeps left t (count_of s)
+  compact_left bodies in_use last may are is room cut = either (journal_left (compact_writes s bodies) content left cut)
+    where
+      can : CanCompact s bodies
+      can = record {
+        in_use = in_use;
+        generation = last;
+        short = rw is (are_bodies (snapshot_of t) (all_recordable t may are));
+        room = room;
+      }
+
+      either : (journal left ≡ journal content) ⊎ (journal left ≡ journal (after_writes (compact_writes s bodies) content)) → Keeps left t (count_of s)
+      either (inl same) = keeps_still content left s t (count_of s) says holds refl same
+      either (inr whole) =
+          keeps_still (after_writes (compact_writes s bodies) content) left (compacted s bodies) t (count_of s)
+          (compacting.says_after content bodies s says can)
+          (holds_snapshot (after_writes (compact_writes s bodies) content) t may are (compacting.records_after content bodies s says can ∙ is))
+          (compact_count s bodies) whole
+
+-- room for a record changes no count
+pub room_count : (s : State) (t : HciTables) (body : List ℕ) → count_of (with_room s t body) ≡ count_of s
+room_count s t body = by_room (record_fits s body)
+  where
+    by_room : (b : Bool) → count_of (cond b s (compacted s (snapshot_bodies t))) ≡ count_of s
+    by_room true = refl
+    by_room false = compact_count s (snapshot_bodies t)
+
+-- a record that was cut, behind the room for it
+pub keeps_then : (left : List ℕ) (s : State) {m : State} (t : HciTables) (c : Command) {first second : List ℕ} → first ≡ body_of c → second ≡ body_of c
+    → m ≡ with_room s t first → Keeps left t (count_of m) ⊎ Keeps left (apply t c) (count_of (appended m second))
+    → Keeps left t (count_of s) ⊎ Keeps left (apply t c) (count_of (committed s t (body_of c)))
+keeps_then left s t c {first} a b is (inl before) = inl (subst (Keeps left t) (ap count_of is ∙ room_count s t first) before)
+keeps_then left s t c a b is (inr later) =
+    inr (subst (Keeps left (apply t c)) (ap₂ (λ (p : State) l. count_of (appended p l)) (is ∙ ap (with_room s t) a) b) later)

@@ -13,7 +13,7 @@ use Rattle.hci_tables.specs.Tables.{HciTables, close}
 use Rattle.hci_store.specs.Image.{are_commands, tables_of}
 use Rattle.hci_store.specs.Starting.{migration_writes, migrated, ready_writes, ready_state}
 use Rattle.hci_store.specs.Refusals.{IsSpent}
-use Rattle.hci_store.proofs.Applying.{sound_has_no_fault}
+use Rattle.hci_store.proofs.Committed.{sound_has_no_fault}
 
 -- a bank that isn't of version 02 was not formatted just now
 was_used : (s : State) → (started_state s).version ≢ 2 → (started_state s ≡ s) × (start_writes s ≡ [])

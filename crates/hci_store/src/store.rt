@@ -4,7 +4,7 @@ ghost use Rattle.std.specs.Prelude.{Some, IsSome, IsTrue, IfOk, IfErr};
 ghost use Rattle.std.specs.Prelude.{OnOk, OnErr, MatchResult};
 ghost use Rattle.swp_base.specs.Outside.{Rose};
 ghost use Rattle.journal_laws.specs.Writes.{AreRead, AreMade};
-ghost use Rattle.journal_laws.specs.Operations.{append_writes, compact_writes, HasRoomForBody, appended, compacted};
+ghost use Rattle.journal_laws.specs.Operations.{compact_writes, compacted};
 ghost use Rattle.journal_laws.specs.Journal.{journal, records, count_of, count, left};
 ghost use Rattle.hci_tables.specs.Tables.{apply, close};
 ghost use Rattle.hci_tables.specs.Commands.{IsCommand};
@@ -233,7 +233,13 @@ impl<N: Nv + Drop> Store<N> {
     {
         let body = write_command(command);
         match self.make_room(body.as_slice()) {
-            Ok(()) => self.keep(command, body.as_slice()),
+            Ok(()) => match self.journal.append(body.as_slice()) {
+                Ok(()) => {
+                    self.tables.apply(command);
+                    Ok(())
+                }
+                Err(fault) => Err(fault),
+            },
             Err(fault) => Err(fault),
         }
     }
@@ -314,36 +320,6 @@ impl<N: Nv + Drop> Store<N> {
         }
         let snapshot = snapshot_of(&self.tables);
         self.journal.compact(&snapshot)
-    }
-
-    /// Appends the record of a command that fits, and does what it says.
-    fn keep(&mut self, command: &Command, body: &[u8]) -> Result<(), JournalFault>
-        requires live { IsTrue self.old.journal.live }
-        requires room { HasRoomForBody self.old.journal.state body.now }
-        requires command { IsCommand command.now }
-        requires body { body.now ≡ body_of command.now }
-        ensures made { AreMade N.writes (append_writes self.old.journal.state body.now) self.old.journal.nv (is_ok result)
-            self.new.journal.nv }
-        ensures state { OnOk result (self.new.journal.state ≡ appended self.old.journal.state body.now) }
-        ensures tables { OnOk result (self.new.tables ≡ apply self.old.tables command.now) }
-        ensures untouched { OnErr result (self.new.tables ≡ self.old.tables) }
-        ensures live { self.new.journal.live ≡ is_ok result }
-        ensures fault { IfErr result (λ f. f ≡ JournalFault.NvFault) }
-        ensures count { N.faults self.old.journal.nv ≤ N.faults self.new.journal.nv }
-        ensures rose { OnErr result (Rose (N.faults self.old.journal.nv) (N.faults self.new.journal.nv)) }
-        ensures cut { IsTrue N.tells → OnErr result
-            (Keeps (N.content self.new.journal.nv) self.old.tables (count_of self.old.journal.state)
-            ⊎ Keeps (N.content self.new.journal.nv) (apply self.old.tables command.now)
-            (count_of (appended self.old.journal.state body.now))) }
-        ensures holds { IsTrue N.tells → OnOk result (HoldsTables (N.content self.new.journal.nv) self.new.tables) }
-    {
-        match self.journal.append(body) {
-            Ok(()) => {
-                self.tables.apply(command);
-                Ok(())
-            }
-            Err(fault) => Err(fault),
-        }
     }
 
     /// The tables.

@@ -8,7 +8,7 @@ use Rattle.node_world.proofs.Words.{Book, Entry, FollowsNodes, Header, IsHost, I
 use Rattle.node_world.proofs.Words.{Play, Site, WouldFind, book_in, current, hosts_stay_behind, last_in, lines_may_be_played, lines_played, memory_at}
 use Rattle.node_world.proofs.Words.{new_world, nodes_behind, site_at}
 use Rattle.trace_model.specs.declared.entry.Entry.TheVariants as entry
-use Rattle.hci_store.proofs.Applying.{sound_has_no_fault}
+use Rattle.hci_store.proofs.Committed.{sound_has_no_fault}
 use Rattle.node_machine.specs.world.World.{NodeWorld}
 use Rattle.node_machine.specs.world.NodeHistories.{node_entries}
 use Rattle.node_machine.specs.world.NodeFilters.{book_after, commands_in, with_found}

@@ -21,7 +21,7 @@ use Rattle.node_laws.proofs.kept.Booting.{boot_lost}
 use Rattle.node_laws.proofs.kept.Events.{Goes, activates_goes, arms_goes, boots_goes, comes_goes, controller_goes, cut_goes, gives_goes, host_goes, hosts_in}
 use Rattle.node_laws.proofs.kept.Events.{inits_goes, loses_is, lost_goes, site_found, with_site_twice}
 use Rattle.node_laws.proofs.kept.Ticking.{MayAllHappen, all_begin, line_may, ticks_goes}
-use Rattle.hci_store.proofs.Applying.{sound_has_no_fault}
+use Rattle.hci_store.proofs.Committed.{sound_has_no_fault}
 use Rattle.node_sites.specs.Memories.{KeepsSome}
 use Rattle.node_world.proofs.Versions.{boots_find_version_02}
 use Rattle.node_world.proofs.MemoryReads.{reads_at_first, reads_behind_step}

@@ -18,7 +18,7 @@ use Rattle.lone_laws.proofs.Words.{room_count, room_writes, same_count, says_eit
 use Rattle.lone_laws.proofs.Words.{state_of, subst, sym, tests_to_create, true, true≢false, unless_cut, view_for, view_of, with_room, ℕ, ◌&&◌, ◌++◌, ◌+◌, ◌-◌}
 use Rattle.lone_laws.proofs.Words.{◌<◌, ◌^◌, ◌∙◌, ◌∷◌, ◌≡◌, ◌≤◌, ◌⊎◌}
 use Rattle.gate_admin.proofs.CreationLemmas.{AllFalse, all_false}
-use Rattle.hci_store.proofs.Recorded.{recordable-apply}
+use Rattle.hci_store.proofs.Committed.{recordable-apply}
 use Rattle.hci_store.specs.Image.{image_fault}
 use Rattle.journal_laws.proofs.Cuts.{length-after, length-cut}
 use Rattle.node_laws.proofs.kept.Doing.{stays_cut, uncut}

@@ -8,7 +8,7 @@ use Rattle.node_laws.proofs.Words.{cond, count_of, current, cycled, eq-eqb, eqb-
 use Rattle.node_laws.proofs.Words.{journal, last_place, leb-false, leb-true, left, length, length-append, memory_after, nat_le, ne_eqb, opens_gate, other}
 use Rattle.node_laws.proofs.Words.{overwritten, plan_after, plan_on, record_fits, refl, room_writes, slice_index, snapshot_bodies, subst, suc, sym, torn_bytes}
 use Rattle.node_laws.proofs.Words.{true, true≢false, with_room, zero, ℕ, ◌%◌, ◌&&◌, ◌++◌, ◌+◌, ◌-◌, ◌<◌, ◌==◌, ◌^◌, ◌∙◌, ◌∷◌, ◌≡◌, ◌≤◌, ◌⊎◌}
-use Rattle.hci_store.proofs.CutShort.{room_count}
+use Rattle.hci_store.proofs.Committed.{room_count}
 use Rattle.journal_laws.proofs.Cuts.{at_place as byte_there, length-cut}
 use Rattle.journal_laws.specs.Banks.{bank_place}
 use Rattle.journal_laws.specs.Operations.{close_bank, open_bank}

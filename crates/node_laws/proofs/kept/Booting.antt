@@ -14,9 +14,7 @@ use Rattle.journal_laws.specs.Operations.{formatted}
 use Rattle.nv_journal.specs.Kept.{Says}
 use Rattle.nv_journal.proofs.Formatting.{says_formatted, format_all_or_nothing, no_records_then}
 use Rattle.hci_tables.specs.Bodies.{if_command}
-use Rattle.hci_store.proofs.Recorded.{recordable-none, recordable-close, recordable-apply}
-use Rattle.hci_store.proofs.Closing.{close-close}
-use Rattle.hci_store.proofs.CutShort.{holds_still}
+use Rattle.hci_store.proofs.Committed.{recordable-none, recordable-close, recordable-apply, close-close, holds_still}
 use Rattle.hci_store.proofs.Starting.{counted}
 use Rattle.node_laws.proofs.kept.Reckoned.{IsLeftBetween, finds_closed, knows_from, left_finds, planned_cut, planned_whole}
 use Rattle.node_laws.proofs.kept.Doing.{book_more, closed_book, finds_all}

@@ -13,8 +13,7 @@ use Rattle.node_laws.proofs.Words.{fold-append, hosts_of_ends, inl, inr, keeps, 
 use Rattle.node_laws.proofs.Words.{no_tables, noted_of, notified, noting, option_map_or, own_side, plan_behind, port_at, reckoned, reckoning_of, refl, subst}
 use Rattle.node_laws.proofs.Words.{sym, tables_in, take, true, turn_at, turn_entry, unless_cut, with_command, with_desk, with_found, ℕ, ◌++◌, ◌+◌, ◌-◌, ◌==◌}
 use Rattle.node_laws.proofs.Words.{◌^◌, ◌∙◌, ◌∷◌, ◌≡◌, ◌⊎◌}
-use Rattle.hci_store.proofs.Closing.{close-close, same_closed}
-use Rattle.hci_store.proofs.Recorded.{recordable-apply}
+use Rattle.hci_store.proofs.Committed.{close-close, same_closed, recordable-apply}
 use Rattle.link_laws.specs.entries.Entries.Entry.{Tick}
 use Rattle.node_laws.specs.kept.Books.{HasLostPower, WaitsAbout}
 use Rattle.node_laws.proofs.kept.Reckoned.{after_planned-append, command_makes, commit_count, finds_closed, fold_book, make_idle, make_more, make_ok}

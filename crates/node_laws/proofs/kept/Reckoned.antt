@@ -9,9 +9,7 @@ use Rattle.node_laws.proofs.Words.{journal, leb-true, left, length, ltb-true, ma
 use Rattle.node_laws.proofs.Words.{opens_gate, option_map, other, overwritten, pid_of, plan_after, plan_behind, plan_on, reckoned, record_fits, refl}
 use Rattle.node_laws.proofs.Words.{room_writes, snapshot_bodies, state_of, subst, suc, sym, torn_bytes, true, true≢false, with_command, with_found, with_room}
 use Rattle.node_laws.proofs.Words.{with_written, writes_of, zero, ℕ, ◌%◌, ◌&&◌, ◌*◌, ◌++◌, ◌+◌, ◌-◌, ◌<◌, ◌^◌, ◌∙◌, ◌∷◌, ◌≡◌, ◌≤◌, ◌⊎◌}
-use Rattle.hci_store.proofs.Committed.{all_recordable, holds_more, holds_snapshot}
-use Rattle.hci_store.proofs.CutShort.{are_bodies, holds_still, is_body, journal_left, room_count}
-use Rattle.hci_store.proofs.ReadAgain.{short_value}
+use Rattle.hci_store.proofs.Committed.{all_recordable, holds_more, holds_snapshot, are_bodies, holds_still, is_body, journal_left, room_count, short_value}
 use Rattle.hci_store.specs.Snapshots.{create_command, open_command, set_command, snapshot_of, static_command, sync_command}
 use Rattle.hci_store.specs.Stored.{HoldsTables}
 use Rattle.hci_tables.specs.Tables.{static_place, sync_host}

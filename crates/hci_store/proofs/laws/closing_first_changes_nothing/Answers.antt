@@ -1,4 +1,4 @@
-use Rattle.hci_store.proofs.Closing.{close-close, close-apply}
+use Rattle.hci_store.proofs.Committed.{close-close, close-apply}
 use Rattle.hci_store.proofs.laws.closing_first_changes_nothing.Goals as goal
 
 pub returns : goal.returns

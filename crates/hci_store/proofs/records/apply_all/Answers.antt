@@ -2,8 +2,7 @@ use Rattle.std.proofs.Common.{◌≡◌, ◌+◌, inr, Some, slice_get, sym, ap,
 use Rattle.journal_laws.specs.declared.state.State.{State}
 use Rattle.journal_laws.specs.Journal.{records, gate_at}
 use Rattle.hci_tables.specs.Bodies.{command_of}
-use Rattle.hci_store.proofs.Recorded.{recordable-apply}
-use Rattle.hci_store.proofs.Applying.{AreApplied, applied_more, other_is_told, journal_fault_is_told, carried}
+use Rattle.hci_store.proofs.Committed.{recordable-apply, AreApplied, applied_more, other_is_told, journal_fault_is_told, carried}
 use Rattle.hci_store.proofs.records.apply_all.Goals as goal
 
 pub returns-in-Err-clause-fault : goal.returns-in-Err-clause-fault

@@ -4,7 +4,7 @@ use Rattle.pipe_table.specs.PipeRows.{pid_of}
 use Rattle.registry.specs.Values.{place_of_value}
 use Rattle.journal_laws.specs.Records.{used}
 use Rattle.hci_tables.specs.Tables.{sync_host, static_place}
-use Rattle.hci_store.proofs.SnapshotParts.{syncs_may, statics_may, snapshot_bodies}
+use Rattle.hci_store.proofs.Committed.{syncs_may, statics_may, bodies_of_snapshot}
 use Rattle.hci_store.proofs.snapshots.snapshot_of.Goals as goal
 
 pub push_syncs-requires-clause-may : goal.push_syncs-requires-clause-may
@@ -101,7 +101,7 @@ returns-clause-records c =
       c.syncs.ensures.syncs,
       c.new-snapshot.ensures,
     )
-    (snapshot_bodies c.args.tables.now)
+    (bodies_of_snapshot c.args.tables.now)
 
 pub returns-clause-room : goal.returns-clause-room
 returns-clause-room c =
