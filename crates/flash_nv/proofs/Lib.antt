@@ -1,11 +1,5 @@
-pub mod CellLemmas
-pub mod ContentLemmas
-pub mod HeaderLemmas
-pub mod MapLemmas
-pub mod NvLemmas
-pub mod PageLemmas
 pub mod PutLemmas
+pub mod ContentLemmas
+pub mod MapLemmas
+pub mod PageLemmas
 pub mod ScanLemmas
-pub mod WriteLemmas
-pub mod HeldLemmas
-pub mod StepLemmas

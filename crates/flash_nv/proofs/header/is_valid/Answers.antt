@@ -1,5 +1,5 @@
 use Rattle.std.proofs.Common.{sym, arith}
-use Rattle.flash_nv.proofs.HeaderLemmas.{valid_from, invalid_from}
+use Rattle.flash_nv.proofs.PutLemmas.{valid_from, invalid_from}
 use Rattle.flash_nv.proofs.header.is_valid.Goals as goal
 
 pub returns-then-header-i : goal.returns-then-header-i

@@ -1,6 +1,6 @@
 use Rattle.std.proofs.Common.{◌≡◌, ◌⊎◌, ◌+◌, ◌-◌, ◌<◌, ◌≤◌, ◌%◌, length, slice_index, ap, ◌∙◌, subst, sym, arith}
 use Rattle.flash_nv.specs.MemCells.{mixed}
-use Rattle.flash_nv.proofs.CellLemmas.{remade_by_parts}
+use Rattle.flash_nv.proofs.PutLemmas.{remade_by_parts}
 use Rattle.flash_nv.proofs.mem_flash.mix.Goals as goal
 
 pub returns-clause-torn : goal.returns-clause-torn

@@ -1,7 +1,6 @@
 use Rattle.std.proofs.Common.{false, length, ap, arith}
 use Rattle.std.specs.Result.{is_ok}
-use Rattle.flash_nv.proofs.HeaderLemmas.{made_length}
-use Rattle.flash_nv.proofs.PutLemmas.{not_ok, erase_put, bytes_put, header_put}
+use Rattle.flash_nv.proofs.PutLemmas.{made_length, not_ok, erase_put, bytes_put, header_put}
 use Rattle.flash_nv.proofs.put.put.Goals as goal
 
 pub returns-in_err-erase-clause-put : goal.returns-in_err-erase-clause-put

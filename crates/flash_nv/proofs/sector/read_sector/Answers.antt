@@ -1,7 +1,7 @@
 use Rattle.std.proofs.Common.{ℕ, drop, slice_index, Option, sym, ap, ◌∙◌}
 use Rattle.std.proofs.lemmas.List.{get_or-take, get_or-drop}
 use Rattle.flash_nv.specs.Pages.{version_of, version_on, data_byte}
-use Rattle.flash_nv.proofs.WriteLemmas.{image_header, image_byte}
+use Rattle.flash_nv.proofs.ContentLemmas.{image_header, image_byte}
 use Rattle.flash_nv.proofs.sector.read_sector.Goals as goal
 
 pub returns-clause-version : goal.returns-clause-version

@@ -2,8 +2,7 @@ use Rattle.std.proofs.Common.{true, false, sym, subst, arith}
 use Rattle.flash_nv.specs.Maps.{Map}
 use Rattle.flash_nv.specs.Pages.{ArePages}
 use Rattle.flash_nv.proofs.PutLemmas.{not_ok}
-use Rattle.flash_nv.proofs.WriteLemmas.{piece_written, piece_pages}
-use Rattle.flash_nv.proofs.StepLemmas.{piece_step}
+use Rattle.flash_nv.proofs.ContentLemmas.{piece_written, piece_pages, piece_step}
 use Rattle.flash_nv.proofs.sector.write_piece.Goals as goal
 
 pub returns-in_err-put-clause-written : goal.returns-in_err-put-clause-written

@@ -1,5 +1,5 @@
 use Rattle.std.proofs.Common.{◌<◌, [], ◌∷◌, length, slice_index, ap, ◌∙◌, sym, subst, arith}
-use Rattle.flash_nv.proofs.CellLemmas.{lent_cells, mask_plain, plain_byte}
+use Rattle.flash_nv.proofs.PutLemmas.{lent_cells, mask_plain, plain_byte}
 use Rattle.flash_nv.proofs.mem_flash.MemFlash.change.Goals as goal
 
 pub invariant_of-self : goal.invariant_of-self

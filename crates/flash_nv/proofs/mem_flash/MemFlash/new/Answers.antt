@@ -1,6 +1,5 @@
 use Rattle.std.proofs.Common.{refl}
-use Rattle.flash_nv.proofs.CellLemmas.{blank-cells}
-use Rattle.flash_nv.proofs.PutLemmas.{blank_is_clean}
+use Rattle.flash_nv.proofs.PutLemmas.{blank-cells, blank_is_clean}
 use Rattle.flash_nv.proofs.mem_flash.MemFlash.new.Goals as goal
 
 pub invariant_of-result : goal.invariant_of-result

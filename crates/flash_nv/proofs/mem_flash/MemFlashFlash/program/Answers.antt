@@ -2,7 +2,7 @@ use Rattle.std.proofs.Common.{◌≡◌, ◌≤◌, ◌<◌, ◌+◌, ◌-◌, �
 use Rattle.std.specs.Result.{is_ok}
 use Rattle.std.proofs.lemmas.List.{length-take-le}
 use Rattle.flash_nv.specs.MemCells.{Chip, tear_mask}
-use Rattle.flash_nv.proofs.CellLemmas.{torn_is_change, torn_is_partly, cleared_part, ok_is_full}
+use Rattle.flash_nv.proofs.PutLemmas.{torn_is_change, torn_is_partly, cleared_part, ok_is_full}
 use Rattle.flash_nv.proofs.mem_flash.MemFlashFlash.program.Goals as goal
 
 pub returns-clause-changed : goal.returns-clause-changed

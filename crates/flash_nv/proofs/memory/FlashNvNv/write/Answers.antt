@@ -5,7 +5,7 @@ use Rattle.flash_nv.specs.Steps.{IsMapBegun, AreSteps, sectors}
 use Rattle.flash_nv.specs.Pages.{content_byte}
 use Rattle.flash_nv.specs.Writing.{IsKeptBeside}
 use Rattle.flash_nv.proofs.PutLemmas.{not_ok}
-use Rattle.flash_nv.proofs.NvLemmas.{written_front, torn_front}
+use Rattle.flash_nv.proofs.ContentLemmas.{written_front, torn_front}
 use Rattle.flash_nv.proofs.memory.FlashNvNv.write.Goals as goal
 
 pub returns-in_err-know_pages-clause-step : goal.returns-in_err-know_pages-clause-step
