@@ -1,55 +1,346 @@
--- The steps of a node that runs alone.
-use Rattle.std.proofs.Common.{◌≡◌, ◌≤◌, ◌==◌, ℕ, Bool, true, false, cond, not, List, [], ◌∷◌, length, map, refl, sym, ap, ◌∙◌, subst, append-nil, arith}
-use Rattle.std.specs.Prelude.{Option, Some, None, option_map, is_some, ◌&&◌, ◌+◌, min, nat_le, Result, Ok, Err}
+-- A node that runs alone: its steps, the frames that it sends, and what comes of what comes to it.
+use Rattle.std.proofs.Common.{◌≡◌, ℕ, List, [], ◌∷◌, ◌++◌, refl, ap, ◌∙◌, ◌≤◌, Bool, true, false, cond, length, map, sym, subst, ◌+◌, ◌-◌, ◌⊎◌, ◌==◌, zero, suc}
+use Rattle.std.proofs.Common.{take, drop, inl, inr, arith, ◌*◌, append_assoc, append-nil, not}
+use Rattle.std.specs.Prelude.{map, Some, None, is_none, ◌==◌, Option, option_map, is_some, ◌&&◌, ◌+◌, min, nat_le, Result, Ok, Err}
+use Rattle.std.specs.List.{AllByRecursion, flat_map}
+use Rattle.std.proofs.lemmas.Grind.{flat_map-append}
+use Rattle.std.proofs.lemmas.List.{length-map}
 use Rattle.std.specs.Option.{option_map_or}
-use Rattle.std.specs.List.{flat_map}
 use Rattle.std.proofs.lemmas.Bool.{true≢false, and_right, and_parts, cond_both}
 use Rattle.swp_base.specs.declared.control_frames.Control.{Control}
+use Rattle.swp_base.specs.declared.control_frames.Control.TheVariants.{Act as ActFrame}
 use Rattle.swp_base.specs.declared.link_terms.FrameFault.{FrameFault}
 use Rattle.swp_base.specs.InMemory.{Memory}
 use Rattle.swp_base.specs.declared.control_frames.Act.{Act}
+use Rattle.swp_lpdu.specs.Controls.{lpdu_of, control_of}
+use Rattle.swp_lpdu.specs.declared.LpduFault.{LpduFault}
+use Rattle.trace_model.specs.declared.entry.Entry.{Entry}
+use Rattle.trace_model.specs.declared.entry.Entry.TheVariants as entry
+use Rattle.trace_model.specs.declared.line.End.{End}
+use Rattle.lone_laws.specs.alone.Ends.{EndForm, entry_written, asks_reset, frame_written}
+use Rattle.lone_laws.proofs.alone.Walks.{IsUnwritten, steps_unwritten}
+use Rattle.lone_laws.specs.alone.Lone.{Lone, LoneCause, lone_end, lone_input, node_input, lone_arrival, lone_work, frames_behind, emits_behind}
+use Rattle.lone_laws.specs.alone.Lone.{lone_behind_step, role_alone, lone_port, session_with, side_behind, with_refusal, does_by_power}
+use Rattle.lone_laws.specs.alone.Lone.LoneCause.{FrameComes, FrameIsRefused, TickComes, ResetComes, StartComes, StopComes}
+use Rattle.lone_laws.proofs.answered.Knowing.{step_is}
+use Rattle.one_end.specs.Running.{frames_written, does_alone, HasAnswered, RunsReady}
+use Rattle.one_end.specs.Alone.{RunsAlone, TakesAlone}
+use Rattle.one_end.proofs.Running.{over, StepsAlone, stepped_ready}
+use Rattle.journal_laws.specs.Planned.{after_planned}
+use Rattle.link_laws.specs.machine.Machine.{LinkInput, frames_out, new_link_end, reset_refusal, LinkEnd, ActDue, among, next_frame, frame_fetched, sent_all}
+use Rattle.link_laws.specs.machine.Machine.{nearer, Role, report, lpdu_input, is_open, act_out, act_answer}
+use Rattle.link_laws.proofs.places.Joined.{fetched_idle}
+use Rattle.link_laws.specs.machine.Laws.{fetches, after_fetches, most_fetches}
+use Rattle.link_laws.specs.machine.Machine.Role.{Bare, Clf, Uicc}
+use Rattle.link_laws.specs.machine.Machine.LinkInput.{Take, TakeUnknown, TakeBroken, Tick, Reset, Start, Stop, FromNode, Fetch}
+use Rattle.node_machine.specs.Parts.{Running, Port, Work, Desk, Core}
+use Rattle.node_machine.specs.Node.{NodeInput, steps, with_error}
+use Rattle.node_machine.specs.world.World.{runs_on}
+use Rattle.node_machine.specs.Carrying.{port_at, with_port, changed_if}
+use Rattle.node_machine.specs.Node.NodeInput.{AtEnd, TimePasses}
+use Rattle.node_core.specs.declared.node.Node.{Node}
+use Rattle.node_core.specs.Bringing.{Brings, Foretells, WereMade, plan_left}
+use Rattle.node_core.specs.Running.{SendsOneByOne, RunsAs, BeginsStep, HasStepped, IsAllSent, between, ran_so, one_more_error, becomes_active_by}
+use Rattle.node_core.specs.declared.inputs.NodeInput.{NodeInput as ToNode}
+use Rattle.node_core.specs.declared.inputs.NodeInput.TheVariants.{At, Tick as ToTick}
+use Rattle.node_core.specs.Inputs.{input_of_node, makes_active, MayComeToNode, refusal_by}
+use Rattle.node_core.proofs.Between.{all_one_by_one, kept_alike}
+use Rattle.shdlc_core.specs.Machine.{frame_due, fetched, all_frames}
 use Rattle.swp_act.specs.declared.ActEvent.TheVariants.{Tick as ActTick, Start as ActStart}
 use Rattle.swp_act.specs.declared.ActOut.{ActOut}
 use Rattle.swp_act.specs.declared.Phase.{Phase}
 use Rattle.swp_act.specs.declared.Phase.TheVariants.{Inactive, Awaiting, Active}
 use Rattle.swp_act.specs.Activation.{out_ticked, no_act_out, sends}
-use Rattle.swp_lpdu.specs.Controls.{lpdu_of, control_of}
-use Rattle.swp_lpdu.specs.declared.LpduFault.{LpduFault}
-use Rattle.trace_model.specs.declared.entry.Entry.{Entry}
 use Rattle.link_end.specs.Reports.{reset_refused}
 use Rattle.link_end.specs.Roles.{MayStart}
-use Rattle.link_laws.specs.machine.Machine.{LinkEnd, LinkInput, Role, next_frame, frame_fetched, frames_out, sent_all, report, reset_refusal}
-use Rattle.link_laws.specs.machine.Machine.{lpdu_input}
-use Rattle.link_laws.specs.machine.Machine.{is_open, act_out, act_answer}
-use Rattle.link_laws.specs.machine.Machine.Role.{Bare, Clf, Uicc}
-use Rattle.link_laws.specs.machine.Machine.LinkInput.{Take, TakeUnknown, TakeBroken, Tick, Reset, Start, Stop, FromNode, Fetch}
-use Rattle.node_machine.specs.Parts.{Desk, Core, Running, Port, Work}
-use Rattle.node_machine.specs.Carrying.{port_at, with_port, changed_if}
-use Rattle.node_machine.specs.Node.{NodeInput, steps, with_error}
-use Rattle.node_machine.specs.Node.NodeInput.{AtEnd, TimePasses}
-use Rattle.node_machine.specs.world.World.{runs_on}
 use Rattle.node_ends.specs.Ends.{has_sent, frame_at, MayStartAt}
 use Rattle.node_ends.specs.Inputs.{frame_said, reset_refusal_at}
+use Rattle.node_ends.specs.declared.inputs.LinkInput.TheVariants as comes
 use Rattle.node_laws.specs.kept.Books.{hosts_of_ends}
 use Rattle.node_laws.proofs.telling.Steps.{Keeps, steps_keep, tick_keeps}
-use Rattle.node_core.specs.declared.inputs.NodeInput.{NodeInput as ToNode}
-use Rattle.node_core.specs.declared.inputs.NodeInput.TheVariants.{At, Tick as ToTick}
-use Rattle.node_ends.specs.declared.inputs.LinkInput.TheVariants as comes
-use Rattle.node_core.specs.declared.node.Node.{Node}
-use Rattle.node_core.specs.Inputs.{input_of_node, makes_active, MayComeToNode, refusal_by}
-use Rattle.node_core.specs.Running.{RunsAs, BeginsStep, HasStepped, IsAllSent, between, ran_so, one_more_error, becomes_active_by}
-use Rattle.node_core.specs.Bringing.{Brings, Foretells}
-use Rattle.node_core.proofs.Between.{all_one_by_one, kept_alike}
-use Rattle.lone_laws.specs.alone.Lone.{Lone, LoneCause, lone_input, node_input, lone_arrival, lone_port, lone_work, session_with, side_behind, frames_behind}
-use Rattle.lone_laws.specs.alone.Lone.{lone_behind_step, with_refusal, does_by_power}
-use Rattle.lone_laws.specs.alone.Lone.LoneCause.{FrameComes, FrameIsRefused, TickComes, ResetComes, StartComes, StopComes}
-use Rattle.lone_laws.specs.alone.Ends.{EndForm, entry_written, asks_reset}
-use Rattle.one_end.specs.Alone.{RunsAlone, TakesAlone}
-use Rattle.one_end.specs.Running.{does_alone, HasAnswered, RunsReady}
-use Rattle.one_end.proofs.Answering.{StepsAlone, stepped_ready, over}
-use Rattle.one_end.proofs.Fetching.{few_out, none_goes, one_goes}
-use Rattle.one_end.proofs.Sending.{HasSentFirst}
-use Rattle.one_end.proofs.Steps.{steps_so, gone_silent}
+
+pub none_written : (form : EndForm) (number : ℕ) (es : List Entry) → AllByRecursion IsUnwritten es → flat_map (entry_written form number) es ≡ []
+none_written form number [] all = refl
+none_written form number (x ∷ es) all = ap (λ z. z ++ flat_map (entry_written form number) es) (all.0 form number) ∙ none_written form number es all.1
+
+pub emits_written : (form : EndForm) (number : ℕ) (e : End) (frames : List Control)
+    → flat_map (entry_written form number) (map (λ c. entry.Emit e (lpdu_of c)) frames) ≡ frames_written form number frames
+emits_written form number e [] = refl
+emits_written form number e (c ∷ frames) = ap (λ z. entry_written form number (entry.Emit e (lpdu_of c)) ++ z) (emits_written form number e frames)
+
+-- ---- a step of a node that its memory goes along with is a step of it alone
+
+arrival_unwritten : (l : Lone) (c : LoneCause) → AllByRecursion IsUnwritten (lone_arrival l c)
+arrival_unwritten l (FrameComes bytes) = ((λ form number. refl), tt)
+arrival_unwritten l (FrameIsRefused fault) = tt
+arrival_unwritten l TickComes = tt
+arrival_unwritten l (ResetComes window) = tt
+arrival_unwritten l (StartComes value) = tt
+arrival_unwritten l StopComes = tt
+
+-- what is written for a step
+step_written : (form : EndForm) (l : Lone) (es : List Entry) (w : Work) → AllByRecursion IsUnwritten es
+    → flat_map (entry_written form l.number) (es ++ emits_behind l w) ≡ frames_written form l.number (frames_behind l w)
+step_written form l es w none =
+    flat_map-append (entry_written form l.number) es (emits_behind l w)
+    ∙ (ap (λ z. z ++ flat_map (entry_written form l.number) (emits_behind l w)) (none_written form l.number es none)
+    ∙ emits_written form l.number (lone_end l) (frames_behind l w))
+
+pub does_step : (form : EndForm) (l : Lone) (n : Running) (c : LoneCause) (i : LinkInput) → l.node ≡ Some n → lone_input c ≡ Some i
+    → (let w : Work = steps (node_input l.link i) (lone_work l n i (lone_arrival l c)) in
+    does_alone form l c ≡ (lone_behind_step l i w, frames_written form l.number (frames_behind l w)))
+does_step form l n c i runs comes =
+    let w : Work = steps (node_input l.link i) (lone_work l n i (lone_arrival l c)) in
+    ap (λ (x : Lone × List Entry). (x.0, flat_map (entry_written form l.number) x.1)) (step_is l n c i runs comes)
+    ∙ ap (λ bytes. (lone_behind_step l i w, bytes))
+    (step_written form l w.entries w (steps_unwritten (node_input l.link i) (lone_work l n i (lone_arrival l c)) (arrival_unwritten l c)))
+
+-- no frame goes out of a new end
+new_silent : (number : ℕ) → frames_out (new_link_end (role_alone number)) ≡ []
+new_silent number = go (number == 0) where
+  go : (b : Bool) → frames_out (new_link_end (cond b (role_alone 0) (role_alone 1))) ≡ []
+  go true = refl
+  go false = refl
+
+pub gone_silent : (l : Lone) (w : Work) → w.cut ≡ true → frames_behind l w ≡ []
+gone_silent l w cut = rw cut (new_silent l.number)
+
+module _ {N : Type 0} (writes : N → ℕ → List ℕ → Bool → N → Type 0) where
+  pub steps_so : {old new : N} {S : Work → Type 0} (node : Node N) (l : Lone) (n : Running) (c : LoneCause) (i : LinkInput)
+      (x : NodeInput) → l.node ≡ Some n → lone_input c ≡ Some i → x ≡ node_input l.link i
+      → (b : Brings writes old new S (steps x) (lone_work l n i (lone_arrival l c))) → length (frames_behind l b.after) ≤ 17
+      → (stopped : Bool) → b.after.cut ≡ stopped → (stopped ≡ false → RunsAlone node (lone_behind_step l i b.after) (frames_behind l b.after))
+      → (asks_reset l c ≡ true → stopped ≡ false → reset_refusal (lone_behind_step l i b.after).side ≡ None)
+      → StepsAlone writes old new node stopped c l
+  steps_so {old} {new} node l n c i x is_on comes x_is b few stopped cut later ready = record {
+    after = lone_behind_step l i b.after;
+    frames = frames_behind l b.after;
+    few = few;
+    stopped_is = sym cut ∙ runs_none b.after;
+    runs = later;
+    none = λ gone. gone_silent l b.after (cut ∙ gone);
+    ready = ready;
+    sure = b.sure;
+    torn = b.torn;
+    made = let P : Bool → Type 0 = λ t. WereMade writes b.sure b.torn old t new in subst P cut b.made;
+    is = λ form m foretold.
+        let k : Lone = over l m in
+        let v : Work = record b.after { plan = plan_left b.after.cut b.sure m.plan } in
+        let q : steps (node_input l.link i) (lone_work k n i (lone_arrival l c)) ≡ v =
+        ap (λ y. steps y (lone_work k n i (lone_arrival l c))) (sym x_is)
+        ∙ b.is m.plan (let P : Bool → Type 0 = λ t. Foretells m.plan b.sure b.torn t in subst P (sym cut) foretold) in
+        does_step form k n c i is_on comes
+        ∙ (ap (λ w. (lone_behind_step k i w, frames_written form l.number (frames_behind k w))) q
+        ∙ ap (λ ws. (record (lone_behind_step l i b.after) { memory = after_planned ws m }, frames_written form l.number (frames_behind l b.after))) b.written);
+  } where
+    runs_none : (w : Work) → w.cut ≡ is_none (runs_on w)
+    runs_none w = go w.cut where
+      go : (t : Bool) → t ≡ is_none {T = Running} (cond t None (Some (record { core = w.core; desks = map (λ (p : Port). p.desk) w.ports })))
+      go true = refl
+      go false = refl
+
+-- ---- the frames of an end go out one by one
+
+few_fetched : (n : ℕ) (e : LinkEnd) → length (fetches n e) ≤ n
+few_fetched zero e = omega arith
+few_fetched (suc n) e = go (few_fetched n (frame_fetched e)) (next_frame e) refl where
+  go : length (fetches n (frame_fetched e)) ≤ n → (o : Option Control) → next_frame e ≡ o → length (fetches (suc n) e) ≤ suc n
+  go later None q = rw q (omega arith)
+  go later (Some c) q = rw q (omega (arith, later))
+
+-- at most seventeen go out
+pub few_out : (e : LinkEnd) → SendsOneByOne e → length (frames_out e) ≤ 17
+few_out e s =
+    let few = few_fetched (most_fetches e) e in
+    let acts = s.few in
+    subst (λ (fs : List Control). length fs ≤ 17) s.frames (omega (arith, few, acts))
+
+-- ## None is due
+
+never_empty : (xs : List Control) (c : Control) (ys : List Control) → xs ++ c ∷ ys ≡ [] → ⊥
+never_empty [] c ys q = cc
+never_empty (x ∷ xs) c ys q = cc
+
+no_acts_out : (e : LinkEnd) → frames_out e ≡ [] → e.acts ≡ []
+no_acts_out e q = go e.acts refl where
+  go : (acts : List ActDue) → e.acts ≡ acts → e.acts ≡ []
+  go [] w = w
+  go (a ∷ acts) w =
+      let fs : List Control = all_frames e.shdlc in
+      absurd (never_empty (take (a.behind - 0) fs) (ActFrame a.frame false) (among a.behind acts (drop (a.behind - 0) fs))
+      (sym (ap (λ z. among 0 z fs) w) ∙ q))
+
+next_none : (n : ℕ) (e : LinkEnd) → 1 ≤ n → fetches n e ≡ [] → next_frame e ≡ None
+next_none zero e some q = absurd (omega (arith, some))
+next_none (suc n) e some q = go (next_frame e) refl where
+  go : (o : Option Control) → next_frame e ≡ o → next_frame e ≡ None
+  go None r = r
+  go (Some c) r = absurd (let z : c ∷ fetches n (frame_fetched e) ≡ [] = rw r at q in cc z)
+
+-- an end from which no frame can be fetched stays as it is
+idle_end : (e : LinkEnd) → e.acts ≡ [] → next_frame e ≡ None → frame_fetched e ≡ e
+idle_end e acts none =
+    let due : frame_due e.shdlc ≡ None = (let z : next_frame e ≡ frame_due e.shdlc = rw acts refl in sym z ∙ none) in
+    let now : frame_fetched e ≡ record e { shdlc = fetched e.shdlc } = rw acts refl in
+    now ∙ ap (λ s. record e { shdlc = s }) (fetched_idle e.shdlc due)
+
+idle_stays : (n : ℕ) (e : LinkEnd) → frame_fetched e ≡ e → after_fetches n e ≡ e
+idle_stays zero e same = refl
+idle_stays (suc n) e same = ap (after_fetches n) same ∙ idle_stays n e same
+
+pub none_goes : (e : LinkEnd) → SendsOneByOne e → frames_out e ≡ [] → (next_frame e ≡ None) × (frame_fetched e ≡ e) × (sent_all e ≡ e)
+none_goes e s q =
+    let none : next_frame e ≡ None = next_none (most_fetches e) e (omega arith) (s.frames ∙ q) in
+    let same : frame_fetched e ≡ e = idle_end e (no_acts_out e q) none in (none, same, sym s.rest ∙ idle_stays (most_fetches e) e same)
+
+-- ## One goes
+
+next_some : (n : ℕ) (e : LinkEnd) (c : Control) (fs : List Control) → fetches n e ≡ c ∷ fs
+    → (next_frame e ≡ Some c) × (fetches (n - 1) (frame_fetched e) ≡ fs)
+next_some zero e c fs q = absurd (cc q)
+next_some (suc n) e c fs q = go (next_frame e) refl where
+  go : (o : Option Control) → next_frame e ≡ o → (next_frame e ≡ Some c) × (fetches (suc n - 1) (frame_fetched e) ≡ fs)
+  go None r = absurd (let z : [] ≡ c ∷ fs = rw r at q in cc z)
+  go (Some d) r =
+      let z : d ∷ fetches n (frame_fetched e) ≡ c ∷ fs = rw r at q in
+      let same : d ≡ c = cc in
+      let rest : fetches n (frame_fetched e) ≡ fs = cc in
+      let k : n ≡ suc n - 1 = omega arith in
+      (r ∙ ap (λ x. Some x) same, subst (λ m. fetches m (frame_fetched e) ≡ fs) k rest)
+
+-- where none is due behind n fetches one more changes nothing
+idle_behind : (n : ℕ) (x : LinkEnd) → next_frame (after_fetches n x) ≡ None → frame_fetched (after_fetches n x) ≡ after_fetches n x
+    → (fetches (suc n) x ≡ fetches n x) × (after_fetches (suc n) x ≡ after_fetches n x)
+idle_behind zero x none same = (rw none refl, same)
+idle_behind (suc n) x none same = go (idle_behind n (frame_fetched x) none same) (next_frame x) refl where
+  Later : Type 0
+  Later = (fetches (suc n) (frame_fetched x) ≡ fetches n (frame_fetched x)) × (after_fetches (suc n) (frame_fetched x) ≡ after_fetches n (frame_fetched x))
+
+  go : Later → (o : Option Control) → next_frame x ≡ o
+      → (fetches (suc (suc n)) x ≡ fetches (suc n) x) × (after_fetches (suc (suc n)) x ≡ after_fetches (suc n) x)
+  go later None r = (rw r refl, later.1)
+  go later (Some c) r = (rw r (ap (λ fs. c ∷ fs) later.0), later.1)
+
+fetched_acts : (e : LinkEnd) → (length (frame_fetched e).acts + 1 ≡ length e.acts) ⊎ (length (frame_fetched e).acts ≡ length e.acts)
+fetched_acts e = go e.acts refl where
+  go : (acts : List ActDue) → e.acts ≡ acts → (length (frame_fetched e).acts + 1 ≡ length e.acts) ⊎ (length (frame_fetched e).acts ≡ length e.acts)
+  go [] w = inr (rw w refl)
+  go (a ∷ acts) w = by (a.behind == 0) refl where
+    by : (b : Bool) → (a.behind == 0) ≡ b → (length (frame_fetched e).acts + 1 ≡ length e.acts) ⊎ (length (frame_fetched e).acts ≡ length e.acts)
+    by true z = inl (rw (w, z) (omega arith))
+    by false z = let same = length-map (a ∷ acts) nearer in inr (rw (w, z) same)
+
+-- The first frame that is due goes, and the others are due then.
+pub one_goes : (e : LinkEnd) (c : Control) (fs : List Control) → SendsOneByOne e → SendsOneByOne (frame_fetched e) → frames_out e ≡ c ∷ fs
+    → (next_frame e ≡ Some c) × (frames_out (frame_fetched e) ≡ fs) × (sent_all (frame_fetched e) ≡ sent_all e)
+one_goes e c fs s t q = by (fetched_acts e) where
+  n : ℕ
+  n = most_fetches e
+
+  f : LinkEnd
+  f = frame_fetched e
+
+  first : (next_frame e ≡ Some c) × (fetches (n - 1) f ≡ fs)
+  first = next_some n e c fs (s.frames ∙ q)
+
+  last : after_fetches (n - 1) f ≡ sent_all e
+  last = let k : n ≡ suc (n - 1) = omega arith in subst (λ m. after_fetches m e ≡ sent_all e) k s.rest
+
+  more : (fetches (suc (n - 1)) f ≡ fetches (n - 1) f) × (after_fetches (suc (n - 1)) f ≡ after_fetches (n - 1) f)
+  more = idle_behind (n - 1) f (ap next_frame last ∙ s.none) (ap frame_fetched last ∙ (idle_end (sent_all e) refl s.none ∙ sym last))
+
+  Gone : Type 0
+  Gone = (next_frame e ≡ Some c) × (frames_out f ≡ fs) × (sent_all f ≡ sent_all e)
+
+  by : (length f.acts + 1 ≡ length e.acts) ⊎ (length f.acts ≡ length e.acts) → Gone
+  by (inl r) =
+      let k : most_fetches f ≡ n - 1 = omega (arith, r) in
+      (first.0, sym t.frames ∙ (ap (λ m. fetches m f) k ∙ first.1), sym t.rest ∙ (ap (λ m. after_fetches m f) k ∙ last))
+  by (inr r) =
+      let k : most_fetches f ≡ suc (n - 1) = omega (arith, r) in (
+        first.0,
+        sym t.frames ∙ (ap (λ m. fetches m f) k ∙ (more.0 ∙ first.1)),
+        sym t.rest ∙ (ap (λ m. after_fetches m f) k ∙ (more.1 ∙ last)),
+      )
+
+-- ---- frames that go out one after another
+
+-- the first of these frames was fetched, where there is one: the others are to go out in this state
+abbrev pub HasSentFirst : (Lone → List Control → Type 0) → Lone → Option (List ℕ) → List Control → Type 0
+HasSentFirst Runs l sent [] = (sent ≡ None) × Runs l []
+HasSentFirst Runs l sent (c ∷ frames) = (sent ≡ Some (lpdu_of c)) × Runs l frames
+
+-- of these frames some went out and were written, and others are left, at most so many
+pub record HasSent (Runs : Lone → List Control → Type 0) (form : EndForm) (number i : ℕ) (before now : List ℕ) (l : Lone) (frames : List Control)
+    : Type 0 where
+  pub sent : List Control
+  pub left : List Control
+  pub parts : frames ≡ sent ++ left
+  pub runs : Runs l left
+  pub written : now ≡ before ++ frames_written form number sent
+  pub few : length left + i ≤ 17
+
+pub record Sends (First Runs : Lone → List Control → Type 0) (form : EndForm) (number i : ℕ) (before now : List ℕ) : Type 0 where
+  pub some : (l : Lone) × (frames : List Control) × Runs l frames
+  pub all : (l : Lone) (frames : List Control) → First l frames → length frames ≤ 17 → HasSent Runs form number i before now l frames
+  pub sized : length now ≤ length before + i * 323
+
+written_more : (form : EndForm) (number : ℕ) (xs ys : List Control)
+    → frames_written form number (xs ++ ys) ≡ frames_written form number xs ++ frames_written form number ys
+written_more form number [] ys = refl
+written_more form number (x ∷ xs) ys =
+    let first : List ℕ = frame_written form number (lpdu_of x) in
+    ap (λ z. first ++ z) (written_more form number xs ys) ∙ sym (append_assoc first (frames_written form number xs) (frames_written form number ys))
+
+-- none is left
+pub all_sent : {Runs : Lone → List Control → Type 0} {form : EndForm} {number i : ℕ} {before now : List ℕ} {l : Lone} {frames : List Control}
+    → HasSent Runs form number i before now l frames → (Later : Lone → List Control → Type 0)
+    → ((left : List Control) → Runs l left → HasSentFirst Later l None left) → Later l [] × (now ≡ before ++ frames_written form number frames)
+all_sent {Runs} {form} {number} {i} {before} {now} {l} {frames} h Later last = go h.left h.parts (last h.left h.runs) where
+  go : (left : List Control) → frames ≡ h.sent ++ left → HasSentFirst Later l None left → Later l [] × (now ≡ before ++ frames_written form number frames)
+  go [] parts s = (s.1, h.written ∙ ap (λ z. before ++ frames_written form number z) (sym (parts ∙ append-nil h.sent)))
+  go (c ∷ left) parts s = absurd (let none : None ≡ Some (lpdu_of c) = s.0 in cc none)
+
+-- none is left, since so many went out
+pub sent_most : {Runs : Lone → List Control → Type 0} {form : EndForm} {number : ℕ} {before now : List ℕ} {l : Lone} {frames : List Control}
+    → HasSent Runs form number 17 before now l frames → Runs l [] × (now ≡ before ++ frames_written form number frames)
+sent_most {Runs} {form} {number} {before} {now} {l} {frames} h = go h.left h.parts h.runs h.few where
+  go : (left : List Control) → frames ≡ h.sent ++ left → Runs l left → length left + 17 ≤ 17 → Runs l [] × (now ≡ before ++ frames_written form number frames)
+  go [] parts r few = (r, h.written ∙ ap (λ z. before ++ frames_written form number z) (sym (parts ∙ append-nil h.sent)))
+  go (c ∷ left) parts r few = absurd (omega (arith, few))
+
+-- one more goes out
+pub one_sent : {Runs : Lone → List Control → Type 0} {form : EndForm} {number i : ℕ} {before now next lpdu : List ℕ} {l : Lone} {frames : List Control}
+    → HasSent Runs form number i before now l frames → (Later : Lone → List Control → Type 0)
+    → ((left : List Control) → Runs l left → HasSentFirst Later l (Some lpdu) left)
+    → next ≡ now ++ frame_written form number lpdu → HasSent Later form number (i + 1) before next l frames
+one_sent {Runs} {form} {number} {i} {before} {now} {next} {lpdu} {l} {frames} h Later first more = go h.left h.parts h.few (first h.left h.runs) where
+  go : (left : List Control) → frames ≡ h.sent ++ left → length left + i ≤ 17 → HasSentFirst Later l (Some lpdu) left
+      → HasSent Later form number (i + 1) before next l frames
+  go [] parts few s = absurd (let none : Some lpdu ≡ None = s.0 in cc none)
+  go (c ∷ left) parts few s =
+      let same : lpdu ≡ lpdu_of c = (let e : Some lpdu ≡ Some (lpdu_of c) = s.0 in cc e) in
+      let one : frames_written form number (c ∷ []) ≡ frame_written form number lpdu =
+      append-nil (frame_written form number (lpdu_of c)) ∙ ap (frame_written form number) (sym same) in
+      record {
+        sent = h.sent ++ c ∷ [];
+        left = left;
+        parts = parts ∙ sym (append_assoc h.sent (c ∷ []) left);
+        runs = s.1;
+        written =
+            more ∙ ap (λ z. z ++ frame_written form number lpdu) h.written
+            ∙ append_assoc before (frames_written form number h.sent) (frame_written form number lpdu)
+            ∙ ap (λ z. before ++ z) (ap (λ z. frames_written form number h.sent ++ z) (sym one) ∙ sym (written_more form number h.sent (c ∷ [])));
+        few = omega (arith, few);
+      }
+
+-- frames are left
+pub left_then : (Runs : Lone → List Control → Type 0) (l : Lone) (o : Option (List ℕ)) (frames : List Control) → HasSentFirst Runs l o frames
+    → (k : Lone) × (left : List Control) × Runs k left
+left_then Runs l o [] s = (l, [], s.1)
+left_then Runs l o (c ∷ frames) s = (l, frames, s.1)
+
+-- ---- the steps of a node that runs alone
 
 -- its one end is found
 pub found_there : (p : Port) → p.desk.host ≡ 2 → port_at (p ∷ []) 2 ≡ Some p

@@ -1,15 +1,4 @@
-pub mod Sending
-pub mod Composing
-pub mod Answering
-pub mod Whole
-pub mod Growing
-pub mod Muting
-pub mod Steps
-pub mod Fetching
 pub mod Alone
-pub mod Booted
+pub mod Running
 pub mod Bringing
 pub mod Ran
-pub mod Passing
-pub mod Hearing
-pub mod Periods

@@ -10,8 +10,7 @@ use Rattle.swp_base.specs.InMemory.{Memory, Plan, plan_after, cycled}
 use Rattle.swp_base.specs.Outside.{overwritten, IsWritten}
 use Rattle.journal_laws.specs.Writes.{Write, after_writes, IsCut, AreMade}
 use Rattle.journal_laws.specs.Planned.{fails_within, after_planned}
-use Rattle.journal_laws.proofs.Made.{made_whole, made_in_part}
-use Rattle.journal_laws.proofs.Planned.{none_within}
+use Rattle.journal_laws.proofs.Planned.{made_whole, made_in_part, none_within}
 use Rattle.hci_store.specs.Starting.{ready_writes, HasWritten}
 use Rattle.link_laws.specs.machine.Machine.{new_link_end}
 use Rattle.node_machine.specs.Parts.{Running}

@@ -1,9 +1,4 @@
-pub mod Hexadecimal
-pub mod Decimals
-pub mod FurtherBits
-pub mod Gathering
-pub mod FurtherLines
+pub mod Numerals
+pub mod FurtherFrames
 pub mod Sixteen
 pub mod Marks
-pub mod StartPlaces
-pub mod FurtherFrames

@@ -7,7 +7,7 @@ use Rattle.std.proofs.Math.Pow.{pow_mono}
 use Rattle.std.proofs.lemmas.Bool.{cases_lt}
 use Rattle.std.proofs.lemmas.Nat.{leading_length, or_mod, le_or_l, le_or_r, field_of, shr_below, one_shl, mod_below, pow_pos}
 use lib.Count.{count_leading_zeros}
-use Rattle.swp_frame.proofs.LowBits.{mod-cut}
+use Rattle.swp_frame.proofs.Places.{mod-cut}
 
 -- the first place of a 1 among the bits behind a place, or all sixty-four
 pub record IsNext (n read to : ℕ) : Type 0 where

@@ -13,10 +13,10 @@ use Rattle.swp_crc.specs.Division.{spelled_number}
 use Rattle.swp_crc.proofs.Numbers.{number_of-lt}
 use Rattle.swp_frame.specs.Signal.{symbol_of}
 use Rattle.swp_frame.specs.Words.{low_bits}
-use Rattle.swp_frame.proofs.LowBits.{low_bits-number_of}
+use Rattle.swp_frame.proofs.Places.{low_bits-number_of}
 use Rattle.swp_decode.specs.declared.line.Wire.TheVariants.{S1, S2}
 use Rattle.swp_decode.specs.Readings.{symbol_on, AreBits}
-use Rattle.swp_decode.proofs.Gathering.{bits_there}
+use Rattle.swp_decode.proofs.FurtherFrames.{bits_there}
 
 -- ---- the mask of the lanes in reverse is the number of the bits
 

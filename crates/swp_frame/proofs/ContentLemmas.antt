@@ -12,8 +12,7 @@ use Rattle.swp_crc.proofs.Numbers.{number_of-append, number_of-lt}
 use Rattle.swp_crc.proofs.Entries.{number_of_byte}
 use Rattle.swp_base.proofs.BitLemmas.{bits_of-append, length-bits_of}
 use Rattle.swp_frame.specs.Words.{low_bits}
-use Rattle.swp_frame.proofs.LowBits.{byte_bits, low_bits-same, low_bits-add, low_bits-number_of}
-use Rattle.swp_frame.proofs.Shifts.{no_wrap, upper_joined, lower_joined}
+use Rattle.swp_frame.proofs.Places.{byte_bits, low_bits-same, low_bits-add, low_bits-number_of, no_wrap, upper_joined, lower_joined}
 use Rattle.std.specs.Int.{to_be_bytes}
 use Rattle.std.proofs.lemmas.Bool.{le-ltb, eq-eqb, ne_eqb}
 use Rattle.swp_crc.specs.Crc.{crc_of}

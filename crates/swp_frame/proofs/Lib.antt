@@ -1,9 +1,4 @@
-pub mod Shifts
-pub mod LowBits
-pub mod Windows
+pub mod Places
 pub mod ContentLemmas
-pub mod Runs
 pub mod WritingLemmas
 pub mod FurtherBits
-pub mod Places
-pub mod PlainBytes

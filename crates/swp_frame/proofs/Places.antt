@@ -1,26 +1,312 @@
--- Parts of a word: which of their bits were put in, and what is left without those.
-use Rattle.std.proofs.Common.{◌≡◌, ℕ, suc, zero, ◌+◌, ◌-◌, ◌*◌, ◌/◌, ◌%◌, ◌^◌, ◌<◌, ◌≤◌, min, Bool, true, false, not, cond, eqb, List, [], ◌∷◌, ◌++◌, length}
-use Rattle.std.proofs.Common.{take, drop, replicate, reverse, refl, sym, ap, ap₂, ◌∙◌, subst, arith, w64, append_assoc, append-nil}
-use mir.Val.{bool_byte}
-use mathlib.Core.Logic.{inl, inr}
+-- Bits of words: their low bits, shifts and runs, and the places of marks.
+use Rattle.std.proofs.Common.{◌≡◌, ℕ, suc, zero, ◌+◌, ◌-◌, ◌*◌, ◌/◌, ◌%◌, ◌^◌, ◌<◌, ◌≤◌, Bool, false, List, ◌∷◌, ◌++◌, length, get_or, take, drop, eqb, refl}
+use Rattle.std.proofs.Common.{sym, ap, ap₂, ◌∙◌, subst, arith, ◌≢◌, true, not, cond, [], replicate, reverse, Option, Some, None, append_assoc, append-nil, min}
+use Rattle.std.proofs.Common.{w64}
 use Rattle.std.specs.Int.{bit_at, trailing_zeros, trailing_ones}
-use Rattle.std.proofs.Math.Nat.{mod-eq_of_lt, pow-suc}
+use Rattle.std.proofs.Math.Nat.{mod-eq_of_lt, mul-le-mul_right, pow-suc}
+use Rattle.std.proofs.lemmas.Nat.{mod-pow-add, shr-shr, field_of, shl_below, mod_low, shr_split, mod_below, pow_pos, pow-add, shl-shr, shr_high, shr_below}
+use Rattle.std.proofs.Math.Pow.{pow_mono}
 use Rattle.std.proofs.lemmas.Bool.{eq-eqb, ne_eqb, cases_eq, cases_lt}
 use Rattle.std.proofs.lemmas.List.{reverse-append}
 use Rattle.std.proofs.Math.ListN.{length-replicate}
-use Rattle.std.proofs.Math.Pow.{pow_mono}
-use Rattle.std.proofs.lemmas.Nat.{mod-pow-add, mod_below, pow_pos, shr-shr, shr_high, shr_below, shr_split, mod_low}
 use Rattle.std.proofs.lemmas.Nat.Bits.{bit_at-trailing_zeros, bit_at-trailing_ones, bit_at_above, bit_at-zero, bit_at_ones}
-use lib.Count.{count_trailing_zeros}
-use Rattle.swp_base.specs.Bits.{bit}
+use Rattle.swp_base.specs.Bits.{bit, bits_of_byte}
 use Rattle.swp_crc.specs.Division.{spelled_number}
-use Rattle.swp_crc.proofs.Numbers.{number_of-append, number_of-lt}
-use Rattle.swp_frame.specs.Signal.{Symbol, bit_0, bit_1, start_mark, end_mark, no_mark, run_of, unstuffed, read_on, HasNoMark}
-use Rattle.swp_frame.specs.Kept.{CountsLastZero}
+use Rattle.swp_crc.proofs.Numbers.{number_of-injective, number_of-lt, number_of-append}
 use Rattle.swp_frame.specs.Words.{low_bits, places_of_marks, places_put_in, run_after}
-use Rattle.swp_frame.proofs.Shifts.{joined_fits}
-use Rattle.swp_frame.proofs.LowBits.{length-low_bits, number_of-low_bits, low_bits-number_of, low_bits-same, low_bits-add, low_bits-between}
-use Rattle.swp_frame.proofs.Runs.{added, zero_content, zero_counts}
+use Rattle.swp_frame.specs.declared.content.Content.{Content}
+use Rattle.swp_frame.specs.Signal.{Symbol, bit_0, bit_1, break, run_of, start_mark, end_mark, no_mark, since_mark, since_start, unstuffed, read_on, HasNoMark}
+use Rattle.swp_frame.specs.Kept.{before_run, run_bits, with_zero, CountsLastZero, KeepsSince, KeepsOpen}
+use mir.Val.{bool_byte}
+use mathlib.Core.Logic.{inl, inr}
+use lib.Count.{count_trailing_zeros}
+
+pub length-low_bits : (n x : ℕ) → length (low_bits n x) ≡ n
+unfolding low_bits
+length-low_bits zero x = refl
+length-low_bits (suc n) x = ap suc (length-low_bits n x)
+
+-- a bit in front
+number_of-front : (b : Bool) (bits : List Bool) (d n : ℕ) → d < 2 → length bits ≡ n → b ≡ eqb d 1 → spelled_number (b ∷ bits) ≡ d * 2 ^ n + spelled_number bits
+number_of-front b bits zero n h l e = rw e (omega arith)
+number_of-front b bits (suc zero) n h l e = rw (e, l) (omega arith)
+number_of-front b bits (suc (suc d)) n h l e = absurd (omega arith)
+
+pub number_of-low_bits : (n x : ℕ) → spelled_number (low_bits n x) ≡ x % 2 ^ n
+unfolding low_bits
+number_of-low_bits zero x = omega arith
+number_of-low_bits (suc n) x =
+    let one : x % 2 ^ (1 + n) ≡ (x / 2 ^ n % 2 ^ 1) * 2 ^ n + x % 2 ^ n = mod-pow-add x 1 n in
+    let same : 1 + n ≡ suc n = omega arith in
+    number_of-front (bit x n) (low_bits n x) (bit_at x n) n (omega arith) (length-low_bits n x) refl
+    ∙ ap (λ m. bit_at x n * 2 ^ n + m) (number_of-low_bits n x) ∙ sym one ∙ ap (λ k. x % 2 ^ k) same
+
+-- bits are those of their number
+pub low_bits-number_of : (bits : List Bool) (n : ℕ) → length bits ≡ n → low_bits n (spelled_number bits) ≡ bits
+low_bits-number_of bits n l =
+    number_of-injective (low_bits n (spelled_number bits)) bits (length-low_bits n (spelled_number bits) ∙ sym l)
+    (number_of-low_bits n (spelled_number bits) ∙ mod-eq_of_lt (subst (λ k. spelled_number bits < 2 ^ k) l (number_of-lt bits)))
+
+-- numbers that end with the same bits
+pub low_bits-same : (n x y : ℕ) → x % 2 ^ n ≡ y % 2 ^ n → low_bits n x ≡ low_bits n y
+low_bits-same n x y e =
+    number_of-injective (low_bits n x) (low_bits n y) (length-low_bits n x ∙ sym (length-low_bits n y))
+    (number_of-low_bits n x ∙ e ∙ sym (number_of-low_bits n y))
+
+-- a bit that stands further up
+bit_further : (a b n x : ℕ) → n ≡ a + b → bit x n ≡ bit (x / 2 ^ b) a
+bit_further a b n x e = ap (λ k. eqb (k % 2) 1) (ap (λ k. x / 2 ^ k) (omega (arith, e)) ∙ sym (shr-shr x b a))
+
+-- more bits in front
+pub low_bits-add : (a b n x : ℕ) → n ≡ a + b → low_bits n x ≡ low_bits a (x / 2 ^ b) ++ low_bits b x
+unfolding low_bits
+low_bits-add zero b n x e = ap (λ k. low_bits k x) (omega (arith, e))
+low_bits-add (suc a) b zero x e = absurd (omega (arith, e))
+low_bits-add (suc a) b (suc n) x e =
+    ap (λ d. d ∷ low_bits n x) (bit_further a b n x (omega (arith, e)))
+    ∙ ap (λ bits. bit (x / 2 ^ b) a ∷ bits) (low_bits-add a b n x (omega (arith, e)))
+
+pub drop-low_bits : (a b n x : ℕ) → n ≡ a + b → drop a (low_bits n x) ≡ low_bits b x
+unfolding low_bits
+drop-low_bits zero b n x e = ap (λ k. low_bits k x) (omega (arith, e))
+drop-low_bits (suc a) b zero x e = absurd (omega (arith, e))
+drop-low_bits (suc a) b (suc n) x e = drop-low_bits a b n x (omega (arith, e))
+
+pub take-low_bits : (a b n x : ℕ) → n ≡ a + b → take a (low_bits n x) ≡ low_bits a (x / 2 ^ b)
+unfolding low_bits
+take-low_bits zero b n x e = refl
+take-low_bits (suc a) b zero x e = absurd (omega (arith, e))
+take-low_bits (suc a) b (suc n) x e =
+    ap (λ d. d ∷ take a (low_bits n x)) (bit_further a b n x (omega (arith, e)))
+    ∙ ap (λ bits. bit (x / 2 ^ b) a ∷ bits) (take-low_bits a b n x (omega (arith, e)))
+
+-- the bit at a place, counted from the most significant
+pub low_bits-at : (n i x : ℕ) → i < n → get_or (low_bits n x) i false ≡ bit x (n - 1 - i)
+unfolding low_bits
+low_bits-at zero i x h = absurd (omega (arith, h))
+low_bits-at (suc n) zero x h = ap (bit x) (omega arith)
+low_bits-at (suc n) (suc i) x h = low_bits-at n i x (omega (arith, h)) ∙ ap (bit x) (omega arith)
+
+-- bits from one place up to another
+pub low_bits-between : (w from width : ℕ) → (x : ℕ) → from + width ≤ w
+    → low_bits width (x / 2 ^ (w - (from + width)) % 2 ^ width) ≡ take width (drop from (low_bits w x))
+low_bits-between w from width x h =
+    let low : ℕ = w - (from + width) in
+    let whole : w ≡ from + (width + low) = omega arith in
+    low_bits-same width (x / 2 ^ low % 2 ^ width) (x / 2 ^ low) (mod-eq_of_lt (mod_below (x / 2 ^ low) (2 ^ width) (pow_pos width)))
+    ∙ sym (take-low_bits width low (width + low) x refl)
+    ∙ ap (take width) (sym (drop-low_bits from (width + low) w x whole))
+
+-- the shifts that give them
+pub shifted_field : (x from width : ℕ) → from + width ≤ 64 → x * 2 ^ from % 2 ^ 64 / 2 ^ (64 - width) ≡ x / 2 ^ (64 - (from + width)) % 2 ^ width
+shifted_field x from width h =
+    let low : ℕ = 64 - (from + width) in
+    let kept : ℕ = x % 2 ^ (width + low) in
+    let below : kept * 2 ^ from < 2 ^ (width + low + from) = shl_below kept (width + low) from (mod_below x (2 ^ (width + low)) (pow_pos (width + low))) in
+    let places : width + low + from ≡ 64 = omega arith in
+    let cut : 64 - width ≡ from + low = omega arith in
+    let split : x * 2 ^ from ≡ x / 2 ^ (width + low) * 2 ^ (width + low + from) + kept * 2 ^ from =
+    ap (λ n. n * 2 ^ from) (sym (shr_split x (width + low)))
+    ∙ spread (x / 2 ^ (width + low)) (2 ^ (width + low)) (2 ^ from) kept (2 ^ (width + low + from)) (pow-add 2 (width + low) from) in
+    let whole : x * 2 ^ from % 2 ^ (width + low + from) ≡ kept * 2 ^ from =
+    ap (λ n. n % 2 ^ (width + low + from)) split ∙ mod_low (x / 2 ^ (width + low)) (width + low + from) (kept * 2 ^ from) below in
+    ap₂ (λ n k. x * 2 ^ from % 2 ^ n / 2 ^ k) (sym places) cut
+    ∙ ap (λ n. n / 2 ^ (from + low)) whole
+    ∙ sym (shr-shr (kept * 2 ^ from) from low)
+    ∙ ap (λ n. n / 2 ^ low) (shl-shr kept from)
+    ∙ field_of x width low
+  where
+    spread : (q a b r p : ℕ) → p ≡ a * b → (q * a + r) * b ≡ q * p + r * b
+    spread q a b r p e = rw e (omega arith)
+
+-- the bits of a byte
+pub byte_bits : (b : ℕ) → bits_of_byte b ≡ low_bits 8 b
+unfolding bits_of_byte low_bits
+byte_bits b = refl
+
+-- the bits of a number cut to more than so many
+pub mod-cut : (n w x : ℕ) → n ≤ w → x % 2 ^ w % 2 ^ n ≡ x % 2 ^ n
+mod-cut n w x h =
+    let whole : w ≡ w - n + n = omega (arith, h) in
+    ap (λ k. x % 2 ^ k % 2 ^ n) whole ∙ ap (λ m. m % 2 ^ n) (mod-pow-add x (w - n) n)
+    ∙ mod_low (x / 2 ^ n % 2 ^ (w - n)) n (x % 2 ^ n) (mod_below x (2 ^ n) (pow_pos n))
+
+low_bits-cut : (n w x : ℕ) → n ≤ w → low_bits n (x % 2 ^ w) ≡ low_bits n x
+low_bits-cut n w x h = low_bits-same n (x % 2 ^ w) x (mod-cut n w x h)
+
+-- a byte more behind the lowest bits of a word
+pub low_bits-shifted : (n x b : ℕ) → n ≤ 56 → b < 256 → low_bits (n + 8) (x * 2 ^ 8 % 2 ^ 64 + b) ≡ low_bits n x ++ bits_of_byte b
+low_bits-shifted n x b few small =
+    let whole : ℕ = x * 2 ^ 8 % 2 ^ 64 + b in
+    let upper : whole / 2 ^ 8 ≡ x % 2 ^ 56 = omega (arith, small) in
+    low_bits-add n 8 (n + 8) whole refl
+    ∙ ap₂ (λ xs ys. xs ++ ys)
+    (ap (low_bits n) upper ∙ low_bits-cut n 56 x few)
+    (low_bits-same 8 whole b (omega (arith, small)) ∙ sym (byte_bits b))
+
+-- ---- a number of some bits, and more bits behind it
+
+-- a number of f bits with w more bits behind it has f + w bits
+pub joined_fits : (p v f w : ℕ) → p < 2 ^ f → v < 2 ^ w → p * 2 ^ w + v < 2 ^ (f + w)
+joined_fits p v f w a b =
+    let whole : (p + 1) * 2 ^ w ≤ 2 ^ f * 2 ^ w = mul-le-mul_right (2 ^ w) (omega arith) in
+    omega (arith, whole, pow-add 2 f w)
+
+-- so many bits fit sixty-four
+pub fits_word : (p v f w : ℕ) → p < 2 ^ f → v < 2 ^ w → f + w ≤ 64 → p * 2 ^ w + v < 2 ^ 64
+fits_word p v f w a b h =
+    let bound : 2 ^ (f + w) ≤ 2 ^ 64 = pow_mono {i = f + w} {j = 64} h in omega (arith, joined_fits p v f w a b, bound)
+
+pub no_wrap : (p f w : ℕ) → p < 2 ^ f → f + w ≤ 64 → p * 2 ^ w % 2 ^ 64 ≡ p * 2 ^ w
+no_wrap p f w a h = mod-eq_of_lt (omega (arith, fits_word p 0 f w a (pow_pos w) h))
+
+-- a shift to the top in two steps, neither of them by sixty-four
+pub to_top : (p f : ℕ) → p < 2 ^ f → f < 64 → p * 2 ^ (63 - f) % 2 ^ 64 * 2 % 2 ^ 64 ≡ p * 2 ^ (64 - f)
+to_top p f a h =
+    let twice : p * 2 ^ (63 - f) * 2 ≡ p * 2 ^ (64 - f) =
+    moved p (2 ^ (63 - f)) (2 ^ (64 - f)) (ap (λ n. 2 ^ n) (omega (arith, h)) ∙ pow-suc 2 (63 - f)) in
+    ap (λ n. n * 2 % 2 ^ 64) (no_wrap p f (63 - f) a (omega (arith, h)))
+    ∙ ap (λ n. n % 2 ^ 64) twice ∙ mod-eq_of_lt (omega (arith, fits_word p 0 f (64 - f) a (pow_pos (64 - f)) (omega (arith, h))))
+  where
+    moved : (p a b : ℕ) → b ≡ a * 2 → p * a * 2 ≡ p * b
+    moved p a b e = rw e (omega arith)
+
+-- the bits above the last s of p and v joined, and those last
+pub upper_joined : (p v f w s : ℕ) → v < 2 ^ w → f + w ≡ 64 + s → f ≤ 64 → (p * 2 ^ w + v) / 2 ^ s ≡ p * 2 ^ (64 - f) + v / 2 ^ s
+upper_joined p v f w s b e h =
+    let width : w ≡ 64 - f + s = omega (arith, e, h) in
+    let low : v % 2 ^ s < 2 ^ s = mod_below v (2 ^ s) (pow_pos s) in
+    ap (λ n. (p * n + v) / 2 ^ s) (ap (λ n. 2 ^ n) width ∙ pow-add 2 (64 - f) s)
+    ∙ ap (λ n. n / 2 ^ s) (gathered p (2 ^ (64 - f)) (2 ^ s) v (v / 2 ^ s) (v % 2 ^ s) (shr_split v s))
+    ∙ shr_high (p * 2 ^ (64 - f) + v / 2 ^ s) s (v % 2 ^ s) low
+  where
+    gathered : (p a b v q r : ℕ) → q * b + r ≡ v → p * (a * b) + v ≡ (p * a + q) * b + r
+    gathered p a b v q r e = rw (← e) (omega arith)
+
+pub lower_joined : (p v f w s : ℕ) → f + w ≡ 64 + s → f ≤ 64 → (p * 2 ^ w + v) % 2 ^ s ≡ v % 2 ^ s
+lower_joined p v f w s e h =
+    let width : w ≡ 64 - f + s = omega (arith, e, h) in
+    let low : v % 2 ^ s < 2 ^ s = mod_below v (2 ^ s) (pow_pos s) in
+    ap (λ n. (p * n + v) % 2 ^ s) (ap (λ n. 2 ^ n) width ∙ pow-add 2 (64 - f) s)
+    ∙ ap (λ n. n % 2 ^ s) (gathered p (2 ^ (64 - f)) (2 ^ s) v (v / 2 ^ s) (v % 2 ^ s) (shr_split v s))
+    ∙ mod_low (p * 2 ^ (64 - f) + v / 2 ^ s) s (v % 2 ^ s) low
+  where
+    gathered : (p a b v q r : ℕ) → q * b + r ≡ v → p * (a * b) + v ≡ (p * a + q) * b + r
+    gathered p a b v q r e = rw (← e) (omega arith)
+
+-- the word that is then whole fits
+pub upper_fits : (p v f w s : ℕ) → p < 2 ^ f → v < 2 ^ w → f + w ≡ 64 + s → f ≤ 64 → p * 2 ^ (64 - f) + v / 2 ^ s < 2 ^ 64
+upper_fits p v f w s a b e h =
+    let width : w ≡ 64 - f + s = omega (arith, e, h) in
+    fits_word p (v / 2 ^ s) f (64 - f) a (shr_below v (64 - f) s (subst (λ n. v < 2 ^ n) width b)) (omega (arith, h))
+
+-- ---- runs of 1 bits, and what was read since the start of a frame
+
+zero_run : (starts : Bool) (before : Option (List Symbol)) (since : List Symbol)
+    → since_mark (cond starts start_mark no_mark) bit_0 before ≡ Some since → run_of since ≡ 0
+zero_run true before [] e = refl
+zero_run true before (x ∷ since) e = absurd (cc)
+zero_run false None since e = absurd (cc)
+zero_run false (Some s) since e = let same : bit_0 ∷ s ≡ since = cc in ap run_of (sym same)
+
+one_run : (ends : Bool) (before : Option (List Symbol)) (since older : List Symbol) → (run_of older ≡ 6 → ends ≡ true)
+    → ((s : List Symbol) → before ≡ Some s → (run_of s ≡ run_of older) × (run_of older ≤ 6))
+    → since_mark (cond ends end_mark no_mark) bit_1 before ≡ Some since → (run_of since ≡ suc (run_of older)) × (suc (run_of older) ≤ 6)
+one_run true before since older six hyp e = absurd (cc)
+one_run false None since older six hyp e = absurd (cc)
+one_run false (Some s) since older six hyp e =
+    let same : bit_1 ∷ s ≡ since = cc in
+    let inner = hyp s refl in
+    let other : run_of older ≢ 6 = λ h. absurd (false_is_true (six h)) in
+    (ap run_of (sym same) ∙ ap suc inner.0, omega (arith, inner.1, other))
+  where
+    false_is_true : false ≡ true → ⊥
+    false_is_true h = cc
+
+-- the run of 1 bits lies behind the start of the frame, and has at most six
+pub since_run : (seen since : List Symbol) → since_start seen ≡ Some since → (run_of since ≡ run_of seen) × (run_of seen ≤ 6)
+since_run [] since e = absurd (cc)
+since_run (bit_0 ∷ older) since e = (zero_run (eqb (run_of older) 6) (since_start older) since e, omega arith)
+since_run (bit_1 ∷ older) since e = one_run (eqb (run_of older) 6) (since_start older) since older (eq-eqb (run_of older) 6) (λ s h. since_run older s h) e
+since_run (break ∷ older) since e = absurd (cc)
+
+pub drop_run : (since : List Symbol) → drop (suc (run_of since)) since ≡ drop 1 (before_run since)
+drop_run [] = refl
+drop_run (bit_0 ∷ older) = refl
+drop_run (bit_1 ∷ older) = drop_run older
+drop_run (break ∷ older) = refl
+
+pub unstuffed_run : (since : List Symbol) → unstuffed since ≡ replicate (run_of since) true ++ unstuffed (before_run since)
+unstuffed_run [] = refl
+unstuffed_run (bit_0 ∷ older) = refl
+unstuffed_run (bit_1 ∷ older) = ap (λ xs. true ∷ xs) (unstuffed_run older)
+unstuffed_run (break ∷ older) = refl
+
+ones-push : (n : ℕ) → replicate n true ++ true ∷ [] ≡ true ∷ replicate n true
+ones-push zero = refl
+ones-push (suc n) = ap (λ xs. true ∷ xs) (ones-push n)
+
+reverse-ones : (n : ℕ) → reverse (replicate n true) ≡ replicate n true
+reverse-ones zero = refl
+reverse-ones (suc n) =
+    reverse-append (true ∷ []) (replicate n true) ∙ ap (λ xs. xs ++ true ∷ []) (reverse-ones n) ∙ ones-push n
+
+pub reverse-run : (counts : Bool) (n : ℕ) (bits : List Bool) → reverse (replicate n true ++ with_zero counts bits) ≡ reverse bits ++ run_bits counts n
+reverse-run true n bits =
+    reverse-append (replicate n true) (false ∷ bits)
+    ∙ ap (λ xs. xs ++ reverse (replicate n true)) (reverse-append (false ∷ []) bits)
+    ∙ append_assoc (reverse bits) (false ∷ []) (reverse (replicate n true))
+    ∙ ap (λ xs. reverse bits ++ (false ∷ xs)) (reverse-ones n)
+reverse-run false n bits = reverse-append (replicate n true) bits ∙ ap (λ xs. reverse bits ++ xs) (reverse-ones n)
+
+-- what is kept of an open frame
+pub opened : (is_open : Bool) (kept : Content) (since : Option (List Symbol)) → KeepsOpen is_open kept since → is_open ≡ true
+    → (s : List Symbol) × ((since ≡ Some s) × KeepsSince kept s)
+opened false kept since h e = absurd (cc)
+opened true kept None h e = absurd h
+opened true kept (Some s) h e = (s, (refl, h))
+
+pub closed : (is_open : Bool) (kept : Content) (since : Option (List Symbol)) → KeepsOpen is_open kept since → is_open ≡ false → since ≡ None
+closed true kept since h e = absurd (cc)
+closed false kept None h e = refl
+closed false kept (Some s) h e = absurd h
+
+-- an open frame stays open
+pub still_open : (is_open : Bool) (kept : Content) (since : Option (List Symbol)) (s : List Symbol) → is_open ≡ true → since ≡ Some s → KeepsSince kept s
+    → KeepsOpen is_open kept since
+still_open false kept since s e is h = absurd (cc)
+still_open true kept since s e is h = subst (KeepsOpen true kept) (sym is) h
+
+-- all bits since the start of a frame, from those before the last run of 1 bits
+pub since_bits : (counts : Bool) (since : List Symbol) → CountsLastZero counts since
+    → reverse (unstuffed since) ≡ reverse (unstuffed (drop 1 (before_run since))) ++ run_bits counts (run_of since)
+since_bits counts since h =
+    ap reverse (unstuffed_run since ∙ ap (λ xs. replicate (run_of since) true ++ xs) h)
+    ∙ reverse-run counts (run_of since) (unstuffed (drop 1 (before_run since)))
+
+-- the bit that a bit adds to the content, where it is content
+abbrev pub added : Bool → Bool → List Bool
+added bit true = bit ∷ []
+added bit false = []
+
+-- a 0 is read, which was put in where it stands behind five 1 bits
+pub zero_content : (since : List Symbol) (content : Bool) → content ≡ not (eqb (run_of since) 5)
+    → reverse (unstuffed since) ++ added false content ≡ reverse (unstuffed (bit_0 ∷ since))
+zero_content since content is = go (eqb (run_of since) 5) content is
+  where
+    go : (put_in content : Bool) → content ≡ not put_in
+        → reverse (unstuffed since) ++ added false content ≡ reverse (cond put_in (unstuffed since) (false ∷ unstuffed since))
+    go true content e = rw e (append-nil (reverse (unstuffed since)))
+    go false content e = rw e (sym (reverse-append (false ∷ []) (unstuffed since)))
+
+pub zero_counts : (since : List Symbol) (content : Bool) → content ≡ not (eqb (run_of since) 5) → CountsLastZero content (bit_0 ∷ since)
+zero_counts since content is = go (eqb (run_of since) 5) content is
+  where
+    go : (put_in content : Bool) → content ≡ not put_in → cond put_in (unstuffed since) (false ∷ unstuffed since) ≡ with_zero content (unstuffed since)
+    go true content e = rw e refl
+    go false content e = rw e refl
+
+-- ---- parts of a word: which of their bits were put in, and what is left without those
 
 -- ---- places in a part
 

@@ -1,18 +1,165 @@
--- A frame is written, bits behind bits.
-use Rattle.std.proofs.Common.{◌≡◌, ℕ, suc, zero, ◌+◌, ◌-◌, ◌/◌, ◌%◌, ◌^◌, ◌≤◌, ◌<◌, Bool, false, List, [], ◌∷◌, ◌++◌, eqb, length, take, get_or, refl, sym, ap}
-use Rattle.std.proofs.Common.{◌∙◌, true, map, subst, arith, append_assoc, append-nil, length-append}
-use Rattle.std.proofs.lemmas.List.{map-append}
-use Rattle.std.proofs.lemmas.List.{take_more}
+-- A byte among whose bits nothing is put in.
+use Rattle.std.proofs.Common.{◌≡◌, ℕ, suc, zero, ◌+◌, ◌-◌, ◌*◌, ◌/◌, ◌%◌, ◌^◌, ◌≤◌, ◌<◌, Bool, true, false, not, cond, eqb, ◌&&◌, List, [], ◌∷◌, ◌++◌, refl}
+use Rattle.std.proofs.Common.{sym, ap, ap₂, ◌≢◌, ◌∙◌, arith, w32, bit_and, Option, Some, None, length, map, length-append, append_assoc, take, get_or, subst}
+use Rattle.std.proofs.Common.{append-nil}
+use Rattle.std.specs.Int.{trailing_ones, bit_at}
+use Rattle.std.proofs.lemmas.List.{map-append, length-map, take_more}
+use Rattle.std.proofs.lemmas.Bool.{agree_below, agree_below_at, eqb-false, eqb-true, eq-eqb}
 use Rattle.std.proofs.lemmas.Nat.Bits.{shr_and_one}
-use Rattle.std.specs.Int.{bit_at}
-use lib.Bits.{bit_and}
-use Rattle.swp_base.specs.Bits.{bits_of, bits_of_byte}
+use lib.Count.{count_trailing_zeros}
+use Rattle.swp_base.specs.Bits.{bit, bits_of_byte, bits_of}
 use Rattle.swp_base.proofs.BitLemmas.{length-bits_of, length-bits_of_byte}
+use Rattle.swp_frame.specs.Stuffing.{stuffed_after, run_below_five, start_of_frame, end_of_frame, stuffed, with_crc}
+use Rattle.swp_frame.specs.Writing.{byte_of_bit, WritesOn}
+use Rattle.swp_frame.specs.declared.frame_bits.BitBytes.{BitBytes}
+use lib.Bits.{bit_and}
 use Rattle.swp_crc.proofs.Steps.{bits_of-push}
 use Rattle.swp_crc.specs.Crc.{crc_of}
-use Rattle.swp_frame.specs.Stuffing.{start_of_frame, end_of_frame, stuffed, stuffed_after, with_crc}
-use Rattle.swp_frame.specs.declared.frame_bits.BitBytes.{BitBytes}
-use Rattle.swp_frame.specs.Writing.{byte_of_bit, WritesOn}
+
+-- they are spelled as they are
+pub plain_behind : (ones : ℕ) (bits more : List Bool) (run : ℕ) → run_below_five ones bits ≡ Some run
+    → stuffed_after ones (bits ++ more) ≡ bits ++ stuffed_after run more
+plain_behind ones [] more run is = ap (λ n. stuffed_after n more) (cc is)
+plain_behind ones (false ∷ bits) more run is = ap (λ xs. false ∷ xs) (plain_behind 0 bits more run is)
+plain_behind ones (true ∷ bits) more run is = by_count (eqb ones 4) (plain_behind (ones + 1) bits more run) is
+  where
+    by_count : (fifth : Bool) → (run_below_five (ones + 1) bits ≡ Some run → stuffed_after (ones + 1) (bits ++ more) ≡ bits ++ stuffed_after run more)
+        → cond fifth None (run_below_five (ones + 1) bits) ≡ Some run
+        → cond fifth (true ∷ false ∷ stuffed_after 0 (bits ++ more)) (true ∷ stuffed_after (ones + 1) (bits ++ more)) ≡ true ∷ (bits ++ stuffed_after run more)
+    by_count true next none = absurd (cc none)
+    by_count false next is = ap (λ xs. true ∷ xs) (next is)
+
+-- and the run at their end is below five
+pub few_behind : (ones : ℕ) (bits : List Bool) (run : ℕ) → ones ≤ 4 → run_below_five ones bits ≡ Some run → run ≤ 4
+few_behind ones [] run h is = let same : ones ≡ run = cc is in omega (arith, same, h)
+few_behind ones (false ∷ bits) run h is = few_behind 0 bits run (omega arith) is
+few_behind ones (true ∷ bits) run h is = by_count (eqb ones 4) refl (few_behind (ones + 1) bits run) is
+  where
+    by_count : (fifth : Bool) → eqb ones 4 ≡ fifth → (ones + 1 ≤ 4 → run_below_five (ones + 1) bits ≡ Some run → run ≤ 4)
+        → cond fifth None (run_below_five (ones + 1) bits) ≡ Some run → run ≤ 4
+    by_count true e next none = absurd (cc none)
+    by_count false e next is = next (let differ = eqb-false ones 4 e in omega (arith, differ, h)) is
+
+-- so many 1 bits before a byte, and the byte
+abbrev pub lined : ℕ → ℕ → ℕ
+lined ones byte = (2 ^ ones - 1) * 256 + byte
+
+-- the last of each five 1 bits in a row
+abbrev pub fifths : ℕ → ℕ
+fifths all =
+    let two = bit_and all (all / 2) in
+    let four = bit_and two (two / 4) in
+    bit_and four (all / 16)
+
+abbrev agrees : Option ℕ → ℕ → ℕ → Bool
+agrees None five run = not (eqb five 0)
+agrees (Some end) five run = eqb five 0 && eqb end run
+
+abbrev is_right : ℕ → ℕ → Bool
+is_right ones byte = agrees (run_below_five ones (bits_of_byte byte)) (fifths (lined ones byte)) (trailing_ones w32 (lined ones byte))
+
+right_behind_0 : agree_below (is_right 0) (λ b. true) 256 ≡ true
+unfolding bits_of_byte count_trailing_zeros
+right_behind_0 = refl
+
+right_behind_1 : agree_below (is_right 1) (λ b. true) 256 ≡ true
+unfolding bits_of_byte count_trailing_zeros
+right_behind_1 = refl
+
+right_behind_2 : agree_below (is_right 2) (λ b. true) 256 ≡ true
+unfolding bits_of_byte count_trailing_zeros
+right_behind_2 = refl
+
+right_behind_3 : agree_below (is_right 3) (λ b. true) 256 ≡ true
+unfolding bits_of_byte count_trailing_zeros
+right_behind_3 = refl
+
+right_behind_4 : agree_below (is_right 4) (λ b. true) 256 ≡ true
+unfolding bits_of_byte count_trailing_zeros
+right_behind_4 = refl
+
+right_behind : (ones byte : ℕ) → ones ≤ 4 → byte < 256 → is_right ones byte ≡ true
+right_behind zero byte few small = agree_below_at (is_right 0) (λ b. true) 256 byte right_behind_0 small
+right_behind (suc zero) byte few small = agree_below_at (is_right 1) (λ b. true) 256 byte right_behind_1 small
+right_behind (suc (suc zero)) byte few small = agree_below_at (is_right 2) (λ b. true) 256 byte right_behind_2 small
+right_behind (suc (suc (suc zero))) byte few small = agree_below_at (is_right 3) (λ b. true) 256 byte right_behind_3 small
+right_behind (suc (suc (suc (suc zero)))) byte few small = agree_below_at (is_right 4) (λ b. true) 256 byte right_behind_4 small
+right_behind (suc (suc (suc (suc (suc ones))))) byte few small = absurd (omega arith)
+
+agreed : (end : Option ℕ) (five run : ℕ) → agrees end five run ≡ true → (five ≡ 0 → Some run ≡ end) × (five ≢ 0 → None ≡ end)
+agreed None five run is = (λ zero. absurd (no (eqb five 0) (eq-eqb five 0 zero) is), λ e. refl)
+  where
+    no : (b : Bool) → b ≡ true → not b ≡ true → ⊥
+    no true e is = cc is
+    no false e is = cc e
+agreed (Some end) five run is = both (eqb five 0) refl is
+  where
+    both : (b : Bool) → eqb five 0 ≡ b → (b && eqb end run) ≡ true → (five ≡ 0 → Some run ≡ Some end) × (five ≢ 0 → None ≡ Some end)
+    both true e is = (λ zero. ap Some (sym (eqb-true end run is)), λ other. absurd (other (eqb-true five 0 e)))
+    both false e is = absurd (cc is)
+
+-- the test of all five at once
+pub run_is : (ones byte : ℕ) → ones ≤ 4 → byte < 256
+    → (fifths (lined ones byte) ≡ 0 → Some (trailing_ones w32 (lined ones byte)) ≡ run_below_five ones (bits_of_byte byte))
+    × (fifths (lined ones byte) ≢ 0 → None ≡ run_below_five ones (bits_of_byte byte))
+run_is ones byte few small =
+    agreed (run_below_five ones (bits_of_byte byte)) (fifths (lined ones byte)) (trailing_ones w32 (lined ones byte)) (right_behind ones byte few small)
+
+-- they are lined up in 32 bits
+pub lined_is : (ones byte : ℕ) → ones ≤ 4 → (1 * 2 ^ ones % 4294967296 - 1) * 256 % 4294967296 + byte ≡ lined ones byte
+lined_is zero byte few = refl
+lined_is (suc zero) byte few = refl
+lined_is (suc (suc zero)) byte few = refl
+lined_is (suc (suc (suc zero))) byte few = refl
+lined_is (suc (suc (suc (suc zero)))) byte few = refl
+lined_is (suc (suc (suc (suc (suc ones))))) byte few = absurd (omega arith)
+
+-- a byte is written as it is
+pub plain_written : (b : BitBytes) (ones run : ℕ) (bits : List Bool) (old new : List ℕ) → ones ≤ 4 → 4 ≤ length bits
+    → Some run ≡ run_below_five ones bits → new ≡ old ++ map (byte_of_bit b) bits → WritesOn b ones bits run old new
+plain_written b ones run bits old new few some is items = record {
+  spelled = λ more.
+      ap (λ xs. old ++ map (byte_of_bit b) xs) (plain_behind ones bits more run (sym is))
+      ∙ ap (λ xs. old ++ xs) (map-append (byte_of_bit b) bits (stuffed_after run more))
+      ∙ sym (append_assoc old (map (byte_of_bit b) bits) (map (byte_of_bit b) (stuffed_after run more)))
+      ∙ ap (λ xs. xs ++ map (byte_of_bit b) (stuffed_after run more)) (sym items);
+  few = few_behind ones bits run few (sym is);
+  sized = omega (
+    arith,
+    ap length items,
+    length-append old (map (byte_of_bit b) bits),
+    length-map bits (byte_of_bit b),
+    few_behind ones bits run few (sym is),
+    some,
+  );
+}
+
+bit_is : (b : BitBytes) (byte i r : ℕ) → r ≡ byte_of_bit b (eqb (bit_and (byte / 2 ^ i) 1) 1) → r ≡ byte_of_bit b (bit byte i)
+bit_is b byte i r is = is ∙ ap (λ n. byte_of_bit b (eqb n 1)) (shr_and_one byte i)
+
+last_bit_is : (b : BitBytes) (byte r : ℕ) → r ≡ byte_of_bit b (eqb (bit_and byte 1) 1) → r ≡ byte_of_bit b (bit byte 0)
+last_bit_is b byte r is =
+    let whole : byte ≡ byte / 2 ^ 0 = omega arith in
+    bit_is b byte 0 r (is ∙ ap (λ n. byte_of_bit b (eqb (bit_and n 1) 1)) whole)
+
+-- the bytes that stand for the bits of a byte
+pub eight_bits : (b : BitBytes) (byte r7 r6 r5 r4 r3 r2 r1 r0 : ℕ) → r7 ≡ byte_of_bit b (eqb (bit_and (byte / 128) 1) 1)
+    → r6 ≡ byte_of_bit b (eqb (bit_and (byte / 64) 1) 1) → r5 ≡ byte_of_bit b (eqb (bit_and (byte / 32) 1) 1)
+    → r4 ≡ byte_of_bit b (eqb (bit_and (byte / 16) 1) 1) → r3 ≡ byte_of_bit b (eqb (bit_and (byte / 8) 1) 1)
+    → r2 ≡ byte_of_bit b (eqb (bit_and (byte / 4) 1) 1) → r1 ≡ byte_of_bit b (eqb (bit_and (byte / 2) 1) 1)
+    → r0 ≡ byte_of_bit b (eqb (bit_and byte 1) 1)
+    → (r7 ∷ r6 ∷ r5 ∷ r4 ∷ r3 ∷ r2 ∷ r1 ∷ r0 ∷ []) ≡ map (byte_of_bit b) (bits_of_byte byte)
+unfolding bits_of_byte
+eight_bits b byte r7 r6 r5 r4 r3 r2 r1 r0 e7 e6 e5 e4 e3 e2 e1 e0 =
+    let cons : (x y : ℕ) (xs ys : List ℕ) → x ≡ y → xs ≡ ys → (x ∷ xs) ≡ (y ∷ ys) = λ x y xs ys e es. ap₂ (λ z zs. z ∷ zs) e es in
+    cons _ _ _ _ (bit_is b byte 7 r7 e7)
+    (cons _ _ _ _ (bit_is b byte 6 r6 e6)
+    (cons _ _ _ _ (bit_is b byte 5 r5 e5)
+    (cons _ _ _ _ (bit_is b byte 4 r4 e4)
+    (cons _ _ _ _ (bit_is b byte 3 r3 e3)
+    (cons _ _ _ _ (bit_is b byte 2 r2 e2) (cons _ _ _ _ (bit_is b byte 1 r1 e1) (cons _ _ _ _ (last_bit_is b byte r0 e0) refl)))))))
+
+-- ---- a frame is written, bits behind bits
 
 bit_at_place : (b place : ℕ) → place < 8 → get_or (bits_of_byte b) place false ≡ eqb (bit_at b (7 - place)) 1
 unfolding bits_of_byte

@@ -9,7 +9,7 @@ use Rattle.lone_laws.specs.alone.Ends.{EndForm}
 use Rattle.one_end.specs.declared.one_end.OneEnd.{OneEnd}
 use Rattle.one_end.specs.Standing.{BootFault, HasRun, IsBootRefused, IsRunOfBytes, Journal, NoMemory}
 use Rattle.one_end.specs.Writing.{form_named}
-use Rattle.one_end.proofs.Growing.{is_run_of}
+use Rattle.one_end.proofs.Running.{is_run_of}
 use Rattle.swp_words.specs.declared.status.Status.{Status}
 use Rattle.swp_words.specs.declared.status.Status.TheVariants as status
 use Rattle.swp_words.specs.Ends.{Began, IsEndBegun, HasHeardAlone, HasGoneOut, IsWaitingAlone, IsCutAlone, IsWrittenBefore, IsBrokenAlone}

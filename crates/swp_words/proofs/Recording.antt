@@ -5,7 +5,7 @@ use Rattle.std.specs.Prelude.{reverse, nat_lt, if◌then◌else◌, Result, Ok, 
 use Rattle.std.proofs.lemmas.List.{append-nil, reverse-append, length-reverse, length-append, take-append-le, take_min}
 use Rattle.std.proofs.Math.Seq.{take-append-add}
 use Rattle.swp_decode.specs.Decoded.{record_lines, last_line, line_at, lines_with, transcript}
-use Rattle.swp_decode.proofs.FurtherLines.{record_lines-append}
+use Rattle.swp_decode.proofs.FurtherFrames.{record_lines-append}
 use Rattle.swp_words.specs.declared.decoding.Decoding.{Decoding}
 use Rattle.swp_decode.specs.declared.line.Wire.TheVariants.{S1, S2}
 use Rattle.swp_decode.specs.Kept.{DecoderStandsFor}

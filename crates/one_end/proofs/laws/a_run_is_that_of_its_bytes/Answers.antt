@@ -1,5 +1,5 @@
 -- A run is that of its bytes.
-use Rattle.one_end.proofs.Growing.{is_run_of}
+use Rattle.one_end.proofs.Running.{is_run_of}
 use Rattle.one_end.proofs.laws.a_run_is_that_of_its_bytes.Goals as goal
 
 pub returns : goal.returns

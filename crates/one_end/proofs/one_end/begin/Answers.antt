@@ -5,8 +5,7 @@ use Rattle.one_end.specs.declared.one_end.OneEnd.{OneEnd}
 use Rattle.one_end.specs.Running.{cause_of, all_answered, HasAnswered, RunsYet}
 use Rattle.one_end.specs.Standing.{IsAlone}
 use Rattle.one_end.specs.Writing.{form_named}
-use Rattle.one_end.proofs.Answering.{over, stands_as, same_causes}
-use Rattle.one_end.proofs.Growing.{has_begun}
+use Rattle.one_end.proofs.Running.{over, stands_as, same_causes, has_begun}
 use Rattle.one_end.proofs.one_end.begin.Goals as goal
 
 pub returns-clause-begun : goal.returns-clause-begun

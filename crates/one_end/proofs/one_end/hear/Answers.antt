@@ -1,6 +1,6 @@
 -- Bytes come, which begin with a whole unit of a byte link, or not.
 use Rattle.std.proofs.Common.{◌+◌, length, take, refl}
-use Rattle.one_end.proofs.Growing.{unit_heard, has_heard, goes_on}
+use Rattle.one_end.proofs.Running.{unit_heard, has_heard, goes_on}
 use Rattle.one_end.proofs.one_end.hear.Goals as goal
 
 -- they begin with a whole unit

@@ -3,9 +3,8 @@ use Rattle.std.proofs.Common.{◌≡◌, ◌∙◌, [], List, ℕ, map, take, re
 use Rattle.lone_laws.specs.alone.Ends.{bytes_bring}
 use Rattle.one_end.specs.Running.{cause_of}
 use Rattle.one_end.specs.Writing.{form_named}
-use Rattle.one_end.proofs.Answering.{none_came}
+use Rattle.one_end.proofs.Running.{none_came, heard_so}
 use Rattle.one_end.proofs.Bringing.{nothing_brought}
-use Rattle.one_end.proofs.Growing.{heard_so}
 use Rattle.one_end.proofs.one_end.hear_in_parts.Goals as goal
 
 pub returns-clause-heard : goal.returns-clause-heard

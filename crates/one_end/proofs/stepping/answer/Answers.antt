@@ -4,7 +4,7 @@ use Rattle.one_end.specs.Running.{cause_of, does_alone, HasAnswered, RunsYet, Ru
 use Rattle.one_end.specs.Writing.{form_named}
 use Rattle.lone_laws.specs.alone.Lone.LoneCause.{ResetComes}
 use Rattle.one_end.proofs.Alone.{reset_taken}
-use Rattle.one_end.proofs.Answering.{over, as_yet, stopped_then, without_reset, with_reset}
+use Rattle.one_end.proofs.Running.{over, as_yet, stopped_then, without_reset, with_reset}
 use Rattle.std.proofs.lemmas.Bool.{not-true, not-false}
 use Rattle.one_end.proofs.stepping.answer.Goals as goal
 

@@ -5,7 +5,7 @@ use Rattle.lone_laws.specs.alone.Lone.{Lone}
 use Rattle.one_end.specs.Alone.{RunsAlone}
 use Rattle.one_end.specs.Running.{cause_of, answers_alone, all_answered, HasAnswered, RunsYet}
 use Rattle.one_end.specs.Writing.{form_named}
-use Rattle.one_end.proofs.Answering.{over, none_came, one_more, stopped_with, next_of, parts_of}
+use Rattle.one_end.proofs.Running.{over, none_came, one_more, stopped_with, next_of, parts_of}
 use Rattle.one_end.proofs.stepping.answer_all.Goals as goal
 
 pub loop-coming-init : goal.loop-coming-init

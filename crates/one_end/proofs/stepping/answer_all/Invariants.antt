@@ -4,7 +4,7 @@ use Rattle.lone_laws.specs.alone.Lone.{Lone}
 use Rattle.one_end.specs.Alone.{RunsAlone}
 use Rattle.one_end.specs.Running.{cause_of, all_answered, HasAnswered, RunsYet}
 use Rattle.one_end.specs.Writing.{form_named}
-use Rattle.one_end.proofs.Answering.{over}
+use Rattle.one_end.proofs.Running.{over}
 use Rattle.one_end.proofs.stepping.answer_all.Given as goal
 
 abbrev pub invariant-loop-coming : goal.invariant-loop-coming

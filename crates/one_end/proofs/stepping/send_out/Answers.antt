@@ -4,8 +4,7 @@ use Rattle.swp_base.specs.declared.control_frames.Control.{Control}
 use Rattle.lone_laws.specs.alone.Lone.{Lone}
 use Rattle.one_end.specs.Alone.{RunsAlone}
 use Rattle.one_end.specs.Writing.{form_named}
-use Rattle.one_end.proofs.Alone.{sends_first}
-use Rattle.one_end.proofs.Sending.{HasSent, HasSentFirst, all_sent, sent_most, one_sent, left_then}
+use Rattle.one_end.proofs.Alone.{sends_first, HasSent, HasSentFirst, all_sent, sent_most, one_sent, left_then}
 use Rattle.one_end.proofs.stepping.send_out.Goals as goal
 
 pub loop-init : goal.loop-init

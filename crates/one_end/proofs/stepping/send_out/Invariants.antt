@@ -2,7 +2,7 @@
 use Rattle.std.proofs.Common.{◌≡◌}
 use Rattle.one_end.specs.Alone.{RunsAlone}
 use Rattle.one_end.specs.Writing.{form_named}
-use Rattle.one_end.proofs.Sending.{Sends}
+use Rattle.one_end.proofs.Alone.{Sends}
 use Rattle.one_end.proofs.stepping.send_out.Given as goal
 
 abbrev pub invariant-loop : goal.invariant-loop

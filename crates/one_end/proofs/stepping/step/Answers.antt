@@ -6,7 +6,7 @@ use Rattle.hci_store.specs.Stored.{Stored}
 use Rattle.one_end.specs.Running.{frames_written, does_alone, HasAnswered, RunsReady}
 use Rattle.one_end.specs.Writing.{form_named}
 use Rattle.one_end.proofs.Alone.{may_step, steps_alone, asks_so, ran_alike}
-use Rattle.one_end.proofs.Answering.{stepped_ready, over}
+use Rattle.one_end.proofs.Running.{stepped_ready, over}
 use Rattle.one_end.proofs.stepping.step.Goals as goal
 
 pub step-requires : goal.step-requires

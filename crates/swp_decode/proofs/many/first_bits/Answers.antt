@@ -1,4 +1,4 @@
-use Rattle.swp_decode.proofs.Gathering.{low_bits-first, low_bits-none}
+use Rattle.swp_decode.proofs.FurtherFrames.{low_bits-first, low_bits-none}
 use Rattle.swp_decode.proofs.many.first_bits.Goals as goal
 
 pub returns-clause-s1 : goal.returns-clause-s1

@@ -3,9 +3,9 @@ use Rattle.swp_decode.specs.declared.line.Wire.TheVariants.{S1, S2}
 use Rattle.swp_decode.specs.Readings.{AreBits}
 use Rattle.swp_frame.specs.Words.{low_bits}
 use Rattle.swp_frame.proofs.WritingLemmas.{take_all}
-use Rattle.swp_frame.proofs.LowBits.{length-low_bits}
+use Rattle.swp_frame.proofs.Places.{length-low_bits}
 use Rattle.swp_decode.specs.declared.line.Wire.{Wire}
-use Rattle.swp_decode.proofs.Gathering.{AreBits-append, AreBits-behind, low_bits-more}
+use Rattle.swp_decode.proofs.FurtherFrames.{AreBits-append, AreBits-behind, low_bits-more}
 use Rattle.swp_decode.proofs.many.many_bits.Goals as goal
 
 -- what is left behind a place

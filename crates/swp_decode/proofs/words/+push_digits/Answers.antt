@@ -1,7 +1,7 @@
 use Rattle.std.proofs.Common.{◌≡◌, ◌+◌, ◌/◌, ◌%◌, ◌^◌, ◌<◌, ◌≤◌, ◌++◌, ◌∷◌, [], ℕ, List, length, get_or, ap, sym, ◌∙◌, arith, length-append, append_assoc}
 use Rattle.std.specs.Prelude.{decimal}
 use Rattle.std.proofs.lemmas.Fmt.{decimal_digit}
-use Rattle.swp_decode.proofs.Decimals.{four_digits, two_digits_of, three_digits_of, four_digits_of, more_digits_of}
+use Rattle.swp_decode.proofs.Numerals.{four_digits, two_digits_of, three_digits_of, four_digits_of, more_digits_of}
 use Rattle.swp_decode.proofs.words.+push_digits.Goals as goal
 
 -- the length of a number of five digits or more

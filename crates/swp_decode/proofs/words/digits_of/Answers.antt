@@ -1,5 +1,5 @@
 use Rattle.std.proofs.Common.{◌∷◌, [], ◌∙◌, ap₂}
-use Rattle.swp_decode.proofs.Hexadecimal.{pairs_are, first_digit, second_digit}
+use Rattle.swp_decode.proofs.Numerals.{pairs_are, first_digit, second_digit}
 use Rattle.swp_decode.proofs.words.digits_of.Goals as goal
 
 pub returns : goal.returns

@@ -1,7 +1,7 @@
 use Rattle.std.proofs.Common.{◌++◌, ◌∙◌, ap}
 use Rattle.std.specs.Prelude.{codes}
 use Rattle.swp_decode.specs.Texts.{hex_word}
-use Rattle.swp_decode.proofs.Hexadecimal.{four_parts}
+use Rattle.swp_decode.proofs.Numerals.{four_parts}
 use Rattle.swp_decode.proofs.words.push_fault.Goals as goal
 
 pub returns-in-Crc-clause-items : goal.returns-in-Crc-clause-items

@@ -2,7 +2,7 @@ use Rattle.std.proofs.Common.{◌≡◌, ◌≤◌, ◌<◌, ◌+◌, ◌-◌, �
 use Rattle.std.proofs.Common.{take-add}
 use Rattle.std.proofs.lemmas.List.{take_rest, take_more, take_all, get_or-drop}
 use Rattle.swp_decode.specs.Texts.{hex_of}
-use Rattle.swp_decode.proofs.Hexadecimal.{hex_more, room_of, length-hex_of}
+use Rattle.swp_decode.proofs.Numerals.{hex_more, room_of, length-hex_of}
 use Rattle.swp_decode.proofs.words.push_hex.Goals as goal
 
 pub push_hex_of_four-requires : goal.push_hex_of_four-requires

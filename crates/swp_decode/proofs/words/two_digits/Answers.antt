@@ -1,5 +1,5 @@
 use Rattle.std.proofs.Common.{◌∷◌, [], ◌∙◌, ap₂}
-use Rattle.swp_decode.proofs.Decimals.{first_of_pair, second_of_pair}
+use Rattle.swp_decode.proofs.Numerals.{first_of_pair, second_of_pair}
 use Rattle.swp_decode.proofs.words.two_digits.Goals as goal
 
 pub returns : goal.returns

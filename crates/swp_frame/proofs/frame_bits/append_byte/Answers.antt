@@ -1,7 +1,7 @@
 use Rattle.std.proofs.Common.{◌++◌, ◌∙◌, ap, sym, arith}
 use Rattle.swp_base.specs.Bits.{bits_of_byte}
 use Rattle.swp_base.proofs.BitLemmas.{length-bits_of_byte}
-use Rattle.swp_frame.proofs.PlainBytes.{plain_written}
+use Rattle.swp_frame.proofs.WritingLemmas.{plain_written}
 use Rattle.swp_frame.proofs.frame_bits.append_byte.Goals as goal
 
 pub returns-in-Some : goal.returns-in-Some

@@ -1,4 +1,4 @@
-use Rattle.swp_frame.proofs.PlainBytes.{eight_bits}
+use Rattle.swp_frame.proofs.WritingLemmas.{eight_bits}
 use Rattle.swp_frame.proofs.frame_bits.bytes_of_byte.Goals as goal
 
 pub returns : goal.returns

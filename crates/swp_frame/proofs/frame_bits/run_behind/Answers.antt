@@ -1,6 +1,6 @@
 use Rattle.std.proofs.Common.{◌∙◌, ◌+◌, ◌-◌, ◌*◌, ◌%◌, ◌^◌, ap, sym, w32, Some}
 use Rattle.std.specs.Int.{trailing_ones}
-use Rattle.swp_frame.proofs.PlainBytes.{fifths, lined_is, run_is}
+use Rattle.swp_frame.proofs.WritingLemmas.{fifths, lined_is, run_is}
 use Rattle.swp_frame.proofs.frame_bits.run_behind.Goals as goal
 
 pub returns-then-five-eq0 : goal.returns-then-five-eq0

@@ -1,4 +1,4 @@
-use Rattle.swp_frame.proofs.LowBits.{shifted_field}
+use Rattle.swp_frame.proofs.Places.{shifted_field}
 use Rattle.swp_frame.proofs.word.field.Goals as goal
 
 pub returns : goal.returns

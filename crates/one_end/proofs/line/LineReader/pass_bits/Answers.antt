@@ -1,12 +1,237 @@
 -- Periods with bits are taken at once.
-use Rattle.std.proofs.Common.{◌≡◌, ◌∙◌, ◌+◌, ◌-◌, ◌%◌, ◌<◌, ◌≤◌, ◌++◌, ℕ, List, length, reverse, take, sym, ap, subst, arith, rules}
+use Rattle.std.proofs.Common.{◌≡◌, ◌≢◌, ◌∙◌, ℕ, suc, ◌+◌, ◌-◌, ◌/◌, ◌%◌, ◌^◌, ◌<◌, ◌≤◌, Bool, true, false, cond, List, [], ◌∷◌, ◌++◌, Option, Some, None}
+use Rattle.std.proofs.Common.{length, reverse, take, refl, sym, ap, subst, arith, rules}
+use Rattle.std.specs.Prelude.{◌==◌, ◌&&◌, not, is_some, if◌then◌else◌}
+use Rattle.std.specs.List.{filter, cons_option}
+use Rattle.std.proofs.Math.Nat.{mod-eq_of_lt}
+use Rattle.std.proofs.lemmas.Bool.{ne_eqb}
 use Rattle.std.proofs.lemmas.List.{length-take-le}
-use Rattle.swp_frame.specs.Signal.{Symbol, run_of, read_on, HasNoMark}
+use Rattle.std.proofs.lemmas.Nat.{shr_below, pow_pos}
+use lib.Count.{count_leading_zeros}
+use Rattle.swp_line.specs.declared.period.Period.{Period}
+use Rattle.swp_line.specs.declared.period.Period.TheVariants.{Bits, Suspended, ResumeAsked, Deactivated}
+use Rattle.swp_line.specs.Periods.{period_at}
+use Rattle.swp_frame.specs.declared.fed.Fed.TheVariants.{Nothing}
+use Rattle.swp_frame.specs.declared.word.Word.{Word}
+use Rattle.swp_frame.specs.Signal.{Symbol, break, symbol_of, run_of, no_mark, mark_of, since_start, read_on, HasNoMark}
+use Rattle.swp_frame.specs.Verdicts.{verdict_after}
+use Rattle.swp_frame.specs.Words.{low_bits, word_bits, IsWordBehind, part_bits}
+use Rattle.swp_frame.proofs.Places.{marks_between, no_marks}
 use Rattle.swp_frame.specs.Kept.{DeframerStandsFor}
-use Rattle.swp_frame.specs.Words.{word_bits, part_bits, IsWordBehind}
-use Rattle.lone_laws.specs.alone.Ends.{wire_read, symbols_read, periods_among}
-use Rattle.one_end.proofs.Passing.{word_passed, few_left, counted_on}
+use Rattle.swp_decode.specs.declared.line.Wire.{Wire}
+use Rattle.swp_decode.specs.declared.line.Wire.TheVariants.{S1, S2}
+use Rattle.swp_decode.specs.Readings.{symbol_on, AreBits}
+use Rattle.swp_decode.proofs.FurtherFrames.{reverse_onto, bits_of_word, AreBits-part}
+use Rattle.swp_decode.proofs.Marks.{IsNext, next_place, below_sooner}
+use Rattle.lone_laws.specs.alone.Lone.{LoneCause}
+use Rattle.lone_laws.specs.alone.Lone.LoneCause.{TickComes, StartComes, StopComes}
+use Rattle.lone_laws.specs.alone.Ends.{verdict_brings, wire_read, symbols_read, reading_brings, has_bits, is_deactivation, is_unstarted, comes_if}
+use Rattle.lone_laws.specs.alone.Ends.{periods_among, is_tick_period, line_brings, bytes_bring}
+use Rattle.lone_laws.specs.alone.Ends.EndForm.{OnLine}
+use Rattle.one_end.specs.Reading.{wire_of}
 use Rattle.one_end.proofs.line.LineReader.pass_bits.Goals as goal
+
+-- Periods with bits that bring nothing.
+-- ---- the wire that is read
+
+wire_if : (b : Bool) → (if b then S2 else S1) ≡ wire_of b
+wire_if true = refl
+wire_if false = refl
+
+wire_is : (number : ℕ) (is_clf : Bool) → (number == 0) ≡ is_clf → wire_read number ≡ wire_of is_clf
+wire_is number is_clf role = wire_if (number == 0) ∙ ap wire_of role
+
+-- the bits on that wire
+are_read : (is_clf : Bool) (given s1 s2 known : ℕ) (bytes : List ℕ) → (is_clf ≡ true → given ≡ s2) → (is_clf ≡ false → given ≡ s1)
+    → AreBits S1 (take known bytes) (take known (low_bits 64 s1)) → AreBits S2 (take known bytes) (take known (low_bits 64 s2))
+    → AreBits (wire_of is_clf) (take known bytes) (take known (low_bits 64 given))
+are_read true given s1 s2 known bytes clf uicc first second =
+    subst (λ x. AreBits S2 (take known bytes) (take known (low_bits 64 x))) (sym (clf refl)) second
+are_read false given s1 s2 known bytes clf uicc first second =
+    subst (λ x. AreBits S1 (take known bytes) (take known (low_bits 64 x))) (sym (uicc refl)) first
+
+-- ---- no mark
+
+none_at_front : (n to : ℕ) → n < 2 ^ (64 - to) → n / 2 ^ (64 - to) % 2 ^ to ≡ 0
+none_at_front n to small =
+    let same : 64 - to ≡ 0 + (64 - to) = omega arith in
+    let less : n / 2 ^ (64 - to) < 1 = shr_below n 0 (64 - to) (subst (λ k. n < 2 ^ k) same small) in
+    let none : n / 2 ^ (64 - to) ≡ 0 = omega (arith, less) in
+    ap (λ m. m % 2 ^ to) none ∙ mod-eq_of_lt (pow_pos to)
+
+-- no mark ends with the first bits of a word, up to its first mark
+quiet_front : (word : Word) (to : ℕ) (seen : List Symbol) → word.marks < 2 ^ 64 → to ≤ count_leading_zeros 64 word.marks → to ≤ 64
+    → IsWordBehind word (run_of seen) → HasNoMark seen (take to (word_bits word))
+quiet_front word to seen fits sooner within behind =
+    let next : IsNext word.marks 0 (count_leading_zeros 64 word.marks) =
+    next_place word.marks 0 (count_leading_zeros 64 word.marks) (omega arith) fits refl in
+    let small : word.marks < 2 ^ (64 - to) = below_sooner word.marks to (count_leading_zeros 64 word.marks) sooner next.below in
+    let all : 0 + to ≤ 64 = omega (arith, within) in
+    let same : 0 + to ≡ to = omega arith in
+    no_marks seen (take to (word_bits word))
+    (sym (marks_between 64 0 to (run_of seen) word.bits word.marks all behind.marks)
+    ∙ (ap (λ k. word.marks / 2 ^ (64 - k) % 2 ^ to) same ∙ none_at_front word.marks to small))
+
+-- ---- one period
+
+no_break : (bit : Bool) → Some break ≡ Some (symbol_of bit) → ⊥
+no_break true e = absurd (cc)
+no_break false e = absurd (cc)
+
+-- a period with a bit on a wire has bits
+with_bit : (wire : Wire) (p : Option Period) (bit : Bool) → symbol_on wire p ≡ Some (symbol_of bit)
+    → (has_bits p ≡ true) × (is_deactivation p ≡ false) × (is_some p ≡ true)
+with_bit S1 (Some (Bits s1 s2)) bit e = (refl, refl, refl)
+with_bit S2 (Some (Bits s1 s2)) bit e = (refl, refl, refl)
+with_bit S1 (Some Suspended) bit e = absurd (cc)
+with_bit S2 (Some Suspended) bit e = absurd (cc)
+with_bit S1 (Some ResumeAsked) bit e = absurd (cc)
+with_bit S2 (Some ResumeAsked) bit e = absurd (cc)
+with_bit S1 (Some Deactivated) bit e = absurd (no_break bit e)
+with_bit S2 (Some Deactivated) bit e = absurd (no_break bit e)
+with_bit S1 None bit e = absurd (no_break bit e)
+with_bit S2 None bit e = absurd (no_break bit e)
+
+one_more : (n : ℕ) → suc n ≡ n + 1
+one_more n = omega arith
+
+-- it is one period more
+period_more : (byte : ℕ) (older : List ℕ) → is_some (period_at byte) ≡ true → periods_among (byte ∷ older) ≡ periods_among older + 1
+period_more byte older is =
+    let rest : List ℕ = filter (λ b. is_some (period_at b)) older in
+    ap (λ b. length (cond b (byte ∷ rest) rest)) is ∙ one_more (length rest)
+
+bits_begin : (p : Option Period) (before : Bool) → has_bits p ≡ true → (if has_bits p then false else (if is_deactivation p then true else before)) ≡ false
+bits_begin p before is = ap (λ b. if b then false else (if is_deactivation p then true else before)) is
+
+quiet_verdict : (since : Option (List Symbol)) → verdict_after no_mark since ≡ Nothing
+quiet_verdict None = refl
+quiet_verdict (Some since) = refl
+
+-- with a bit that ends no mark nothing is read
+no_reading : (o : Option Symbol) (bit : Bool) (seen : List Symbol) → o ≡ Some (symbol_of bit) → mark_of (symbol_of bit ∷ seen) ≡ no_mark
+    → reading_brings o seen ≡ []
+no_reading o bit seen is none =
+    ap (λ s. reading_brings s seen) is
+    ∙ (ap (λ mark. verdict_brings (verdict_after mark (since_start seen))) none ∙ ap verdict_brings (quiet_verdict (since_start seen)))
+
+no_start : (a b c : Bool) → c ≡ false → (a && b && c) ≡ false
+no_start true true c e = e
+no_start true false c e = refl
+no_start false true c e = refl
+no_start false false c e = refl
+
+no_tick : (a : Bool) (n : ℕ) → n % 512 ≢ 0 → (a && n % 512 == 0) ≡ false
+no_tick true n other = ne_eqb (n % 512) 0 other
+no_tick false n other = refl
+
+not_512th : (p q : ℕ) → q ≡ p + 1 → p % 512 + 1 < 512 → q % 512 ≢ 0
+not_512th p q is few none = absurd (omega (arith, is, few, none))
+
+nothing_comes : (a d t : Bool) (read : List LoneCause) → a ≡ false → read ≡ [] → d ≡ false → t ≡ false
+    → comes_if a (StartComes 1) ++ read ++ comes_if d StopComes ++ comes_if t TickComes ≡ []
+nothing_comes a d t read no_a no_read no_d no_t = rw (no_a, no_read, no_d, no_t) refl
+
+-- a period with a bit that ends no mark brings nothing, but a first one and a 512th
+one_passed : (number byte : ℕ) (older : List ℕ) (bit : Bool) → symbol_on (wire_read number) (period_at byte) ≡ Some (symbol_of bit)
+    → mark_of (symbol_of bit ∷ symbols_read (wire_read number) older) ≡ no_mark → is_unstarted older ≡ false → periods_among older % 512 + 1 < 512
+    → line_brings number byte older ≡ []
+one_passed number byte older bit is none started few =
+    let p : Option Period = period_at byte in
+    let has = with_bit (wire_read number) p bit is in
+    nothing_comes (not (number == 0) && has_bits p && is_unstarted older) (is_deactivation p) (is_tick_period byte older)
+    (reading_brings (symbol_on (wire_read number) p) (symbols_read (wire_read number) older))
+    (no_start (not (number == 0)) (has_bits p) (is_unstarted older) started)
+    (no_reading (symbol_on (wire_read number) p) bit (symbols_read (wire_read number) older) is none)
+    has.1
+    (no_tick (is_some p) (periods_among (byte ∷ older))
+    (not_512th (periods_among older) (periods_among (byte ∷ older)) (period_more byte older has.2) few))
+
+-- ---- many periods
+
+-- so many bytes behind others have these bits on the wire that is read, and bring nothing
+pub record ArePassedBits (number : ℕ) (older bytes : List ℕ) (bits : List Bool) : Type 0 where
+  read : symbols_read (wire_read number) (reverse bytes ++ older) ≡ read_on (symbols_read (wire_read number) older) bits
+  started : is_unstarted (reverse bytes ++ older) ≡ false
+  counted : periods_among (reverse bytes ++ older) ≡ periods_among older + length bytes
+  quiet : bytes_bring OnLine number older bytes ≡ []
+
+none_counted : (n : ℕ) → n ≡ n + 0
+none_counted n = omega arith
+
+fewer : (p q n : ℕ) → q ≡ p + 1 → p % 512 + suc n < 512 → q % 512 + n < 512
+fewer p q n is few = omega (arith, is, few)
+
+first_few : (p n : ℕ) → p % 512 + suc n < 512 → p % 512 + 1 < 512
+first_few p n few = omega (arith, few)
+
+all_counted : (p q n : ℕ) → q ≡ p + 1 → q + n ≡ p + suc n
+all_counted p q n is = omega (arith, is)
+
+are_passed : (number : ℕ) (bytes : List ℕ) (bits : List Bool) (older : List ℕ) → AreBits (wire_read number) bytes bits
+    → HasNoMark (symbols_read (wire_read number) older) bits → is_unstarted older ≡ false → periods_among older % 512 + length bytes < 512
+    → ArePassedBits number older bytes bits
+are_passed number [] [] older are none started few = record {
+  read = refl;
+  started = started;
+  counted = none_counted (periods_among older);
+  quiet = refl;
+}
+are_passed number [] (bit ∷ bits) older are none started few = absurd are
+are_passed number (byte ∷ bytes) [] older are none started few = absurd are
+are_passed number (byte ∷ bytes) (bit ∷ bits) older are none started few =
+    let w : Wire = wire_read number in
+    let has = with_bit w (period_at byte) bit are.0 in
+    let more : periods_among (byte ∷ older) ≡ periods_among older + 1 = period_more byte older has.2 in
+    let read : symbols_read w (byte ∷ older) ≡ symbol_of bit ∷ symbols_read w older = ap (λ o. cons_option o (symbols_read w older)) are.0 in
+    let now : line_brings number byte older ≡ [] =
+    one_passed number byte older bit are.0 none.0 started (first_few (periods_among older) (length bytes) few) in
+    let later : ArePassedBits number (byte ∷ older) bytes bits =
+    are_passed number bytes bits (byte ∷ older) are.1 (subst (λ s. HasNoMark s bits) (sym read) none.1)
+    (bits_begin (period_at byte) (is_unstarted older) has.0)
+    (fewer (periods_among older) (periods_among (byte ∷ older)) (length bytes) more few) in
+    let onto : reverse (byte ∷ bytes) ++ older ≡ reverse bytes ++ (byte ∷ older) = reverse_onto byte bytes older in
+    record {
+      read = ap (symbols_read w) onto ∙ (later.read ∙ ap (λ s. read_on s bits) read);
+      started = ap is_unstarted onto ∙ later.started;
+      counted = ap periods_among onto
+          ∙ (later.counted ∙ all_counted (periods_among older) (periods_among (byte ∷ older)) (length bytes) more);
+      quiet = ap (λ causes. causes ++ bytes_bring OnLine number (byte ∷ older) bytes) now ∙ later.quiet;
+    }
+
+-- ---- a word
+
+-- the first bytes, whose bits on the wire that is read are those of the word, up to a mark in it and before a 512th period
+word_passed : (number : ℕ) (older bytes : List ℕ) (is_clf : Bool) (given s1 s2 known to : ℕ) (word : Word) → (number == 0) ≡ is_clf
+    → (is_clf ≡ true → given ≡ s2) → (is_clf ≡ false → given ≡ s1)
+    → AreBits S1 (take known bytes) (take known (low_bits 64 s1)) → AreBits S2 (take known bytes) (take known (low_bits 64 s2))
+    → word.bits ≡ given → word.marks < 2 ^ 64 → IsWordBehind word (run_of (symbols_read (wire_read number) older))
+    → to ≤ count_leading_zeros 64 word.marks → to ≤ known → known ≤ 64 → length bytes ≡ 64
+    → is_unstarted older ≡ false → periods_among older % 512 + to < 512
+    → HasNoMark (symbols_read (wire_read number) older) (take to (word_bits word)) × ArePassedBits number older (take to bytes) (take to (word_bits word))
+word_passed number older bytes is_clf given s1 s2 known to word role clf uicc first second same fits behind sooner within most long started few =
+    let all : 0 + to ≤ known = omega (arith, within) in
+    let inside : to ≤ 64 = omega (arith, within, most) in
+    let there : to ≤ length bytes = omega (arith, inside, long) in
+    let sized : length (take to bytes) ≡ to = length-take-le to bytes there in
+    let front : AreBits (wire_of is_clf) (take to bytes) (take to (word_bits word)) =
+    AreBits-part (wire_of is_clf) known 0 to bytes (word_bits word) all
+    (bits_of_word (wire_of is_clf) bytes known given word same (are_read is_clf given s1 s2 known bytes clf uicc first second)) in
+    let quiet : HasNoMark (symbols_read (wire_read number) older) (take to (word_bits word)) =
+    quiet_front word to (symbols_read (wire_read number) older) fits sooner inside behind in (
+      quiet,
+      are_passed number (take to bytes) (take to (word_bits word)) older
+          (subst (λ wire. AreBits wire (take to bytes) (take to (word_bits word))) (sym (wire_is number is_clf role)) front) quiet started
+          (subst (λ n. periods_among older % 512 + n < 512) (sym sized) few),
+    )
+
+-- ---- the count
+
+few_left : (periods count left to : ℕ) → periods ≡ count % 512 → left ≡ 511 - periods → to ≤ left → periods < 512 → count % 512 + to < 512
+few_left periods count left to is left_is within few = omega (arith, is, left_is, within, few)
+
+counted_on : (periods count n to all : ℕ) → periods ≡ count % 512 → count % 512 + to < 512 → n ≡ to → all ≡ count + n → periods + to ≡ all % 512
+counted_on periods count n to all is few same sum = omega (arith, is, few, same, sum)
 
 pub returns-clause-stands : goal.returns-clause-stands
 returns-clause-stands c number older s =

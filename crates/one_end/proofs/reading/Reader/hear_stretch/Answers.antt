@@ -2,7 +2,7 @@
 use Rattle.std.proofs.Common.{◌∙◌, ◌+◌, ◌-◌, [], List, ℕ, length, take, get_or, sym, subst, arith}
 use Rattle.one_end.specs.Reading.{causes_brought}
 use Rattle.one_end.proofs.Bringing.{nothing_brought}
-use Rattle.one_end.proofs.Hearing.{HasReadOn, nothing_read, one_read, passed_further, heard_further}
+use Rattle.one_end.proofs.Running.{HasReadOn, nothing_read, one_read, passed_further, heard_further}
 use Rattle.one_end.proofs.reading.Reader.hear_stretch.Goals as goal
 
 pub bytes-init : goal.bytes-init

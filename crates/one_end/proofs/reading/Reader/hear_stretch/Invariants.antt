@@ -1,6 +1,6 @@
 -- The bytes so far brought nothing.
 use Rattle.std.proofs.Common.{[], ◌≤◌, ◌-◌, length, take}
-use Rattle.one_end.proofs.Hearing.{HasReadOn}
+use Rattle.one_end.proofs.Running.{HasReadOn}
 use Rattle.one_end.proofs.reading.Reader.hear_stretch.Given as goal
 
 abbrev pub invariant-bytes : goal.invariant-bytes

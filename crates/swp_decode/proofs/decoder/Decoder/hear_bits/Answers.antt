@@ -8,10 +8,8 @@ use Rattle.std.proofs.lemmas.Nat.{or_lt}
 use Rattle.swp_frame.specs.Words.{word_bits}
 use Rattle.swp_decode.specs.declared.line.Wire.TheVariants.{S1, S2}
 use Rattle.swp_decode.specs.Readings.{signal}
-use Rattle.swp_decode.proofs.FurtherBits.{quiet_between, quiet_further, quiet_none}
-use Rattle.swp_decode.proofs.Gathering.{AreBits-part}
-use Rattle.swp_decode.proofs.FurtherLines.{bits_of_word, stands_behind}
-use Rattle.swp_decode.proofs.FurtherFrames.{frame_of_word, frames_between, frames_through}
+use Rattle.swp_decode.proofs.FurtherFrames.{quiet_between, quiet_further, quiet_none, AreBits-part, bits_of_word, stands_behind, frame_of_word, frames_between}
+use Rattle.swp_decode.proofs.FurtherFrames.{frames_through}
 use Rattle.swp_decode.proofs.Marks.{next_of, not_past, none_before, below_sooner, marks_left}
 use Rattle.swp_decode.proofs.decoder.Decoder.hear_bits.Goals as goal
 use Rattle.swp_decode.proofs.decoder.Decoder.hear_bits.Goals.{then-marks-test+else-passed-lt-MOST_PLACES, else-marks-test}

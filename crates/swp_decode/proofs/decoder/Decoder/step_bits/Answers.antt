@@ -9,14 +9,13 @@ use Rattle.swp_base.specs.Bits.{bit}
 use Rattle.swp_frame.specs.Signal.{symbol_of}
 use Rattle.swp_frame.specs.Words.{word_bits}
 use Rattle.swp_frame.specs.declared.word.Word.{Word}
-use Rattle.swp_frame.proofs.LowBits.{low_bits-at}
+use Rattle.swp_frame.proofs.Places.{low_bits-at}
 use Rattle.swp_decode.specs.declared.line.Wire.{Wire}
 use Rattle.swp_decode.specs.declared.line.Wire.TheVariants.{S1, S2}
 use Rattle.swp_decode.specs.Readings.{ReadSymbol, signal, readings_on}
 use Rattle.swp_decode.specs.Decoded.{line_with, lines_with}
-use Rattle.swp_decode.proofs.FurtherBits.{quiet_between, quiet_further, quiet_none}
-use Rattle.swp_decode.proofs.Gathering.{AreBits-part}
-use Rattle.swp_decode.proofs.FurtherLines.{AreQuietBetween, bits_of_word, lines_between, lines_through, stands_behind}
+use Rattle.swp_decode.proofs.FurtherFrames.{quiet_between, quiet_further, quiet_none, AreBits-part, AreQuietBetween, bits_of_word, lines_between, lines_through}
+use Rattle.swp_decode.proofs.FurtherFrames.{stands_behind}
 use Rattle.swp_decode.proofs.Marks.{next_of, not_past, none_before, below_sooner, marks_left}
 use Rattle.swp_decode.proofs.decoder.Decoder.step_bits.Goals as goal
 use Rattle.swp_decode.proofs.decoder.Decoder.step_bits.Goals.{then-marks-test+else-passed-lt-MOST_PLACES, else-marks-test}

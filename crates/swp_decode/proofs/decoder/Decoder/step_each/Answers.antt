@@ -2,7 +2,7 @@ use Rattle.std.proofs.Common.{◌∙◌, ◌++◌, ◌∷◌, ◌<◌, length, g
 use Rattle.swp_decode.specs.declared.line.Wire.TheVariants.{S1, S2}
 use Rattle.swp_decode.specs.Decoded.{line_at}
 use Rattle.swp_decode.specs.Kept.{DecoderStandsFor}
-use Rattle.swp_decode.proofs.FurtherLines.{reverse-more, lines_behind-more}
+use Rattle.swp_decode.proofs.FurtherFrames.{reverse-more, lines_behind-more}
 use Rattle.swp_decode.proofs.decoder.Decoder.step_each.Goals as goal
 
 pub loop-byte-preserved : goal.loop-byte-preserved

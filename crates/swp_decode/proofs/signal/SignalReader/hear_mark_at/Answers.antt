@@ -4,8 +4,7 @@ use Rattle.swp_frame.specs.Signal.{symbol_of}
 use Rattle.swp_frame.specs.Words.{word_bits}
 use Rattle.swp_decode.specs.Kept.{ReadsSignal}
 use Rattle.swp_decode.specs.Readings.{readings_on}
-use Rattle.swp_decode.proofs.FurtherBits.{quiet_more, quiet_none, quiet_line_at, readings_more}
-use Rattle.swp_decode.proofs.FurtherFrames.{silent_frame}
+use Rattle.swp_decode.proofs.FurtherFrames.{quiet_more, quiet_none, quiet_line_at, readings_more, silent_frame}
 use Rattle.swp_decode.proofs.signal.SignalReader.hear_mark_at.Goals as goal
 
 pub returns-then-word-last-eq0-clause-quiet : goal.returns-then-word-last-eq0-clause-quiet

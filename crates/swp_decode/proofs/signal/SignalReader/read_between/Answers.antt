@@ -3,7 +3,7 @@ use Rattle.swp_frame.specs.Signal.{HasNoMark}
 use Rattle.swp_frame.specs.Words.{word_bits, IsPartBehind}
 use Rattle.swp_decode.specs.Readings.{symbols, readings_on}
 use Rattle.swp_decode.specs.Kept.{ReadsSignal}
-use Rattle.swp_decode.proofs.FurtherBits.{readings_further, run_behind_readings, quiet_between}
+use Rattle.swp_decode.proofs.FurtherFrames.{readings_further, run_behind_readings, quiet_between}
 use Rattle.swp_decode.proofs.signal.SignalReader.read_between.Goals as goal
 
 pub returns-then-from-to : goal.returns-then-from-to

@@ -2,7 +2,7 @@ use Rattle.std.proofs.Common.{◌≡◌, ◌∙◌, ◌+◌, ◌-◌, ◌*◌, �
 use Rattle.std.proofs.lemmas.Nat.{one_shl}
 use Rattle.std.specs.Int.{to_be_bytes}
 use Rattle.swp_frame.specs.Kept.{whole_words}
-use Rattle.swp_frame.proofs.Shifts.{joined_fits, fits_word, no_wrap, to_top, upper_fits}
+use Rattle.swp_frame.proofs.Places.{joined_fits, fits_word, no_wrap, to_top, upper_fits}
 use Rattle.swp_frame.proofs.ContentLemmas.{more_within, more_than_word}
 use Rattle.swp_frame.proofs.content.Content.push_bits.Goals as goal
 

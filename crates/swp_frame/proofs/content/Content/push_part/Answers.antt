@@ -3,7 +3,7 @@ use Rattle.swp_frame.specs.Signal.{unstuffed}
 use Rattle.swp_frame.specs.Kept.{KeepsContent}
 use Rattle.swp_frame.specs.Words.{low_bits}
 use Rattle.std.proofs.Math.Nat.{mod-eq_of_lt}
-use Rattle.swp_frame.proofs.LowBits.{length-low_bits, number_of-low_bits}
+use Rattle.swp_frame.proofs.Places.{length-low_bits, number_of-low_bits}
 use Rattle.swp_frame.proofs.content.Content.push_part.Goals as goal
 
 -- what was not put in is appended at once

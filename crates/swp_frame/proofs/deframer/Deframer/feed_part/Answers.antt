@@ -2,9 +2,8 @@ use Rattle.std.proofs.Common.{◌≡◌, ◌∙◌, List, Bool, ℕ, min, sym, a
 use Rattle.std.specs.Prelude.{option_map}
 use Rattle.swp_frame.specs.Signal.{Symbol, run_of, since_start, read_on}
 use Rattle.swp_frame.specs.Words.{run_after, part_bits, IsPartBehind}
-use Rattle.swp_frame.proofs.Runs.{since_run, opened, closed, still_open}
+use Rattle.swp_frame.proofs.Places.{since_run, opened, closed, still_open, same_run}
 use Rattle.swp_frame.proofs.FurtherBits.{quiet_since, run_of-read_on}
-use Rattle.swp_frame.proofs.Places.{same_run}
 use Rattle.swp_frame.proofs.deframer.Deframer.feed_part.Goals as goal
 
 new_run : (ones after : ℕ) (seen : List Symbol) (more : List Bool) → ones ≡ min 7 (run_of seen) → after ≡ min 7 (run_after ones more)

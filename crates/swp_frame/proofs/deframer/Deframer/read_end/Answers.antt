@@ -3,7 +3,7 @@ use Rattle.std.proofs.lemmas.Bool.{eq-eqb}
 use Rattle.swp_frame.specs.Signal.{run_of, since_start, unstuffed}
 use Rattle.swp_frame.specs.Content.{judged}
 use Rattle.swp_frame.specs.Kept.{before_run, run_bits, KeepsContent}
-use Rattle.swp_frame.proofs.Runs.{since_run, drop_run, since_bits, opened}
+use Rattle.swp_frame.proofs.Places.{since_run, drop_run, since_bits, opened}
 use Rattle.swp_frame.proofs.deframer.Deframer.read_end.Goals as goal
 
 pub returns-then-self-clause-answer : goal.returns-then-self-clause-answer

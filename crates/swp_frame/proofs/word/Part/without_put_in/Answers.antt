@@ -4,8 +4,8 @@ use Rattle.std.proofs.Math.Pow.{pow_mono}
 use Rattle.std.proofs.lemmas.Nat.{one_shl}
 use Rattle.swp_frame.specs.Signal.{run_of, unstuffed}
 use Rattle.swp_frame.specs.Words.{low_bits, part_bits, places_put_in}
-use Rattle.swp_frame.proofs.LowBits.{length-low_bits, low_bits-number_of}
-use Rattle.swp_frame.proofs.Places.{squeezed, upper_is, removed, without, without_none, without-put_in, length-put_in, kept_content, kept_of}
+use Rattle.swp_frame.proofs.Places.{length-low_bits, low_bits-number_of, squeezed, upper_is, removed, without, without_none, without-put_in, length-put_in}
+use Rattle.swp_frame.proofs.Places.{kept_content, kept_of}
 use Rattle.swp_frame.proofs.word.Part.without_put_in.Goals as goal
 
 pub loop-put_in-preserved : goal.loop-put_in-preserved
