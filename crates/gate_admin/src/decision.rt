@@ -3,9 +3,9 @@ ghost use Rattle.std.specs.Prelude.{◌≡◌, ◌≤◌, ◌<◌};
 ghost use Rattle.gate_answers.specs.Answers.{IsCommandMessage, instruction_in, body_in};
 ghost use Rattle.gate_admin.specs.Decide.{IsRecordableDecision, decided};
 
+use crate::body::behind_first;
 use crate::parameters::{get, set};
-use crate::pipes::{clear, close, create, delete, open, refusal_of_pipe};
-use crate::tests_in_order::behind_first;
+use crate::pipes::{clear, close, create, delete, far_end, is_opened, open};
 use crate::view::LinkView;
 use gate_answers::{
     ADM_CLEAR_ALL_PIPE, ADM_CREATE_PIPE, ADM_DELETE_PIPE, ANY_CLOSE_PIPE, ANY_GET_PARAMETER,
@@ -47,8 +47,11 @@ pub fn decide(tables: &Tables, view: &LinkView, host: u8, pipe: u8, message: &[u
     ensures recordable { IsRecordableDecision result }
 {
     let instruction = instruction_of(message);
-    if let Some(response) = refusal_of_pipe(tables, host, pipe, instruction) {
-        return Decision::Answer(refused(response));
+    if far_end(tables, host, pipe).is_none() {
+        return Decision::Answer(refused(Response::NotConnected));
+    }
+    if !is_opened(tables, host, pipe) && instruction != ANY_OPEN_PIPE {
+        return Decision::Answer(refused(Response::PipeNotOpened));
     }
     let body = behind_first(message);
     match instruction {

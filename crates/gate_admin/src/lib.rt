@@ -2,10 +2,10 @@
 //! 6.1, 7.1, 8.1 and 8.2).
 #![tactic(auto)]
 
+mod body;
 mod decision;
 mod parameters;
 mod pipes;
-mod tests_in_order;
 mod view;
 
 pub use decision::{Decision, decide};

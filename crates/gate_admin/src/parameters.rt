@@ -1,13 +1,10 @@
 //! The parameters of the administration gate.
-ghost use Rattle.std.specs.Prelude.{◌≡◌, ◌≤◌, ◌∷◌, length, IfNone, IsTrue, Some, None};
-ghost use Rattle.registry.specs.Values.{is_kept};
-ghost use Rattle.hci_tables.specs.Commands.{is_allowed};
-ghost use Rattle.gate_answers.specs.Answers.{first_of, param_in, value_in};
+ghost use Rattle.std.specs.Prelude.{◌≡◌, ◌≤◌, ◌∷◌};
 ghost use Rattle.gate_admin.specs.View.{is_configured, hosts_where};
-ghost use Rattle.gate_admin.specs.Decide.{IsRecordableDecision, setting, getting, value_of, tests_to_set_it};
+ghost use Rattle.gate_admin.specs.Decide.{IsRecordableDecision, setting, getting};
 
+use crate::body::{behind_first, byte_at};
 use crate::decision::Decision;
-use crate::tests_in_order::{behind_first, byte_at};
 use crate::view::LinkView;
 use arrayvec::ArrayVec;
 use gate_answers::{
@@ -26,8 +23,15 @@ pub(crate) fn set(view: &LinkView, host: u8, body: &[u8]) -> Decision
     ensures decided { result ≡ setting view.now host body.now }
     ensures recordable { IsRecordableDecision result }
 {
-    if let Some(response) = refusal(view, host, body) {
+    if let Some(response) = refusal_to_set(ADMINISTRATION_GATE, body) {
         return Decision::Answer(refused(response));
+    }
+    let param = byte_at(body, 0);
+    if !is_allowed(host, param, behind_first(body)) {
+        return Decision::Answer(refused(Response::CommandParameterUnknown));
+    }
+    if param == WHITELIST && view.is_asked(host) {
+        return Decision::Answer(refused(Response::Inhibited));
     }
     let mut value = ArrayVec::new();
     let _ = value.try_extend_from_slice(behind_first(body));
@@ -35,32 +39,12 @@ pub(crate) fn set(view: &LinkView, host: u8, body: &[u8]) -> Decision
         command: Command::Set {
             host,
             gate: ADMINISTRATION_GATE,
-            param: byte_at(body, 0),
+            param,
             value,
         },
         answer: refused(Response::Ok),
         tell: 0,
         notice: Notice::new(),
-    }
-}
-
-// Why a parameter isn't set. What may be set is at most 20 bytes.
-fn refusal(view: &LinkView, host: u8, body: &[u8]) -> Option<Response>
-    requires some { 1 ≤ host }
-    requires host { host ≤ 7 }
-    ensures refusal { result ≡ first_of (tests_to_set_it view.now host body.now) }
-    ensures sized { IfNone result (length (value_in body.now) ≤ 20) }
-    ensures kept { IfNone result (IsTrue (is_kept host 0 (param_in body.now))) }
-    ensures allowed { IfNone result (IsTrue (is_allowed host (param_in body.now) (value_in body.now))) }
-{
-    let param = byte_at(body, 0);
-    match refusal_to_set(ADMINISTRATION_GATE, body) {
-        Some(response) => Some(response),
-        None if !is_allowed(host, param, behind_first(body)) => {
-            Some(Response::CommandParameterUnknown)
-        }
-        None if param == WHITELIST && view.is_asked(host) => Some(Response::Inhibited),
-        None => None,
     }
 }
 
@@ -71,29 +55,17 @@ pub(crate) fn get(tables: &Tables, view: &LinkView, host: u8, body: &[u8]) -> De
     ensures decided { result ≡ getting tables.now view.now host body.now }
     ensures recordable { IsRecordableDecision result }
 {
-    match refusal_to_get(ADMINISTRATION_GATE, body) {
-        Some(response) => Decision::Answer(refused(response)),
-        None => {
-            let value = value_of(tables, view, host, byte_at(body, 0));
+    if let Some(response) = refusal_to_get(ADMINISTRATION_GATE, body) {
+        return Decision::Answer(refused(response));
+    }
+    match byte_at(body, 0) {
+        MAX_PIPE => Decision::Answer(answer(Response::Ok, &[MAX_PIPE_VALUE])),
+        HOST_LIST => Decision::Answer(answer(Response::Ok, host_list(view).as_slice())),
+        param @ (SESSION_IDENTITY | WHITELIST) => {
+            let value = tables.registry().get(host, ADMINISTRATION_GATE, param);
             Decision::Answer(answer(Response::Ok, value.as_slice()))
         }
-    }
-}
-
-fn value_of(tables: &Tables, view: &LinkView, host: u8, param: u8) -> ArrayVec<u8, 20>
-    requires some { 1 ≤ host }
-    requires host { host ≤ 7 }
-    ensures { result.items ≡ value_of tables.now view.now host param }
-{
-    match param {
-        MAX_PIPE => {
-            let mut value = ArrayVec::new();
-            value.push(MAX_PIPE_VALUE);
-            value
-        }
-        HOST_LIST => host_list(view),
-        SESSION_IDENTITY | WHITELIST => tables.registry().get(host, ADMINISTRATION_GATE, param),
-        _ => ArrayVec::new(),
+        _ => Decision::Answer(answer(Response::Ok, &[])),
     }
 }
 

@@ -9,42 +9,21 @@ ghost use Rattle.gate_answers.specs.Answers.{first_of};
 ghost use Rattle.gate_admin.specs.View.{is_connected, is_noticed, mask_of};
 ghost use Rattle.hci_tables.specs.Tables.{is_opened};
 ghost use Rattle.gate_admin.specs.Decide.{IsRecordableDecision, far_end, far_end_of, others_opened, allows};
-ghost use Rattle.gate_admin.specs.Decide.{tests_of_pipe, opening, closing, creating, tests_to_create, creation};
+ghost use Rattle.gate_admin.specs.Decide.{opening, closing, creating, tests_to_create, creation};
 ghost use Rattle.gate_admin.specs.Decide.{deleting, clearing, shares, told_of_clearing, commits_and_tells, if_told};
 
+use crate::body::byte_at;
 use crate::decision::Decision;
-use crate::tests_in_order::{byte_at, first_of};
 use crate::view::LinkView;
 use gate_answers::{
     ADM_NOTIFY_ALL_PIPE_CLEARED, ADM_NOTIFY_PIPE_CREATED, ADM_NOTIFY_PIPE_DELETED,
-    ADMINISTRATION_GATE, ANY_OPEN_PIPE, IDENTITY_GATE, LINK_MANAGEMENT_GATE, LOOPBACK_GATE, Notice,
-    Response, answer, notice, refused,
+    ADMINISTRATION_GATE, IDENTITY_GATE, LINK_MANAGEMENT_GATE, LOOPBACK_GATE, Notice, Response,
+    answer, notice, refused,
 };
 use hci_tables::{Command, Tables};
 use pipe_table::{FIRST_DYNAMIC, PipeRow};
 use registry::WHITELIST;
 use whitelist::holds;
-
-/// Why any command of a host on a pipe is refused: the pipe isn't the host's, or it isn't opened and isn't to be opened.
-pub(crate) fn refusal_of_pipe(
-    tables: &Tables,
-    host: u8,
-    pipe: u8,
-    instruction: u8,
-) -> Option<Response>
-    ensures { result ≡ first_of (tests_of_pipe tables.now host pipe instruction) }
-{
-    first_of(&[
-        (
-            far_end(tables, host, pipe).is_none(),
-            Response::NotConnected,
-        ),
-        (
-            !is_opened(tables, host, pipe) && instruction != ANY_OPEN_PIPE,
-            Response::PipeNotOpened,
-        ),
-    ])
-}
 
 /// The end of a pipe of a host that isn't the host's own: a host and a gate (ETSI TS 102 622, section 4.4). None where the pipe isn't the
 /// host's.
@@ -182,22 +161,31 @@ fn refusal_to_create(
     let dest = byte_at(body, 1);
     let gate = byte_at(body, 2);
     let other = dest != 0;
-    first_of(&[
-        (body.len() != 3, Response::CommandParameterUnknown),
-        (other && !view.is_configured(dest), Response::NotConnected),
-        (dest == host, Response::NotOk),
-        (
-            !other && !(gate == LOOPBACK_GATE || gate == IDENTITY_GATE),
-            Response::NotOk,
-        ),
-        (other && !view.is_connected(dest), Response::NotConnected),
-        (
-            other && !allows(tables, dest, host),
-            Response::PipeAccessDenied,
-        ),
-        (other && view.is_noticed(dest), Response::Inhibited),
-        (no_pipe, Response::NoPipesAvailable),
-    ])
+    if body.len() != 3 {
+        return Some(Response::CommandParameterUnknown);
+    }
+    if other && !view.is_configured(dest) {
+        return Some(Response::NotConnected);
+    }
+    if dest == host {
+        return Some(Response::NotOk);
+    }
+    if !other && !(gate == LOOPBACK_GATE || gate == IDENTITY_GATE) {
+        return Some(Response::NotOk);
+    }
+    if other && !view.is_connected(dest) {
+        return Some(Response::NotConnected);
+    }
+    if other && !allows(tables, dest, host) {
+        return Some(Response::PipeAccessDenied);
+    }
+    if other && view.is_noticed(dest) {
+        return Some(Response::Inhibited);
+    }
+    if no_pipe {
+        return Some(Response::NoPipesAvailable);
+    }
+    None
 }
 
 // Whether the whitelist of the host `dest` holds a host.
@@ -246,22 +234,23 @@ pub(crate) fn delete(tables: &Tables, view: &LinkView, host: u8, body: &[u8]) ->
     ensures decided { result ≡ deleting tables.now view.now host body.now }
     ensures recordable { IsRecordableDecision result }
 {
+    if body.len() != 1 {
+        return Decision::Answer(refused(Response::CommandParameterUnknown));
+    }
     let pid = byte_at(body, 0);
     let end = row_end(tables, host, pid);
+    if end.is_none() {
+        return Decision::Answer(refused(Response::NotConnected));
+    }
     let told = if_connected(view, end);
-    let refusal = first_of(&[
-        (body.len() != 1, Response::CommandParameterUnknown),
-        (end.is_none(), Response::NotConnected),
-        (is_noticed(view, told), Response::Inhibited),
-    ]);
-    match refusal {
-        Some(response) => Decision::Answer(refused(response)),
-        None => Decision::Commit {
-            command: Command::Delete { pid },
-            answer: refused(Response::Ok),
-            tell: mask_of(told),
-            notice: if_told(told, pid),
-        },
+    if is_noticed(view, told) {
+        return Decision::Answer(refused(Response::Inhibited));
+    }
+    Decision::Commit {
+        command: Command::Delete { pid },
+        answer: refused(Response::Ok),
+        tell: mask_of(told),
+        notice: if_told(told, pid),
     }
 }
 
@@ -325,18 +314,13 @@ pub(crate) fn clear(tables: &Tables, view: &LinkView, host: u8, body: &[u8]) -> 
     ensures decided { result ≡ clearing tables.now view.now host body.now }
     ensures recordable { IsRecordableDecision result }
 {
-    let refusal = first_of(&[
-        (
-            !(body.is_empty() || body.len() == 2),
-            Response::CommandParameterUnknown,
-        ),
-        (view.is_asked(host), Response::Inhibited),
-        (is_one_noticed(tables, view, host), Response::Inhibited),
-    ]);
-    match refusal {
-        Some(response) => Decision::Answer(refused(response)),
-        None => clearing_of(host, sharing_mask(tables, view, host)),
+    if !(body.is_empty() || body.len() == 2) {
+        return Decision::Answer(refused(Response::CommandParameterUnknown));
     }
+    if view.is_asked(host) || is_one_noticed(tables, view, host) {
+        return Decision::Answer(refused(Response::Inhibited));
+    }
+    clearing_of(host, sharing_mask(tables, view, host))
 }
 
 // The decision to clear all pipes of a host, of which the hosts of a mask are told.
