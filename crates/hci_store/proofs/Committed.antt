@@ -36,7 +36,7 @@ use Rattle.journal_laws.specs.declared.state.State.{State}
 use Rattle.journal_laws.specs.Operations.{append_writes, compact_writes, HasRoomForBody, CanCompact, appended, compacted, LeftByCut}
 use Rattle.journal_laws.specs.Banks.{is_opened_gate}
 use Rattle.journal_laws.specs.Records.{IsBody, used}
-use Rattle.journal_laws.proofs.Kept.{compact_count, same_count}
+use Rattle.journal_laws.proofs.Opening.{compact_count, same_count}
 
 -- a value that is allowed is short
 pub short_value : (host param : ℕ) (value : List ℕ) → is_allowed host param value ≡ true → length value ≤ 20

@@ -12,7 +12,7 @@ use Rattle.journal_laws.specs.Journal.{unformatted, journal_at, journal, state_b
 use Rattle.journal_laws.specs.Operations.{started_state, start_writes, compact_writes, compacted, format_writes}
 use Rattle.journal_laws.specs.Planned.{fails_within, after_planned}
 use Rattle.journal_laws.specs.Writes.{Write, AreRead, AreMade, FitIn}
-use Rattle.journal_laws.proofs.Cuts.{length-after, length-cut}
+use Rattle.journal_laws.proofs.Opening.{length-after, length-cut}
 use Rattle.journal_laws.proofs.Planned.{planned_answer, planned_memory}
 use Rattle.nv_journal.specs.declared.JournalFault.{JournalFault}
 use Rattle.nv_journal.specs.declared.JournalFault.TheVariants.{NvFault, GenerationsSpent}

@@ -4,7 +4,7 @@ use Rattle.journal_laws.specs.declared.state.State.{State}
 use Rattle.journal_laws.specs.Writes.{Write, after_writes, IsCut}
 use Rattle.journal_laws.specs.Journal.{Journal, records, state_of, IsStarted}
 use Rattle.journal_laws.specs.Operations.{append_writes, HasRoomForBody, appended, IsAllOrNothing, LeftByCut}
-use Rattle.journal_laws.proofs.Kept.{append_whole, append_says, append_cut, append_started}
+use Rattle.journal_laws.proofs.Opening.{append_whole, append_says, append_cut, append_started}
 use Rattle.nv_journal.specs.Kept.{Says}
 
 pub started_of : (content : List ℕ) (state : State) → Says content state → IsSome state.in_use → IsStarted content

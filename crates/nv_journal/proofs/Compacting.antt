@@ -7,7 +7,7 @@ use Rattle.journal_laws.specs.Writes.{write, after_writes, AreMade}
 use Rattle.journal_laws.specs.Banks.{other, bank_place}
 use Rattle.journal_laws.specs.Journal.{Journal, records, state_of, count_of, IsStarted}
 use Rattle.journal_laws.specs.Operations.{bank_bytes, open_bank, close_bank, compact_writes, CanCompact, compacted, IsAllOrNothing}
-use Rattle.journal_laws.proofs.Kept.{compact_whole, compact_says, compact_cut, compact_started}
+use Rattle.journal_laws.proofs.Opening.{compact_whole, compact_says, compact_cut, compact_started}
 use Rattle.nv_journal.specs.Kept.{Says}
 use Rattle.nv_journal.proofs.Appending.{started_of, says_started}
 

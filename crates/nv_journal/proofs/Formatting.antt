@@ -7,8 +7,7 @@ use Rattle.journal_laws.specs.Writes.{after_writes}
 use Rattle.journal_laws.specs.Journal.{Journal, records}
 use Rattle.journal_laws.specs.Operations.{format_writes, formatted, IsUnformatted, IsAllOrNothing}
 use Rattle.journal_laws.proofs.InUse.{no_journal}
-use Rattle.journal_laws.proofs.Opening.{format_is_whole, format_state, format_is_cut}
-use Rattle.journal_laws.proofs.Kept.{format_started}
+use Rattle.journal_laws.proofs.Opening.{format_is_whole, format_state, format_is_cut, format_started}
 use Rattle.nv_journal.specs.Kept.{Says}
 use Rattle.nv_journal.proofs.Appending.{says_started}
 

@@ -1,6 +1,6 @@
 use Rattle.std.proofs.Common.{ap}
 use Rattle.journal_laws.specs.Journal.{Journal}
-use Rattle.journal_laws.proofs.Kept.{compact_whole, compact_says, compact_count, compact_cut, compact_started}
+use Rattle.journal_laws.proofs.Opening.{compact_whole, compact_says, compact_count, compact_cut, compact_started}
 use Rattle.journal_laws.proofs.a_compaction_is_all_or_nothing.Goals as goal
 
 pub returns : goal.returns

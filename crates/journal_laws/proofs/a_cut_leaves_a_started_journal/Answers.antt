@@ -1,7 +1,7 @@
 use Rattle.std.proofs.Common.{ap}
 use Rattle.journal_laws.specs.Journal.{Journal}
 use Rattle.journal_laws.specs.Operations.{outcome}
-use Rattle.journal_laws.proofs.Kept.{cut_started, same_count}
+use Rattle.journal_laws.proofs.Opening.{cut_started, same_count}
 use Rattle.journal_laws.proofs.a_cut_leaves_a_started_journal.Goals as goal
 
 pub returns : goal.returns

@@ -1,7 +1,6 @@
 use Rattle.std.proofs.Common.{ap}
 use Rattle.journal_laws.specs.Journal.{Journal}
-use Rattle.journal_laws.proofs.Opening.{fresh, format_is_whole, format_state, format_is_cut}
-use Rattle.journal_laws.proofs.Kept.{format_started, format_left}
+use Rattle.journal_laws.proofs.Opening.{fresh, format_is_whole, format_state, format_is_cut, format_started, format_left}
 use Rattle.journal_laws.proofs.a_format_is_all_or_nothing.Goals as goal
 
 pub returns : goal.returns

@@ -1,6 +1,6 @@
 use Rattle.std.proofs.Common.{ap}
 use Rattle.journal_laws.specs.Journal.{Journal}
-use Rattle.journal_laws.proofs.Kept.{append_whole, append_says, append_count, append_cut, append_started}
+use Rattle.journal_laws.proofs.Opening.{append_whole, append_says, append_count, append_cut, append_started}
 use Rattle.journal_laws.proofs.an_append_is_all_or_nothing.Goals as goal
 
 pub returns : goal.returns

@@ -1,4 +1,4 @@
-use Rattle.journal_laws.proofs.Made.{made_whole, made_in_part}
+use Rattle.journal_laws.proofs.Planned.{made_whole, made_in_part}
 use Rattle.journal_laws.proofs.made_writes_are_told.Goals as goal
 
 pub returns : goal.returns

@@ -20,7 +20,7 @@ use Rattle.lone_laws.proofs.Words.{◌<◌, ◌^◌, ◌∙◌, ◌∷◌, ◌�
 use Rattle.gate_admin.proofs.CreationLemmas.{AllFalse, all_false}
 use Rattle.hci_store.proofs.Committed.{recordable-apply}
 use Rattle.hci_store.specs.Image.{image_fault}
-use Rattle.journal_laws.proofs.Cuts.{length-after, length-cut}
+use Rattle.journal_laws.proofs.Opening.{length-after, length-cut}
 use Rattle.node_laws.proofs.kept.Doing.{stays_cut, uncut}
 use Rattle.node_laws.proofs.kept.Stepping.{decided_recordable}
 use Rattle.node_laws.proofs.links.Noticing.{from_mask, nobody}

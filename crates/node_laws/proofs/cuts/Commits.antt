@@ -9,7 +9,7 @@ use Rattle.node_laws.proofs.Words.{journal, last_place, leb-false, leb-true, lef
 use Rattle.node_laws.proofs.Words.{overwritten, plan_after, plan_on, record_fits, refl, room_writes, slice_index, snapshot_bodies, subst, suc, sym, torn_bytes}
 use Rattle.node_laws.proofs.Words.{true, true≢false, with_room, zero, ℕ, ◌%◌, ◌&&◌, ◌++◌, ◌+◌, ◌-◌, ◌<◌, ◌==◌, ◌^◌, ◌∙◌, ◌∷◌, ◌≡◌, ◌≤◌, ◌⊎◌}
 use Rattle.hci_store.proofs.Committed.{room_count}
-use Rattle.journal_laws.proofs.Cuts.{at_place as byte_there, length-cut}
+use Rattle.journal_laws.proofs.Opening.{at_place as byte_there, length-cut}
 use Rattle.journal_laws.specs.Banks.{bank_place}
 use Rattle.journal_laws.specs.Operations.{close_bank, open_bank}
 use Rattle.journal_laws.specs.Writes.{FitIn, IsCut}

@@ -13,10 +13,8 @@ use Rattle.hci_store.proofs.Committed.{all_recordable, holds_more, holds_snapsho
 use Rattle.hci_store.specs.Snapshots.{create_command, open_command, set_command, snapshot_of, static_command, sync_command}
 use Rattle.hci_store.specs.Stored.{HoldsTables}
 use Rattle.hci_tables.specs.Tables.{static_place, sync_host}
-use Rattle.journal_laws.proofs.Cuts.{length-after, length-cut}
-use Rattle.journal_laws.proofs.Kept.{append_count, compact_count, same_count}
-use Rattle.journal_laws.proofs.Made.{made_in_part, made_whole}
-use Rattle.journal_laws.proofs.Planned.{planned_answer}
+use Rattle.journal_laws.proofs.Opening.{length-after, length-cut, append_count, compact_count, same_count}
+use Rattle.journal_laws.proofs.Planned.{made_in_part, made_whole, planned_answer}
 use Rattle.journal_laws.specs.Operations.{CanCompact, HasRoomForBody, appended, compacted}
 use Rattle.journal_laws.specs.Records.{used}
 use Rattle.journal_laws.specs.Writes.{AreMade, IsCut}

@@ -3,7 +3,7 @@ use Rattle.swp_base.specs.Outside.{IsWritten}
 use Rattle.journal_laws.specs.declared.state.State.{State}
 use Rattle.journal_laws.specs.Writes.{AreMade}
 use Rattle.journal_laws.specs.Operations.{append_writes, HasRoomForBody, LeftByCut}
-use Rattle.journal_laws.proofs.Made.{made_whole, made_in_part}
+use Rattle.journal_laws.proofs.Planned.{made_whole, made_in_part}
 use Rattle.nv_journal.specs.Kept.{Says}
 use Rattle.nv_journal.proofs.Appending.{says_after, records_after, all_or_nothing, left_by_cut, on_err}
 use Rattle.nv_journal.proofs.journal.Journal.append.Goals as goal

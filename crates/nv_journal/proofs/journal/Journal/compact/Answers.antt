@@ -2,7 +2,7 @@ use Rattle.std.proofs.Common.{◌*◌, ◌<◌, ◌≤◌, sym, ap, ◌∙◌, s
 use Rattle.journal_laws.specs.declared.state.State.{State}
 use Rattle.journal_laws.specs.Journal.{records}
 use Rattle.journal_laws.specs.Operations.{compact_writes}
-use Rattle.journal_laws.proofs.Made.{made_whole, made_in_part}
+use Rattle.journal_laws.proofs.Planned.{made_whole, made_in_part}
 use Rattle.journal_laws.proofs.Reading.{few_records}
 use Rattle.nv_journal.proofs.Appending.{left_by_cut}
 use Rattle.nv_journal.proofs.Compacting.{says_after, records_after, all_or_nothing}
