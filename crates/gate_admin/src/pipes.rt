@@ -1,12 +1,11 @@
 //! Pipes: their opening and closing, creation and deletion.
-ghost use Rattle.std.specs.Prelude.{◌≡◌, ℕ, ◌≤◌, ◌<◌, ◌^◌, if◌then◌else◌, List, [], ◌∷◌, length, ◌&&◌, ◌==◌, is_none};
-ghost use Rattle.std.specs.Prelude.{IfSome, IsSome};
+ghost use Rattle.std.specs.Prelude.{◌≡◌, ℕ, ◌≤◌, ◌<◌, ◌^◌, List, [], ◌∷◌, ◌&&◌, is_none, IsSome};
 ghost use Rattle.std.specs.List.{list_any};
-ghost use Rattle.std.specs.Option.{ForSome, option_to_list, option_map_or, option_and_then};
+ghost use Rattle.std.specs.Option.{option_and_then};
 ghost use Rattle.pipe_table.specs.PipeRows.{IsDynamic, pipe_at, lowest_free, joins_host};
 ghost use Rattle.hci_tables.specs.Commands.{IsCommand};
 ghost use Rattle.gate_answers.specs.Answers.{first_of};
-ghost use Rattle.gate_admin.specs.View.{is_connected, is_noticed, mask_of};
+ghost use Rattle.gate_admin.specs.View.{is_noticed, mask_of};
 ghost use Rattle.hci_tables.specs.Tables.{is_opened};
 ghost use Rattle.gate_admin.specs.Decide.{IsRecordableDecision, far_end, far_end_of, others_opened, allows};
 ghost use Rattle.gate_admin.specs.Decide.{opening, closing, creating, tests_to_create, creation};
@@ -238,19 +237,25 @@ pub(crate) fn delete(tables: &Tables, view: &LinkView, host: u8, body: &[u8]) ->
         return Decision::Answer(refused(Response::CommandParameterUnknown));
     }
     let pid = byte_at(body, 0);
-    let end = row_end(tables, host, pid);
-    if end.is_none() {
+    let Some(end) = row_end(tables, host, pid) else {
         return Decision::Answer(refused(Response::NotConnected));
+    };
+    if !view.is_connected(end.0) {
+        return Decision::Commit {
+            command: Command::Delete { pid },
+            answer: refused(Response::Ok),
+            tell: 0,
+            notice: Notice::new(),
+        };
     }
-    let told = if_connected(view, end);
-    if is_noticed(view, told) {
+    if view.is_noticed(end.0) {
         return Decision::Answer(refused(Response::Inhibited));
     }
     Decision::Commit {
         command: Command::Delete { pid },
         answer: refused(Response::Ok),
-        tell: mask_of(told),
-        notice: if_told(told, pid),
+        tell: bit_of(end.0),
+        notice: notice(ADM_NOTIFY_PIPE_DELETED, &[pid]),
     }
 }
 
@@ -262,50 +267,11 @@ fn row_end(tables: &Tables, host: u8, pid: u8) -> Option<(u8, u8)>
     far_end_of(host, &tables.pipes().find(pid)?)
 }
 
-// The host of an end, if it is a connected host.
-fn if_connected(view: &LinkView, end: Option<(u8, u8)>) -> Option<u8>
-    ensures told { option_to_list result ≡ option_map_or (λ (e : ℕ × ℕ). if is_connected view.now e.0 then e.0 ∷ [] else []) end [] }
-    ensures host { IfSome result (λ host. host < 8) }
-{
-    match end {
-        Some(end) if view.is_connected(end.0) => Some(end.0),
-        _ => None,
-    }
-}
-
-fn is_noticed(view: &LinkView, told: Option<u8>) -> bool
-    ensures { result ≡ list_any (is_noticed view.now) (option_to_list told) }
-{
-    match told {
-        Some(host) => view.is_noticed(host),
-        None => false,
-    }
-}
-
-fn mask_of(told: Option<u8>) -> u8
-    requires { ForSome told (λ host. host < 8) }
-    ensures { result ≡ mask_of (option_to_list told) }
-{
-    match told {
-        Some(host) => bit_of(host),
-        None => 0,
-    }
-}
-
 fn bit_of(host: u8) -> u8
     requires { host < 8 }
     ensures { result ≡ 2 ^ host }
 {
     1 << host
-}
-
-fn if_told(told: Option<u8>, pid: u8) -> Notice
-    ensures { result.items ≡ if_told (option_to_list told) (19 ∷ pid ∷ []) }
-{
-    match told {
-        Some(_) => notice(ADM_NOTIFY_PIPE_DELETED, &[pid]),
-        None => Notice::new(),
-    }
 }
 
 /// ADM_CLEAR_ALL_PIPE.
