@@ -1,9 +1,10 @@
 //! The half of a session that sends: the fragments that aren't acknowledged, and where sending stands (ETSI TS 102 613,
 //! section 10).
-ghost use Rattle.std.specs.Prelude.{◌≡◌, ◌+◌, ◌<◌, ◌≤◌, ◌==◌, ◌++◌, ◌∷◌, [], length, drop, max, false, None, option_map, IfSome, OnSome, IfNone, ◌%◌, IsTrue, ◌↔◌};
-ghost use Rattle.shdlc_core.specs.Kept.{SendsFor};
-ghost use Rattle.shdlc_core.specs.Machine.{Session, place_of, fragment_due, sent_next, runs_timer, new_session};
+ghost use Rattle.std.specs.Prelude.{◌≡◌, ◌+◌, ◌<◌, ◌≤◌, ◌==◌, ◌++◌, ◌∷◌, [], length, drop, max, false, true, None, option_map, IfSome, OnSome, IfNone, ◌%◌, IsTrue, ◌↔◌};
+ghost use Rattle.shdlc_core.specs.Kept.{SendsFor, frame_shown};
+ghost use Rattle.shdlc_core.specs.Machine.{EndState, Session, place_of, expected, fragment_due, frame_due, sent_next, runs_timer, new_session};
 
+use crate::answers::FragmentDue;
 use arrayvec::ArrayVec;
 use std::marker::Model;
 use swp_base::Info;
@@ -98,18 +99,6 @@ impl Sender {
         self.queue.push(info);
     }
 
-    /// How many of the kept fragments a number acknowledges that the other end expects next. None where it isn't valid.
-    pub fn place_of(&self, nr: u8) -> Option<u8>
-        ensures place { (s : Session) → SendsFor self.now s → option_map (λ n. s.acked + n) result ≡ place_of s nr }
-        ensures within { IfSome result (λ n. n ≤ self.now.reach) }
-    {
-        if nr >= 8 {
-            return None;
-        }
-        let count = (nr + (8 - self.first)) % 8;
-        (count <= self.reach).then_some(count)
-    }
-
     /// Whether a fragment is sent and not acknowledged, or waits while the other end is busy.
     pub fn runs_timer(&self) -> bool
         ensures { (s : Session) → SendsFor self.now s → result ≡ runs_timer s }
@@ -125,23 +114,18 @@ impl Sender {
         usize::from(self.sent) >= self.queue.len()
     }
 
-    /// The fragment to be sent next, where there is one.
-    pub fn fragment_due(&self) -> Option<&Info>
-        ensures value { (s : Session) → SendsFor self.now s → option_map (λ info. info.now) result ≡ fragment_due s }
+    /// The fragment to be sent next with its number and this N(R), where there is one.
+    pub fn fragment_due(&self, nr: u8) -> Option<FragmentDue<'_>>
+        ensures frame { (e : EndState) → SendsFor self.now e.session → nr ≡ expected e.session → e.due ≡ [] →
+            option_map frame_shown result ≡ frame_due e }
         ensures within { OnSome result (self.now.sent < length self.now.queue) }
     {
-        if (!self.peer_busy || self.probe) && self.sent < self.window {
-            self.queue.get(usize::from(self.sent))
-        } else {
-            None
+        if self.peer_busy && !self.probe || self.sent >= self.window {
+            return None;
         }
-    }
-
-    /// The number of the fragment to be sent next.
-    pub fn next_number(&self) -> u8
-        ensures { (s : Session) → SendsFor self.now s → result ≡ s.next % 8 }
-    {
-        (self.first + self.sent) % 8
+        let info = self.queue.get(usize::from(self.sent))?;
+        let ns = (self.first + self.sent) % 8;
+        Some(FragmentDue { ns, nr, info })
     }
 
     /// The fragment to be sent next counts as sent.
@@ -155,24 +139,36 @@ impl Sender {
         self.probe = false;
     }
 
-    /// Forgets the first `count` fragments, which the other end has. What was sent behind them stays sent.
-    pub fn acknowledge(&mut self, count: u8)
-        requires { count ≤ self.old.reach }
-        ensures { (s : Session) → SendsFor self.old s →
-            SendsFor self.new (record s { acked = s.acked + count; next = max s.next (s.acked + count) }) }
+    /// Forgets the fragments that a number acknowledges which the other end expects next: how many. What was sent behind them stays
+    /// sent. None where the number isn't valid; nothing changes then.
+    pub fn acknowledge(&mut self, nr: u8) -> Option<u8>
+        ensures place { (s : Session) → SendsFor self.old s → option_map (λ n. s.acked + n) result ≡ place_of s nr }
+        ensures stands { (s : Session) → SendsFor self.old s →
+            IfSome result (λ n. SendsFor self.new (record s { acked = s.acked + n; next = max s.next (s.acked + n) })) }
+        ensures none { IfNone result (self.new ≡ self.old) }
     {
+        if nr >= 8 {
+            return None;
+        }
+        let count = (nr + (8 - self.first)) % 8;
+        if count > self.reach {
+            return None;
+        }
         drop_first(&mut self.queue, usize::from(count));
         self.first = (self.first + count) % 8;
         self.sent = self.sent.saturating_sub(count);
         self.reach -= count;
+        Some(count)
     }
 
-    /// The other end takes fragments, and none is a probe.
-    pub fn end_busy(&mut self)
-        ensures { (s : Session) → SendsFor self.old s → SendsFor self.new (record s { peer_busy = false; probe = false }) }
+    /// The other end takes fragments, and none is a probe. Whether a fragment is sent and not acknowledged.
+    pub fn end_busy(&mut self) -> bool
+        ensures stands { (s : Session) → SendsFor self.old s → SendsFor self.new (record s { peer_busy = false; probe = false }) }
+        ensures runs { (s : Session) → SendsFor self.old s → result ≡ runs_timer (record s { peer_busy = false; probe = false }) }
     {
         self.peer_busy = false;
         self.probe = false;
+        self.sent > 0
     }
 
     /// All fragments count as not sent. The other end is busy or not, and the first of them may be sent as a probe or not.

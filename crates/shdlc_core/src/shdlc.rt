@@ -2,9 +2,9 @@
 ghost use Rattle.std.specs.Prelude.{◌≡◌, ◌≢◌, ◌⊎◌, ◌+◌, ◌<◌, ◌≤◌, ◌↔◌, [], length, IsTrue, OnSome, option_map, min, ℕ, ◌++◌, ◌∷◌, OnErr, IfNone, IfSome};
 ghost use Rattle.std.specs.Prelude.{MatchResult, None, false, true};
 ghost use Rattle.std.specs.Bool.{OnFalse};
-ghost use Rattle.shdlc_core.specs.Kept.{ShdlcStandsFor, ReceivesFor, frames_left, IsFragmentDue, frame_shown};
-ghost use Rattle.shdlc_core.specs.Machine.{EndState, new_end, begun, up_with, offered, offer_refusal, control_due, frame_due, fetched, acknowledged, received};
-ghost use Rattle.shdlc_core.specs.Machine.{fragment_accepted, with_timer, place_of, gap_found, due_left, taken, take_answer, ticked, tick_answer, sent_again};
+ghost use Rattle.shdlc_core.specs.Kept.{ShdlcStandsFor, frames_left, IsFragmentDue, frame_shown};
+ghost use Rattle.shdlc_core.specs.Machine.{EndState, new_end, begun, up_with, offered, offer_refusal, frame_due, fetched, acknowledged, received};
+ghost use Rattle.shdlc_core.specs.Machine.{fragment_accepted, place_of, gap_found, due_left, taken, take_answer, ticked, tick_answer, sent_again};
 ghost use Rattle.shdlc_core.specs.Machine.{asked_again, waiting_from, no_session, reset_with, stopped, with_ready, nothing_ticked, all_frames, all_fetched};
 
 use crate::answers::{Due, FragmentDue, LinkState, OfferRefused, Taken, Ticked};
@@ -217,19 +217,11 @@ impl Shdlc {
         ensures drained { IfNone result (self.new.due ≡ []) }
         ensures shorter { length self.new.due ≤ length self.old.due }
     {
-        match self.due.pop_at(0) {
-            Some(due) => Some(self.control_due(due)),
-            None => self.fragment_out(),
-        }
-    }
-
-    // The frame that a control frame is when it is fetched.
-    fn control_due(&self, due: Due) -> Control
-        ensures { (e : EndState) → self.now.own_window ≡ e.own_window → ReceivesFor self.now.receiver e.session →
-            result ≡ control_due e due }
-    {
+        let Some(due) = self.due.pop_at(0) else {
+            return self.fragment_out();
+        };
         let nr = self.receiver.expected();
-        match due {
+        Some(match due {
             Due::Rr => Control::S { kind: Kind::Rr, nr },
             Due::Rej => Control::S {
                 kind: Kind::Rej,
@@ -244,7 +236,7 @@ impl Shdlc {
                 caps: 0,
             },
             Due::Ua => Control::Ua,
-        }
+        })
     }
 
     /// The fragment that is to be sent next, with the numbers of its I frame, where no control frame waits to be fetched before it.
@@ -258,12 +250,7 @@ impl Shdlc {
         if !self.due.is_empty() {
             return None;
         }
-        let ns = self.sender.next_number();
-        let nr = self.receiver.expected();
-        match self.sender.fragment_due() {
-            Some(info) => Some(FragmentDue { ns, nr, info }),
-            None => None,
-        }
+        self.sender.fragment_due(self.receiver.expected())
     }
 
     /// The fragment that is to be sent next counts as sent. No control frame waits to be fetched.
@@ -320,10 +307,9 @@ impl Shdlc {
         ensures answer { (e : EndState) → ShdlcStandsFor self.old e → result ≡ take_answer e (Control.I ns nr info.now) }
         ensures added { length self.new.due ≤ length self.old.due + 1 }
     {
-        let Some(count) = self.place_of(nr) else {
+        let Some(count) = self.acknowledge(nr) else {
             return Taken::nothing();
         };
-        self.acknowledge(count);
         let accepted = self.receive(ns, info);
         Taken {
             acked: count,
@@ -332,30 +318,26 @@ impl Shdlc {
         }
     }
 
-    // How many fragments a number newly acknowledges. None where it isn't valid, and where the end isn't Up.
-    fn place_of(&self, nr: u8) -> Option<u8>
-        ensures up { (e : EndState) → ShdlcStandsFor self.now e → e.phase ≡ LinkState.Up →
+    // How many fragments a number newly acknowledges. Where there are any, T2 starts again and the tries are 0. None where it isn't
+    // valid, and where the end isn't Up; nothing changes then.
+    fn acknowledge(&mut self, nr: u8) -> Option<u8>
+        ensures up { (e : EndState) → ShdlcStandsFor self.old e → e.phase ≡ LinkState.Up →
             option_map (λ n. e.session.acked + n) result ≡ place_of e.session nr }
-        ensures other { OnSome result (self.now.phase ≡ LinkState.Up) }
-        ensures within { IfSome result (λ n. n ≤ self.now.sender.reach) }
-    {
-        match self.phase {
-            LinkState::Up => self.sender.place_of(nr),
-            LinkState::Down | LinkState::Waiting => None,
-        }
-    }
-
-    // The first `count` fragments are acknowledged. Where there are any, T2 starts again and the tries are 0.
-    fn acknowledge(&mut self, count: u8)
-        requires { count ≤ self.old.sender.reach }
-        ensures stands { (e : EndState) → ShdlcStandsFor self.old e → ShdlcStandsFor self.new (acknowledged e (e.session.acked + count)) }
+        ensures other { OnSome result (self.old.phase ≡ LinkState.Up) }
+        ensures stands { (e : EndState) → ShdlcStandsFor self.old e →
+            IfSome result (λ n. ShdlcStandsFor self.new (acknowledged e (e.session.acked + n))) }
+        ensures none { IfNone result (self.new ≡ self.old) }
         ensures due { self.new.due ≡ self.old.due }
     {
-        self.sender.acknowledge(count);
+        let count = match self.phase {
+            LinkState::Up => self.sender.acknowledge(nr)?,
+            LinkState::Down | LinkState::Waiting => return None,
+        };
         if count > 0 {
             self.timer = 0;
             self.tries = 0;
         }
+        Some(count)
     }
 
     // What the end does with the fragment of an I frame, and the fragment where it accepts it.
@@ -408,12 +390,16 @@ impl Shdlc {
         if kind == Kind::Srej {
             return Taken::nothing();
         }
-        let Some(count) = self.place_of(nr) else {
+        let Some(count) = self.acknowledge(nr) else {
             return Taken::nothing();
         };
-        self.acknowledge(count);
         match kind {
-            Kind::Rr => self.end_busy(),
+            // Where T2 doesn't run it stands at 0.
+            Kind::Rr => {
+                if !self.sender.end_busy() {
+                    self.timer = 0;
+                }
+            }
             Kind::Rej => self.send_again(),
             Kind::Rnr => self.hold_back(),
             Kind::Srej => {}
@@ -422,19 +408,6 @@ impl Shdlc {
             acked: count,
             ..Taken::nothing()
         }
-    }
-
-    // The other end isn't busy any more; where T2 doesn't run it stands at 0.
-    fn end_busy(&mut self)
-        ensures stands { (e : EndState) → ShdlcStandsFor self.old e → ShdlcStandsFor self.new (
-            with_timer (record e { session = record e.session { peer_busy = false; probe = false } })) }
-        ensures due { self.new.due ≡ self.old.due }
-    {
-        self.sender.end_busy();
-        if self.sender.runs_timer() {
-            return;
-        }
-        self.timer = 0;
     }
 
     // All fragments are to be sent again, and T2 starts again.
