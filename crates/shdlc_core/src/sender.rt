@@ -1,6 +1,6 @@
 //! The half of a session that sends: the fragments that aren't acknowledged, and where sending stands (ETSI TS 102 613,
 //! section 10).
-ghost use Rattle.std.specs.Prelude.{◌≡◌, ◌+◌, ◌<◌, ◌≤◌, ◌==◌, ◌++◌, ◌∷◌, [], length, drop, max, false, true, None, option_map, IfSome, OnSome, IfNone, ◌%◌, IsTrue, ◌↔◌};
+ghost use Rattle.std.specs.Prelude.{◌≡◌, ◌+◌, ◌<◌, ◌≤◌, ◌==◌, ◌++◌, ◌∷◌, [], length, drop, max, false, None, option_map, IfSome, OnSome, IfNone, ◌%◌, IsTrue, ◌↔◌};
 ghost use Rattle.shdlc_core.specs.Kept.{SendsFor, frame_shown};
 ghost use Rattle.shdlc_core.specs.Machine.{EndState, Session, place_of, expected, fragment_due, frame_due, sent_next, runs_timer, new_session};
 

@@ -218,7 +218,10 @@ impl Shdlc {
         ensures shorter { length self.new.due ≤ length self.old.due }
     {
         let Some(due) = self.due.pop_at(0) else {
-            return self.fragment_out();
+            let FragmentDue { ns, nr, info } = self.fragment_due()?;
+            let info = info.copied();
+            self.count_fragment();
+            return Some(Control::I { ns, nr, info });
         };
         let nr = self.receiver.expected();
         Some(match due {
@@ -261,27 +264,6 @@ impl Shdlc {
         ensures due { self.new.due ≡ self.old.due }
     {
         self.sender.count_next();
-    }
-
-    // The frame of the fragment that is to be sent next, where there is one.
-    fn fragment_out(&mut self) -> Option<Control>
-        requires { self.old.due ≡ [] }
-        ensures frame { (e : EndState) → ShdlcStandsFor self.old e → result ≡ frame_due e }
-        ensures stands { (e : EndState) → ShdlcStandsFor self.old e → ShdlcStandsFor self.new (fetched e) }
-        ensures fewer { OnSome result (frames_left self.new < frames_left self.old) }
-        ensures none { IfNone result (self.new ≡ self.old) }
-        ensures due { self.new.due ≡ self.old.due }
-    {
-        let Some(FragmentDue { ns, nr, info }) = self.fragment_due() else {
-            return None;
-        };
-        let frame = Control::I {
-            ns,
-            nr,
-            info: info.copied(),
-        };
-        self.count_fragment();
-        Some(frame)
     }
 
     /// Takes a frame from the other end. At most seven control frames wait to be fetched before.
