@@ -33,7 +33,7 @@ use Rattle.hcp_chain.specs.Joining.{are_taken, open_after}
 use Rattle.link_messages.specs.Outgoing.{waiting_in, rest_among}
 use Rattle.link_end.specs.Ends.{Halfway, EndStandsFor}
 use Rattle.link_end.specs.Roles.{MayStart}
-use Rattle.link_end.specs.Reports.{IsShdlc, nothing_told, act_told, report_told}
+use Rattle.link_end.specs.Reports.{IsShdlc, nothing_told, act_told, heard_told, report_told}
 use Rattle.link_end.specs.declared.report.LinkReport.{LinkReport}
 use Rattle.link_end.specs.Steps.{ForgetsMessages}
 use Rattle.link_end.specs.declared.«end».End.{End}
@@ -203,6 +203,14 @@ heard_after m (Rset window caps) f o = ap (λ b. if b then heard m (Rset window 
 heard_after m Ua f o = ap (λ b. if b then heard m Ua else m) o
 heard_after m (ActFrame act again) f o = absurd f
 heard_after m Clt f o = absurd f
+
+pub heard_is_told : (m : Machine) (c : Control) → IsShdlc c → is_open m.role ≡ true → heard_told m c ≡ report_told (report m (Take c))
+heard_is_told m (I ns nr info) f o = rw o
+heard_is_told m (S kind nr) f o = rw o
+heard_is_told m (Rset window caps) f o = rw o
+heard_is_told m Ua f o = rw o
+heard_is_told m (ActFrame act again) f o = absurd f
+heard_is_told m Clt f o = absurd f
 
 pub unheard_after : (m : Machine) (c : Control) → IsShdlc c → is_open m.role ≡ false → after_input m (Take c) ≡ m
 unheard_after m (I ns nr info) f o = ap (λ b. if b then heard m (I ns nr info) else m) o

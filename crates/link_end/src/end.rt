@@ -42,7 +42,7 @@ impl End {
     ghost use Rattle.swp_lpdu.specs.Controls.{lpdu_of, control_of};
     ghost use Rattle.link_laws.specs.machine.Machine.{LinkEnd as Machine, moved, put_down, if_up, with_act, activated, heard, report, after_input, next_frame};
     ghost use Rattle.link_laws.specs.machine.Machine.{lpdu_input, is_held, oldest, new_link_end, in_front as due_in_front};
-    ghost use Rattle.link_laws.specs.machine.Machine.LinkInput.{Take, Tick, Reset, Start, Stop, FromNode, Fetch};
+    ghost use Rattle.link_laws.specs.machine.Machine.LinkInput.{Tick, Reset, Start, Stop, FromNode, Fetch};
     ghost use Rattle.link_laws.specs.machine.Machine.Turn.{Give, Hold, FetchMessage};
     ghost use Rattle.link_laws.specs.machine.AtRest.{end_rests};
     ghost use Rattle.link_end.specs.Roles.{role_of, new_role, MayStart};
@@ -294,16 +294,22 @@ impl End {
         LinkReport::nothing()
     }
 
-    /// Takes a frame. It asks that the last message was fetched, and that no fetched one is still in the blocks for what comes, or
-    /// that the end is held. At most six control frames wait to be fetched before.
-    pub fn take(&mut self, pool: &mut Pool, control: &Control) -> LinkReport
+    /// Takes what an LPDU says: a frame, or one outside the grammar, which is counted and changes nothing else. It asks that the last
+    /// message was fetched, and that no fetched one is still in the blocks for what comes, or that the end is held. At most six control
+    /// frames wait to be fetched before.
+    pub fn take_read(&mut self, pool: &mut Pool, read: &Result<Control, LpduFault>) -> LinkReport
         requires stands { (m : Machine) × EndStandsFor self.old pool.old m }
         requires ready { MayTake self.old pool.old }
         requires room { controls_in self.old ≤ 6 }
-        ensures stands { (m : Machine) → EndStandsFor self.old pool.old m → EndStandsFor self.new pool.new (after_input m (Take control.now)) }
-        ensures answer { (m : Machine) → EndStandsFor self.old pool.old m → result ≡ report_told (report m (Take control.now)) }
+        ensures stands { (m : Machine) (lpdu : List ℕ) → EndStandsFor self.old pool.old m → read.now ≡ control_of lpdu
+            → EndStandsFor self.new pool.new (after_input m (lpdu_input lpdu)) }
+        ensures answer { (m : Machine) (lpdu : List ℕ) → EndStandsFor self.old pool.old m → read.now ≡ control_of lpdu
+            → result ≡ report_told (report m (lpdu_input lpdu)) }
         ensures elsewhere { EndLeavesOthers pool.old pool.new self.old self.new }
     {
+        let Ok(control) = read else {
+            return self.pass_over();
+        };
         match control {
             Control::Act { act, again } => {
                 let event = ActEvent::Take {
@@ -321,24 +327,6 @@ impl End {
                 }
                 self.hear(pool, control)
             }
-        }
-    }
-
-    /// Takes what an LPDU says: a frame as `take` does; one outside the grammar is counted and changes nothing else. It asks for what
-    /// `take` asks for.
-    pub fn take_read(&mut self, pool: &mut Pool, read: &Result<Control, LpduFault>) -> LinkReport
-        requires stands { (m : Machine) × EndStandsFor self.old pool.old m }
-        requires ready { MayTake self.old pool.old }
-        requires room { controls_in self.old ≤ 6 }
-        ensures stands { (m : Machine) (lpdu : List ℕ) → EndStandsFor self.old pool.old m → read.now ≡ control_of lpdu
-            → EndStandsFor self.new pool.new (after_input m (lpdu_input lpdu)) }
-        ensures answer { (m : Machine) (lpdu : List ℕ) → EndStandsFor self.old pool.old m → read.now ≡ control_of lpdu
-            → result ≡ report_told (report m (lpdu_input lpdu)) }
-        ensures elsewhere { EndLeavesOthers pool.old pool.new self.old self.new }
-    {
-        match read {
-            Ok(control) => self.take(pool, control),
-            Err(_fault) => self.pass_over(),
         }
     }
 
@@ -556,7 +544,7 @@ impl End {
         ensures boxes { (self.new.outbox ≡ self.old.outbox) × (self.new.inbox ≡ self.old.inbox) }
     {
         // Most calls find nothing, since an end is asked until it has nothing more.
-        if self.has_none_due() {
+        if self.acts.is_empty() && self.shdlc.has_none_due() {
             return None;
         }
         self.next_due(pool)
@@ -577,26 +565,11 @@ impl End {
                 return Some(lpdu);
             }
         }
-        if let Some(act) = next_act(&mut self.acts) {
-            return Some(write_lpdu(&Control::Act { act, again: false }));
-        }
-        match self.shdlc.next_out() {
-            Some(control) => Some(write_lpdu(&control)),
-            None => None,
-        }
-    }
-
-    // Whether no control frame waits to be fetched, ACT frames among them, and all fragments that were offered were sent: no frame is to
-    // be sent then, and a fetch changes nothing. False says nothing.
-    #[inline(always)]
-    fn has_none_due(&self) -> bool
-        ensures { (pool : PoolState) (m : Machine) → EndStandsFor self.now pool m → IsTrue result
-            → (next_frame m ≡ None) × EndStandsFor self.now pool (after_input m Fetch) }
-    {
-        if !self.acts.is_empty() {
-            return false;
-        }
-        self.shdlc.has_none_due()
+        let control = match next_act(&mut self.acts) {
+            Some(act) => Control::Act { act, again: false },
+            None => self.shdlc.next_out()?,
+        };
+        Some(write_lpdu(&control))
     }
 
     /// Takes a message for sending on a pipe that isn't reserved. It isn't empty.

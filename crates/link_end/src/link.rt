@@ -8,10 +8,10 @@ use block_pool::{Chain, Pool};
 use byte_link::{ByteLink, Unit};
 use shdlc_core::LinkState;
 use std::alloc::Global;
-use swp_base::{Control, FrameFault, Lpdu, NoMemory, Role};
+use swp_base::{FrameFault, Lpdu, NoMemory, Role};
 use swp_frame::{Deframer, Fed};
 use swp_line::{Period, period_of};
-use swp_lpdu::{LpduFault, read_lpdu};
+use swp_lpdu::read_lpdu;
 
 /// One end of a link (ETSI TS 102 613): its activation, its SHDLC end, and the messages that it cuts and joins, which lie in the
 /// blocks of its node's pool. After it is made no call takes memory; no clause forces that.
@@ -122,22 +122,7 @@ impl LinkEnd {
         ensures elsewhere { EndLeavesOthers pool.old pool.new self.old.link self.new.link }
         ensures inputs { (self.new.deframer ≡ self.old.deframer) × (self.new.byte_link ≡ self.old.byte_link) }
     {
-        self.take_read(pool, &read_lpdu(lpdu))
-    }
-
-    /// Takes what an LPDU says, as `take_lpdu` does.
-    pub fn take_read(&mut self, pool: &mut Pool, read: &Result<Control, LpduFault>) -> LinkReport
-        requires stands { (m : Machine) × EndStandsFor self.old.link pool.old m }
-        requires ready { MayTake self.old.link pool.old }
-        requires room { controls_in self.old.link ≤ 6 }
-        ensures stands { (m : Machine) (lpdu : List ℕ) → EndStandsFor self.old.link pool.old m → read.now ≡ control_of lpdu
-            → EndStandsFor self.new.link pool.new (after_input m (lpdu_input lpdu)) }
-        ensures answer { (m : Machine) (lpdu : List ℕ) → EndStandsFor self.old.link pool.old m → read.now ≡ control_of lpdu
-            → result ≡ report_told (report m (lpdu_input lpdu)) }
-        ensures elsewhere { EndLeavesOthers pool.old pool.new self.old.link self.new.link }
-        ensures inputs { (self.new.deframer ≡ self.old.deframer) × (self.new.byte_link ≡ self.old.byte_link) }
-    {
-        self.link.take_read(pool, read)
+        self.link.take_read(pool, &read_lpdu(lpdu))
     }
 
     // Tells of a frame that was refused on its way.

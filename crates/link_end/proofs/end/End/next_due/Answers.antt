@@ -6,14 +6,15 @@ use Rattle.block_pool.specs.Pool.{PoolState}
 use Rattle.swp_base.specs.declared.control_frames.Control.{Control}
 use Rattle.shdlc_core.specs.Kept.{ShdlcStandsFor, frame_shown}
 use Rattle.shdlc_core.specs.Machine.{EndState, frame_due}
-use Rattle.swp_lpdu.specs.Controls.{lpdu_of, control_of}
-use Rattle.link_laws.specs.machine.Machine.{LinkEnd, next_frame}
+use Rattle.swp_lpdu.specs.Controls.{lpdu_of, control_of, HasNumbers}
+use Rattle.link_laws.specs.machine.Machine.{LinkEnd, frame_fetched, next_frame}
 use Rattle.link_end.specs.Dues.{behind_front, front_act, kept_nearer}
 use Rattle.link_end.specs.declared.«end».End.{End}
 use Rattle.link_end.specs.Ends.{EndStandsFor}
 use Rattle.link_end.proofs.FormLemmas.{next_numbers}
 use Rattle.link_end.proofs.NodeLemmas.{act_sent, link_fetched, link_frame}
 use Rattle.link_end.proofs.«end».End.next_due.Goals as goal
+use Rattle.link_end.proofs.«end».End.next_due.Goals.{in-Some-next_act, in-None+in_ok-control-in-None}
 
 -- a frame is read again as it was made
 abbrev IsReadAgain : Option Control → Type 0
@@ -63,57 +64,54 @@ returns-in-Some-clause-read c m h =
     subst IsReadAgain (sym (ap (option_map frame_shown) c.in-Some.is) ∙ next)
     (ap control_of (sym c.write_fragment-lpdu.ensures.bytes) ∙ c.write_fragment-lpdu.ensures.read_again)
 
--- ## An ACT frame is next
+-- ## No frame is next
 
-pub returns-in-Some-next_act-clause-stands : goal.returns-in-Some-next_act-clause-stands
-returns-in-Some-next_act-clause-stands c m h =
-    (act_sent c.args.pool.now c.args.self.now c.next_act.new.acts m c.in-Some-next_act.act h c.in-Some-next_act.ensures.act
-    c.in-Some-next_act.ensures.sent).1
-
-pub returns-in-Some-next_act-clause-answer : goal.returns-in-Some-next_act-clause-answer
-returns-in-Some-next_act-clause-answer c m h =
-    let sent = act_sent c.args.pool.now c.args.self.now c.next_act.new.acts m c.in-Some-next_act.act h c.in-Some-next_act.ensures.act
-    c.in-Some-next_act.ensures.sent in
-    ap (λ (l : List ℕ). Some l) c.write_lpdu.ensures.bytes ∙ ap (option_map lpdu_of) sent.0
-
-pub returns-in-Some-next_act-clause-read : goal.returns-in-Some-next_act-clause-read
-returns-in-Some-next_act-clause-read c m h =
-    let sent = act_sent c.args.pool.now c.args.self.now c.next_act.new.acts m c.in-Some-next_act.act h c.in-Some-next_act.ensures.act
-    c.in-Some-next_act.ensures.sent in
-    subst IsReadAgain sent.0 (ap control_of (sym c.write_lpdu.ensures.bytes) ∙ c.write_lpdu.ensures.read_again)
-
--- ## What the SHDLC end is to send next, or nothing
-
-pub write_lpdu-requires-in-Some-next_out : goal.write_lpdu-requires-in-Some-next_out
-write_lpdu-requires-in-Some-next_out c =
-    let next = link_frame c.requires.1 c.in_default-next_act.ensures.act c.next_out.ensures.frame in
-    next_numbers c.requires.0 c.in-Some-next_out.control (sym next ∙ c.in-Some-next_out.is)
-
-pub returns-in-Some-next_out-clause-stands : goal.returns-in-Some-next_out-clause-stands
-returns-in-Some-next_out-clause-stands c m h =
-    let a = c.in_default-next_act.ensures in
+pub returns-in_err-control-in-None-clause-stands : goal.returns-in_err-control-in-None-clause-stands
+returns-in_err-control-in-None-clause-stands c m h =
+    let a = c.in-None.ensures in
     link_fetched h (record { front = a.act; nearer = a.nearer; stands = c.next_out.ensures.stands })
 
-pub returns-in-Some-next_out-clause-answer : goal.returns-in-Some-next_out-clause-answer
-returns-in-Some-next_out-clause-answer c m h =
-    let next = link_frame h c.in_default-next_act.ensures.act c.next_out.ensures.frame in
-    ap (λ (l : List ℕ). Some l) c.write_lpdu-in-Some-next_out.ensures.bytes ∙ ap (option_map lpdu_of) (sym c.in-Some-next_out.is ∙ next)
+pub returns-in_err-control-in-None-clause-answer : goal.returns-in_err-control-in-None-clause-answer
+returns-in_err-control-in-None-clause-answer c m h =
+    c.from_residual.ensures ∙ ap (option_map lpdu_of) (sym c.in_err-control-in-None.was ∙ link_frame h c.in-None.ensures.act c.next_out.ensures.frame)
 
-pub returns-in-Some-next_out-clause-read : goal.returns-in-Some-next_out-clause-read
-returns-in-Some-next_out-clause-read c m h =
-    let next = link_frame h c.in_default-next_act.ensures.act c.next_out.ensures.frame in
-    subst IsReadAgain (sym c.in-Some-next_out.is ∙ next)
-    (ap control_of (sym c.write_lpdu-in-Some-next_out.ensures.bytes) ∙ c.write_lpdu-in-Some-next_out.ensures.read_again)
+pub returns-in_err-control-in-None-clause-read : goal.returns-in_err-control-in-None-clause-read
+returns-in_err-control-in-None-clause-read c m h =
+    subst IsReadAgain (sym c.in_err-control-in-None.was ∙ link_frame h c.in-None.ensures.act c.next_out.ensures.frame) tt
 
-pub returns-in-None-clause-stands : goal.returns-in-None-clause-stands
-returns-in-None-clause-stands c m h =
-    let a = c.in_default-next_act.ensures in
-    link_fetched h (record { front = a.act; nearer = a.nearer; stands = c.next_out.ensures.stands })
+-- ## A control frame is next
 
-pub returns-in-None-clause-answer : goal.returns-in-None-clause-answer
-returns-in-None-clause-answer c m h =
-    ap (option_map lpdu_of) (sym c.in-None.is ∙ link_frame h c.in_default-next_act.ensures.act c.next_out.ensures.frame)
+-- which one, and the end once it was fetched
+next : (c : goal.After-write_lpdu) (m : LinkEnd) → EndStandsFor c.args.self.now c.args.pool.now m
+    → (Some c.match-next_act.control ≡ next_frame m) × EndStandsFor c.match-next_act.self c.args.pool.now (frame_fetched m)
+next c m h =
+    let stands : End → Type 0 = λ k. EndStandsFor k c.args.pool.now (frame_fetched m) in
+    elim c.match-next_act.branch [
+      | in-Some-next_act w ↦
+          let a = w.in-Some-next_act.ensures in
+          let sent = act_sent c.args.pool.now c.args.self.now c.next_act.new.acts m w.in-Some-next_act.act h a.act a.sent in
+          (ap (λ (x : Control). Some x) w.control-is ∙ sent.0, subst stands (sym w.self-is) sent.1)
+      | in-None+in_ok-control-in-None w ↦
+          let a = w.in-None.ensures in (
+            ap (λ (x : Control). Some x) w.control-is ∙ (sym w.in_ok-control-in-None.was ∙ link_frame h a.act w.next_out.ensures.frame),
+            subst stands (sym w.self-is) (link_fetched h (record { front = a.act; nearer = a.nearer; stands = w.next_out.ensures.stands })),
+          )
+    ]
 
-pub returns-in-None-clause-read : goal.returns-in-None-clause-read
-returns-in-None-clause-read c m h =
-    subst IsReadAgain (sym c.in-None.is ∙ link_frame h c.in_default-next_act.ensures.act c.next_out.ensures.frame) tt
+pub write_lpdu-requires : goal.write_lpdu-requires
+write_lpdu-requires c =
+    elim c.match-next_act.branch [
+      | in-Some-next_act w ↦ subst HasNumbers (sym w.control-is) tt
+      | in-None+in_ok-control-in-None w ↦
+          let frame = link_frame c.requires.1 w.in-None.ensures.act w.next_out.ensures.frame in
+          subst HasNumbers (sym w.control-is) (next_numbers c.requires.0 _ (sym frame ∙ w.in_ok-control-in-None.was))
+    ]
+
+pub returns-clause-stands : goal.returns-clause-stands
+returns-clause-stands c m h = (next c m h).1
+
+pub returns-clause-answer : goal.returns-clause-answer
+returns-clause-answer c m h = ap (λ (l : List ℕ). Some l) c.write_lpdu.ensures.bytes ∙ ap (option_map lpdu_of) (next c m h).0
+
+pub returns-clause-read : goal.returns-clause-read
+returns-clause-read c m h = subst IsReadAgain (next c m h).0 (ap control_of (sym c.write_lpdu.ensures.bytes) ∙ c.write_lpdu.ensures.read_again)
