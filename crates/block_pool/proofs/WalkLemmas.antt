@@ -1,24 +1,9 @@
 -- Walking along linked blocks, and lists made by place.
-use Rattle.std.proofs.Common.{◌≡◌, ◌≢◌, ℕ, ◌+◌, ◌-◌, ◌/◌, ◌%◌, ◌<◌, ◌≤◌, List, length, get_or, map, refl, sym, ap, ◌∙◌, subst, arith, add-one}
+use Rattle.std.proofs.Common.{◌≡◌, ◌≢◌, ℕ, ◌+◌, ◌/◌, ◌%◌, ◌<◌, List, length, get_or, map, refl, sym, ap, ◌∙◌, arith, add-one}
 use Rattle.std.specs.List.{range_with_len}
 use Rattle.std.proofs.lemmas.List.{same_lists, get_or_default}
 use Rattle.std.proofs.lemmas.List.FromFn.{length-map-range_with_len, get_or-map-range_with_len}
 use Rattle.block_pool.specs.Links.{block_at}
-use Rattle.block_pool.proofs.LinkLemmas.{behind}
-
--- a block reached from one on the way to it
-pub block_on : (next : List ℕ) (first passed steps block : ℕ) → block_at next first passed ≡ block → passed ≤ steps
-    → block_at next block (steps - passed) ≡ block_at next first steps
-block_on next first passed steps block at low =
-    let e : passed + (steps - passed) ≡ steps = omega arith in
-    ap (λ b. block_at next b (steps - passed)) (sym at) ∙ (behind next first passed (steps - passed) ∙ ap (block_at next first) e)
-
--- the blocks on that way lie in the pool
-pub blocks_on : (next : List ℕ) (first passed steps block : ℕ) → block_at next first passed ≡ block
-    → ((k : ℕ) → k < steps → block_at next first k < length next) → (k : ℕ) → k < steps - passed → block_at next block k < length next
-blocks_on next first passed steps block at reached k low =
-    let there : block_at next block k ≡ block_at next first (passed + k) = ap (λ b. block_at next b k) (sym at) ∙ behind next first passed k in
-    subst (λ b. b < length next) (sym there) (reached (passed + k) (omega arith))
 
 pub block_at-more : (next : List ℕ) (first k : ℕ) → get_or next (block_at next first k) 0 ≡ block_at next first (k + 1)
 block_at-more next first k = rw add-one refl

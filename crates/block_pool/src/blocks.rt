@@ -11,18 +11,6 @@ use std::marker::Model;
 /// The bytes that a block holds.
 pub const BLOCK_BYTES: usize = 32;
 
-/// The block `steps` links behind a block.
-fn walk(next: &[u16], first: u16, steps: usize) -> u16
-    requires { (k : ℕ) → k < steps → block_at next.now first k < length next.now }
-    ensures { result ≡ block_at next.now first steps }
-{
-    let mut block = first;
-    for _step in 0..steps {
-        block = next[block as usize];
-    }
-    block
-}
-
 /// The block `steps` links behind the first one of a chain: on from the block at which reading goes on, where that doesn't lie
 /// behind it.
 fn seek(next: &[u16], first: u16, head: &Head, steps: usize) -> u16
@@ -31,11 +19,16 @@ fn seek(next: &[u16], first: u16, head: &Head, steps: usize) -> u16
     ensures { result ≡ block_at next.now first steps }
 {
     let passed = head.passed as usize;
+    let mut block = first;
+    let mut left = steps;
     if passed <= steps {
-        walk(next, head.read_on, steps - passed)
-    } else {
-        walk(next, first, steps)
+        block = head.read_on;
+        left = steps - passed;
     }
+    for _step in 0..left {
+        block = next[block as usize];
+    }
+    block
 }
 
 /// Fills `out` with bytes of the chain that begins at `first`, from place `from` on. The block of the place behind them.
@@ -69,23 +62,15 @@ fn copy_from(
     block
 }
 
-/// Writes bytes over a slice from a place on.
-fn overwrite(region: &mut [u8], place: usize, bytes: &[u8])
-    requires { place + length bytes.now ≤ length region.old }
-    ensures { region.new ≡ region_behind region.old place bytes.now }
-{
-    region[place..place + bytes.len()].copy_from_slice(bytes);
-}
-
-/// Writes the first bytes of a chain over a slice from a place on. Most often it is one byte, which needs no copy.
+/// Writes bytes over a slice from a place on. Often it is one byte, which needs no copy.
 #[inline(always)]
-fn write_first(region: &mut [u8], place: usize, bytes: &[u8])
+fn overwrite(region: &mut [u8], place: usize, bytes: &[u8])
     requires { place + length bytes.now ≤ length region.old }
     ensures { region.new ≡ region_behind region.old place bytes.now }
 {
     match bytes {
         [byte] => region[place] = *byte,
-        _ => overwrite(region, place, bytes),
+        _ => region[place..place + bytes.len()].copy_from_slice(bytes),
     }
 }
 
@@ -219,7 +204,7 @@ impl Blocks {
         let block = self.free;
         self.free = self.next[block as usize];
         self.free_len -= 1;
-        write_first(&mut self.region, BLOCK_BYTES * block as usize, bytes);
+        overwrite(&mut self.region, BLOCK_BYTES * block as usize, bytes);
         self.heads[block as usize] = StoredHead::of(Head {
             owner,
             last: block,

@@ -10,8 +10,8 @@ use Rattle.block_pool.proofs.FillLemmas.{written, at_once, first_head, Begun, be
 use Rattle.block_pool.proofs.blocks.Blocks.begin.Goals as goal
 use Rattle.block_pool.proofs.LinkLemmas.{length-slots_of, slot_is}
 
-pub write_first-requires : goal.write_first-requires
-write_first-requires c =
+pub overwrite-requires : goal.overwrite-requires
+overwrite-requires c =
     let s = c.self.inside in
     let some : 0 < s.free_len = subst (λ (v : BlocksState). 0 < v.listed) (sym c.self.view_is) c.reach.ensures.listed in
     let first = first_free s.region.items s.next.items s.heads.items s.free s.free_len c.self.invariant.0 some in
@@ -24,16 +24,16 @@ some_free c = subst (λ (v : BlocksState). 0 < v.listed) (sym c.self.view_is) c.
 
 -- what was written
 region_is : (c : goal.After-self-4-1)
-    → take c.self.inside.region.len (c.write_first.new.region ++ drop (length c.write_first.new.region) c.self.inside.region.items)
+    → take c.self.inside.region.len (c.overwrite.new.region ++ drop (length c.overwrite.new.region) c.self.inside.region.items)
     ≡ written c.self.inside.region.items (32 * c.self.inside.free) c.args.bytes.now
 region_is c =
     let s = c.self.inside in
     let bytes = c.args.bytes.now in
-    let now = c.write_first.new.region in
+    let now = c.overwrite.new.region in
     let first = first_free s.region.items s.next.items s.heads.items s.free s.free_len c.self.invariant.0 (some_free c) in
     let fits : 32 * s.free + length bytes ≤ length s.region.items = omega (arith, first.0, c.self.invariant.0.bytes, c.requires.block) in
-    take_at now (drop (length now) s.region.items) s.region.len (omega (arith, c.write_first.auto.region, c.deref_mut.ensures.len))
-    ∙ (c.write_first.ensures
+    take_at now (drop (length now) s.region.items) s.region.len (omega (arith, c.overwrite.auto.region, c.deref_mut.ensures.len))
+    ∙ (c.overwrite.ensures
     ∙ (ap (λ r. region_behind r (32 * s.free) bytes) c.deref_mut.ensures.value ∙ at_once bytes s.region.items (32 * s.free) fits))
 
 begun : (c : goal.After-self-4-1)
