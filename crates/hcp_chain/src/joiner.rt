@@ -44,13 +44,13 @@ pub struct Joiner {
 }
 
 impl Joiner {
-    ghost use Rattle.std.specs.Prelude.{◌≡◌, ◌-◌, ◌↔◌, if◌then◌else◌, [], ◌∷◌, ◌++◌, IsTrue, IsNone, IfSome, IfNone};
+    ghost use Rattle.std.specs.Prelude.{◌≡◌, ◌-◌, ◌↔◌, [], ◌++◌, IsTrue, IsNone, IfSome, IfNone};
     ghost use Rattle.block_pool.specs.declared.chain.Chain.{Chain};
     ghost use Rattle.block_pool.specs.Owners.{with_used};
-    ghost use Rattle.block_pool.specs.Pool.{HasQuota, used_of, IsLive, IsApart, chain_bytes};
+    ghost use Rattle.block_pool.specs.Pool.{HasQuota, used_of, chain_bytes};
     ghost use Rattle.hcp_packet.specs.Packets.{packet_seen};
-    ghost use Rattle.hcp_chain.specs.Joining.{Nothing, Message, join_step, is_fifth};
-    ghost use Rattle.hcp_chain.specs.Holding.{HoldsChains, IsJoinerReady, IsApartFrom, KeepsOtherChains, AnswersOutcome, open_messages, held_blocks, whole_in};
+    ghost use Rattle.hcp_chain.specs.Joining.{join_step, is_fifth};
+    ghost use Rattle.hcp_chain.specs.Holding.{HoldsChains, IsJoinerReady, KeepsOtherChains, AnswersOutcome, open_messages, held_blocks, whole_in};
     ghost use Rattle.hcp_chain.specs.TakingOut.{TakesOut, CanGrow, Grown};
 
     /// A joiner that keeps its chains for an owner. Nothing is received yet.
@@ -108,30 +108,6 @@ impl Joiner {
         chain
     }
 
-    /// Appends a packet's data to the chain of its message, and keeps the chain where more is to come.
-    fn grow(&mut self, pool: &mut Pool, chain: Chain, packet: &PacketView<'_>) -> Joined
-        requires { CanGrow pool.old self.old (packet_seen packet.now) chain }
-        ensures owner { self.new.owner ≡ self.old.owner }
-        ensures says { AnswersOutcome pool.new result (if packet.now.last
-            then Message packet.now.pipe (chain_bytes pool.old chain ++ packet.now.bytes.now) else Nothing) }
-        ensures open { open_messages pool.new self.new ≡ (if packet.now.last then open_messages pool.old self.old
-            else open_messages pool.old self.old ++ (packet.now.pipe, chain_bytes pool.old chain ++ packet.now.bytes.now) ∷ []) }
-        ensures holds { HoldsChains pool.new self.old.owner (self.new.open.items ++ whole_in result) }
-        ensures used { pool.new.owners ≡ with_used pool.old.owners self.old.owner
-            (held_blocks pool.new (self.new.open.items ++ whole_in result)) }
-        ensures others { (other : Chain) → IsLive pool.old other → IsApartFrom self.old.open.items other → IsApart other chain
-            → IsLive pool.new other × (chain_bytes pool.new other ≡ chain_bytes pool.old other)
-            × IsApartFrom (self.new.open.items ++ whole_in result) other }
-    {
-        let chain = self.append(pool, chain, packet);
-        let pipe = packet.pipe;
-        if packet.last {
-            return Joined::Whole { pipe, chain };
-        }
-        self.open.push(Open { pipe, chain });
-        Joined::More
-    }
-
     /// Forgets everything at a fault.
     fn refuse(&mut self, pool: &mut Pool, fault: ChainFault) -> Joined
         requires holds { HoldsChains pool.old self.old.owner self.old.open.items }
@@ -184,7 +160,12 @@ impl Joiner {
             pool.give(chain);
             return self.refuse(pool, ChainFault::MessageTooLong { len });
         }
-        self.grow(pool, chain, packet)
+        let chain = self.append(pool, chain, packet);
+        if packet.last {
+            return Joined::Whole { pipe, chain };
+        }
+        self.open.push(Open { pipe, chain });
+        Joined::More
     }
 }
 

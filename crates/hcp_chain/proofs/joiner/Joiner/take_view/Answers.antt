@@ -1,5 +1,6 @@
 use Rattle.std.proofs.Common.{◌≡◌, ◌≢◌, ℕ, ◌-◌, ◌∙◌, sym, ap, subst, List}
 use Rattle.std.specs.Prelude.{◌++◌, []}
+use Rattle.std.proofs.lemmas.List.{append-nil}
 use Rattle.block_pool.specs.Owners.{with_used}
 use Rattle.block_pool.specs.Pool.{PoolState, IsLive, IsApart, chain_bytes, used_of, Gives, KeepsOthers}
 use Rattle.hcp_chain.specs.declared.joiner.Open.{Open}
@@ -48,11 +49,21 @@ returns-then-len-gt-MAX_MESSAGE-clause-others c other live away =
           (subst (λ (ys : List Open). IsApartFrom (ys ++ []) other) (sym done.ensures.«open») tt)),
     )
 
+pub returns-then-packet-clause-others : goal.returns-then-packet-clause-others
+returns-then-packet-clause-others c other live away =
+    let out = c.in-Some.ensures.some.outside other away in
+    let grown = c.append-chain.ensures.others other (subst (λ (v : PoolState). IsLive v other) (sym c.take_out.ensures.pool) live) out.1 out.0 in
+    (grown.0, grown.1 ∙ ap (λ (v : PoolState). chain_bytes v other) c.take_out.ensures.pool, grown.2)
+
 pub returns-clause-others : goal.returns-clause-others
 returns-clause-others c other live away =
     let out = c.in-Some.ensures.some.outside other away in
-    let grown = c.grow.ensures.others other (subst (λ (v : PoolState). IsLive v other) (sym c.take_out.ensures.pool) live) out.1 out.0 in
-    (grown.0, grown.1 ∙ ap (λ (v : PoolState). chain_bytes v other) c.take_out.ensures.pool, grown.2)
+    let grown = c.append-chain.ensures.others other (subst (λ (v : PoolState). IsLive v other) (sym c.take_out.ensures.pool) live) out.1 out.0 in
+    let pushed = sym (append-nil c.push.new.self.items ∙ c.push.ensures.items) in (
+      grown.0,
+      grown.1 ∙ ap (λ (v : PoolState). chain_bytes v other) c.take_out.ensures.pool,
+      subst (λ (ys : List Open). IsApartFrom ys other) pushed grown.2,
+    )
 
 pub returns-then-len-gt-MAX_MESSAGE-clause-ready : goal.returns-then-len-gt-MAX_MESSAGE-clause-ready
 returns-then-len-gt-MAX_MESSAGE-clause-ready c none =
