@@ -1,5 +1,5 @@
 //! The messages that wait until they are acknowledged whole.
-ghost use Rattle.std.specs.Prelude.{◌≡◌, ◌+◌, ◌^◌, ◌<◌, ◌≤◌, ◌∷◌, if◌then◌else◌, length};
+ghost use Rattle.std.specs.Prelude.{◌≡◌, ◌+◌, ◌^◌, ◌<◌, ◌≤◌, ◌∷◌, length};
 ghost use Rattle.block_pool.specs.Pool.{IsLive, chain_bytes};
 ghost use Rattle.hcp_packet.specs.Packets.{packet_count, packet_at, packet_bytes};
 
@@ -229,25 +229,14 @@ fn fragment_of(pool: &mut Pool, queued: &Queued, from: u32, len: u32) -> Info
     ensures unchanged { pool.new ≡ pool.old }
 {
     let last = len - from <= hcp_packet::MAX_DATA as u32;
+    let first = if last {
+        0x80 + queued.pipe
+    } else {
+        queued.pipe
+    };
     let mut data = [0; hcp_packet::MAX_DATA];
     let count = pool.copy_on(&queued.chain, from, &mut data);
-    packet_info(first_byte(last, queued.pipe), &data[..count])
-}
-
-/// The information field of a packet, of its first byte and its data.
-fn packet_info(first: u8, data: &[u8]) -> Info
-    requires { length data.now ≤ 28 }
-    ensures { result ≡ first ∷ data.now }
-{
     let Info { mut bytes } = Info::new(&[first]);
-    let _fits = bytes.try_extend_from_slice(data);
+    let _fits = bytes.try_extend_from_slice(&data[..count]);
     Info { bytes }
-}
-
-/// The first byte of a packet.
-fn first_byte(last: bool, pipe: u8) -> u8
-    requires { pipe < 112 }
-    ensures { result ≡ (if last then 128 else 0) + pipe }
-{
-    if last { 0x80 + pipe } else { pipe }
 }
