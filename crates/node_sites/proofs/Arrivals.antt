@@ -20,11 +20,12 @@ use Rattle.link_wires.proofs.Notes.{end_is}
 use Rattle.link_wires.proofs.Wires.{IsTakenOff, first_is, there_is_one, there_is_none, taken_off}
 use Rattle.node_machine.specs.world.World.{input_of, arrival}
 use Rattle.node_ends.specs.Inputs.{frame_said}
+use Rattle.node_sites.specs.declared.incoming.Arrived.{Arrived}
 use Rattle.node_sites.specs.declared.incoming.Arrived.TheVariants as arrived
 use Rattle.node_sites.specs.declared.incoming.Incoming.TheVariants as coming
 use Rattle.node_sites.specs.declared.wires.WireEnd.{WireEnd}
 use Rattle.node_sites.specs.declared.wires.Wires.{Wires}
-use Rattle.node_sites.specs.Arrivals.{HasArrived, NoneArrived}
+use Rattle.node_sites.specs.Arrivals.{ComesToEnd}
 use Rattle.node_sites.specs.LinksKept.{WireEndIs, WiresStandFor, without_first, IsFirst, IsTakenFirst}
 
 -- ## One end
@@ -66,12 +67,12 @@ none_taken {k} {new} at l entries w off = go l.to_controller w
 pub one_taken : {k : WireEnd} {new : Buffer Flying} {flying : Flying} {took : ℕ} {read : Result Control LpduFault} {now : List Entry} (at : End) (l : Link)
     (before : List Entry) → WireEndIs k l.controller l.to_controller → IsTakenOff k.wire new (Some flying) → took ≡ max k.took flying.number
     → read ≡ control_of flying.lpdu → now ≡ before ++ note.Took at flying.lpdu ∷ []
-    → IsTakenFirst at l (TookFirst (record { wire = new; emitted = k.emitted; took = took }) l) before now (Some read)
+    → IsTakenFirst at l (TookFirst (record { wire = new; emitted = k.emitted; took = took }) l) before now (Some (arrived.Frame read))
 one_taken {k} {new} {flying} {took} {read} {now} at l before w off is says noted = go l.to_controller w
   where
     go : (xs : List OnWire) → WireEndIs k l.controller xs
         → IsTakenFirst at (record l { to_controller = xs })
-        (TookFirst (record { wire = new; emitted = k.emitted; took = took }) (record l { to_controller = xs })) before now (Some read)
+        (TookFirst (record { wire = new; emitted = k.emitted; took = took }) (record l { to_controller = xs })) before now (Some (arrived.Frame read))
     go [] w = absurd (there_is_none w.wire_is off)
     go (x ∷ xs) w =
         let first : flying ≡ kept_of x = first_is w.wire_is off in
@@ -79,7 +80,7 @@ one_taken {k} {new} {flying} {took} {read} {now} at l before w off is says noted
         record {
           lpdu = Some (lpdu_of x.frame);
           first = (refl, w.wire_is.made.0.0);
-          says = ap Some (says ∙ ap (λ (f : Flying). control_of f.lpdu) first);
+          says = ap (λ r. Some (arrived.Frame r)) (says ∙ ap (λ (f : Flying). control_of f.lpdu) first);
           stands_now = record {
             emitted_is = w.emitted_is;
             took_is = subst N first is ∙ (ap (λ n. max n x.number) w.took_is ∙ took_so l.controller.took x w.wire_is.made.0);
@@ -121,21 +122,21 @@ near_without {k} {e} l = go l.to_controller
     go (x ∷ xs) w f = record { here = f; there = w.there; count = w.count }
 
 -- so it stands of the wires
-with_stands : {at : End} {l : Link} {P Q : Type 0} {before now : List Entry} {read : Option (Result Control LpduFault)}
-    → IsTakenFirst at l P before now read → (P → Q) → IsTakenFirst at l Q before now read
+with_stands : {at : End} {l : Link} {P Q : Type 0} {before now : List Entry} {came : Option Arrived}
+    → IsTakenFirst at l P before now came → (P → Q) → IsTakenFirst at l Q before now came
 with_stands t f = record { lpdu = t.lpdu; first = t.first; says = t.says; stands_now = f t.stands_now; noted = t.noted }
 
-pub far_taken : {k : Wires} {e : WireEnd} {before now : List Entry} {read : Option (Result Control LpduFault)} (to : End) (l : Link) → to.at_host ≡ true
-    → WiresStandFor k (seen_from to l) → IsTakenFirst to l (TookFirst e l) before now read
-    → IsTakenFirst to l (WiresStandFor (record k { host = e }) (seen_from to (without_first l))) before now read
+pub far_taken : {k : Wires} {e : WireEnd} {before now : List Entry} {came : Option Arrived} (to : End) (l : Link) → to.at_host ≡ true
+    → WiresStandFor k (seen_from to l) → IsTakenFirst to l (TookFirst e l) before now came
+    → IsTakenFirst to l (WiresStandFor (record k { host = e }) (seen_from to (without_first l))) before now came
 far_taken {k} to l q w t =
     let W : Link → Type 0 = λ m. WiresStandFor k m in
     let same : seen_from to l ≡ exchanged l = rw q refl in
     with_stands t (λ f. rw q (far_without l (subst W same w) f))
 
-pub near_taken : {k : Wires} {e : WireEnd} {before now : List Entry} {read : Option (Result Control LpduFault)} (to : End) (l : Link) → to.at_host ≡ false
-    → WiresStandFor k (seen_from to l) → IsTakenFirst to l (TookFirst e l) before now read
-    → IsTakenFirst to l (WiresStandFor (record k { controller = e }) (seen_from to (without_first l))) before now read
+pub near_taken : {k : Wires} {e : WireEnd} {before now : List Entry} {came : Option Arrived} (to : End) (l : Link) → to.at_host ≡ false
+    → WiresStandFor k (seen_from to l) → IsTakenFirst to l (TookFirst e l) before now came
+    → IsTakenFirst to l (WiresStandFor (record k { controller = e }) (seen_from to (without_first l))) before now came
 near_taken {k} to l q w t =
     let W : Link → Type 0 = λ m. WiresStandFor k m in
     let same : seen_from to l ≡ l = rw q refl in
@@ -167,32 +168,25 @@ frame_noted to l lpdu = go l.to_controller
         let same : lpdu ≡ lpdu_of x.frame = cc in
         ap₂ (λ e b. note.Took e b ∷ []) (sym (end_is to)) same
 
--- a frame has come
-pub frame_comes : {new : Wires} {before now : List Entry} (read : Result Control LpduFault) (to : End) (l : Link)
-    → IsTakenFirst to l (WiresStandFor new (seen_from to (without_first l))) before now (Some read)
-    → HasArrived new to l coming.NextFrame before now (arrived.Frame read)
-frame_comes {new} {before} {now} read to l t = go t.lpdu t.first t.says t.noted
+-- a frame has come, or none is on its way
+pub first_comes : {new : Wires} {before now : List Entry} (to : End) (l : Link) (came : Option Arrived)
+    → IsTakenFirst to l (WiresStandFor new (seen_from to (without_first l))) before now came → ComesToEnd new to l coming.NextFrame before now came
+first_comes {new} {before} {now} to l came t = go l.to_controller came t.lpdu t.first t.says t.stands_now t.noted
   where
-    go : (o : Option (List ℕ)) → IsFirst l.to_controller o → Some read ≡ option_map control_of o
-        → now ≡ before ++ map (note.Took to) (option_to_list o) → HasArrived new to l coming.NextFrame before now (arrived.Frame read)
-    go None first says noted = absurd (cc says)
-    go (Some lpdu) first says noted =
+    go : (xs : List OnWire) (came : Option Arrived) (o : Option (List ℕ)) → IsFirst xs o
+        → came ≡ option_map (λ (bytes : List ℕ). arrived.Frame (control_of bytes)) o
+        → WiresStandFor new (seen_from to (without_first (record l { to_controller = xs }))) → now ≡ before ++ map (note.Took to) (option_to_list o)
+        → ComesToEnd new to (record l { to_controller = xs }) coming.NextFrame before now came
+    go [] None None first says w noted = record { input = refl; wires = w; noted = noted ∙ append-nil before }
+    go (x ∷ xs) None None first says w noted = absurd (cc first.0)
+    go xs None (Some lpdu) first says w noted = absurd (cc says)
+    go xs (Some a) None first says w noted = absurd (cc says)
+    go xs (Some (arrived.Frame read)) (Some lpdu) first says w noted =
         let is : read ≡ control_of lpdu = cc in
         record {
           is = (lpdu, is);
-          input = frame_input l lpdu read first is;
-          wires = t.stands_now;
-          noted = noted ∙ ap (λ es. before ++ es) (frame_noted to l lpdu first);
+          input = frame_input (record l { to_controller = xs }) lpdu read first is;
+          wires = w;
+          noted = noted ∙ ap (λ es. before ++ es) (frame_noted to (record l { to_controller = xs }) lpdu first);
         }
-
--- or none is on its way
-pub none_comes : {new : Wires} {before now : List Entry} (to : End) (l : Link)
-    → IsTakenFirst to l (WiresStandFor new (seen_from to (without_first l))) before now None → NoneArrived new to l coming.NextFrame before now
-none_comes {new} {before} {now} to l t = go l.to_controller t.lpdu t.first t.says t.stands_now t.noted
-  where
-    go : (xs : List OnWire) (o : Option (List ℕ)) → IsFirst xs o → None ≡ option_map control_of o
-        → WiresStandFor new (seen_from to (without_first (record l { to_controller = xs }))) → now ≡ before ++ map (note.Took to) (option_to_list o)
-        → NoneArrived new to (record l { to_controller = xs }) coming.NextFrame before now
-    go xs (Some lpdu) first says w noted = absurd (cc says)
-    go [] None first says w noted = record { input = refl; wires = w; noted = noted ∙ append-nil before }
-    go (x ∷ xs) None first says w noted = absurd (cc first.0)
+    go xs (Some a) (Some lpdu) first says w noted = absurd (cc says)

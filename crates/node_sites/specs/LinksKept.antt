@@ -1,7 +1,5 @@
 -- What is kept of the wires of a link and of the numbers of RSETs, and for which links it stands.
-use Rattle.std.specs.Prelude.{◌≡◌, ℕ, List, [], ◌∷◌, ◌++◌, map, Option, Some, None, option_map, option_to_list, Result, Ok}
-use Rattle.swp_base.specs.declared.control_frames.Control.{Control}
-use Rattle.swp_lpdu.specs.declared.LpduFault.{LpduFault}
+use Rattle.std.specs.Prelude.{◌≡◌, ℕ, List, [], ◌∷◌, ◌++◌, map, Option, Some, None, option_map, option_to_list, Ok}
 use Rattle.swp_lpdu.specs.Controls.{lpdu_of, control_of}
 use Rattle.trace_model.specs.declared.entry.Entry.{Entry}
 use Rattle.trace_model.specs.declared.entry.Entry.TheVariants as note
@@ -10,6 +8,8 @@ use Rattle.link_laws.specs.sessions.Sessions.{OnWire, took_with}
 use Rattle.link_laws.specs.messages.Links.{NumberedEnd, Link, Comes}
 use Rattle.link_laws.specs.messages.Links.Comes.{NextFrame, AsksReset, Starts, Stops, NoInput}
 use Rattle.link_wires.specs.Wires.{WireStandsFor}
+use Rattle.node_sites.specs.declared.incoming.Arrived.{Arrived}
+use Rattle.node_sites.specs.declared.incoming.Arrived.TheVariants as arrived
 use Rattle.node_sites.specs.declared.wires.WireEnd.{WireEnd}
 use Rattle.node_sites.specs.declared.wires.Wires.{Wires}
 
@@ -41,11 +41,11 @@ abbrev pub IsFirst : List OnWire → Option (List ℕ) → Type 0
 IsFirst [] lpdu = lpdu ≡ None
 IsFirst (x ∷ xs) lpdu = (lpdu ≡ Some (lpdu_of x.frame)) × (control_of (lpdu_of x.frame) ≡ Ok x.frame)
 
--- The first frame on its way to the near end of a link was taken, where there is one, and noted. This was read of it, and so it stands now.
-pub record IsTakenFirst (at : End) (l : Link) (stands : Type 0) (before now : List Entry) (read : Option (Result Control LpduFault)) : Type 0 where
+-- The first frame on its way to the near end of a link was taken, where there is one, and noted. This has come with it, and so it stands now.
+pub record IsTakenFirst (at : End) (l : Link) (stands : Type 0) (before now : List Entry) (came : Option Arrived) : Type 0 where
   pub lpdu : Option (List ℕ)
   pub first : IsFirst l.to_controller lpdu
-  pub says : read ≡ option_map control_of lpdu
+  pub says : came ≡ option_map (λ (bytes : List ℕ). arrived.Frame (control_of bytes)) lpdu
   pub stands_now : stands
   pub noted : now ≡ before ++ map (note.Took at) (option_to_list lpdu)
 

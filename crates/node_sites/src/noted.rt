@@ -26,42 +26,34 @@ pub struct Noted {
 impl Noted {
     ghost use Rattle.std.specs.Prelude.{◌≡◌, []};
 
-    /// Nothing is noted any more.
+    /// Nothing is noted any more. The memory of a message that was noted is kept, where there are few others and memory for it.
     pub fn forget(&mut self)
         ensures entries { self.new.entries.items ≡ [] }
         ensures short { self.new.short ≡ self.old.short }
     {
         'entries: while let Some(entry) = self.entries.pop() {
-            let_go(entry, &mut self.spares);
+            match entry {
+                Entry::Emit { lpdu, .. } | Entry::Took { lpdu, .. } | Entry::Lost { lpdu, .. } => {
+                    drop(lpdu);
+                }
+                Entry::Sent { message, .. }
+                | Entry::Got { message, .. }
+                | Entry::Turn { message, .. }
+                | Entry::Ask { message, .. } => {
+                    if !message.bytes.is_empty() && self.spares.len() < MOST_SPARES {
+                        let _kept = self.spares.push(message);
+                    }
+                }
+                Entry::No { .. }
+                | Entry::Acked { .. }
+                | Entry::Up { .. }
+                | Entry::Down { .. }
+                | Entry::Dropped { .. }
+                | Entry::Command { .. }
+                | Entry::AnyOk { .. } => {}
+                other => drop(other),
+            }
         }
-    }
-}
-
-// An entry is let go; the memory of a message in it is kept.
-fn let_go(entry: Entry, spares: &mut Vec<Octets>) {
-    match entry {
-        Entry::Emit { lpdu, .. } | Entry::Took { lpdu, .. } | Entry::Lost { lpdu, .. } => {
-            drop(lpdu);
-        }
-        Entry::Sent { message, .. }
-        | Entry::Got { message, .. }
-        | Entry::Turn { message, .. }
-        | Entry::Ask { message, .. } => keep(message, spares),
-        Entry::No { .. }
-        | Entry::Acked { .. }
-        | Entry::Up { .. }
-        | Entry::Down { .. }
-        | Entry::Dropped { .. }
-        | Entry::Command { .. }
-        | Entry::AnyOk { .. } => {}
-        other => drop(other),
-    }
-}
-
-// The memory of a message is kept, where there are few others and memory for it.
-fn keep(message: Octets, spares: &mut Vec<Octets>) {
-    if !message.bytes.is_empty() && spares.len() < MOST_SPARES {
-        let _kept = spares.push(message);
     }
 }
 

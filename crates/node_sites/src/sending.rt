@@ -21,32 +21,6 @@ use trace_model::{End, Entry};
 /// The most frames that an end sends at one moment: 12 of SHDLC, and 5 of activation.
 const MOST_FRAMES: u8 = 17;
 
-// All frames go out that are due at a node's end of a link, one after another, until there is none.
-fn send_each(
-    node: &mut RunningNode<MemNv>,
-    at: End,
-    wires: &mut Wires,
-    entries: &mut Vec<Entry>,
-) -> Result<(), AllocError>
-    requires state { (core : Core) × (ports : List Port) × (p : Port) × (l : Link)
-        × SendsFrom (RunsAs node.old core ports) at p ports × WiresStandFor wires.old (seen_from at l) }
-    requires room { wires.old.resets + 17 < 2 ^ 32 }
-    ensures stands { (core : Core) (ports : List Port) (p : Port) (l : Link) → SendsFrom (RunsAs node.old core ports) at p ports
-        → WiresStandFor wires.old (seen_from at l)
-        → OnOk result (RunsAs node.new core (with_port at.link sent_port ports) × WiresStandFor wires.new (seen_from at (put_all l (frames_out p.side)))
-        × AreNoted at entries.old.items entries.new.items (puts_entries (side_of at) l (frames_out p.side))) }
-    ensures memory { node_memory node.new ≡ node_memory node.old }
-    ensures grows { wires.new.resets ≤ wires.old.resets + 17 }
-{
-    for _ in 0..MOST_FRAMES {
-        let Some(lpdu) = node.next_out(at.link) else {
-            return Ok(());
-        };
-        wires.put(at, lpdu, entries)?;
-    }
-    Ok(())
-}
-
 /// All frames go out that are due at a node's end of a link. Most ends have none due.
 ///
 /// # Errors
@@ -72,5 +46,11 @@ pub fn send_frames(
     if node.has_none_due(at.link) {
         return Ok(());
     }
-    send_each(node, at, wires, entries)
+    for _ in 0..MOST_FRAMES {
+        let Some(lpdu) = node.next_out(at.link) else {
+            return Ok(());
+        };
+        wires.put(at, lpdu, entries)?;
+    }
+    Ok(())
 }

@@ -9,8 +9,8 @@ use crate::incoming::{Arrived, Incoming};
 use circular_buffer::HeapCircularBuffer;
 use link_wires::{Damaged, Flying, damaged_first, empty_wire, grow_older, lose_first, put_frame};
 use std::alloc::{AllocError, Global};
-use swp_base::{Control, Lpdu};
-use swp_lpdu::{LpduFault, read_lpdu};
+use swp_base::Lpdu;
+use swp_lpdu::read_lpdu;
 use trace_model::{End, Entry, LostCause};
 
 /// What is kept of one end of a link beside its machine.
@@ -57,13 +57,13 @@ impl WireEnd {
         self.emitted.max(self.took)
     }
 
-    // The first frame on the way to the end, which has this name, is taken, and noted: what it says, or `None` where there is none.
+    // The first frame on the way to the end, which has this name, is taken, and noted: what has come, or `None` where there is none.
     #[inline(always)]
     fn take_first(
         &mut self,
         at: End,
         entries: &mut Vec<Entry>,
-    ) -> Result<Option<Result<Control, LpduFault>>, AllocError>
+    ) -> Result<Option<Arrived>, AllocError>
         ensures { (l : Link) → WireEndIs self.old l.controller l.to_controller
             → IfOk result (IsTakenFirst at l (WireEndIs self.new (without_first l).controller (without_first l).to_controller)
             entries.old.items entries.new.items) }
@@ -77,7 +77,7 @@ impl WireEnd {
             lpdu: flying.lpdu,
         })?;
         self.took = self.took.max(flying.number);
-        Ok(Some(read))
+        Ok(Some(Arrived::Frame(read)))
     }
 }
 
@@ -110,7 +110,7 @@ impl Wires {
     ghost use Rattle.link_wires.specs.Notes.{side_of, AreNoted};
     ghost use Rattle.link_wires.specs.Damages.{Finds};
     ghost use Rattle.node_sites.specs.Arrivals.{ComesToEnd};
-    ghost use Rattle.node_sites.specs.LinksKept.{WiresStandFor, with_bare_wires, without_first, IsTakenFirst};
+    ghost use Rattle.node_sites.specs.LinksKept.{WiresStandFor, with_bare_wires};
 
     /// The wires of a new link: no frame stands on them.
     ///
@@ -174,23 +174,6 @@ impl Wires {
         self.host.wire.clear();
     }
 
-    // The first frame on the way to an end is taken, and noted: what it says, or `None` where there is none.
-    #[inline(always)]
-    fn take_first(
-        &mut self,
-        to: End,
-        entries: &mut Vec<Entry>,
-    ) -> Result<Option<Result<Control, LpduFault>>, AllocError>
-        ensures { (l : Link) → WiresStandFor self.old (seen_from to l)
-            → IfOk result (IsTakenFirst to l (WiresStandFor self.new (seen_from to (without_first l))) entries.old.items entries.new.items) }
-    {
-        if to.at_host {
-            self.host.take_first(to, entries)
-        } else {
-            self.controller.take_first(to, entries)
-        }
-    }
-
     /// This comes to an end of the link: the first frame on its way there is taken and noted, or activation empties both wires. `None`
     /// where no frame is on its way: nothing happens then.
     ///
@@ -208,10 +191,13 @@ impl Wires {
             → IfOk result (ComesToEnd self.new to l what entries.old.items entries.new.items) }
     {
         match what {
-            Incoming::NextFrame => match self.take_first(to, entries)? {
-                Some(read) => Ok(Some(Arrived::Frame(read))),
-                None => Ok(None),
-            },
+            Incoming::NextFrame => {
+                if to.at_host {
+                    self.host.take_first(to, entries)
+                } else {
+                    self.controller.take_first(to, entries)
+                }
+            }
             Incoming::Reset(window) => Ok(Some(Arrived::Reset(window))),
             Incoming::Start(value) => {
                 self.empty();

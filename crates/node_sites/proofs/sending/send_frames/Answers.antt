@@ -1,14 +1,23 @@
-use Rattle.std.proofs.Common.{◌≡◌, List, sym, ap, subst, append-nil, ◌∙◌}
+use Rattle.std.proofs.Common.{◌≡◌, ℕ, ◌-◌, List, refl, sym, subst, ap, ◌∙◌, arith, append-nil}
+use Rattle.std.specs.Prelude.{None, option_map}
+use Rattle.swp_base.specs.InMemory.{Memory}
+use Rattle.swp_lpdu.specs.Controls.{lpdu_of, control_of}
+use Rattle.link_laws.specs.machine.Machine.{next_frame}
+use Rattle.link_laws.specs.machine.Laws.{most_fetches}
+use Rattle.hci_store.specs.Stored.{Stored}
+use Rattle.node_machine.specs.Parts.{Core, Port}
+use Rattle.node_machine.specs.Carrying.{with_port}
+use Rattle.node_ends.specs.Ends.{frame_at}
+use Rattle.node_core.specs.Running.{RunsAs, SendsOneByOne}
+use Rattle.node_core.proofs.Between.{all_one_by_one}
+use Rattle.node_sites.proofs.FramesGoOut.{Sending, sending_starts, sending_next, sending_stops, sending_over, at_found, found_with, with_side, fetched_is, none_fetched, read_of, same_with, with_none}
 use Rattle.swp_base.specs.declared.control_frames.Control.{Control}
 use Rattle.link_laws.specs.messages.Links.{put_all}
 use Rattle.link_laws.specs.entries.Entries.{puts_entries}
 use Rattle.history.specs.Follows.{seen_from}
 use Rattle.link_wires.specs.Notes.{side_of, AreNoted}
-use Rattle.node_machine.specs.Carrying.{with_port}
-use Rattle.node_core.specs.Running.{RunsAs}
 use Rattle.node_sites.specs.LinksKept.{WiresStandFor}
 use Rattle.node_sites.specs.FramesOut.{sent_port}
-use Rattle.node_sites.proofs.FramesGoOut.{same_with, with_none, with_side}
 use Rattle.node_sites.proofs.sending.send_frames.Goals as goal
 
 pub has_none_due-requires : goal.has_none_due-requires
@@ -30,3 +39,64 @@ returns-then-has_none_due-clause-stands c core ports p l is w =
       subst W (sym none.frames) w,
       subst N (sym none.frames) (sym (append-nil entries)),
     )
+
+pub loop-init : goal.loop-init
+loop-init c = record {
+  goes = λ core ports p m is w.
+      let whole = at_found (λ (q : Port). SendsOneByOne q.side) c.args.at.link p ports (all_one_by_one is.runs) is.here in
+      let Runs : List Port → Type 0 = RunsAs c.args.node.now core in
+      let P : ℕ → Type 0 = λ n. Sending Runs c.args.wires.now c.args.at ports p m c.args.entries.now.items c.args.entries.now.items n in
+      let all : most_fetches p.side ≡ most_fetches p.side - 0 = omega arith in
+      subst P all (sending_starts is.runs is.only whole w);
+  memory = refl;
+  grows = omega arith;
+}
+
+pub next_out-requires : goal.next_out-requires
+next_out-requires c =
+    let r = c.requires.state in
+    let core : Core = r.0 in
+    let ports : List Port = r.1 in
+    let p : Port = r.2 in
+    let s = c.loop.invariant.goes core ports p r.3 r.4 r.5 in
+    record { runs = (core, with_port c.args.at.link (with_side s.e) ports, s.runs) }
+
+pub returns-in_default-clause-stands : goal.returns-in_default-clause-stands
+returns-in_default-clause-stands c core ports p l is w =
+    let n = c.next_out in
+    let h : ℕ = c.args.at.link in
+    let s = c.loop.invariant.goes core ports p l is w in
+    let now : List Port = with_port h (with_side s.e) ports in
+    let found = found_with h s.e p ports is.here in
+    let none : None ≡ option_map lpdu_of (next_frame s.e) = sym c.in_default.is ∙ (n.ensures.answer core now s.runs ∙ ap frame_at found) in
+    let whole = at_found (λ (q : Port). SendsOneByOne q.side) h (with_side s.e p) now (all_one_by_one s.runs) found in
+    sending_stops (RunsAs n.new.self core) c.args.entries.now.items s is.only whole (none_fetched (next_frame s.e) none)
+    (n.ensures.runs core now s.runs)
+
+pub loop-preserved : goal.loop-preserved
+loop-preserved c =
+    let n = c.next_out in
+    let h : ℕ = c.args.at.link in
+    record {
+      goes = λ core ports p l is w.
+          let s = c.loop.invariant.goes core ports p l is w in
+          let now : List Port = with_port h (with_side s.e) ports in
+          let found = found_with h s.e p ports is.here in
+          let one = fetched_is s.e c.in-Some.lpdu (sym c.in-Some.is ∙ (n.ensures.answer core now s.runs ∙ ap frame_at found)) in
+          let read = read_of (next_frame s.e) one.frame one.next (n.ensures.read core now (with_side s.e p) s.runs found) in
+          let whole = at_found (λ (q : Port). SendsOneByOne q.side) h p ports (all_one_by_one is.runs) is.here in
+          sending_next c.args.entries.now.items (most_fetches p.side) c.loop.counter (most_fetches p.side - c.loop.counter) one.frame refl s whole one.next
+          (n.ensures.runs core now s.runs)
+          (c.in_ok-put.ensures.stands s.link one.frame s.wires one.bytes (ap control_of one.bytes ∙ read));
+      memory = ap (λ (s : Stored Memory). s.journal.nv) n.ensures.store ∙ c.loop.invariant.memory;
+      grows = let i = c.loop.invariant.grows in let j = c.put.ensures.grows in omega (arith, i, j);
+    }
+
+pub returns-clause-stands : goal.returns-clause-stands
+returns-clause-stands c core ports p l is w =
+    let h : ℕ = c.args.at.link in
+    let s = c.loop.invariant.goes core ports p l is w in
+    let whole = at_found (λ (q : Port). SendsOneByOne q.side) h p ports (all_one_by_one is.runs) is.here in
+    let few = whole.few in
+    let over : most_fetches p.side - c.loop.counter ≡ 0 = omega (arith, few, c.loop-test.false) in
+    sending_over c.args.entries.now.items (most_fetches p.side - c.loop.counter) s is.only over

@@ -8,7 +8,7 @@ use Rattle.node_sites.specs.Powers.{node_memory}
 use Rattle.node_sites.specs.LinksKept.{WiresStandFor}
 use Rattle.node_sites.specs.FramesOut.{SendsFrom}
 use Rattle.node_sites.proofs.FramesGoOut.{Sending}
-use Rattle.node_sites.proofs.sending.send_each.Given as goal
+use Rattle.node_sites.proofs.sending.send_frames.Given as goal
 
 -- so many frames are left at most
 abbrev pub invariant-loop : goal.invariant-loop
