@@ -8,8 +8,8 @@ use crate::noted::Sessions;
 use std::alloc::{AllocError, Global};
 use trace_model::{End, Entry, Octets};
 
-// The number of the session of an end's link stands in place of 0, and 0 in place of that number, so that no two numbers become one.
-fn session_noted(sessions: &Sessions, at: End, noted: u32) -> u32
+/// The number of the session of an end's link stands in place of 0, and 0 in place of that number, so that no two numbers become one.
+pub(crate) fn session_noted(sessions: &Sessions, at: End, noted: u32) -> u32
     ensures { result ≡ swapped_number (session_at sessions.now at.link) noted }
 {
     let link = usize::from(at.link);
@@ -35,9 +35,9 @@ fn octets_of(alloc: Global, spares: &mut Vec<Octets>, body: &[u8]) -> Result<Oct
     Ok(Octets { bytes })
 }
 
-// A copy of an entry whose form has a message is put behind the others, with these bytes as its message. Whether there was memory for the
-// message; `false` for any other form. There is room for an entry.
-fn add_with_message(
+/// A copy of an entry whose form has a message is put behind the others, with these bytes as its message. Whether there was memory for the
+/// message; `false` for any other form. There is room for an entry.
+pub(crate) fn add_with_message(
     entries: &mut Vec<Entry>,
     spares: &mut Vec<Octets>,
     sessions: &Sessions,
@@ -143,10 +143,10 @@ fn copied_of_few(sessions: &Sessions, entry: &Entry) -> Option<Entry>
     }
 }
 
-// Such a copy is put behind the others; `false` for a form that no node notes. There is room for an entry.
+/// Such a copy is put behind the others; `false` for a form that no node notes. There is room for an entry.
 #[cold]
 #[inline(never)]
-fn add_one_of_few(entries: &mut Vec<Entry>, sessions: &Sessions, entry: &Entry) -> bool
+pub(crate) fn add_one_of_few(entries: &mut Vec<Entry>, sessions: &Sessions, entry: &Entry) -> bool
     requires room { vec_len entries.old < vec_capacity entries.old }
     ensures added { (bytes : List ℕ) → IsTrue result
         → entries.new.items ≡ entries.old.items ++ with_swapped_number (session_at sessions.now) (with_body bytes entry.now) ∷ [] }
@@ -157,38 +157,4 @@ fn add_one_of_few(entries: &mut Vec<Entry>, sessions: &Sessions, entry: &Entry) 
     };
     entries.push_reserved(copy);
     true
-}
-
-/// A copy of an entry is put behind the others, with these bytes as its message and the number of its link's session where its form has such.
-/// Whether there was memory for the message; `false` for a form that no node notes: a header, an echo, a frame, tables, a boot, what was
-/// settled or refused. There is room for an entry.
-pub fn add_copy(
-    entries: &mut Vec<Entry>,
-    spares: &mut Vec<Octets>,
-    sessions: &Sessions,
-    entry: &Entry,
-    body: &[u8],
-) -> bool
-    requires room { vec_len entries.old < vec_capacity entries.old }
-    ensures added { IsTrue result → entries.new.items ≡ entries.old.items ++ with_swapped_number (session_at sessions.now) (with_body body.now entry.now) ∷ [] }
-    ensures full { result ≡ false → entries.new.items ≡ entries.old.items }
-{
-    match entry {
-        Entry::Sent { .. } | Entry::Got { .. } | Entry::Turn { .. } | Entry::Ask { .. } => {
-            add_with_message(entries, spares, sessions, entry, body)
-        }
-        Entry::Acked { at, session, count } => {
-            entries.push_reserved(Entry::Acked {
-                at: *at,
-                session: session_noted(sessions, *at, *session),
-                count: *count,
-            });
-            true
-        }
-        Entry::Dropped { at, pid } => {
-            entries.push_reserved(Entry::Dropped { at: *at, pid: *pid });
-            true
-        }
-        _ => add_one_of_few(entries, sessions, entry),
-    }
 }

@@ -2,7 +2,7 @@
 //! memory and its wires, and what is noted of a step. All of it is this project's own.
 #![tactic(auto)]
 
-pub mod copying;
+mod copying;
 pub mod incoming;
 pub mod memory;
 pub mod nodes;

@@ -2,7 +2,7 @@
 ghost use Rattle.std.specs.Prelude.{◌≡◌, [], ◌∷◌, ◌++◌, OnOk};
 ghost use Rattle.trace_model.specs.declared.entry.Entry.TheVariants as note;
 
-use crate::copying::add_copy;
+use crate::copying::{add_one_of_few, add_with_message, session_noted};
 use swp_base::NoMemory;
 use trace_model::{Entry, NoCause, Octets, Watch};
 
@@ -72,14 +72,29 @@ impl Watch for Noted {
             self.short = true;
             return;
         }
-        let copied = add_copy(
-            &mut self.entries,
-            &mut self.spares,
-            &self.sessions,
-            entry,
-            body,
-        );
-        self.short = !copied;
+        match entry {
+            Entry::Sent { .. } | Entry::Got { .. } | Entry::Turn { .. } | Entry::Ask { .. } => {
+                self.short = !add_with_message(
+                    &mut self.entries,
+                    &mut self.spares,
+                    &self.sessions,
+                    entry,
+                    body,
+                );
+            }
+            Entry::Acked { at, session, count } => {
+                self.entries.push_reserved(Entry::Acked {
+                    at: *at,
+                    session: session_noted(&self.sessions, *at, *session),
+                    count: *count,
+                });
+            }
+            Entry::Dropped { at, pid } => {
+                self.entries
+                    .push_reserved(Entry::Dropped { at: *at, pid: *pid });
+            }
+            _ => self.short = !add_one_of_few(&mut self.entries, &self.sessions, entry),
+        }
     }
 
     fn short(&self) -> bool {
