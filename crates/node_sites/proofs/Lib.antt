@@ -1,11 +1,6 @@
 pub mod Numbered
-pub mod Renumbered
 pub mod Powers
 pub mod Links
 pub mod Arrivals
 pub mod FramesGoOut
-pub mod Regardless
 pub mod NodesRun
-pub mod NodesBoot
-pub mod HostsGive
-pub mod Losses

@@ -1,20 +1,174 @@
--- A node over a memory that keeps its bytes does what the world asks for.
-use Rattle.std.proofs.Common.{◌≡◌, ℕ, Bool, true, false, not, List, ◌++◌, refl, sym, ap, ◌∙◌, subst, append-nil}
+-- What a node does in a step doesn't depend on what was noted before.
+use Rattle.std.proofs.Common.{◌≡◌, ℕ, Bool, true, false, List, [], ◌∷◌, map, length, refl, sym, ap, ◌∙◌, not, ◌++◌, subst, append-nil}
+use Rattle.std.specs.Prelude.{Option, Some, None, ◌==◌, ◌&&◌}
+use Rattle.std.specs.List.{flat_map}
+use Rattle.std.specs.Option.{option_map_or}
+use Rattle.journal_laws.specs.Planned.{fails_within, after_planned}
+use Rattle.hci_tables.specs.declared.command.Command.{Command}
+use Rattle.hci_tables.specs.Bodies.{body_of}
+use Rattle.hci_store.specs.Committing.{commit_writes}
+use Rattle.link_laws.specs.machine.Machine.{Message, is_held}
+use Rattle.node_machine.specs.Parts.{Port, Work, Deed}
+use Rattle.node_machine.specs.Parts.Deed.{Commits, Sends, SaysOk, Asks, Releases, Tells, IsAnswered, Drops, SetsErrors, Orders, Hears, GoesOn, Ends}
+use Rattle.node_machine.specs.Carrying.{unless_cut, port_at, commit, done, all_done, lack, needs}
+use Rattle.node_machine.specs.Turns.{deeds_of, handles, holds_back, lets_go, have_turns, goes_through_ends, passes}
+use Rattle.node_machine.specs.Node.{NodeInput, all_come, times_out, forgets, forgotten, all_owed, synced, answers_and_passes, steps}
+use Rattle.node_machine.specs.Node.NodeInput.{AtEnd, TimePasses}
+use Rattle.node_core.specs.Syncing.{left_over}
+use Rattle.node_core.proofs.Joining.{stays_cut, goes_on}
 use Rattle.swp_base.specs.InMemory.{Memory, WritesAsPlanned}
-use Rattle.journal_laws.specs.Planned.{after_planned}
 use Rattle.journal_laws.specs.Writes.{Write}
 use Rattle.trace_model.specs.declared.entry.Entry.{Entry}
-use Rattle.node_machine.specs.Parts.{Work}
 use Rattle.node_core.specs.declared.node.Node.{Node}
 use Rattle.node_core.specs.Bringing.{Brings}
 use Rattle.node_core.specs.Running.{RunsAs, BeginsStep, HasStepped, ran_so}
 use Rattle.node_core.proofs.Planned.{planned_step, planned_writes}
+use Rattle.hci_store.specs.Stored.{Stored}
+use Rattle.node_machine.specs.Controller.{is_command_message}
+use Rattle.node_machine.specs.world.World.{sending, beginning}
+use Rattle.node_core.specs.Giving.{IsAsked}
+use Rattle.node_core.proofs.Sendings.{given_order, given_other, given_both}
 use Rattle.node_sites.specs.Powers.{node_memory}
 use Rattle.node_sites.specs.WorldNodes.{BeginsOver, HasGone, IsNotedSo}
 use Rattle.node_sites.specs.declared.noted.Noted.{Noted}
 use Rattle.node_sites.specs.Numbers.{as_told}
-use Rattle.node_sites.proofs.Renumbered.{as_watched, as_noted}
-use Rattle.node_sites.proofs.Regardless.{bare, IsRegardless}
+use Rattle.node_sites.proofs.Numbered.{as_watched, as_noted}
+
+-- a node in a step, without what was noted
+abbrev pub bare : Work → Work
+bare w = record w { entries = [] }
+
+-- what is done is the same whatever was noted before
+abbrev pub IsRegardless : (Work → Work) → Type 0
+IsRegardless f = (w : Work) → bare (f w) ≡ bare (f (bare w))
+
+-- one thing behind the other
+then_regardless : (f g : Work → Work) → IsRegardless f → IsRegardless g → IsRegardless (λ w. g (f w))
+then_regardless f g one other w = other (f w) ∙ (ap (λ (v : Work). bare (g v)) (one w) ∙ sym (other (f (bare w))))
+
+unless_regardless : (f : Work → Work) → IsRegardless f → IsRegardless (unless_cut f)
+unless_regardless f reg w = by w.cut refl
+  where
+    by : (b : Bool) → w.cut ≡ b → bare (unless_cut f w) ≡ bare (unless_cut f (bare w))
+    by true q = ap bare (stays_cut f w q) ∙ sym (ap bare (stays_cut f (bare w) q))
+    by false q = ap bare (goes_on f w q) ∙ (reg w ∙ sym (ap bare (goes_on f (bare w) q)))
+
+-- ## Deeds
+
+commit_regardless : (c : Command) → IsRegardless (commit c)
+commit_regardless c w = by (fails_within (length (commit_writes w.core.journal w.core.tables (body_of c))) w.plan) refl
+  where
+    by : (b : Bool) → fails_within (length (commit_writes w.core.journal w.core.tables (body_of c))) w.plan ≡ b → bare (commit c w) ≡ bare (commit c (bare w))
+    by true q = rw q refl
+    by false q = rw q refl
+
+done_regardless : (h : ℕ) (d : Deed) → IsRegardless (done h d)
+done_regardless h (Commits c) w = commit_regardless c w
+done_regardless h (Sends to m) w = refl
+done_regardless h SaysOk w = refl
+done_regardless h (Asks to message c) w = refl
+done_regardless h (Releases asker) w = refl
+done_regardless h (Tells to message) w = refl
+done_regardless h IsAnswered w = refl
+done_regardless h (Drops pid) w = refl
+done_regardless h (SetsErrors errors) w = refl
+done_regardless h (Orders message) w = refl
+done_regardless h Hears w = refl
+done_regardless h (GoesOn i) w = refl
+done_regardless h (Ends e) w = refl
+
+pub all_regardless : (h : ℕ) (deeds : List Deed) → IsRegardless (all_done h deeds)
+all_regardless h [] w = refl
+all_regardless h (d ∷ deeds) w =
+    then_regardless (done h d) (unless_cut (all_done h deeds)) (done_regardless h d) (unless_regardless (all_done h deeds) (all_regardless h deeds)) w
+
+-- ## Turns
+
+handles_regardless : (h : ℕ) (m : Message) (deeds : List Deed) → IsRegardless (handles h m deeds)
+handles_regardless h m deeds w = all_regardless h deeds _ ∙ sym (all_regardless h deeds _)
+
+holds_regardless : (h : ℕ) (short : ℕ × ℕ) → IsRegardless (holds_back h short)
+holds_regardless h short w = by (option_map_or (λ (p : Port). p.desk.holds) (port_at w.ports h) false) refl
+  where
+    by : (b : Bool) → option_map_or (λ (p : Port). p.desk.holds) (port_at w.ports h) false ≡ b
+        → bare (holds_back h short w) ≡ bare (holds_back h short (bare w))
+    by true q = rw q refl
+    by false q = rw q refl
+
+lets_regardless : (h : ℕ) → IsRegardless (lets_go h)
+lets_regardless h w = by (option_map_or (λ (p : Port). is_held p.side) (port_at w.ports h) false) refl
+  where
+    by : (b : Bool) → option_map_or (λ (p : Port). is_held p.side) (port_at w.ports h) false ≡ b → bare (lets_go h w) ≡ bare (lets_go h (bare w))
+    by true q = rw q refl
+    by false q = rw q refl
+
+turns_regardless : (h : ℕ) (messages : List Message) → IsRegardless (have_turns h messages)
+turns_regardless h [] w = lets_regardless h w
+turns_regardless h (m ∷ messages) w = by (lack w.ports (needs h deeds)) refl (turns_regardless h messages)
+  where
+    deeds : List Deed
+    deeds = deeds_of w.core w.ports h m
+
+    room : (v : Work) → lack v.ports (needs h (deeds_of v.core v.ports h m)) ≡ None
+        → have_turns h (m ∷ messages) v ≡ unless_cut (have_turns h messages) (handles h m (deeds_of v.core v.ports h m) v)
+    room v q = rw q refl
+
+    none : (v : Work) (short : ℕ × ℕ) → lack v.ports (needs h (deeds_of v.core v.ports h m)) ≡ Some short
+        → have_turns h (m ∷ messages) v ≡ holds_back h short v
+    none v short q = rw q refl
+
+    by : (o : Option (ℕ × ℕ)) → lack w.ports (needs h deeds) ≡ o → IsRegardless (have_turns h messages)
+        → bare (have_turns h (m ∷ messages) w) ≡ bare (have_turns h (m ∷ messages) (bare w))
+    by None q later =
+        ap bare (room w q)
+        ∙ (then_regardless (handles h m deeds) (unless_cut (have_turns h messages)) (handles_regardless h m deeds)
+        (unless_regardless (have_turns h messages) later) w ∙ sym (ap bare (room (bare w) q)))
+    by (Some short) q later = ap bare (none w short q) ∙ (holds_regardless h short w ∙ sym (ap bare (none (bare w) short q)))
+
+ends_regardless : (hosts : List ℕ) → IsRegardless (goes_through_ends hosts)
+ends_regardless [] w = refl
+ends_regardless (h ∷ hosts) w =
+    let got : List Message = option_map_or (λ (p : Port). p.side.got) (port_at w.ports h) [] in
+    then_regardless (have_turns h got) (unless_cut (goes_through_ends hosts)) (turns_regardless h got)
+    (unless_regardless (goes_through_ends hosts) (ends_regardless hosts)) w
+
+passes_regardless : IsRegardless passes
+passes_regardless w = ends_regardless (map (λ (p : Port). p.desk.host) w.ports) w
+
+-- ## Steps
+
+answers_regardless : (freed syncs owing : List Deed) → IsRegardless (answers_and_passes freed syncs owing)
+answers_regardless freed syncs owing w =
+    then_regardless (λ v. unless_cut (all_done 0 owing) (all_done 0 syncs (all_done 0 freed v))) (unless_cut passes)
+    (then_regardless (λ v. all_done 0 syncs (all_done 0 freed v)) (unless_cut (all_done 0 owing))
+    (then_regardless (all_done 0 freed) (all_done 0 syncs) (all_regardless 0 freed) (all_regardless 0 syncs))
+    (unless_regardless (all_done 0 owing) (all_regardless 0 owing)))
+    (unless_regardless passes passes_regardless) w
+
+-- the same is done behind two states that differ in what was noted alone
+behind : (freed syncs owing : List Deed) (v u : Work) → bare v ≡ bare u
+    → bare (answers_and_passes freed syncs owing v) ≡ bare (answers_and_passes freed syncs owing u)
+behind freed syncs owing v u same =
+    answers_regardless freed syncs owing v
+    ∙ (ap (λ (x : Work). bare (answers_and_passes freed syncs owing x)) same ∙ sym (answers_regardless freed syncs owing u))
+
+came_so : (input : NodeInput) (w v u : Work) → bare v ≡ bare u → v.ports ≡ u.ports
+    → bare (answers_and_passes (forgotten v.ports) (flat_map (synced w.core input) w.ports) (all_owed (map (forgets v.ports) v.ports)) (left_over v))
+    ≡ bare (answers_and_passes (forgotten u.ports) (flat_map (synced w.core input) w.ports) (all_owed (map (forgets u.ports) u.ports)) (left_over u))
+came_so input w v u same ports =
+    behind (forgotten v.ports) syncs (all_owed (map (forgets v.ports) v.ports)) (left_over v) (left_over u)
+    (ap (λ (x : Work). bare (left_over x)) same)
+    ∙ ap (λ (ps : List Port). bare (answers_and_passes (forgotten ps) syncs (all_owed (map (forgets ps) ps)) (left_over u))) ports
+  where
+    syncs : List Deed
+    syncs = flat_map (synced w.core input) w.ports
+
+pub steps_regardless : (input : NodeInput) → IsRegardless (steps input)
+steps_regardless (AtEnd h i) w = came_so (AtEnd h i) w (all_come (AtEnd h i) w) (all_come (AtEnd h i) (bare w)) refl refl
+steps_regardless TimePasses w =
+    came_so TimePasses w (times_out TimePasses (all_come TimePasses w)) (times_out TimePasses (all_come TimePasses (bare w))) refl refl
+
+-- A node over a memory that keeps its bytes does what the world asks for.
 
 -- ## As a step begins
 
@@ -60,3 +214,49 @@ pub noted_so : {m m2 : Memory} {n2 : Node Memory} (noted : Noted) {sessions : Li
 noted_so noted {sessions} {start} plan b =
     let P : Work → Type 0 = λ v. IsNotedSo noted sessions start v.entries in
     subst P (sym (planned_step b plan)) (as_noted noted sessions start b.after.entries b.stands.noted_are)
+
+-- A host that sends a message by itself, or begins an init, does what the world asks for.
+
+-- ## As it begins
+
+pub asked_so : {n : Node Memory} {noted : Noted} {sessions : List ℕ} {start : List Entry} {w : Work} → BeginsOver n w
+    → IsNotedSo noted sessions start w.entries → IsAsked n (as_told noted.sessions noted.entries.items) noted.short (as_told sessions start) w
+asked_so b noted = record { runs = b.runs; none_ended = b.fresh; power = b.power; noted_are = as_watched noted }
+
+pub asked_bare : {n : Node Memory} (noted : List Entry) (short : Bool) {w : Work} → BeginsOver n w
+    → IsAsked n noted short noted (bare w)
+asked_bare noted short b =
+    record { runs = b.runs; none_ended = b.fresh; power = b.power; noted_are = λ kept. sym (append-nil noted) }
+
+-- ## Without a write
+
+pub sending_writes : (h pipe : ℕ) (message : List ℕ) (w : Work) → (all_done h (sending h (pipe, message)) w).writes ≡ w.writes
+sending_writes h pipe message w = by (pipe == 1 && is_command_message message) refl
+  where
+    by : (b : Bool) → (pipe == 1 && is_command_message message) ≡ b → (all_done h (sending h (pipe, message)) w).writes ≡ w.writes
+    by true q = ap (λ (v : Work). v.writes) (sym (given_order h pipe message w q))
+    by false q = ap (λ (v : Work). v.writes) (sym (given_other h pipe message w q))
+
+pub beginning_writes : (h : ℕ) (identity : List ℕ) (pipes : List (List ℕ)) (w : Work) → w.cut ≡ false
+    → (all_done h (beginning identity pipes) w).writes ≡ w.writes
+beginning_writes h identity pipes w live =
+    ap (λ (v : Work). v.writes)
+    (sym (given_both h (GoesOn (record { identity = identity; pipes = pipes; answered = 0 })) (Orders (3 ∷ [])) w live))
+
+-- ## Behind it
+
+-- the host runs on over its memory
+pub gives_so : {n n2 : Node Memory} {noted start : List Entry} {short : Bool} {w : Work} (h : ℕ) (deeds : List Deed) → BeginsOver n w
+    → n2.store ≡ n.store → (all_done h deeds w).writes ≡ w.writes
+    → HasStepped n2 noted short start (all_done h deeds (bare w)) → HasGone n n2 (all_done h deeds w) true
+gives_so {n} {n2} {w = w} h deeds b store writes stepped =
+    let same : bare (all_done h deeds w) ≡ bare (all_done h deeds (bare w)) = all_regardless h deeds w in
+    let live : n2.store.journal.live ≡ true = ap (λ (s : Stored Memory). s.journal.live) store ∙ b.runs.live in
+    let power : (all_done h deeds (bare w)).cut ≡ false = stepped.power ∙ ap not live in
+    let R : Work → Type 0 = λ v. RunsAs n2 v.core v.ports in
+    let W : List Write → Type 0 = λ ws. node_memory n2 ≡ after_planned ws (node_memory n) in
+    record {
+      power = ap (λ (v : Work). v.cut) same ∙ power;
+      memory = subst W (sym (writes ∙ b.writes)) (ap (λ (s : Stored Memory). s.journal.nv) store);
+      runs = λ up. subst R (sym same) (stepped.runs power);
+    }

@@ -1,9 +1,11 @@
 -- What a node notes in a step has the numbers of the sessions of its ends.
-use Rattle.std.proofs.Common.{◌≡◌, ℕ, ◌==◌, ◌≤◌, Bool, true, false, List, [], ◌∷◌, ◌++◌, map, Option, Some, None, refl, ap, sym, subst, ◌∙◌}
+use Rattle.std.proofs.Common.{◌≡◌, ℕ, ◌==◌, ◌≤◌, Bool, true, false, List, [], ◌∷◌, ◌++◌, map, Option, Some, None, refl, ap, sym, subst, ◌∙◌, ap₂, arith}
+use Rattle.std.proofs.Common.{append-nil, eq-eqb}
 use Rattle.std.specs.Prelude.{nat_lt, option_to_list}
 use Rattle.std.specs.List.{AllByRecursion, flat_map}
 use Rattle.std.specs.Option.{option_map_or}
-use Rattle.std.proofs.lemmas.Bool.{true≢false}
+use Rattle.std.proofs.lemmas.Bool.{true≢false, eqb-true}
+use Rattle.std.proofs.lemmas.List.{map-append}
 use Rattle.swp_base.specs.declared.link_terms.Cause.{Cause}
 use Rattle.registry.proofs.ValueLemmas.{AllByRecursion-append as all_append}
 use Rattle.trace_model.specs.declared.entry.Entry.{Entry}
@@ -16,15 +18,25 @@ use Rattle.link_laws.specs.entries.Entries.End.{Controller, Host}
 use Rattle.link_laws.specs.entries.Entries.Entry.{Up, Down, Active, GaveUp, Acked, Got, Sent, Emit, Took, Lost, Tick, Restarted, Cut}
 use Rattle.link_laws.proofs.entries.Quieting.{same_number}
 use Rattle.history.specs.Steps.{end_of, entry_of, entries_for}
-use Rattle.node_machine.specs.Parts.{Desk, Core, Port, Work, Deed}
+use Rattle.node_machine.specs.Parts.{Desk, Core, Port, Work, Deed, Running}
 use Rattle.node_machine.specs.Carrying.{own_side, noting, port_at, changed_if, with_port, with_desk, after_turn, noted_of, turn_at}
 use Rattle.node_machine.specs.Node.{NodeInput, input_at, has_come, told_at, all_come, with_older, is_late, reset_late, told_late, times_out, forgotten}
-use Rattle.node_machine.specs.Controller.{asked_at}
 use Rattle.node_machine.specs.Node.{forgets, is_forgotten, all_owed, is_over, without_notice, after_sessions, synced, steps, begins_with}
+use Rattle.node_machine.specs.Controller.{asked_at}
 use Rattle.node_machine.specs.Node.NodeInput.{AtEnd, TimePasses}
 use Rattle.node_laws.specs.telling.Telling.{tells_of}
 use Rattle.node_laws.proofs.telling.Accounts.{AreMute, AreSilent, all_do, all_owed_mute, all_synced_mute, forgotten_mute, rest}
-use Rattle.node_sites.specs.Numbers.{IsNumbered, AreNumbered, CountsFew, StaysCounted}
+use Rattle.swp_base.specs.InMemory.{Plan}
+use Rattle.link_laws.specs.messages.Links.{NumberedEnd, Link, Comes, number_of}
+use Rattle.link_laws.specs.messages.Links.Comes.{NextFrame, AsksReset, Starts, Stops, NoInput}
+use Rattle.link_laws.specs.sessions.Sessions.{OnWire}
+use Rattle.node_machine.specs.world.World.{arrival, port_for, work_of}
+use Rattle.node_ends.specs.Holding.{kept_number}
+use Rattle.node_core.specs.Noting.{unnumbered}
+use Rattle.node_sites.specs.Numbers.{IsNumbered, AreNumbered, CountsFew, StaysCounted, swapped_number, with_swapped_number, with_session_number, session_at}
+use Rattle.node_sites.specs.Numbers.{as_told}
+use Rattle.node_sites.specs.declared.noted.Noted.{Noted as Kept}
+use Rattle.node_sites.specs.WorldNodes.{IsNotedSo, IsNotedBehind}
 
 end_link : (h : ℕ) (who : Side) → (end_of h who).link ≡ h
 end_link h Controller = refl
@@ -267,3 +279,117 @@ module _ (session : ℕ → ℕ) where
 
   pub begun : (h : ℕ) (deeds : List Deed) (w : Work) → AreMute deeds → Numbers w → Numbers (begins_with h deeds w)
   begun h deeds w m a = all_do Numbers note desk turns beside h deeds w m a
+
+-- What was noted of a node is what the definition of its step notes.
+
+-- as a step begins, each end of a node is in the session with the number of its end
+pub work_numbers : (session : ℕ → ℕ) (r : Running) (plan : Option Plan) (near_ends : ℕ → NumberedEnd) (entries : List Entry)
+    → AreNumbered session entries → AllByRecursion (λ (d : Desk). number_of (near_ends d.host) ≡ session d.host) r.desks
+    → Numbers session (work_of r plan near_ends entries)
+work_numbers session r plan near_ends entries noted a = record { entries = noted; ports = all r.desks a }
+  where
+    all : (desks : List Desk) → AllByRecursion (λ (d : Desk). number_of (near_ends d.host) ≡ session d.host) desks
+        → AllByRecursion (IsOf session) (map (λ (d : Desk). port_for (near_ends d.host) d) desks)
+    all [] a = tt
+    all (d ∷ desks) a = (a.0, all desks a.1)
+
+-- a frame that arrives has no number of a session
+pub arrival_numbered : (session : ℕ → ℕ) (h : ℕ) (who : Side) (l : Link) (comes : Comes) → AreNumbered session (entries_for h (arrival who l comes))
+arrival_numbered session h who l NextFrame = go l.to_controller
+  where
+    go : (w : List OnWire) → AreNumbered session (entries_for h (arrival who (record l { to_controller = w }) NextFrame))
+    go [] = tt
+    go (x ∷ xs) = (tt, tt)
+arrival_numbered session h who l (AsksReset window) = tt
+arrival_numbered session h who l (Starts value) = tt
+arrival_numbered session h who l Stops = tt
+arrival_numbered session h who l NoInput = tt
+
+kept_few : (n : ℕ) → n ≤ 4294967295 → kept_number n ≡ n
+kept_few n few = omega (arith, few)
+
+swapped_twice : (k n : ℕ) → swapped_number k (swapped_number k n) ≡ n
+swapped_twice k n = go (n == 0) refl
+  where
+    back : (b : Bool) → (k == 0) ≡ b → swapped_number k k ≡ 0
+    back true z = rw z (eqb-true k 0 z)
+    back false z = rw (z, eq-eqb k k refl) refl
+
+    others : (b : Bool) → (n == 0) ≡ false → (n == k) ≡ b → swapped_number k (swapped_number k n) ≡ n
+    others true z q = rw (z, q) (sym (eqb-true n k q))
+    others false z q = rw (z, q) (rw (z, q) refl)
+
+    go : (b : Bool) → (n == 0) ≡ b → swapped_number k (swapped_number k n) ≡ n
+    go true z = rw z (back (k == 0) refl ∙ sym (eqb-true n 0 z))
+    go false z = others (n == k) z refl
+
+module _ (session : ℕ → ℕ) where
+  twice : (e : Entry) → with_swapped_number session (with_swapped_number session e) ≡ e
+  twice (entry.Up at n) = ap (entry.Up at) (swapped_twice (session at.link) n)
+  twice (entry.Sent at n pid message) = ap (λ k. entry.Sent at k pid message) (swapped_twice (session at.link) n)
+  twice (entry.Got at n pid message) = ap (λ k. entry.Got at k pid message) (swapped_twice (session at.link) n)
+  twice (entry.Acked at n count) = ap (λ k. entry.Acked at k count) (swapped_twice (session at.link) n)
+  twice e = refl
+
+  all_twice : (t : List Entry) → map (with_swapped_number session) (map (with_swapped_number session) t) ≡ t
+  all_twice [] = refl
+  all_twice (e ∷ t) = ap₂ (λ x xs. x ∷ xs) (twice e) (all_twice t)
+
+  told_back : (t : List Entry) → map (with_swapped_number session) (map (with_session_number session) t) ≡ map unnumbered t
+  told_back [] = refl
+  told_back (e ∷ t) = ap₂ (λ x xs. x ∷ xs) (twice (unnumbered e)) (told_back t)
+
+  noted_back : (t : List Entry) → map (with_swapped_number session) (map unnumbered t) ≡ map (with_session_number session) t
+  noted_back [] = refl
+  noted_back (e ∷ t) = ap (λ xs. with_session_number session e ∷ xs) (noted_back t)
+
+  one : (e : Entry) → IsNumbered session e → with_session_number session e ≡ e
+  one (entry.Up at n) q = ap (entry.Up at) (sym q)
+  one (entry.Sent at n pid message) q = ap (λ k. entry.Sent at k pid message) (sym q)
+  one (entry.Got at n pid message) q = ap (λ k. entry.Got at k pid message) (sym q)
+  one (entry.Acked at n count) q = ap₂ (entry.Acked at) (sym q.0) (kept_few count q.1)
+  one e q = refl
+
+  all_numbered : (t : List Entry) → AreNumbered session t → map (with_session_number session) t ≡ t
+  all_numbered [] a = refl
+  all_numbered (e ∷ t) a = ap₂ (λ x xs. x ∷ xs) (one e a.0) (all_numbered t a.1)
+
+-- what was noted so, as a watch was told of it
+pub as_watched : {n : Kept} {sessions : List ℕ} {start t : List Entry} → IsNotedSo n sessions start t
+    → n.short ≡ false → as_told n.sessions n.entries.items ≡ as_told sessions start ++ map unnumbered t
+as_watched {n} {sessions} {start} {t} noted off =
+    let is = noted.are off in
+    let f : Entry → Entry = with_swapped_number (session_at sessions) in
+    ap₂ (λ k es. as_told k es) is.0 is.1
+    ∙ ap (λ es. entry.Ask 0 sessions ∷ es)
+    (map-append f start (map (with_session_number (session_at sessions)) t) ∙ ap (λ es. map f start ++ es) (told_back (session_at sessions) t))
+
+-- and back
+pub as_noted : (n : Kept) (sessions : List ℕ) (start t : List Entry)
+    → (n.short ≡ false → as_told n.sessions n.entries.items ≡ as_told sessions start ++ map unnumbered t) → IsNotedSo n sessions start t
+as_noted n sessions start t told = record { are = λ off. by n.sessions (told off) }
+  where
+    f : Entry → Entry
+    f = with_swapped_number (session_at sessions)
+
+    by : (k : List ℕ) → as_told k n.entries.items ≡ as_told sessions start ++ map unnumbered t
+        → (k ≡ sessions) × (n.entries.items ≡ start ++ map (with_session_number (session_at sessions)) t)
+    by k q =
+        let same : k ≡ sessions = cc in
+        let M : List ℕ → Type 0 = λ ks. map (with_swapped_number (session_at ks)) n.entries.items ≡ map f start ++ map unnumbered t in
+        let rest : map (with_swapped_number (session_at k)) n.entries.items ≡ map f start ++ map unnumbered t = cc in (
+          same,
+          sym (all_twice (session_at sessions) n.entries.items)
+              ∙ (ap (map f) (subst M same rest)
+              ∙ (map-append f (map f start) (map unnumbered t)
+              ∙ ap₂ (λ x y. x ++ y) (all_twice (session_at sessions) start) (noted_back (session_at sessions) t))),
+        )
+
+-- what has the numbers of its sessions was noted as it is
+pub noted_behind : {n : Kept} {sessions : List ℕ} {start t : List Entry} → IsNotedSo n sessions start t → AreNumbered (session_at sessions) t
+    → IsNotedBehind n start t
+noted_behind {sessions = sessions} {start} {t} noted a off = (noted.are off).1 ∙ ap (λ es. start ++ es) (all_numbered (session_at sessions) t a)
+
+-- as nothing was noted yet
+pub none_noted : (n : Kept) → IsNotedSo n n.sessions n.entries.items []
+none_noted n = record { are = λ off. (refl, sym (append-nil n.entries.items)) }

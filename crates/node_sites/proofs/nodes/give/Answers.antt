@@ -4,13 +4,12 @@ use Rattle.std.proofs.lemmas.Result.{on_ok_weaker}
 use Rattle.node_machine.specs.Node.{begins_with}
 use Rattle.node_machine.specs.world.World.{beginning, sending}
 use Rattle.node_core.specs.Giving.{refused_as}
-use Rattle.node_sites.proofs.Renumbered.{as_noted}
+use Rattle.node_sites.proofs.Numbered.{as_noted}
 use Rattle.node_sites.specs.Asking.{deeds_asked, message_asked, message_refused}
 use Rattle.node_sites.specs.Numbers.{as_told}
 use Rattle.node_sites.specs.WorldNodes.{HasGone, IsNotedSo}
 use Rattle.node_sites.specs.declared.nodes.Asked.{Asked}
-use Rattle.node_sites.proofs.Regardless.{bare}
-use Rattle.node_sites.proofs.HostsGive.{asked_so, asked_bare, gives_so, beginning_writes, sending_writes}
+use Rattle.node_sites.proofs.NodesRun.{bare, asked_so, asked_bare, gives_so, beginning_writes, sending_writes}
 use Rattle.node_sites.proofs.nodes.give.Goals as goal
 
 pub returns-in-Send-clause-refusal : goal.returns-in-Send-clause-refusal

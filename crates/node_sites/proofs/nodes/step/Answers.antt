@@ -2,8 +2,7 @@ use Rattle.std.proofs.Common.{sym, ◌∙◌}
 use Rattle.node_machine.specs.Node.{steps}
 use Rattle.node_core.specs.Inputs.{input_of_node}
 use Rattle.node_sites.specs.Numbers.{as_told}
-use Rattle.node_sites.proofs.Regardless.{bare, steps_regardless}
-use Rattle.node_sites.proofs.NodesRun.{begins_so, begins_bare, told_so, goes_so, noted_so}
+use Rattle.node_sites.proofs.NodesRun.{bare, steps_regardless, begins_so, begins_bare, told_so, goes_so, noted_so}
 use Rattle.node_sites.proofs.nodes.step.Goals as goal
 
 pub returns-in-Ok-clause-stepped : goal.returns-in-Ok-clause-stepped

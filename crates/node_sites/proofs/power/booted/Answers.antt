@@ -10,7 +10,7 @@ use Rattle.node_core.specs.Running.{RunsAs}
 use Rattle.node_sites.specs.Memories.{IsSoundMemory}
 use Rattle.node_sites.specs.WorldBoots.{EndsBoot}
 use Rattle.node_sites.specs.declared.power.Power.TheVariants.{On}
-use Rattle.node_sites.proofs.NodesBoot.{found_as_booted, boots_so, refused_so, size_kept}
+use Rattle.node_sites.proofs.Powers.{found_as_booted, boots_so, refused_so, size_kept}
 use Rattle.node_sites.proofs.power.booted.Goals as goal
 
 pub returns-in-Ok-clause-booted : goal.returns-in-Ok-clause-booted

@@ -9,7 +9,7 @@ use Rattle.node_core.specs.Running.{RunsAs}
 use Rattle.node_sites.specs.declared.power.Power.{Power}
 use Rattle.node_sites.specs.declared.power.Power.TheVariants.{On}
 use Rattle.node_sites.specs.Powers.{IsNodePlace}
-use Rattle.node_sites.proofs.Losses.{counted, plain, while_off}
+use Rattle.node_sites.proofs.Powers.{counted, plain, while_off}
 use Rattle.node_sites.proofs.power.Power.loses_frame.Goals as goal
 
 -- a node that runs
