@@ -5,7 +5,7 @@ pub use Rattle.gate_admin.specs.declared.decision.Decision.{Decision}
 pub use Rattle.gate_admin.specs.declared.decision.Decision.TheVariants.{Answer, Ask, Commit}
 pub use Rattle.gate_admin.specs.declared.view.LinkView.{LinkView}
 pub use Rattle.gate_answers.specs.Answers.{answer_of, body_in}
-pub use Rattle.hci_store.proofs.Applying.{sound_has_no_fault}
+pub use Rattle.hci_store.proofs.Committed.{sound_has_no_fault}
 pub use Rattle.hci_store.proofs.Closing.{close-close}
 pub use Rattle.hci_store.proofs.Committed.{all_recordable, holds_more, holds_snapshot}
 pub use Rattle.hci_store.proofs.CutShort.{are_bodies, holds_still, is_body, room_count}

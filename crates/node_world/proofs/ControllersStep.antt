@@ -1,31 +1,339 @@
--- A step of the controller in which something comes to one of its ends: how it begins, how what it notes is numbered, and what is behind it.
-use Rattle.std.proofs.Common.{◌≡◌, ℕ, ◌==◌, Bool, true, false, not, List, [], ◌∷◌, get_or, map, refl, ap, ap₂, sym, subst, ◌∙◌}
+-- The world behind a step of the controller: what is kept stands for the world as the definition leaves it.
+use Rattle.std.proofs.Common.{◌≡◌, ℕ, ◌+◌, ◌==◌, Bool, true, false, cond, List, [], ◌∷◌, ◌++◌, map, refl, ap, ap₂, sym, subst, ◌∙◌, append_assoc, append-nil}
+use Rattle.std.proofs.Common.{not, get_or}
 use Rattle.std.specs.Prelude.{if◌then◌else◌, Option, Some, None, Result, OnOk}
-use Rattle.std.specs.List.{AllByRecursion}
-use Rattle.node_world.proofs.Words.{AreNumbered, AreSessions, Arrived, AsksReset, AtEnd, BeginsOver, Comes, Controller, CountsFew, Desk, Ending, Entry}
-use Rattle.node_world.proofs.Words.{FewAreCounted, GoesOnWith, HasEnds, HasGone, HostSite, IfItRuns, Incoming, IsArrivalOf, IsNodePlace, Link, LinkEnd}
-use Rattle.node_world.proofs.Words.{LinkInput, MayGoOn, Memory, NextFrame, NoInput, Node, NumberedEnd, On, OnWire, Port, Power, Reset, ResetRefused, Running}
-use Rattle.node_world.proofs.Words.{RunsAs, SameWires, SendsTo, Site, SitesAre, Starts, StaysCounted, Step, Stops, Tick, TimePasses, WentOffWith, Work}
-use Rattle.node_world.proofs.Words.{WorldBecomes, after_input, after_planned, arrival, as_comes, as_it_comes, as_it_comes_to, between, comes_at, comes_to}
-use Rattle.node_world.proofs.Words.{controller_work, end_c, entries_for, happens_at_controller, has_come, hosts_of_ends, input_at, input_of, kept_alike}
-use Rattle.node_world.proofs.Words.{link_is, link_to, near_end_in, next_frame, node_memory, number_of, on_ok, port_at, port_for, refusal_arrived}
-use Rattle.node_world.proofs.Words.{refusal_coming, site_at, steps, turns_at, wires_for, work_numbers, work_of}
-use Rattle.node_world.proofs.Comings.{refused_so}
-use Rattle.node_world.proofs.ControllersHear.{come_far}
-use Rattle.node_machine.specs.Node.{NodeInput}
-use Rattle.node_machine.specs.world.World.{NodeWorld, after_controller}
+use Rattle.std.specs.List.{AllByRecursion, flat_map}
+use Rattle.std.specs.Option.{option_map_or}
+use Rattle.std.proofs.lemmas.Bool.{eqb-true}
+use Rattle.node_world.proofs.Words.{AreDifferent, AreNumbered, AreSessions, Arrived, AsksReset, AtEnd, BeginsOver, Comes, Control, Controller, CountsFew}
+use Rattle.node_world.proofs.Words.{CutOff, Desk, Ending, Entry, FewAreCounted, GoesOnWith, GoesOut, HasEnds, HasGone, HasOneEnd, HostSite, IfItRuns, Incoming}
+use Rattle.node_world.proofs.Words.{IsArrivalOf, IsNodePlace, IsOnly, Link, LinkEnd, LinkInput, MayGoOn, Memory, NextFrame, NoInput, Node, NumberedEnd, On}
+use Rattle.node_world.proofs.Words.{OnWire, Port, Power, Reset, ResetRefused, Running, RunsAs, SameWires, SendsTo, Site, SiteIs, SitesAre, Starts}
+use Rattle.node_world.proofs.Words.{StaysCounted, Step, Stops, Tick, TimePasses, WentOffWith, WiresStandFor, Work, WorldBecomes, after_input, after_planned}
+use Rattle.node_world.proofs.Words.{arrival, as_comes, as_it_comes, as_it_comes_to, between, changed_if, comes_at, comes_to, controller_work, cut, end_c}
+use Rattle.node_world.proofs.Words.{ending_of, entries_for, frames_emitted, frames_noted, frames_out, happens_at_controller, has_come, hosts_of_ends, input_at}
+use Rattle.node_world.proofs.Words.{input_of, is_rset, is_up, kept_alike, link_is, link_to, near_end_in, new_link_end, next_frame, node_memory, number_of}
+use Rattle.node_world.proofs.Words.{on_ok, port_at, port_for, put, put_all, puts_entries, refusal_arrived, refusal_coming, renewed, same_number, sent_all}
+use Rattle.node_world.proofs.Words.{sent_port, sent_to, site_at, steps, swapped, turns_at, wires_for, with_bare_link, with_bare_wires, with_controller}
+use Rattle.node_world.proofs.Words.{with_port, work_numbers, work_of}
+use Rattle.link_laws.specs.sessions.Sessions.{fits}
+use Rattle.link_laws.specs.messages.Links.{becomes}
+use Rattle.link_laws.specs.entries.Entries.{End as Side, far, pushed_out, wire_with, put_entries, ending_entries}
+use Rattle.link_laws.specs.entries.Entries.Entry.{Emit}
 use Rattle.node_laws.specs.telling.Telling.{hosts_in}
-use Rattle.node_laws.proofs.telling.Events.{Stands, stands}
 use Rattle.node_laws.proofs.telling.Steps.{AreAlike}
-use Rattle.node_world.specs.Controllers.{EndsStep}
-use Rattle.node_world.proofs.HostsBegin.{near_side}
-use Rattle.node_world.proofs.HostsHear.{number_coming}
-use Rattle.node_world.proofs.EndsGo.{EndGoes, controller_ends}
-use Rattle.node_world.proofs.Behind.{each_found, hosts_kept}
-use Rattle.node_sites.proofs.Numbered.{stepped}
-use Rattle.node_sites.proofs.Renumbered.{arrival_numbered}
-use Rattle.node_world.proofs.ControllersGo.{EndSteps}
-use Rattle.node_world.proofs.ControllersStand.{mid_hosts, sends_them, went_on, went_off}
+use Rattle.node_machine.specs.world.World.{NodeWorld, runs_on, after_controller}
+use Rattle.node_core.specs.Running.{SendsOneByOne}
+use Rattle.node_core.proofs.Between.{all_one_by_one}
+use Rattle.node_machine.specs.Node.{NodeInput}
+use Rattle.node_laws.proofs.telling.Events.{Stands, stands}
+use Rattle.node_sites.proofs.Numbered.{stepped, arrival_numbered}
+use Rattle.node_world.specs.Controllers.{due_at, has_frames, EndsStep}
+use Rattle.node_world.proofs.EndsGo.{same_stand, silent_same, same_twice, ended_far, each_found, next_ports, all_sides, EndGoes, controller_ends, hosts_kept}
+use Rattle.node_world.proofs.HostsHear.{refused_so, near_side, number_coming}
+use Rattle.node_world.proofs.ControllersHear.{come_far}
+
+-- ## Its ends
+
+-- the controller's end of a link in a step: it began with the wires of one link, notes its frames on those of another, and ends so
+pub record EndSteps (v : Work) (s : Site) (starts out : Link) (so : Ending → Link) : Type 0 where
+  pub port : Port
+  pub here : port_at v.ports s.host ≡ Some port
+  pub link : Link
+  pub wires : SameWires starts link
+  pub alike : AreAlike link out
+  pub goes_out : so GoesOut ≡ becomes link port.side
+  pub goes_off : so CutOff ≡ cut (with_controller link (sent_all port.side))
+  pub far : link.host ≡ starts.host
+
+-- with different hosts, the end that is found is the only one
+pub the_only : (h : ℕ) (p : Port) (ports : List Port) → AreDifferent (hosts_of_ends ports) → port_at ports h ≡ Some p → IsOnly h p ports
+the_only h p [] d f = tt
+the_only h p (x ∷ ports) d f = go (x.desk.host == h) refl (the_only h p ports d.1)
+  where
+    others : (ys : List Port) → x.desk.host ≡ h → AllByRecursion (λ k. (k == x.desk.host) ≡ false) (hosts_of_ends ys) → IsOnly h p ys
+    others [] is a = tt
+    others (y ∷ ys) is a = (
+      λ q. let other : (y.desk.host == h) ≡ false = ap (λ n. y.desk.host == n) (sym is) ∙ a.0 in
+          absurd (let z : true ≡ false = sym q ∙ other in cc),
+      others ys is a.1,
+    )
+
+    go : (b : Bool) → (x.desk.host == h) ≡ b → (port_at ports h ≡ Some p → IsOnly h p ports) → IsOnly h p (x ∷ ports)
+    go true e later =
+        let found : Some x ≡ Some p = rw e at f in
+        let is : x ≡ p = cc in
+        (λ q. is, others ports (eqb-true x.desk.host h e) d.0)
+    go false e later = (λ q. absurd (let z : true ≡ false = sym q ∙ e in cc), later (rw e at f))
+
+-- where frames went out to all hosts of its ends, they went out at each end
+pub sent_everywhere : (hosts : List ℕ) (ports : List Port) → AreDifferent hosts → hosts_of_ends ports ≡ hosts → sent_to hosts ports ≡ map sent_port ports
+sent_everywhere [] [] d q = refl
+sent_everywhere [] (p ∷ ports) d q = absurd (cc q)
+sent_everywhere (h ∷ hosts) [] d q = absurd (cc q)
+sent_everywhere (h ∷ hosts) (p ∷ ports) d q =
+    let host : p.desk.host ≡ h = cc in
+    let rest : hosts_of_ends ports ≡ hosts = cc in
+    let there : (p.desk.host == h) ≡ true = ap (λ n. n == h) host ∙ same_number h in
+    let first : changed_if (p.desk.host == h) sent_port p ≡ sent_port p = rw there refl in
+    let D : List ℕ → Type 0 = λ hs. AllByRecursion (λ k. (k == h) ≡ false) hs in
+    let now : with_port h sent_port (p ∷ ports) ≡ sent_port p ∷ ports = ap₂ (λ (x : Port) xs. x ∷ xs) first (none ports (subst D (sym rest) d.0)) in
+    let F : ℕ → Type 0 = λ n. AllByRecursion (λ k. (k == n) ≡ false) hosts in
+    let others : AllByRecursion (λ k. (k == p.desk.host) ≡ false) hosts = subst F (sym host) d.0 in
+    ap (sent_to hosts) now ∙ (past hosts (sent_port p) ports others ∙ ap (λ xs. sent_port p ∷ xs) (sent_everywhere hosts ports d.1 rest))
+  where
+    none : (xs : List Port) → AllByRecursion (λ k. (k == h) ≡ false) (hosts_of_ends xs) → with_port h sent_port xs ≡ xs
+    none [] a = refl
+    none (x ∷ xs) a =
+        let q : (x.desk.host == h) ≡ false = a.0 in
+        let one : changed_if (x.desk.host == h) sent_port x ≡ x = rw q refl in
+        ap₂ (λ (y : Port) ys. y ∷ ys) one (none xs a.1)
+
+    past : (ks : List ℕ) (x : Port) (xs : List Port) → AllByRecursion (λ k. (k == x.desk.host) ≡ false) ks → sent_to ks (x ∷ xs) ≡ x ∷ sent_to ks xs
+    past [] x xs a = refl
+    past (k ∷ ks) x xs a =
+        let q : (x.desk.host == k) ≡ false = swapped k x.desk.host a.0 in
+        let one : changed_if (x.desk.host == k) sent_port x ≡ x = rw q refl in
+        ap (λ (y : Port). sent_to ks (y ∷ with_port k sent_port xs)) one ∙ past ks x (with_port k sent_port xs) a.1
+
+-- ## What is noted of frames
+
+put_alike : (l m : Link) (c : Control) → AreAlike l m → AreAlike (put l c) (put m c)
+put_alike l m c a = go (is_rset c) refl
+  where
+    go : (b : Bool) → is_rset c ≡ b → AreAlike (put l c) (put m c)
+    go true q =
+        rw q
+        (record {
+          to_host = ap (λ n. fits (l.to_host ++ record { frame = c; age = 0; number = n + 1 } ∷ [])) a.resets
+              ∙ ap (λ w. fits (w ++ record { frame = c; age = 0; number = m.resets + 1 } ∷ [])) a.to_host;
+          resets = ap (λ n. n + 1) a.resets;
+        })
+    go false q = rw q (record { to_host = ap (λ w. fits (w ++ record { frame = c; age = 0; number = 0 } ∷ [])) a.to_host; resets = a.resets })
+
+wire_alike : (l m : Link) (c : Control) → AreAlike l m → wire_with l c ≡ wire_with m c
+wire_alike l m c a =
+    let wire : ℕ → List OnWire → List OnWire = λ n w. w ++ record { frame = c; age = 0; number = if is_rset c then n + 1 else 0 } ∷ [] in
+    ap (wire l.resets) a.to_host ∙ ap (λ n. wire n m.to_host) a.resets
+
+-- two links with the same wire to the host and as many RSETs note the same
+puts_alike : (who : Side) (cs : List Control) (l m : Link) → AreAlike l m → puts_entries who l cs ≡ puts_entries who m cs
+puts_alike who [] l m a = refl
+puts_alike who (c ∷ cs) l m a =
+    ap (λ w. (Emit who c ∷ pushed_out (far who) w) ++ puts_entries who (put l c) cs) (wire_alike l m c a)
+    ∙ ap (λ z. put_entries who m c ++ z) (puts_alike who cs (put l c) (put m c) (put_alike l m c a))
+
+cut_silent : (h : ℕ) (ports : List Port) (l : Link)
+    → option_map_or (λ (p : Port). entries_for h (ending_entries Controller l p.side CutOff)) (port_at ports h) [] ≡ []
+cut_silent h ports l = go (port_at ports h)
+  where
+    go : (o : Option Port) → option_map_or (λ (p : Port). entries_for h (ending_entries Controller l p.side CutOff)) o [] ≡ []
+    go None = refl
+    go (Some p) = refl
+
+-- ## All links
+
+module _ (v : Work) (starts out : Site → Link) (so : Site → Ending → Link) where
+  abbrev pub EachSteps : List Site → Type 0
+  EachSteps sites = AllByRecursion (λ (s : Site). EndSteps v s (starts s) (out s) (so s)) sites
+
+  -- the hosts as the frames go out on their links
+  abbrev pub midway : (sites : List Site) → EachSteps sites → List Site
+  midway [] a = []
+  midway (s ∷ sites) a = record s { link = a.0.link } ∷ midway sites a.1
+
+  pub midway_hosts : (sites : List Site) (a : EachSteps sites) → hosts_in (midway sites a) ≡ hosts_in sites
+  midway_hosts [] a = refl
+  midway_hosts (s ∷ sites) a = ap (λ hs. s.host ∷ hs) (midway_hosts sites a.1)
+
+  pub each_one : (sites : List Site) → EachSteps sites → AreDifferent (hosts_of_ends v.ports) → AllByRecursion (HasOneEnd v.ports) (hosts_in sites)
+  each_one [] a d = tt
+  each_one (s ∷ sites) a d =
+      (record { port = a.0.port; here = a.0.here; only = the_only s.host a.0.port v.ports d a.0.here }, each_one sites a.1 d)
+
+  -- what was noted of all frames
+  pub told_alike : (sites : List Site) (a : EachSteps sites) → v.cut ≡ false
+      → flat_map (frames_emitted v.ports) (midway sites a) ≡ flat_map (λ (s : Site). frames_noted Controller s.host (out s) v) sites
+  told_alike [] a on = refl
+  told_alike (s ∷ sites) a on = ap₂ (λ xs ys. xs ++ ys) one (told_alike sites a.1 on)
+    where
+      one : frames_emitted v.ports (record s { link = a.0.link }) ≡ frames_noted Controller s.host (out s) v
+      one =
+          let e : EndSteps v s (starts s) (out s) (so s) = a.0 in
+          let due : due_at v.ports s.host ≡ frames_out e.port.side = ap (λ o. option_map_or (λ (p : Port). frames_out p.side) o []) e.here in
+          let ending : ending_of v ≡ GoesOut = ap (λ (b : Bool). cond b CutOff GoesOut) on in
+          ap (λ cs. entries_for s.host (puts_entries Controller e.link cs)) due
+          ∙ (ap (entries_for s.host) (puts_alike Controller (frames_out e.port.side) e.link (out s) e.alike)
+          ∙ sym (ap (λ o. option_map_or (λ (p : Port). entries_for s.host (ending_entries Controller (out s) p.side (ending_of v))) o []) e.here
+          ∙ ap (λ x. entries_for s.host (ending_entries Controller (out s) e.port.side x)) ending))
+
+  pub none_told : (sites : List Site) → v.cut ≡ true → flat_map (λ (s : Site). frames_noted Controller s.host (out s) v) sites ≡ []
+  none_told [] off = refl
+  none_told (s ∷ sites) off =
+      let ending : ending_of v ≡ CutOff = ap (λ (b : Bool). cond b CutOff GoesOut) off in
+      let one : frames_noted Controller s.host (out s) v ≡ [] =
+      ap (λ x. option_map_or (λ (p : Port). entries_for s.host (ending_entries Controller (out s) p.side x)) (port_at v.ports s.host) []) ending
+      ∙ cut_silent s.host v.ports (out s) in
+      ap (λ xs. xs ++ flat_map (λ (s : Site). frames_noted Controller s.host (out s) v) sites) one ∙ none_told sites off
+
+  abbrev pub starts_so : Site → Site
+  starts_so s = record s { link = starts s }
+
+  abbrev pub ends_so : Ending → Site → Site
+  ends_so e s = record s { link = so s e }
+
+  abbrev Near : HostSite → Site → Link → Type 0
+  Near k s l = SiteIs k (record s { link = l })
+
+  placed : (k : HostSite) (s : Site) (l m : Link) → m.host ≡ l.host → WiresStandFor k.wires m → Near k s l → Near k s m
+  placed k s l m q wires a =
+      let Q : NumberedEnd → Type 0 = λ e. IsNodePlace k.power s.memory s.node (λ h. e) in
+      record { host = a.host; wires = wires; place = subst Q (sym q) a.place }
+
+  pub midway_stands : (ks : List HostSite) (sites : List Site) (a : EachSteps sites) → SitesAre ks (map starts_so sites) → SitesAre ks (midway sites a)
+  midway_stands [] [] a b = tt
+  midway_stands (k ∷ ks) (s ∷ sites) a b = (placed k s (starts s) a.0.link a.0.far (same_stand a.0.wires b.0.wires) b.0, midway_stands ks sites a.1 b.1)
+  midway_stands [] (s ∷ sites) a b = absurd b
+  midway_stands (k ∷ ks) [] a b = absurd b
+
+  pub out_stands : (ks : List HostSite) (sites : List Site) (a : EachSteps sites)
+      → SitesAre ks (map (has_frames v.ports) (midway sites a)) → SitesAre ks (map (ends_so GoesOut) sites)
+  out_stands [] [] a b = tt
+  out_stands [] (s ∷ sites) a b = absurd b
+  out_stands (k ∷ ks) [] a b = absurd b
+  out_stands (k ∷ ks) (s ∷ sites) a b = (one, out_stands ks sites a.1 b.1)
+    where
+      one : SiteIs k (ends_so GoesOut s)
+      one =
+          let e : EndSteps v s (starts s) (out s) (so s) = a.0 in
+          let due : due_at v.ports s.host ≡ frames_out e.port.side = ap (λ o. option_map_or (λ (p : Port). frames_out p.side) o []) e.here in
+          let F : List Control → Type 0 = λ cs. Near k s (put_all e.link cs) in
+          let sent : Near k s (put_all e.link (frames_out e.port.side)) = subst F due b.0 in
+          let w = sent.wires in
+          let L : Link → Type 0 = λ l. Near k s l in
+          subst L (sym e.goes_out)
+          (record {
+            host = sent.host;
+            wires = record {
+              here = record { emitted_is = w.here.emitted_is; took_is = w.here.took_is; wire_is = w.here.wire_is };
+              there = w.there;
+              count = w.count;
+            };
+            place = sent.place;
+          })
+
+  pub off_stands : (ks : List HostSite) (sites : List Site) (a : EachSteps sites)
+      → SitesAre ks (map with_bare_link (midway sites a)) → SitesAre ks (map (ends_so CutOff) sites)
+  off_stands [] [] a b = tt
+  off_stands [] (s ∷ sites) a b = absurd b
+  off_stands (k ∷ ks) [] a b = absurd b
+  off_stands (k ∷ ks) (s ∷ sites) a b = (one, off_stands ks sites a.1 b.1)
+    where
+      one : SiteIs k (ends_so CutOff s)
+      one =
+          let e : EndSteps v s (starts s) (out s) (so s) = a.0 in
+          let m : Link = with_controller e.link (sent_all e.port.side) in
+          let same : SameWires (with_bare_wires e.link) (with_bare_wires m) =
+          record { to_controller = refl; to_host = refl; resets = refl; controller = (refl, refl); host = (refl, refl) } in
+          let gone : SameWires (with_bare_wires e.link) (cut m) = same_twice same (silent_same m (new_link_end (renewed m.controller.side.role))) in
+          let L : Link → Type 0 = λ l. Near k s l in
+          subst L (sym e.goes_off)
+          (placed k s (with_bare_wires e.link) (cut m) (ended_far m (is_up m.controller.side.shdlc.phase)) (same_stand gone b.0.wires) b.0)
+
+-- What is kept of the controller and of all hosts stands for the world behind a step of the controller.
+
+-- a step of the controller that has become v, in a world w: each link is one as it begins, and so behind it
+module _ (w : NodeWorld) (v : Work) (starts out : Site → Link) (so : Site → Ending → Link) (different : AreDifferent (hosts_in w.sites))
+    (hosts : hosts_of_ends v.ports ≡ hosts_in w.sites)
+    (each : (s : Site) → site_at w.sites s.host ≡ Some s → EndSteps v s (starts s) (out s) (so s)) where
+  pub all_steps : EachSteps v starts out so w.sites
+  all_steps = go w.sites (each_found (λ (s : Site). s.host) w.sites different)
+    where
+      go : (left : List Site) → AllByRecursion (λ (s : Site). site_at w.sites s.host ≡ Some s) left → EachSteps v starts out so left
+      go [] a = tt
+      go (s ∷ left) a = (each s a.0, go left a.1)
+
+  -- the hosts before the frames go out
+  abbrev pub mid_hosts : List Site
+  mid_hosts = midway v starts out so w.sites all_steps
+
+  abbrev pub sites_so : Ending → List Site
+  sites_so e = map (λ (s : Site). record s { link = so s e }) w.sites
+
+  -- the world behind it, and what is noted of it
+  abbrev pub behind_step : NodeWorld × List Entry
+  behind_step = (
+    record { memory = after_planned v.writes w.memory; controller = runs_on v; sites = sites_so (ending_of v) },
+    v.entries ++ flat_map (λ (s : Site). frames_noted Controller s.host (out s) v) w.sites,
+  )
+
+  ends_different : AreDifferent (hosts_of_ends v.ports)
+  ends_different = subst AreDifferent (sym hosts) different
+
+  sides : AllByRecursion (λ (p : Port). (link_to (sites_so GoesOut) p.desk.host).controller.side ≡ sent_all p.side) v.ports
+  sides =
+      all_sides v w.sites (λ (s : Site). record s { link = so s GoesOut }) (λ s. refl) hosts different
+      (λ s found. let e : EndSteps v s (starts s) (out s) (so s) = each s found in
+      record { port = e.port; here = e.here; side = ap (λ (l : Link). l.controller.side) e.goes_out })
+
+  none_left : (near_ends : ℕ → NumberedEnd) (ports : List Port) → AllByRecursion (λ (p : Port). (near_ends p.desk.host).side ≡ sent_all p.side) ports
+      → AllByRecursion (λ (p : Port). SendsOneByOne p.side) ports
+      → AllByRecursion (λ (d : Desk). next_frame (near_ends d.host).side ≡ None) (map (λ (p : Port). p.desk) ports)
+  none_left near_ends [] a b = tt
+  none_left near_ends (p ∷ ports) a b = (ap next_frame a.0 ∙ b.0.none, none_left near_ends ports a.1 b.1)
+
+  -- as it ends, the controller has one end on the link with each host
+  pub sends_them : {Runs : Type 0} (ks : List HostSite) → Runs
+      → SitesAre ks (map (λ (s : Site). record s { link = starts s }) w.sites) → SendsTo Runs v.ports ks mid_hosts
+  sends_them ks runs a =
+      let same : hosts_in mid_hosts ≡ hosts_in w.sites = midway_hosts v starts out so w.sites all_steps in
+      record {
+        runs = runs;
+        sites = midway_stands v starts out so ks w.sites all_steps a;
+        different = subst AreDifferent (sym same) different;
+        ends = subst (AllByRecursion (HasOneEnd v.ports)) (sym same) (each_one v starts out so w.sites all_steps ends_different);
+      }
+
+  pub went_on : (k : Power) (ks : List HostSite) (n : Node Memory) (before now : List Entry) → v.cut ≡ false
+      → node_memory n ≡ after_planned v.writes w.memory → RunsAs n v.core v.ports
+      → GoesOnWith k ks n v mid_hosts before now → WorldBecomes k ks before now behind_step
+  went_on k ks n before now on memory runs r =
+      let near_ends : ℕ → NumberedEnd = λ h. (link_to (sites_so GoesOut) h).controller in
+      let left : Running = record { core = v.core; desks = map (λ (p : Port). p.desk) v.ports } in
+      let names : sent_to (hosts_in mid_hosts) v.ports ≡ map sent_port v.ports =
+      ap (λ hs. sent_to hs v.ports) (midway_hosts v starts out so w.sites all_steps) ∙ sent_everywhere (hosts_in w.sites) v.ports different hosts in
+      let ports : RunsAs r.node v.core (map (λ (d : Desk). port_for (near_ends d.host) d) left.desks) =
+      kept_alike (sent_to (hosts_in mid_hosts) v.ports) (map (λ (d : Desk). port_for (near_ends d.host) d) left.desks)
+      (ap (map between) names ∙ next_ports near_ends v.ports sides) r.runs in
+      let m : Memory = after_planned v.writes w.memory in
+      let Place : Power → Type 0 = λ a. IsNodePlace a m (Some left) near_ends in
+      let place : Place (On r.node) = (r.memory ∙ memory, ports, none_left near_ends v.ports sides (all_one_by_one runs)) in
+      let told : List Entry = flat_map (λ (s : Site). frames_noted Controller s.host (out s) v) w.sites in
+      let World : Bool → NodeWorld = λ b. record { memory = m; controller = cond b None (Some left); sites = sites_so (cond b CutOff GoesOut) } in
+      let Is : Bool → Type 0 = λ b. WorldBecomes k ks before now (World b, v.entries ++ told) in
+      subst Is (sym on)
+      (record {
+        world = record { controller = subst Place (sym r.on) place; sites = out_stands v starts out so ks w.sites all_steps r.sites };
+        noted = r.noted ∙ (ap (λ es. (before ++ v.entries) ++ es) (told_alike v starts out so w.sites all_steps on) ∙ append_assoc before v.entries told);
+      })
+
+  pub went_off : (k : Power) (ks : List HostSite) (n : Node Memory) (before now : List Entry) → v.cut ≡ true
+      → node_memory n ≡ after_planned v.writes w.memory → WentOffWith k ks n v mid_hosts before now → WorldBecomes k ks before now behind_step
+  went_off k ks n before now off memory r =
+      let near_ends : ℕ → NumberedEnd = λ h. (link_to (sites_so CutOff) h).controller in
+      let left : Running = record { core = v.core; desks = map (λ (p : Port). p.desk) v.ports } in
+      let m : Memory = after_planned v.writes w.memory in
+      let Place : Power → Type 0 = λ a. IsNodePlace a m None near_ends in
+      let told : List Entry = flat_map (λ (s : Site). frames_noted Controller s.host (out s) v) w.sites in
+      let World : Bool → NodeWorld = λ b. record { memory = m; controller = cond b None (Some left); sites = sites_so (cond b CutOff GoesOut) } in
+      let Is : Bool → Type 0 = λ b. WorldBecomes k ks before now (World b, v.entries ++ told) in
+      subst Is (sym off)
+      (record {
+        world = record { controller = subst Place (sym r.off) memory; sites = off_stands v starts out so ks w.sites all_steps r.sites };
+        noted = r.noted ∙ ap (λ es. before ++ es) (sym (ap (λ es. v.entries ++ es) (none_told v starts out so w.sites off) ∙ append-nil v.entries));
+      })
+
+-- A step of the controller in which something comes to one of its ends: how it begins, how what it notes is numbered, and what is behind it.
 
 -- ## As a step begins
 

@@ -2,13 +2,13 @@
 use Rattle.std.proofs.Common.{◌≡◌, ◌⊎◌, inl, inr, ℕ, zero, suc, ◌+◌, ◌<◌, ◌≤◌, ◌^◌, ◌==◌, Bool, true, false, List, [], ◌∷◌, map, refl, subst, sym, arith}
 use Rattle.std.specs.Prelude.{Option, Some, None, length, replicate, unwrap_or, IfSome}
 use Rattle.std.specs.List.{AllByRecursion}
-use Rattle.node_world.proofs.Words.{AreSendable, AsksReset, AtEnd, Comes, CountsFew, Desk, FewOn, FewOnEach, Happening, IsFromOutside, Link, LinkEnd, LinkInput}
-use Rattle.node_world.proofs.Words.{Message, NextFrame, NoInput, NumberedEnd, OnWire, Port, Reset, Site, Starts, StaysCounted, Stops, Tick, TimePasses}
-use Rattle.node_world.proofs.Words.{after_input, has_come, input_at, link_to, near_end_in, port_for, site_at, taken_of, took_with}
+use Rattle.node_world.proofs.Words.{AreSendable, AsksReset, AtEnd, Comes, CountsFew, Desk, FewOn, FewOnEach, Happening, IsFromOutside, Link, LinkEnd}
+use Rattle.node_world.proofs.Words.{LinkInput, Message, NextFrame, NoInput, NumberedEnd, OnWire, Port, Reset, Site, Starts, StaysCounted, Stops, Tick}
+use Rattle.node_world.proofs.Words.{TimePasses, after_input, has_come, input_at, link_to, near_end_in, port_for, site_at, taken_of, took_with}
 use Rattle.link_laws.specs.machine.Machine.Role.{Bare}
 use Rattle.link_laws.specs.messages.Links.{new_link}
 use Rattle.node_world.specs.Bounds.{AcksWithin, AckWithin}
-use Rattle.node_world.proofs.FewAtEnds.{Nearly, whole_within, input_nearly, reset_nearly}
+use Rattle.node_world.proofs.FewInWorlds.{Nearly, whole_within, input_nearly, reset_nearly}
 
 -- ## Lines
 

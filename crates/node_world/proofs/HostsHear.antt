@@ -1,28 +1,106 @@
--- How each step of a host of the world goes: something comes to its end, it does something by itself, or a tick passes.
-use Rattle.std.proofs.Common.{◌≡◌, ℕ, ◌==◌, ◌≤◌, ◌<◌, Bool, true, false, cond, max, List, [], ◌∷◌, ◌++◌, map, replicate, get_or, refl, ap, ap₂}
-use Rattle.std.proofs.Common.{sym, subst, ◌∙◌, arith}
-use Rattle.std.specs.Prelude.{Option, Some, None}
+-- A host of the world as a step of it begins.
+use Rattle.std.proofs.Common.{◌≡◌, ℕ, ◌==◌, ◌≤◌, ◌<◌, Bool, true, false, cond, max, List, [], ◌∷◌, ◌++◌, map, replicate, get_or, refl, ap, ap₂, sym, subst}
+use Rattle.std.proofs.Common.{◌∙◌, arith, ◌&&◌, append-nil}
+use Rattle.std.specs.Prelude.{Option, Some, None, is_some, Result, OnOk, option_map, Ok, Err, MatchResult, is_ok}
 use Rattle.std.specs.List.{AllByRecursion}
 use Rattle.std.proofs.lemmas.List.{get_or-replicate}
-use Rattle.node_world.proofs.Words.{AreMute, AreNumbered, AsksReset, AtEnd, Comes, Control, CountsFew, CountsOn, Deed, Desk, Ending, Entry, HasEnds, HasGone}
-use Rattle.node_world.proofs.Words.{Host, HostSite, IfItRuns, IsHostOf, IsToSend, Link, LinkEnd, LinkInput, Memory, NextFrame, NoInput, Node, NumberedEnd, On}
-use Rattle.node_world.proofs.Words.{OnWire, Port, Reset, Running, SameWires, Site, Starts, StaysCounted, Step, Stops, Tick, TimePasses, Turn, WiresStandFor}
-use Rattle.node_world.proofs.Words.{Work, after_planned, arrival, as_it_comes, begins_with, entries_for, exchanged, frames_out, happens_at_controller, has_come}
-use Rattle.node_world.proofs.Words.{host_tick, host_work, hosts_of_ends, input_at, input_of, is_rset, near_end_in, node_memory, noted_behind, number_of}
-use Rattle.node_world.proofs.Words.{port_for, put, puts_entries, same_number, session_at, steps, ticked_so, took_with, wires_for, work_numbers, work_of}
-use Rattle.link_laws.specs.entries.Entries.{put_entries}
-use Rattle.node_laws.specs.telling.Telling.{is_due}
+use Rattle.std.proofs.lemmas.Bool.{eqb-false}
+use Rattle.node_world.proofs.Words.{AreMute, AreNumbered, Arrived, AsksReset, AtEnd, BeginsOver, Comes, Control, Core, CountsFew, CountsOn, Deed, Desk, End}
+use Rattle.node_world.proofs.Words.{Ending, Entry, HasBecome, HasEnds, HasGone, Host, HostSite, IfItRuns, Incoming, IsArrivalOf, IsHostOf, IsNodePlace}
+use Rattle.node_world.proofs.Words.{IsToSend, Link, LinkEnd, LinkInput, MayTick, Memory, Message, NextFrame, NoCause, NoInput, Node, NumberedEnd, Off, On}
+use Rattle.node_world.proofs.Words.{OnWire, Port, Power, Reset, ResetRefused, Running, RunsAs, SameWires, Site, SiteIs, Starts, StaysCounted, Step, Stops}
+use Rattle.node_world.proofs.Words.{Tick, TimePasses, Turn, Wires, WiresStandFor, Work, WorldBecomes, after_planned, arrival, as_comes, as_it_comes, beginning}
+use Rattle.node_world.proofs.Words.{begins_with, between, entries_for, exchanged, frames_noted, frames_out, happens_at_controller, has_come, host_behind}
+use Rattle.node_world.proofs.Words.{host_hears, host_opened, host_stepped, host_tick, host_ticks, host_work, hosts_of_ends, if_accepted, input_at, input_of}
+use Rattle.node_world.proofs.Words.{is_rset, kept_alike, near_end_in, next_frame, node_memory, noted_behind, number_of, port_at, port_for, put, puts_entries}
+use Rattle.node_world.proofs.Words.{refusal_arrived, refusal_coming, reset_refusal, same_number, sending, sending_refused, session_at, side_of, steps}
+use Rattle.node_world.proofs.Words.{ticked_so, took_with, wires_for, work_numbers, work_of}
+use Rattle.link_laws.specs.entries.Entries.{put_entries, End as Side}
+use Rattle.node_laws.specs.telling.Telling.{is_due, NoneDue}
 use Rattle.node_laws.proofs.telling.Steps.{Keeps, begins_keep, steps_keep, tick_keeps}
 use Rattle.node_sites.specs.LinksKept.{without_first}
 use Rattle.node_sites.specs.declared.noted.Noted.{Noted}
 use Rattle.node_sites.specs.WorldNodes.{IsNotedSo}
-use Rattle.node_world.specs.HostSteps.{EndDoes}
-use Rattle.node_sites.proofs.Numbered.{Numbers, stepped, begun}
-use Rattle.node_sites.proofs.Renumbered.{arrival_numbered}
-use Rattle.node_world.proofs.GoingOn.{same_stand, same_exchanged}
-use Rattle.node_world.proofs.EndsGo.{EndGoes, host_ends, host_begins}
-use Rattle.node_world.proofs.TicksGo.{EndTicks, host_end_ticks}
-use Rattle.node_world.proofs.HostsBegin.{near_side}
+use Rattle.node_sites.proofs.Numbered.{Numbers, stepped, begun, arrival_numbered}
+use Rattle.trace_model.specs.declared.entry.NoCause.TheVariants as no
+use Rattle.link_laws.specs.machine.Machine.{give_refusal}
+use Rattle.node_machine.specs.Parts.Deed.{Sends, Orders}
+use Rattle.node_machine.specs.Controller.{is_command_message}
+use Rattle.node_machine.specs.world.Lines.{if_waiting}
+use Rattle.node_core.proofs.Asking.{asked_may}
+use Rattle.node_ends.specs.Ends.{MayStartAt}
+use Rattle.node_ends.specs.declared.inputs.LinkInput.TheVariants as asks
+use Rattle.swp_base.specs.declared.outside.NoMemory.{NoMemory}
+use Rattle.link_end.specs.Reports.{reset_refused}
+use Rattle.history.specs.Follows.{seen_from}
+use Rattle.link_wires.specs.Notes.{AreNoted}
+use Rattle.node_machine.specs.world.World.{NodeWorld}
+use Rattle.node_core.proofs.Behind.{power_may_start}
+use Rattle.node_sites.specs.declared.incoming.Incoming.TheVariants as coming
+use Rattle.node_sites.specs.declared.incoming.Arrived.TheVariants as arrived
+use Rattle.node_sites.specs.Arrivals.{ComesToEnd, HasArrived, NoneArrived, MayArriveAt, MayArrive}
+use Rattle.node_sites.specs.Numbers.{with_session_number}
+use Rattle.node_machine.proofs.world.Cases.{after_tick}
+use Rattle.node_world.specs.HostSteps.{EndDoes, CountsComing}
+use Rattle.node_world.proofs.EndsGo.{same_stand, same_exchanged, EndGoes, host_ends, host_begins, EndTicks, host_end_ticks}
+
+-- what comes changes no end by itself
+pub near_side : (l : Link) (comes : Comes) → (near_end_in l comes).side ≡ l.controller.side
+near_side l NextFrame = go l.to_controller
+  where
+    go : (w : List OnWire) → (near_end_in (record l { to_controller = w }) NextFrame).side ≡ l.controller.side
+    go [] = refl
+    go (x ∷ xs) = refl
+near_side l (AsksReset window) = refl
+near_side l (Starts value) = refl
+near_side l Stops = refl
+near_side l NoInput = refl
+
+same_ports : (a b : NumberedEnd) (desks : List Desk) → a.side ≡ b.side
+    → map between (map (λ (d : Desk). port_for a d) desks) ≡ map between (map (λ (d : Desk). port_for b d) desks)
+same_ports a b [] q = refl
+same_ports a b (d ∷ desks) q =
+    ap₂ (λ (x : Port) xs. x ∷ xs) (ap (λ (e : LinkEnd). record { desk = d; side = e; session = 0; late = false; ended = false; turns = [] }) q)
+    (same_ports a b desks q)
+
+ports_sent : (a b : NumberedEnd) (desks : List Desk) → a.side ≡ b.side → AllByRecursion (λ (d : Desk). next_frame a.side ≡ None) desks
+    → AllByRecursion (λ (p : Port). next_frame p.side ≡ None) (map (λ (d : Desk). port_for b d) desks)
+ports_sent a b [] q all = tt
+ports_sent a b (d ∷ desks) q all = let P : LinkEnd → Type 0 = λ e. next_frame e ≡ None in (subst P q all.0, ports_sent a b desks q all.1)
+
+ports_fresh : (b : NumberedEnd) (desks : List Desk)
+    → AllByRecursion (λ (p : Port). (p.late ≡ false) × (p.ended ≡ false)) (map (λ (d : Desk). port_for b d) desks)
+ports_fresh b [] = tt
+ports_fresh b (d ∷ desks) = ((refl, refl), ports_fresh b desks)
+
+-- a host that runs begins a step in which this comes
+pub host_begins_so : (k : HostSite) (s : Site) (n : Node Memory) (r : Running) (comes : Comes) (entries : List Entry) → SiteIs k s → k.power ≡ On n
+    → s.node ≡ Some r → BeginsOver n (work_of r s.memory.plan (λ j. near_end_in (exchanged s.link) comes) entries)
+host_begins_so k s n r comes entries is on runs =
+    let Q : Power → Option Running → Type 0 = λ a b. IsNodePlace a s.memory b (λ h. s.link.host) in
+    let place : Q (On n) (Some r) = subst (Q (On n)) runs (subst (λ a. Q a s.node) on is.place) in
+    let side : s.link.host.side ≡ (near_end_in (exchanged s.link) comes).side = sym (near_side (exchanged s.link) comes) in
+    record {
+      runs = kept_alike (map (λ (d : Desk). port_for s.link.host d) r.desks) (map (λ (d : Desk). port_for (near_end_in (exchanged s.link) comes) d) r.desks)
+          (same_ports s.link.host (near_end_in (exchanged s.link) comes) r.desks side) place.1;
+      sent = ports_sent s.link.host (near_end_in (exchanged s.link) comes) r.desks side place.2;
+      fresh = ports_fresh (near_end_in (exchanged s.link) comes) r.desks;
+      power = refl;
+      plan = ap (λ (m : Memory). m.plan) (sym place.0);
+      writes = refl;
+    }
+
+-- something has come to its end
+pub begins_at_end : (k : HostSite) (s : Site) (n : Node Memory) (r : Running) (comes : Comes) → SiteIs k s → k.power ≡ On n → s.node ≡ Some r
+    → BeginsOver n (work_of r s.memory.plan (λ j. near_end_in (exchanged s.link) comes) (entries_for s.host (arrival Host (exchanged s.link) comes)))
+begins_at_end k s n r comes is on runs =
+    host_begins_so k s n r comes (entries_for s.host (arrival Host (exchanged s.link) comes)) is on runs
+
+-- it runs
+pub has_end : {n : Node Memory} {w : Work} → BeginsOver n w → (core : Core) × (ports : List Port) × RunsAs n core ports
+has_end {w = w} b = (w.core, w.ports, b.runs)
+
+-- How each step of a host of the world goes: something comes to its end, it does something by itself, or a tick passes.
 
 -- ## Counts
 
@@ -216,4 +294,390 @@ module _ (mid : HostSite) (was n : Node Memory) (live : Bool) where
         bare_wires = wires;
         same = d.same (frames_out d.here.port.side);
         noted_are = noted_behind noted (subst B (sym numbers) (subst A number d.numbered));
+      }
+
+-- What comes to an end of the world, once it is off its wire: when it may come to a node, and why it is refused.
+
+-- what was done holds
+pub done_so : {T E P : Type 0} {r : Result T E} {x : T} → r ≡ Ok x → OnOk r P → P
+done_so {P = P} is h = subst (λ r. OnOk r P) is h
+
+-- a step that is never refused was done
+pub done_always : {X : Type 0} (r : Result X ResetRefused)
+    → MatchResult r (λ done. ◌≡◌ {A = Option ResetRefused} None None) (λ (why : ResetRefused). ◌≡◌ {A = Option ResetRefused} None (Some why)) → is_ok r ≡ true
+done_always (Ok done) m = refl
+done_always (Err why) m = cc
+
+-- something has come, or nothing
+pub as_some : {new : Wires} {to : End} {l : Link} {what : Incoming} {before now : List Entry} {o : Option Arrived} {a : Arrived} → o ≡ Some a
+    → ComesToEnd new to l what before now o → HasArrived new to l what before now a
+as_some {new} {to} {l} {what} {before} {now} is h = let C : Option Arrived → Type 0 = ComesToEnd new to l what before now in subst C is h
+
+pub as_none : {new : Wires} {to : End} {l : Link} {what : Incoming} {before now : List Entry} {o : Option Arrived} → o ≡ None
+    → ComesToEnd new to l what before now o → NoneArrived new to l what before now
+as_none {new} {to} {l} {what} {before} {now} is h = let C : Option Arrived → Type 0 = ComesToEnd new to l what before now in subst C is h
+
+-- ## When it may come
+
+pub may_arrive : (at_host : Bool) (what : Incoming) (a : Arrived) (port : Option Port) → IsArrivalOf what a → MayArrive at_host what
+    → ((value : ℕ) → at_host ≡ true → MayStartAt value port) → MayArriveAt a port
+may_arrive b coming.NextFrame (arrived.Frame read) port is may starts = is
+may_arrive b coming.NextFrame (arrived.Reset window) port is may starts = absurd is
+may_arrive b coming.NextFrame (arrived.Start value) port is may starts = absurd is
+may_arrive b (coming.Reset window) a port is may starts = let A : Arrived → Type 0 = λ x. MayArriveAt x port in subst A (sym is) may
+may_arrive true (coming.Start value) a port is may starts =
+    let A : Arrived → Type 0 = λ x. MayArriveAt x port in subst A (sym is) (starts value refl)
+may_arrive false (coming.Start value) a port is may starts =
+    let A : Arrived → Type 0 = λ x. MayArriveAt x port in subst A (sym is) (power_may_start value port may)
+
+-- ## Why it is refused
+
+-- at an end of a node that runs
+pub refused_so : (what : Incoming) (a : Arrived) (p : Port) (node : Option Running) (r : Running) (e : LinkEnd) → IsArrivalOf what a
+    → p.side ≡ e → node ≡ Some r
+    → refusal_arrived a (Some p) ≡ refusal_coming node e (as_comes what)
+refused_so coming.NextFrame (arrived.Frame read) p at r e is side on = refl
+refused_so coming.NextFrame (arrived.Reset window) p at r e is side on = absurd is
+refused_so coming.NextFrame (arrived.Start value) p at r e is side on = absurd is
+refused_so (coming.Reset window) a p at r e is side on =
+    let A : Arrived → Type 0 = λ x. refusal_arrived x (Some p) ≡ refusal_coming at e (AsksReset window) in
+    let there : option_map reset_refused (reset_refusal e) ≡ refusal_coming at e (AsksReset window) = rw on refl in
+    subst A (sym is) (ap (λ x. option_map reset_refused (reset_refusal x)) side ∙ there)
+refused_so (coming.Start value) a p at r e is side on =
+    let A : Arrived → Type 0 = λ x. refusal_arrived x (Some p) ≡ None in subst A (sym is) refl
+
+-- nothing is where its node doesn't run
+pub off_refuses_none : (what : Incoming) (node : Option Running) (e : LinkEnd) → node ≡ None → None ≡ refusal_coming node e (as_comes what)
+off_refuses_none coming.NextFrame at e off = refl
+off_refuses_none (coming.Reset window) at e off = rw off refl
+off_refuses_none (coming.Start value) at e off = refl
+
+-- or where nothing comes
+pub none_refused : (what : Incoming) (l : Link) (node : Option Running) (e : LinkEnd) → input_of l (as_comes what) ≡ None
+    → None ≡ refusal_coming node e (as_comes what)
+none_refused coming.NextFrame l at e none = refl
+none_refused (coming.Reset window) l at e none = let z : Some (Reset window) ≡ None = none in absurd (cc z)
+none_refused (coming.Start value) l at e none = refl
+
+-- what is refused is a reset, which left the wires as they were
+pub wires_as_were : {new : Wires} {to : End} {l : Link} {before now : List Entry} {why : ResetRefused} (what : Incoming) (a : Arrived) (port : Option Port)
+    → HasArrived new to l what before now a → refusal_arrived a port ≡ Some why → WiresStandFor new (seen_from to l) × (now ≡ before)
+wires_as_were {new} {to} {l} {before} {now} {why} what a port h = go what a h.is h.wires h.noted
+  where
+    go : (what : Incoming) (a : Arrived) → IsArrivalOf what a → WiresStandFor new (seen_from to (as_it_comes l (as_comes what)))
+        → AreNoted to before now (arrival (side_of to) l (as_comes what)) → refusal_arrived a port ≡ Some why
+        → WiresStandFor new (seen_from to l) × (now ≡ before)
+    go coming.NextFrame (arrived.Frame read) is w noted q = absurd (cc q)
+    go coming.NextFrame (arrived.Reset window) is w noted q = absurd is
+    go coming.NextFrame (arrived.Start value) is w noted q = absurd is
+    go (coming.Reset window) a is w noted q = (w, noted ∙ append-nil before)
+    go (coming.Start value) a is w noted q =
+        let R : Arrived → Type 0 = λ x. refusal_arrived x port ≡ Some why in
+        let none : None ≡ Some why = subst R is q in absurd (cc none)
+
+-- ## What is noted of it
+
+-- no number of a session is in it
+arrival_told : (session : ℕ → ℕ) (h : ℕ) (who : Side) (l : Link) (comes : Comes)
+    → map (with_session_number session) (entries_for h (arrival who l comes)) ≡ entries_for h (arrival who l comes)
+arrival_told session h who l NextFrame = go l.to_controller
+  where
+    go : (w : List OnWire) → map (with_session_number session) (entries_for h (arrival who (record l { to_controller = w }) NextFrame))
+        ≡ entries_for h (arrival who (record l { to_controller = w }) NextFrame)
+    go [] = refl
+    go (x ∷ xs) = refl
+arrival_told session h who l (AsksReset window) = refl
+arrival_told session h who l (Starts value) = refl
+arrival_told session h who l Stops = refl
+arrival_told session h who l NoInput = refl
+
+pub arrived_noted : {new : Wires} {to : End} {l : Link} {what : Incoming} {a : Arrived} {before now : List Entry} (session : ℕ → ℕ)
+    → HasArrived new to l what before now a
+    → now ≡ before ++ map (with_session_number session) (entries_for to.link (arrival (side_of to) l (as_comes what)))
+arrived_noted {to = to} {l} {what} {before = before} session h =
+    h.noted ∙ ap (λ es. before ++ es) (sym (arrival_told session to.link (side_of to) l (as_comes what)))
+
+-- ## What becomes of the world
+
+pub unrefused : {Why : Type 0} {k : Power} {ks : List HostSite} {before now : List Entry} {after : NodeWorld × List Entry} {cause : Option Why}
+    (w : NodeWorld) → cause ≡ None → WorldBecomes k ks before now (if_accepted cause w after) → WorldBecomes k ks before now after
+unrefused {Why} {k} {ks} {before} {now} {after} w none b =
+    let B : Option Why → Type 0 = λ x. WorldBecomes k ks before now (if_accepted x w after) in subst B none b
+
+-- What is known of a host of the world by what is kept of it, and what happens at it, case by case.
+
+-- ## What is kept
+
+-- a host runs
+pub record IsOn (k : HostSite) (s : Site) (n : Node Memory) : Type 0 where
+  pub running : Running
+  pub runs : s.node ≡ Some running
+  pub memory : node_memory n ≡ s.memory
+
+pub is_on : {k : HostSite} {s : Site} {n : Node Memory} → SiteIs k s → k.power ≡ On n → IsOn k s n
+is_on {k} {s} {n} is on =
+    let Q : Power → Type 0 = λ a. IsNodePlace a s.memory s.node (λ h. s.link.host) in
+    go s.node refl (subst Q on is.place)
+  where
+    go : (o : Option Running) → s.node ≡ o → IsNodePlace (On n) s.memory o (λ h. s.link.host) → IsOn k s n
+    go (Some r) runs place = record { running = r; runs = runs; memory = place.0 }
+    go None runs place = absurd place
+
+-- it doesn't
+pub is_off : {k : HostSite} {s : Site} → SiteIs k s → ((n : Node Memory) → k.power ≡ On n → ⊥) → s.node ≡ None
+is_off {k} {s} is on = go k.power s.node on is.place
+  where
+    go : (power : Power) (o : Option Running) → ((n : Node Memory) → power ≡ On n → ⊥) → IsNodePlace power s.memory o (λ h. s.link.host)
+        → o ≡ None
+    go (On n) o q place = absurd (q n refl)
+    go (Off m) None q place = refl
+    go (Off m) (Some r) q place = absurd place
+
+-- nothing happened
+pub unchanged : {k : HostSite} {s : Site} (entries : List Entry) → SiteIs k s → HasBecome k entries entries (s, [])
+unchanged entries is = record { site = is; noted = sym (append-nil entries) }
+
+pub unchanged_as : {k : HostSite} {s : Site} {after : Site × List Entry} (entries : List Entry) → SiteIs k s → after ≡ (s, [])
+    → HasBecome k entries entries after
+unchanged_as {k} entries is q =
+    let B : Site × List Entry → Type 0 = λ x. HasBecome k entries entries x in subst B (sym q) (unchanged entries is)
+
+-- ## What happens
+
+pub stepped_off : (s : Site) (comes : Comes) (f : Work → Work) → s.node ≡ None → host_stepped s comes f ≡ (s, [])
+stepped_off s comes f off = rw off refl
+
+-- the link of a host behind a step in which this comes to its end
+abbrev pub goes_by : Site → Comes → List Turn → Ending → Link
+goes_by s comes turns ending = happens_at_controller (exchanged s.link) (Step comes turns ending)
+
+-- a host behind its work
+abbrev pub worked : Site → Comes → Work → Site × List Entry
+worked s comes k = (host_behind s (goes_by s comes) k, k.entries ++ frames_noted Host s.host (wires_for (exchanged s.link) comes) k)
+
+pub stepped_on : (s : Site) (r : Running) (comes : Comes) (f : Work → Work) → s.node ≡ Some r
+    → host_stepped s comes f ≡ worked s comes (host_work s r comes f)
+stepped_on s r comes f on = rw on refl
+
+pub hears_off : (s : Site) (comes : Comes) → s.node ≡ None → host_hears s comes ≡ (s, [])
+hears_off s comes off = go (input_of (exchanged s.link) comes) refl
+  where
+    go : (o : Option LinkInput) → input_of (exchanged s.link) comes ≡ o → host_hears s comes ≡ (s, [])
+    go None q = rw q refl
+    go (Some i) q = rw (q, off) refl
+
+pub hears_none : (s : Site) (comes : Comes) → input_of (exchanged s.link) comes ≡ None → host_hears s comes ≡ (s, [])
+hears_none s comes none = rw none refl
+
+pub hears_on : (s : Site) (r : Running) (comes : Comes) (i : LinkInput) → s.node ≡ Some r → input_of (exchanged s.link) comes ≡ Some i
+    → host_hears s comes ≡ worked s comes (host_work s r comes (steps (AtEnd s.host i)))
+hears_on s r comes i on is = rw (is, on) refl
+
+pub ticks_on : (s : Site) (r : Running) → s.node ≡ Some r → host_ticks s ≡ after_tick s (host_tick s r)
+ticks_on s r on = rw on refl
+
+-- What is refused of a host of the world, by what its node refuses.
+
+-- ## A host that doesn't run
+
+pub sending_off : (s : Site) (m : Message) → s.node ≡ None → sending_refused s m ≡ Some no.Off
+sending_off s m off = rw off refl
+
+-- ## What comes
+
+-- the end of a host that runs, as its node has it between steps
+pub record OwnEnd (s : Site) (h : ℕ) (ports : List Port) : Type 0 where
+  pub port : Port
+  pub here : port_at ports h ≡ Some port
+  pub side : port.side ≡ s.link.host.side
+
+pub own_end : (k : ℕ) (s : Site) (r : Running) → IsHostOf s → k ≡ s.host → s.node ≡ Some r
+    → OwnEnd s k (map (λ (d : Desk). port_for s.link.host d) r.desks)
+own_end k s r host same on =
+    let ends : HasEnds s.host (s.host ∷ []) r = subst (IfItRuns s.host (s.host ∷ [])) on host.ends in
+    let first = host_opened s r NoInput host.number ends in
+    let H : ℕ → Type 0 = λ h. port_at (map (λ (d : Desk). port_for s.link.host d) r.desks) h ≡ Some first.port in
+    record { port = first.port; here = subst H (sym same) first.here; side = first.is }
+
+module _ (k : HostSite) (s : Site) (n : Node Memory) (is : SiteIs k s) (host : IsHostOf s) (on : k.power ≡ On n) where
+  -- it runs so
+  pub record RunsHere : Type 0 where
+    pub running : Running
+    pub on_is : s.node ≡ Some running
+    pub runs : RunsAs n running.core (map (λ (d : Desk). port_for s.link.host d) running.desks)
+    pub end : OwnEnd s k.host (map (λ (d : Desk). port_for s.link.host d) running.desks)
+    pub number : n.number ≡ s.host
+
+  pub runs_here : RunsHere
+  runs_here =
+      let here = is_on is on in
+      let r : Running = here.running in
+      let Q : Power → Option Running → Type 0 = λ a o. IsNodePlace a s.memory o (λ h. s.link.host) in
+      let place : Q (On n) (Some r) = subst (Q (On n)) here.runs (subst (λ a. Q a s.node) on is.place) in
+      let node : HasEnds s.host (s.host ∷ []) r = subst (IfItRuns s.host (s.host ∷ [])) here.runs host.ends in
+      record {
+        running = r;
+        on_is = here.runs;
+        runs = place.1;
+        end = own_end k.host s r host is.host here.runs;
+        number = sym place.1.node ∙ node.number;
+      }
+
+  pub is_some_host : 1 ≤ n.number
+  is_some_host = let some = eqb-false s.host 0 host.number in let same = runs_here.number in omega (arith, some, same)
+
+  -- what its node tells of what came
+  pub refused_here : (what : Incoming) (a : Arrived) (why : Option ResetRefused) → IsArrivalOf what a
+      → ((core : Core) (ports : List Port) → RunsAs n core ports → refusal_arrived a (port_at ports k.host) ≡ why)
+      → why ≡ refusal_coming s.node s.link.host.side (as_comes what)
+  refused_here what a why is_of f =
+      let r = runs_here in
+      let e = r.end in
+      sym (f r.running.core (map (λ (d : Desk). port_for s.link.host d) r.running.desks) r.runs)
+      ∙ (ap (refusal_arrived a) e.here ∙ refused_so what a e.port s.node r.running s.link.host.side is_of e.side r.on_is)
+
+  -- the end of its own link is activated with any identifier
+  pub may_start : (value : ℕ) (core : Core) (ports : List Port) → RunsAs n core ports → MayStartAt value (port_at ports k.host)
+  may_start value core ports runs =
+      let some = is_some_host in
+      asked_may (asks.Start value) k.host core ports tt (λ none. (let z : n.number ≡ 0 = sym runs.node ∙ none in omega (arith, some, z))) runs.order
+
+-- ## Nothing changed
+
+pub still_stands : (k : HostSite) (s : Site) (n m : Node Memory) (wires : Wires) → SiteIs k s → k.power ≡ On n → WiresStandFor wires s.link
+    → ((core : Core) (ports : List Port) → RunsAs n core ports → RunsAs m core ports) → node_memory m ≡ node_memory n
+    → (before now : List Entry) → now ≡ before
+    → HasBecome (record { host = k.host; wires = wires; power = On m }) before now (s, [])
+still_stands k s n m wires is on stand runs memory before now q =
+    let Q : Power → Type 0 = λ a. IsNodePlace a s.memory s.node (λ h. s.link.host) in
+    record {
+      site = record { host = is.host; wires = stand; place = go s.node (subst Q on is.place) };
+      noted = q ∙ sym (append-nil before);
+    }
+  where
+    go : (o : Option Running) → IsNodePlace (On n) s.memory o (λ h. s.link.host) → IsNodePlace (On m) s.memory o (λ h. s.link.host)
+    go (Some r) p = (memory ∙ p.0, runs r.core (map (λ (d : Desk). port_for s.link.host d) r.desks) p.1, p.2)
+    go None p = p
+
+-- ## What a host sends by itself
+
+pub sending_mute : (h : ℕ) (m : Message) → AreMute (sending h m)
+sending_mute h m = go (m.0 == 1 && is_command_message m.1)
+  where
+    go : (b : Bool) → AreMute (cond b (Orders m.1 ∷ []) (Sends h m ∷ []))
+    go true = (tt, tt)
+    go false = (tt, tt)
+
+pub beginning_mute : (identity : List ℕ) (pipes : List (List ℕ)) → AreMute (beginning identity pipes)
+beginning_mute identity pipes = (tt, (tt, tt))
+
+sending_on : (s : Site) (r : Running) (m : Message) → s.node ≡ Some r
+    → sending_refused s m ≡ if_waiting (m.0 == 1 && is_command_message m.1 && is_some r.core.command) (give_refusal s.link.host.side m)
+sending_on s r m on = rw on refl
+
+module _ (k : HostSite) (s : Site) (n : Node Memory) (is : SiteIs k s) (host : IsHostOf s) (on : k.power ≡ On n) (m : Message) where
+  -- what a node tells is what the line is refused for
+  pub sending_so : (told : Option NoCause) → ((core : Core) (ports : List Port) (p : Port) → RunsAs n core ports → port_at ports n.number ≡ Some p
+      → told ≡ if_waiting (m.0 == 1 && is_command_message m.1 && is_some core.command) (give_refusal p.side m)) → told ≡ sending_refused s m
+  sending_so told f =
+      let r = runs_here k s n is host on in
+      let e = r.end in
+      let ports : List Port = map (λ (d : Desk). port_for s.link.host d) r.running.desks in
+      let waits : Bool = m.0 == 1 && is_command_message m.1 && is_some r.running.core.command in
+      let here : port_at ports n.number ≡ Some e.port = ap (port_at ports) (r.number ∙ sym is.host) ∙ e.here in
+      f r.running.core ports e.port r.runs here ∙ (ap (λ (x : LinkEnd). if_waiting waits (give_refusal x m)) e.side ∙ sym (sending_on s r.running m r.on_is))
+
+-- A host of the world in its steps: what its node did, as it is to be finished.
+
+-- ## What its node did
+
+-- A host's node has done its work, behind which the host is so and these were noted.
+pub record HasDone (mid : HostSite) (live : Bool) (now : List Entry) (still : Bool) (before : List Entry) (s : Site)
+    (after : Site × List Entry) : Type 0 where
+  pub step : List Turn → Ending → Link
+  pub l : Link
+  pub w : Work
+  pub midway : IsToSend mid live now still before s step l w
+  pub is : after ≡ (host_behind s step w, w.entries ++ frames_noted Host s.host l w)
+
+pub is_done : {mid : HostSite} {live : Bool} {now : List Entry}
+    {still : Bool} {before : List Entry} {s : Site} {after : Site × List Entry} (result : Result (Unit {0}) NoMemory) (new : HostSite) (noted : List Entry)
+    (d : HasDone mid live now still before s after)
+    → OnOk result (HasBecome new before noted (host_behind s d.step d.w, d.w.entries ++ frames_noted Host s.host d.l d.w))
+    → OnOk result (HasBecome new before noted after)
+is_done {before = before} result new noted d r =
+    let B : Site × List Entry → Type 0 = λ x. OnOk result (HasBecome new before noted x) in subst B (sym d.is) r
+
+module _ (k mid : HostSite) (s : Site) (was n : Node Memory) (live : Bool) (before : List Entry) (begun now : Noted) (sessions : List ℕ)
+    (numbers : sessions ≡ replicate 8 (max mid.wires.host.emitted mid.wires.host.took)) (is : SiteIs k s)
+    (host : IsHostOf s) (on : k.power ≡ On was) (mid_on : mid.power ≡ On n) (mid_host : mid.host ≡ k.host) where
+  abbrev here : IsOn k s was
+  here = is_on is on
+
+  abbrev start : Comes → Work
+  start comes = work_of here.running s.memory.plan (λ j. near_end_in (exchanged s.link) comes) (entries_for s.host (arrival Host (exchanged s.link) comes))
+
+  begins_so : (comes : Comes) → BeginsOver was (start comes)
+  begins_so comes = begins_at_end k s was here.running comes is on here.runs
+
+  middle : {step : List Turn → Ending → Link} {bare l : Link} {w : Work} → HostDoes s step bare l w → HasGone was n w live
+      → WiresStandFor mid.wires (exchanged bare) → IsNotedSo now sessions before w.entries → IsToSend mid live now.entries.items now.short before s step l w
+  middle d gone wires noted =
+      midway mid was n live s d here.memory gone mid_on (mid_host ∙ is.host) wires numbers noted
+
+  -- something came to its end
+  pub heard : (comes : Comes) (i : LinkInput) → CountsComing s comes → input_of (exchanged s.link) comes ≡ Some i
+      → ((w : Work) → BeginsOver was w → HasGone was n (steps (AtEnd k.host i) w) live)
+      → ((w : Work) → BeginsOver was w → IsNotedSo begun sessions before w.entries
+      → IsNotedSo now sessions before (steps (AtEnd k.host i) w).entries)
+      → IsNotedSo begun sessions before (entries_for s.host (arrival Host (exchanged s.link) comes))
+      → WiresStandFor mid.wires (exchanged (as_it_comes (exchanged s.link) comes)) → HasDone mid live now.entries.items now.short before s (host_hears s comes)
+  heard comes i counts q gone noted first wires =
+      let b : BeginsOver was (start comes) = begins_so comes in
+      let G : ℕ → Type 0 = λ h. HasGone was n (steps (AtEnd h i) (start comes)) live in
+      let N : ℕ → Type 0 = λ h. IsNotedSo now sessions before (steps (AtEnd h i) (start comes)).entries in
+      record {
+        step = goes_by s comes;
+        l = wires_for (exchanged s.link) comes;
+        w = host_work s here.running comes (steps (AtEnd s.host i));
+        midway = middle (hears s here.running host here.runs comes i q (counts here.running i here.runs q)) (subst G is.host (gone (start comes) b)) wires
+            (subst N is.host (noted (start comes) b first));
+        is = hears_on s here.running comes i here.runs q;
+      }
+
+  -- it did something by itself
+  pub began : (deeds : ℕ → List Deed) → AreMute (deeds s.host)
+      → ((w : Work) → BeginsOver was w → HasGone was n (begins_with was.number (deeds was.number) w) live)
+      → ((w : Work) → BeginsOver was w → IsNotedSo begun sessions before w.entries
+      → IsNotedSo now sessions before (begins_with was.number (deeds was.number) w).entries)
+      → IsNotedSo begun sessions before [] → WiresStandFor mid.wires s.link
+      → HasDone mid live now.entries.items now.short before s (host_stepped s NoInput (begins_with s.host (deeds s.host)))
+  began deeds mute gone noted first wires =
+      let b : BeginsOver was (start NoInput) = begins_so NoInput in
+      let G : ℕ → Type 0 = λ h. HasGone was n (begins_with h (deeds h) (start NoInput)) live in
+      let N : ℕ → Type 0 = λ h. IsNotedSo now sessions before (begins_with h (deeds h) (start NoInput)).entries in
+      let number : was.number ≡ s.host = (runs_here k s was is host on).number in
+      record {
+        step = goes_by s NoInput;
+        l = exchanged s.link;
+        w = host_work s here.running NoInput (begins_with s.host (deeds s.host));
+        midway = middle (begins s here.running host here.runs (deeds s.host) mute) (subst G number (gone (start NoInput) b)) wires
+            (subst N number (noted (start NoInput) b first));
+        is = stepped_on s here.running NoInput (begins_with s.host (deeds s.host)) here.runs;
+      }
+
+  -- a tick passed
+  pub ticked : MayTick s → ((w : Work) → BeginsOver was w → HasGone was n (steps TimePasses w) live)
+      → ((w : Work) → BeginsOver was w → IsNotedSo begun sessions before w.entries → IsNotedSo now sessions before (steps TimePasses w).entries)
+      → IsNotedSo begun sessions before [] → WiresStandFor mid.wires s.link → HasDone mid live now.entries.items now.short before s (host_ticks s)
+  ticked may gone noted first wires =
+      let b : BeginsOver was (start NoInput) = begins_so NoInput in
+      let young : NoneDue (Some here.running) = subst NoneDue here.runs may.young in
+      record {
+        step = tick_at_end s here.running host here.runs;
+        l = exchanged s.link;
+        w = host_tick s here.running;
+        midway = middle (ticks s here.running host here.runs young (may.counts here.running here.runs)) (gone (start NoInput) b) wires
+            (noted (start NoInput) b first);
+        is = ticks_on s here.running here.runs;
       }

@@ -1,26 +1,41 @@
 -- The history of plays is legal.
-use Rattle.std.proofs.Common.{◌≡◌, inl, inr, ℕ, ◌+◌, ◌≤◌, true, false, IsTrue, List, [], ◌∷◌, ◌++◌, refl, ap, sym, ◌∙◌, arith}
-use Rattle.std.specs.Prelude.{None}
+use Rattle.std.proofs.Common.{◌≡◌, inl, inr, ℕ, ◌+◌, ◌≤◌, true, false, IsTrue, List, [], ◌∷◌, ◌++◌, refl, ap, sym, ◌∙◌, arith, ◌==◌, ◌⊎◌, suc, ◌-◌, ◌^◌, min}
+use Rattle.std.proofs.Common.{Bool, cond, eqb, length, append-nil, append_assoc, length-append, length-take, subst}
+use Rattle.std.specs.Prelude.{None, Some, IsSome}
 use Rattle.std.specs.List.{AllByRecursion, fold}
-use Rattle.std.proofs.lemmas.Bool.{true≢false}
-use Rattle.node_world.proofs.Words.{FollowsNodes, Header, IsNodeHeader, IsPlayFor, IsPlayedLine, Line, NodeHistory, NoneIsMisread, Play, Round, Said}
-use Rattle.node_world.proofs.Words.{hosts_stay_behind, lines_may_be_played, lines_played, lines_said, new_world, round_behind}
+use Rattle.std.proofs.lemmas.Bool.{true≢false, cases_Bool, eqb-true, eq-eqb}
+use Rattle.node_world.proofs.Words.{Book, Entry, FollowsNodes, Header, IsHost, IsNodeHeader, IsNodeOf, IsPlayFor, IsPlayedLine, Line, Memory, NodeHistory}
+use Rattle.node_world.proofs.Words.{NoneIsMisread, Play, Round, Said, Site, WouldFind, book_in, current, hosts_stay_behind, last_in, lines_may_be_played}
+use Rattle.node_world.proofs.Words.{lines_played, lines_said, memory_at, new_world, nodes_behind, round_behind, site_at}
 use Rattle.trace_model.specs.declared.line.Line.TheVariants as saying
 use Rattle.trace_model.specs.Lines.{IsHeader, IsLineOf, MayBegin}
 use Rattle.history.specs.Histories.{History}
 use Rattle.history.specs.Follows.{Follows}
-use Rattle.node_machine.specs.world.NodeHistories.{steps_from}
+use Rattle.node_machine.specs.world.NodeHistories.{steps_from, node_entries}
 use Rattle.node_laws.specs.schedules.Ranges.{AreNodeLinesOf, asking, lines_asking}
 use Rattle.node_laws.specs.answers.Headline.{IsPlayed}
 use Rattle.node_laws.specs.answers.Headline.PlayedHistory.{OfLink, OfNodes}
-use Rattle.node_laws.proofs.schedules.Ranges.{in_range}
+use Rattle.node_laws.proofs.schedules.Ranges.{in_range, hosts_are, sent_by_hosts}
 use Rattle.node_laws.proofs.bounds.Paying.{asking-append, asking_few}
 use Rattle.node_laws.proofs.worlds.Schedules.{played_legal}
-use Rattle.lines_told.specs.lines.Below.{is_settling}
+use Rattle.lines_told.specs.lines.Below.{is_settling, memory_behind}
 use Rattle.lines_told.specs.lines.Plays.{lines_of_play}
 use Rattle.lines_told.specs.lines.RoundLines.{IsRoundLine}
 use Rattle.lines_told.proofs.lines.Told.{round_known}
-use Rattle.node_world.specs.Legal.{HaveLegalHistory}
+use Rattle.trace_model.specs.declared.entry.Entry.TheVariants as entry
+use Rattle.hci_store.proofs.Committed.{sound_has_no_fault}
+use Rattle.node_machine.specs.world.World.{NodeWorld}
+use Rattle.node_machine.specs.world.NodeFilters.{book_after, commands_in, with_found}
+use Rattle.node_machine.specs.world.NodeLegal.{AreFound, FindsCommands, Kept, Last, last_after}
+use Rattle.node_machine.specs.world.NodeLegal.Last.{NothingYet, CommandLast, CutBehindCommand, OtherLast}
+use Rattle.node_laws.specs.kept.Hosts.{IsFew}
+use Rattle.node_laws.specs.kept.Worlds.{AllKeep, SiteKeeps}
+use Rattle.node_laws.proofs.kept.Doing.{book_more, last_more}
+use Rattle.node_laws.proofs.kept.Ticking.{all_keep, are_kept}
+use Rattle.node_laws.proofs.kept.Events.{site_found}
+use Rattle.node_laws.proofs.schedules.Few.{are_few}
+use Rattle.node_world.specs.Legal.{HaveLegalHistory, IsFoundAsKept, IsKeptBehind}
+use Rattle.node_world.proofs.WorldsBehind.{node_there}
 
 -- ## Lines in their ranges
 
@@ -137,3 +152,173 @@ module _ (header : Header) where
         follows,
       ) in
       record { history = OfLink t; played = played; legal = played_legal header lines (OfLink t) played }
+
+-- A boot over the memory of a node finds what is kept.
+
+-- ## Commands that were answered
+
+-- a command came last, or a cut behind it: it may be lost
+abbrev IsOpen : Last → Type 0
+IsOpen NothingYet = ⊥
+IsOpen CommandLast = Unit {0}
+IsOpen CutBehindCommand = Unit {0}
+IsOpen OtherLast = ⊥
+
+-- so many commands are there, also where the last one is lost
+record AreThere (k : ℕ) (b : Book) (l : Last) : Type 0 where
+  all : k ≤ length b.commands
+  more : IsOpen l → suc k ≤ length b.commands
+
+opened_cut : (l : Last) → IsOpen (last_after 0 l (entry.Cut 0)) → IsOpen l
+opened_cut NothingYet o = o
+opened_cut CommandLast o = tt
+opened_cut CutBehindCommand o = tt
+opened_cut OtherLast o = o
+
+module _ (k n : ℕ) where
+  abbrev Keeps : List Entry → Type 0
+  Keeps t = AreThere k (book_in t n) (last_in t n)
+
+  found_most : (j : ℕ) (t : List Entry) → Keeps t → FindsCommands t n j → k ≤ j
+  found_most j t keeps (inl all) = omega (arith, all, keeps.all)
+  found_most j t keeps (inr less) = omega (arith, less.0, keeps.more (subst IsOpen (sym less.1) tt))
+
+  found_least : (j : ℕ) (t : List Entry) → FindsCommands t n j → j ≤ length (commands_in t n)
+  found_least j t (inl all) = omega (arith, all)
+  found_least j t (inr less) = omega (arith, less.0)
+
+  -- they are still there behind an entry
+  after_one : (t : List Entry) (e : Entry) → Keeps t → ((j : ℕ) → e ≡ entry.Booted n j → FindsCommands t n j)
+      → AreThere k (book_after n (book_in t n) e) (last_after n (last_in t n) e)
+  after_one t (entry.Command m c) keeps finds = by_node (cases_Bool (eqb m n)) where
+    by_node : (eqb m n ≡ true) ⊎ (eqb m n ≡ false)
+        → AreThere k (book_after n (book_in t n) (entry.Command m c)) (last_after n (last_in t n) (entry.Command m c))
+    by_node (inl is) =
+        let longer = length-append (commands_in t n) (c ∷ []) in
+        rw is (record { all = omega (arith, longer, keeps.all); more = λ o. omega (arith, longer, keeps.all) })
+    by_node (inr other) = rw other keeps
+  after_one t (entry.AnyOk m j) keeps finds = by_node (cases_Bool (eqb m n)) where
+    by_node : (eqb m n ≡ true) ⊎ (eqb m n ≡ false) → AreThere k (book_after n (book_in t n) (entry.AnyOk m j)) (last_after n (last_in t n) (entry.AnyOk m j))
+    by_node (inl is) = rw is (record { all = keeps.all; more = λ o. absurd o })
+    by_node (inr other) = rw other keeps
+  after_one t (entry.Booted m j) keeps finds = by_node (cases_Bool (eqb m n)) where
+    by_node : (eqb m n ≡ true) ⊎ (eqb m n ≡ false) → AreThere k (book_after n (book_in t n) (entry.Booted m j)) (last_after n (last_in t n) (entry.Booted m j))
+    by_node (inl is) =
+        let here = finds j (ap (λ x. entry.Booted x j) (eqb-true m n is)) in
+        let most = found_most j t keeps here in
+        let least = found_least j t here in
+        rw is (record { all = omega (arith, length-take j (commands_in t n), most, least); more = λ o. absurd o })
+    by_node (inr other) = rw other keeps
+  after_one t (entry.Cut m) keeps finds = by_node (cases_Bool (eqb m n)) where
+    by_node : (eqb m n ≡ true) ⊎ (eqb m n ≡ false) → AreThere k (book_after n (book_in t n) (entry.Cut m)) (last_after n (last_in t n) (entry.Cut m))
+    by_node (inl is) = rw is (record { all = keeps.all; more = λ o. keeps.more (opened_cut (last_in t n) o) })
+    by_node (inr other) = rw other keeps
+  after_one t _ keeps finds = keeps
+
+  then_one : (t : List Entry) (e : Entry) → Keeps t → ((j : ℕ) → e ≡ entry.Booted n j → FindsCommands t n j) → Keeps (t ++ e ∷ [])
+  then_one t e keeps finds =
+      subst (λ b. AreThere k b (last_in (t ++ e ∷ []) n)) (sym (book_more t (e ∷ []) n))
+      (subst (λ l. AreThere k (book_after n (book_in t n) e) l) (sym (last_more t (e ∷ []) n)) (after_one t e keeps finds))
+
+  -- and behind all further entries, where each boot finds its commands
+  still_there : (rest t : List Entry) → AreFound (t ++ rest) → Keeps t → Keeps (t ++ rest)
+  still_there [] t found keeps = subst Keeps (sym (append-nil t)) keeps
+  still_there (e ∷ rest) t found keeps =
+      let on = append_assoc t (e ∷ []) rest in
+      subst Keeps on
+      (still_there rest (t ++ e ∷ []) (subst AreFound (sym on) found)
+      (then_one t e keeps (λ j is. found t rest n j (ap (λ x. t ++ x ∷ rest) is))))
+
+  -- a boot behind them finds no fewer than an answer counted
+  answered_before : (h : NodeHistory) → Kept h → (found : ℕ) → FindsCommands (node_entries h) n found → (front back : List Entry)
+      → node_entries h ≡ front ++ (entry.AnyOk n k ∷ back) → k ≤ found
+  answered_before h kept found finds front back is =
+      let start : List Entry = front ++ entry.AnyOk n k ∷ [] in
+      let counted : k ≡ length (commands_in front n) = kept.counted front back n k is in
+      let book_is : book_in start n ≡ book_in front n = book_more front (entry.AnyOk n k ∷ []) n in
+      let last_is : last_in start n ≡ OtherLast =
+      last_more front (entry.AnyOk n k ∷ []) n ∙ ap (λ b. cond b OtherLast (last_in front n)) (eq-eqb n n refl) in
+      let first : Keeps start =
+      record { all = omega (arith, counted, ap (λ (b : Book). length b.commands) book_is); more = λ o. absurd (subst IsOpen last_is o) } in
+      let whole : start ++ back ≡ node_entries h = append_assoc front (entry.AnyOk n k ∷ []) back ∙ sym is in
+      found_most found (node_entries h)
+      (subst Keeps whole (still_there back start (subst AreFound (sym whole) kept.found) first)) finds
+
+-- ## The memory of a node
+
+module _ (header : Header) (nodes : IsNodeHeader header) (lines : List Line) (t : NodeHistory) (follows : FollowsNodes header lines t)
+    (are : AreNodeLinesOf header lines) (most : lines_asking lines ≤ 20000) where
+  abbrev entries : List Entry
+  entries = node_entries t
+
+  abbrev few : IsFew entries
+  few = are_few header lines t follows nodes are most
+
+  keep : AllKeep header.hosts.items entries (nodes_behind header lines)
+  keep = all_keep header lines t follows (hosts_are header nodes) (sent_by_hosts header lines nodes are) few
+
+  kept : Kept t
+  kept = are_kept header lines t follows (hosts_are header nodes) (sent_by_hosts header lines nodes are) few
+
+  -- a boot of a node would find its commands in its memory
+  would_find : (n : ℕ) → ((n == 0) ≡ false → (s : Site) × (site_at (nodes_behind header lines).sites n ≡ Some s))
+      → WouldFind (memory_at (nodes_behind header lines) n).content (book_in entries n) (last_in entries n)
+  would_find n there = by_number (n == 0) refl where
+    w : NodeWorld
+    w = nodes_behind header lines
+
+    by_number : (b : Bool) → (n == 0) ≡ b → WouldFind (memory_at w n).content (book_in entries n) (last_in entries n)
+    by_number true q =
+        let zero : n ≡ 0 = eqb-true n 0 q in
+        rw q (subst (λ x. WouldFind w.memory.content (book_in entries x) (last_in entries x)) (sym zero) keep.controller.would)
+    by_number false q =
+        let s = there q in
+        let known = site_found (SiteKeeps entries) IsHost w.sites n s.0 keep.sites
+        (subst (AllByRecursion IsHost) (sym keep.hosts_are) (hosts_are header nodes).all) s.1 in
+        let is : WouldFind s.0.memory.content (book_in entries n) (last_in entries n) =
+        subst (λ x. WouldFind s.0.memory.content (book_in entries x) (last_in entries x)) known.2 known.0.would in
+        rw (q, s.1) is
+
+  found_as_kept : (n : ℕ) → ((n == 0) ≡ false → (s : Site) × (site_at (nodes_behind header lines).sites n ≡ Some s)) → (content : List ℕ)
+      → content ≡ (memory_at (nodes_behind header lines) n).content → IsFoundAsKept entries n content
+  found_as_kept n there content is = by_would (subst (λ c. WouldFind c (book_in entries n) (last_in entries n)) (sym is) (would_find n there)) where
+    by_would : WouldFind content (book_in entries n) (last_in entries n) → IsFoundAsKept entries n content
+    by_would would =
+        let commands : FindsCommands entries n would.many = by_which would.which in
+        let all = found_least 0 n would.many entries commands in
+        let least = few entries [] n (sym (append-nil entries)) in
+        record {
+          found = would.many;
+          commands = commands;
+          answered = λ front back k parts. answered_before k n t kept would.many commands front back parts;
+          sound = sound_has_no_fault content would.finds.keeps.holds.commands would.finds.keeps.sound;
+          count_is = would.finds.keeps.count_is ∙ small would.many (2 ^ 32 - 1) (omega (arith, all, least));
+          tables_are =
+              would.finds.keeps.holds.tables_are
+              ∙ sym (ap (λ (b : Book). b.tables) (book_more entries (entry.Booted n would.many ∷ []) n
+              ∙ ap (λ b. cond b (with_found would.many (book_in entries n)) (book_in entries n)) (eq-eqb n n refl)));
+        }
+      where
+        by_which : (would.many ≡ length (book_in entries n).commands)
+            ⊎ ((suc would.many ≡ length (book_in entries n).commands) × (last_in entries n ≡ CutBehindCommand) × IsSome (current content))
+            → FindsCommands entries n would.many
+        by_which (inl every) = inl every
+        by_which (inr less) = inr (less.0, less.1)
+
+        small : (a b : ℕ) → a ≤ b → min a b ≡ a
+        small a b le = omega (arith, le)
+
+-- behind plays
+pub kept_behind : (header : Header) → IsNodeHeader header → (plays : List Play) → AllByRecursion (IsPlayFor header) plays
+    → NoneIsMisread (new_world header.hosts.items) (lines_played header plays) → AskFew header plays → (n : ℕ) → IsNodeOf header.hosts.items n
+    → (m : Memory) → m ≡ memory_behind header (lines_played header plays) n → IsKeptBehind header plays n m.content
+kept_behind header nodes plays may sure few n node m is =
+    let lines : List Line = lines_played header plays in
+    let played = lines_may_be_played header (inr nodes) (hosts_stay_behind header) plays may in
+    let follows : FollowsNodes header lines (nodes_played header plays) = nodes_follow header nodes.nodes plays sure in
+    record {
+      history = nodes_played header plays;
+      follows = follows;
+      found = found_as_kept header nodes lines (nodes_played header plays) follows (in_ranges header lines played) few n
+          (node_there header nodes lines played sure n node) m.content (ap (λ (x : Memory). x.content) is);
+    }

@@ -1,17 +1,30 @@
 -- What becomes of a line at which one thing happens, or which is refused.
-use Rattle.std.proofs.Common.{◌≡◌, ℕ, ◌==◌, Bool, true, false, List, [], ◌∷◌, refl, sym, subst, ◌∙◌, append-nil, arith}
-use Rattle.std.specs.Prelude.{Option, Some, None, Contains}
-use Rattle.std.specs.List.{AllByRecursion}
+use Rattle.std.proofs.Common.{◌≡◌, ℕ, ◌==◌, Bool, true, false, List, [], ◌∷◌, length, refl, sym, subst, ◌∙◌, append-nil, arith, ◌≢◌, ◌++◌, ap}
+use Rattle.std.specs.Prelude.{Option, Some, None, Contains, IsTrue, is_some, option_map}
+use Rattle.std.specs.List.{AllByRecursion, list_any}
 use Rattle.std.proofs.lemmas.Bool.{eq-eqb, true≢false}
 use Rattle.std.proofs.lemmas.List.Elements.{All-contains, All-from_recursion}
-use Rattle.node_world.proofs.Words.{Entry, Happening, Header, HostSite, IsThere, IsWithinBounds, Line, LineOutcome, LinePlayed, MayPlay, NoCause, Power, Site}
-use Rattle.node_world.proofs.Words.{SitesAre, SitesBecome, WasRefused, WorldBecomes, WorldIs, line_step, refusal_in, site_at, world_step}
+use Rattle.node_world.proofs.Words.{AsksReset, End, Entry, Finds, Happening, Header, HostSite, IsNodeOf, IsThere, IsWithinBounds, Line, LineOutcome}
+use Rattle.node_world.proofs.Words.{LinePlayed, LinkEnd, Loses, Loss, MayPlay, NoCause, Power, Running, Site, SitesAre, SitesBecome, Takes, WasRefused}
+use Rattle.node_world.proofs.Words.{WorldBecomes, WorldIs, frames_at, if_off, is_running, is_waiting, line_step, machine_in, misread_in, node_at, node_of}
+use Rattle.node_world.proofs.Words.{refusal_coming, refusal_in, reset_refusal, site_at, world_step}
 use Rattle.trace_model.specs.declared.entry.Entry.TheVariants as note
 use Rattle.node_machine.specs.world.World.{NodeWorld}
-use Rattle.node_machine.specs.world.Lines.{goes_on}
+use Rattle.node_machine.specs.world.Lines.{goes_on, first_cause}
 use Rattle.node_machine.specs.world.Lines.LineOutcome.{Occurred}
 use Rattle.node_laws.specs.telling.Telling.{hosts_in}
-use Rattle.node_world.specs.Whole.{HostsPlayed}
+use Rattle.trace_model.specs.declared.entry.NoCause.TheVariants as no
+use Rattle.trace_model.specs.declared.line.Line.TheVariants as line
+use Rattle.link_laws.specs.machine.Machine.{is_open}
+use Rattle.link_laws.specs.sessions.Sessions.{OnWire}
+use Rattle.link_end.specs.Reports.{reset_refused}
+use Rattle.history.specs.Follows.{as_noted, first_verdict, if_empty, if_out_of_reach, other_frame}
+use Rattle.arrayvec.specs.ArrayVec.{ArrayVec}
+use Rattle.history.specs.Damage.Verdict.{Same, LostFor}
+use Rattle.link_wires.specs.declared.finding.Damaged.{Damaged}
+use Rattle.link_wires.specs.declared.finding.Damaged.TheVariants as found
+use Rattle.node_world.specs.Whole.{HostsPlayed, is_damaging}
+use Rattle.node_world.specs.HostSteps.{reset_noted}
 use Rattle.node_world.proofs.FewInWorlds.{longer}
 
 -- ## What is asked
@@ -76,3 +89,159 @@ module _ (w : NodeWorld) (said : Line) (ks : List HostSite) where
   hosts_go c now one e b =
       let L : NodeWorld × LineOutcome → Type 0 = λ p. HostsPlayed ks now p in
       subst L (sym (goes_is w said e ∙ one)) (record { sites = b.sites; told = b.noted ∙ sym (append-nil (world_step w c).1) })
+
+-- What becomes of a line where what was noted before is nothing, and what its refusal says of the nodes.
+
+-- ## Nodes that run
+
+pub off_is : (w : NodeWorld) (n : ℕ) → is_running w n ≡ false → if_off w n ≡ Some no.Off
+off_is w n e = rw e refl
+
+pub on_is : (w : NodeWorld) (n : ℕ) → is_running w n ≡ true → if_off w n ≡ None
+on_is w n e = rw e refl
+
+-- why a line is refused that takes or loses the first frame on the way to an end
+module _ (w : NodeWorld) (e : End) where
+  pub off_takes_none : is_running w (node_of e) ≡ false → refusal_in w (line.Lose e) ≡ Some no.Off
+  off_takes_none off = rw off refl
+
+  pub bare_takes_none : is_running w (node_of e) ≡ true → length (frames_at w e) ≡ 0 → refusal_in w (line.Lose e) ≡ Some no.Empty
+  bare_takes_none on none = rw on (go (frames_at w e) none)
+    where
+      go : (xs : List OnWire) → length xs ≡ 0 → if_empty xs ≡ Some no.Empty
+      go [] q = refl
+      go (x ∷ xs) q = cc
+
+  pub takes_one : is_running w (node_of e) ≡ true → length (frames_at w e) ≢ 0 → refusal_in w (line.Lose e) ≡ None
+  takes_one on some = rw on (go (frames_at w e) some)
+    where
+      go : (xs : List OnWire) → length xs ≢ 0 → if_empty xs ≡ None
+      go [] q = absurd (q refl)
+      go (x ∷ xs) q = refl
+
+pub stands_there : (o : Option Running) → is_some o ≡ true → o ≢ None
+stands_there None e none = absurd (cc e)
+stands_there (Some r) e none = absurd (cc none)
+
+pub stands_not : (o : Option Running) → is_some o ≡ false → o ≡ None
+stands_not None e = refl
+stands_not (Some r) e = absurd (cc e)
+
+-- ## What becomes of a line
+
+module _ (w : NodeWorld) (said : Line) (k : Power) (ks : List HostSite) (before now : List Entry)
+    (none : before ≡ []) where
+  pub line_refused : (cause : NoCause) → refusal_in w said ≡ Some cause → WorldIs k ks w
+      → now ≡ before ++ note.No cause ∷ [] → LinePlayed k ks now (line_step w said)
+  line_refused cause e world noted =
+      world_refused w said k ks cause now e world (noted ∙ ap (λ es. es ++ note.No cause ∷ []) none)
+
+  pub line_goes : (c : Happening) → goes_on w said ≡ one_step w c → refusal_in w said ≡ None → WorldBecomes k ks before now (world_step w c)
+      → LinePlayed k ks now (line_step w said)
+  line_goes c one e b =
+      let W : List Entry → Type 0 = λ es. WorldBecomes k ks es now (world_step w c) in
+      world_goes w said k ks c now one e (subst W none b)
+
+-- ## A node of the header
+
+any_found : (h : ℕ) (sites : List Site) → IsTrue (list_any (λ k. k == h) (hosts_in sites)) → (s : Site) × (site_at sites h ≡ Some s)
+any_found h [] q = absurd (true≢false (sym q))
+any_found h (x ∷ sites) q = go (x.host == h) refl (any_found h sites)
+  where
+    go : (b : Bool) → (x.host == h) ≡ b
+        → (IsTrue (list_any (λ k. k == h) (hosts_in sites)) → (s : Site) × (site_at sites h ≡ Some s))
+        → (s : Site) × (site_at (x ∷ sites) h ≡ Some s)
+    go true e later = (x, rw e refl)
+    go false e later = let r = later (rw e at q) in (r.0, rw e r.1)
+
+pub node_known : (w : NodeWorld) (hosts : List ℕ) (n : ℕ) → hosts_in w.sites ≡ hosts → IsNodeOf hosts n → (n == 0) ≡ false → IsThere n w
+node_known w hosts n same known off =
+    let q : IsTrue (list_any (λ k. k == n) hosts) = rw off at known in
+    any_found n w.sites (subst (λ hs. IsTrue (list_any (λ k. k == n) hs)) (sym same) q)
+
+-- ## The first cause
+
+pub first_is : (o p : Option NoCause) (why : NoCause) → o ≡ Some why → first_cause o p ≡ Some why
+first_is o p why e = rw e refl
+
+pub second_is : (o p q : Option NoCause) → o ≡ None → p ≡ q → first_cause o p ≡ q
+second_is o p q e f = rw e f
+
+pub runs_refused : (w : NodeWorld) (n : ℕ) → is_running w n ≡ true → refusal_in w (line.Boot n) ≡ Some no.Running
+runs_refused w n e = rw e refl
+
+pub boots_free : (w : NodeWorld) (n : ℕ) → is_running w n ≡ false → refusal_in w (line.Boot n) ≡ None
+boots_free w n e = rw e refl
+
+-- What a line that asks for a reset is refused for, where the node of the end runs.
+
+-- an end that isn't reset tells so in one of two ways
+told_so : (e : LinkEnd) → as_noted (reset_refusal e) ≡ option_map reset_noted (option_map reset_refused (reset_refusal e))
+told_so e = go (is_open e.role) (is_waiting e.shdlc) refl refl
+  where
+    go : (a b : Bool) → is_open e.role ≡ a → is_waiting e.shdlc ≡ b
+        → as_noted (reset_refusal e) ≡ option_map reset_noted (option_map reset_refused (reset_refusal e))
+    go true true p q = rw (p, q) refl
+    go true false p q = rw (p, q) refl
+    go false b p q = rw p refl
+
+coming_so : (node : Option Running) (e : LinkEnd) (window : Option ℕ) → is_some node ≡ true
+    → option_map reset_refused (reset_refusal e) ≡ refusal_coming node e (AsksReset window)
+coming_so None e window q = absurd (cc q)
+coming_so (Some r) e window q = refl
+
+pub reset_runs : (w : NodeWorld) (at : End) (window : Option ℕ) → is_running w (node_of at) ≡ true
+    → refusal_in w (line.Reset at window) ≡ option_map reset_noted (refusal_coming (node_at w (node_of at)) (machine_in w at) (AsksReset window))
+reset_runs w at window on =
+    second_is (if_off w (node_of at)) (as_noted (reset_refusal (machine_in w at))) _ (on_is w (node_of at) on)
+    (told_so (machine_in w at) ∙ ap (option_map reset_noted) (coming_so (node_at w (node_of at)) (machine_in w at) window on))
+
+-- What becomes of a line that damages a frame, and which lines do.
+
+-- ## Which lines damage a frame
+
+pub is_sound : (said : Line) → ((e : End) (places : ArrayVec ℕ) → said ≡ line.Damage e places → ⊥) → is_damaging said ≡ false
+is_sound (line.Damage e places) none = absurd (none e places refl)
+is_sound said none = refl
+
+-- no other frame is read at a line that damages none
+pub sound_reads : (w : NodeWorld) (said : Line) → is_damaging said ≡ false → misread_in w said ≡ None
+sound_reads w (line.Damage e places) q = absurd (true≢false q)
+sound_reads w said q = refl
+
+-- ## What becomes of it
+
+-- the frame that is read in place of another, where this was found
+abbrev pub read_there : Damaged → Option (List ℕ)
+read_there (found.Undetected other) = Some other.read
+read_there d = None
+
+module _ (w : NodeWorld) (e : End) (places : ArrayVec ℕ) where
+  pub off_refused : is_running w (node_of e) ≡ false → refusal_in w (line.Damage e places) ≡ Some no.Off
+  off_refused q = first_is (if_off w (node_of e)) (if_out_of_reach (frames_at w e) places.items) no.Off (off_is w (node_of e) q)
+
+  pub on_refused : (o : Option NoCause) → is_running w (node_of e) ≡ true → if_out_of_reach (frames_at w e) places.items ≡ o
+      → refusal_in w (line.Damage e places) ≡ o
+  on_refused o q found = second_is (if_off w (node_of e)) (if_out_of_reach (frames_at w e) places.items) o (on_is w (node_of e) q) found
+
+  pub misread_not : (cause : NoCause) → refusal_in w (line.Damage e places) ≡ Some cause → misread_in w (line.Damage e places) ≡ None
+  misread_not cause q = rw q refl
+
+  pub misread_is : (o : Option (List ℕ)) → refusal_in w (line.Damage e places) ≡ None
+      → other_frame (first_verdict (frames_at w e) places.items) ≡ o → misread_in w (line.Damage e places) ≡ o
+  misread_is o q same = rw q same
+
+  pub same_is : first_verdict (frames_at w e) places.items ≡ Some Same → is_running w (node_of e) ≡ true
+      → goes_on w (line.Damage e places) ≡ one_step w (Takes e)
+  same_is q can = rw (q, can) refl
+
+  pub lost_is : (why : Loss) → first_verdict (frames_at w e) places.items ≡ Some (LostFor why)
+      → goes_on w (line.Damage e places) ≡ one_step w (Loses e why)
+  lost_is why q = rw q refl
+
+  pub finds_read : (d : Damaged) → is_running w (node_of e) ≡ true → Finds (frames_at w e) places.items d
+      → misread_in w (line.Damage e places) ≡ read_there d
+  finds_read (found.Refused cause) on f = misread_not cause (on_refused (Some cause) on f)
+  finds_read found.Same on f = misread_is None (on_refused None on f.0) (ap other_frame f.1)
+  finds_read (found.Lost cause) on f = misread_is None (on_refused None on f.0) (ap other_frame f.1.1)
+  finds_read (found.Undetected other) on f = misread_is (Some other.read) (on_refused None on f.0) (ap other_frame f.1)

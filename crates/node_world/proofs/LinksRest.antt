@@ -1,6 +1,6 @@
 -- Whether the links of a world are at rest, as it is read of its nodes and wires one by one.
-use Rattle.std.proofs.Common.{◌≡◌, ℕ, ◌+◌, ◌<◌, ◌≤◌, Bool, true, false, List, [], ◌∷◌, ◌++◌, length, get_or, map, refl, ap, ap₂, sym, subst, ◌∙◌}
-use Rattle.std.proofs.Common.{append-nil, append_assoc, arith, length-append}
+use Rattle.std.proofs.Common.{◌≡◌, ℕ, ◌+◌, ◌<◌, ◌≤◌, Bool, true, false, List, [], ◌∷◌, ◌++◌, length, get_or, map, refl, ap, ap₂, sym, subst, ◌∙◌, append-nil}
+use Rattle.std.proofs.Common.{append_assoc, arith, length-append}
 use Rattle.std.specs.Prelude.{◌&&◌, Option, Some, None}
 use Rattle.std.specs.List.{AllByRecursion, list_all}
 use Rattle.node_world.proofs.Words.{AreTimely, Clf, Core, Desk, HasEnds, HostSite, IfItRuns, IfOff, IsNodePlace, MayGoOn, Memory, Node, NumberedEnd, Off, On}
@@ -13,9 +13,8 @@ use Rattle.node_machine.specs.world.Rounds.{sites_rest}
 use Rattle.node_laws.specs.telling.Telling.{hosts_in}
 use Rattle.node_ends.specs.Ends.{are_at_rest}
 use Rattle.node_world.specs.Rounds.{IsToLookAt, far_rests, near_rests}
-use Rattle.node_world.proofs.Behind.{each_found}
-use Rattle.node_world.proofs.PlacesFound.{There, there}
-use Rattle.node_world.proofs.SitesKept.{as_many}
+use Rattle.node_world.proofs.EndsGo.{each_found}
+use Rattle.node_world.proofs.SitesKept.{There, there, as_many}
 
 -- ## Wires
 

@@ -1,31 +1,299 @@
--- In every world behind lines the memory of each node is in order, so that it boots.
-use Rattle.std.proofs.Common.{◌≡◌, ◌⊎◌, inl, inr, ℕ, Bool, true, false, cond, eqb, List, [], ◌∷◌, ◌++◌, length, map, sym, refl, ap, ◌∙◌}
-use Rattle.std.proofs.Common.{subst, arith}
-use Rattle.std.specs.Prelude.{Option, Some, None, is_some}
+-- What a node of a world finds as it boots is of version 02.
+use Rattle.std.proofs.Common.{◌≡◌, List, ℕ, refl, ◌⊎◌, inl, inr, suc, ◌-◌, ◌^◌, ◌≤◌, min, false, cond, [], ◌∷◌, ◌++◌, length, map, take, sym, ap, ◌∙◌, subst}
+use Rattle.std.proofs.Common.{arith, length-take, eqb, Bool, true, ◌==◌}
+use Rattle.std.specs.Prelude.{Option, Some, None, IsSome, is_some, replicate}
+use Rattle.std.specs.Option.{option_map_or}
 use Rattle.std.specs.List.{AllByRecursion}
-use Rattle.std.proofs.lemmas.Bool.{cases_Bool, eqb-true, ne_eqb}
-use Rattle.node_world.proofs.Words.{Activates, Arms, AsksReset, AtController, Book, Boots, CutOff, Entry, Gives, Happening, Inits, IsCut, IsHost, IsSentByHost}
-use Rattle.node_world.proofs.Words.{IsSoundMemory, Line, LineOutcome, Loses, Memory, NextFrame, NoCause, NoInput, Occurrence, Resets, Running, Site, Step}
-use Rattle.node_world.proofs.Words.{Takes, Ticks, WasRefused, after_planned, all_happen, book_in, boot_writes, boots, can_happen, fails_within, found, happens}
-use Rattle.node_world.proofs.Words.{host_cut, last_in, line_step, loses_power_at, memory_at, new_world, node_at, refusal_in, site_at, with_memory, with_node}
-use Rattle.node_world.proofs.Words.{with_site, world_step}
+use Rattle.std.proofs.lemmas.Bool.{cond_both, eq-eqb, cases_Bool, eqb-true, ne_eqb}
+use Rattle.node_world.proofs.Words.{Activates, Arms, AsksReset, AtController, AtEnd, Book, Boots, Comes, CutOff, Desk, End, Entry, Gives, Happening, Inits}
+use Rattle.node_world.proofs.Words.{IsCut, IsHost, IsSentByHost, IsSoundMemory, Line, LineOutcome, Loses, Loss, Memory, NextFrame, NoCause, NoInput}
+use Rattle.node_world.proofs.Words.{NumberedEnd, Occurrence, Port, Resets, Running, Side, Site, Starts, Step, Takes, Ticks, WasRefused, Work, WouldFind}
+use Rattle.node_world.proofs.Words.{after_host, after_planned, all_aged, all_happen, beginning, begins_with, book_in, boot_found, boot_writes, boot_written}
+use Rattle.node_world.proofs.Words.{boots, by_coming, by_controller, by_controller_tick, by_host, by_host_tick, can_happen, changed_if, comes_at}
+use Rattle.node_world.proofs.Words.{controller_ticks, controller_work, count_of, counts, current, end_c, end_h, fails_within, found, frame_lost, happens}
+use Rattle.node_world.proofs.Words.{host_cut, host_does, host_tick, host_work, hosts_tick, last_in, line_step, link_after_controller, loses_power_at}
+use Rattle.node_world.proofs.Words.{memory_at, near_tick, new_desk, new_site, new_world, node_at, port_at, port_for, refusal_in, sending, site_at, site_ticked}
+use Rattle.node_world.proofs.Words.{started_state, state_of, steps, with_memory, with_node, with_site, world_step, world_ticks}
+use Rattle.journal_laws.specs.Journal.{journal, is_open_beside, state_by}
+use Rattle.node_machine.specs.world.NodeLegal.{Last, FindsCommands}
 use Rattle.trace_model.specs.declared.entry.Entry.TheVariants as entry
+use Rattle.journal_laws.specs.declared.state.State.{State}
+use Rattle.journal_laws.specs.Writes.{after_writes, Write}
+use Rattle.journal_laws.specs.Operations.{format_writes, formatted}
+use Rattle.hci_tables.specs.Tables.{HciTables, no_tables, after_commands, close}
+use Rattle.hci_store.specs.Image.{tables_of}
+use Rattle.hci_store.proofs.Starting.{counted}
+use Rattle.node_machine.specs.Parts.{Creation}
+use Rattle.node_machine.specs.Controller.{asked_at}
+use Rattle.node_machine.specs.world.NodeFilters.{with_found, commands_in}
+use Rattle.node_machine.specs.world.NodeLegal.Last.{CutBehindCommand}
+use Rattle.node_laws.specs.kept.Finds.{Knows}
+use Rattle.node_laws.specs.kept.Books.{WaitsFor}
+use Rattle.node_laws.specs.kept.Worlds.{NodeKeeps, SiteKeeps, AllKeep, MayHappen}
+use Rattle.node_laws.proofs.kept.Reckoned.{planned_whole}
+use Rattle.node_laws.proofs.kept.Doing.{book_more, closed_book, finds_all}
+use Rattle.node_laws.proofs.kept.Booting.{says, knows_used, knows_formatted, good_found, new_hosts, boot_lost}
 use Rattle.trace_model.specs.declared.line.Line.TheVariants as line
-use Rattle.node_machine.specs.world.World.{NodeWorld}
-use Rattle.node_machine.specs.world.World.{links_of}
+use Rattle.node_machine.specs.world.World.{NodeWorld, links_of, new_memory, controller_does}
 use Rattle.node_machine.specs.world.Lines.{happenings, goes_on}
 use Rattle.node_machine.specs.world.NodeHistories.{world_after}
 use Rattle.node_laws.specs.kept.Hosts.{AreHosts}
-use Rattle.node_laws.specs.kept.Worlds.{NodeKeeps, SiteKeeps, AllKeep, MayHappen}
-use Rattle.node_laws.proofs.kept.Booting.{boot_lost}
 use Rattle.node_laws.proofs.kept.Events.{Goes, activates_goes, arms_goes, boots_goes, comes_goes, controller_goes, cut_goes, gives_goes, host_goes, hosts_in}
 use Rattle.node_laws.proofs.kept.Events.{inits_goes, loses_is, lost_goes, site_found, with_site_twice}
 use Rattle.node_laws.proofs.kept.Ticking.{MayAllHappen, all_begin, line_may, ticks_goes}
 use Rattle.hci_store.proofs.Committed.{sound_has_no_fault}
-use Rattle.node_sites.specs.Memories.{KeepsSome}
-use Rattle.node_world.proofs.Versions.{boots_find_version_02}
-use Rattle.node_world.proofs.MemoryReads.{reads_at_first, reads_behind_step}
-use Rattle.node_world.proofs.Booting.{as_found, told_as_found, runs_as_found}
+use Rattle.node_sites.specs.Memories.{KeepsSome, ReadsGoThrough}
+use Rattle.swp_base.specs.InMemory.{is_next, memory_after}
+use Rattle.node_machine.proofs.world.Cases.{by_power, by_memory, by_running, by_boot, by_loss, site_lost}
+
+pub boots_find_version_02 : (content : List ℕ) (book : Book) (last : Last) → WouldFind content book last → (started_state (state_of content)).version ≡ 2
+boots_find_version_02 content book last w = go (current content)
+  where
+    go : (bank : Option Side) → (started_state (state_by bank (journal content) (is_open_beside content))).version ≡ 2
+    go None = refl
+    go (Some side) = w.finds.version
+
+-- What a boot leaves of a world whose nodes keep what is read of some entries, however many commands these have.
+
+waits_anew : (hosts : List ℕ) → AllByRecursion (λ (d : Desk). WaitsFor d.notice) (map new_desk hosts)
+waits_anew [] = tt
+waits_anew (h ∷ hosts) = (tt, waits_anew hosts)
+
+asks_nobody : (near_ends : ℕ → NumberedEnd) (hosts : List ℕ) (x : ℕ) (q : Port) (c : Creation)
+    → port_at (map (λ (d : Desk). port_for (near_ends d.host) d) (map new_desk hosts)) x ≡ Some q → asked_at q ≡ Some c → ⊥
+asks_nobody near_ends [] x q c here asked = absurd (cc here)
+asks_nobody near_ends (h ∷ hosts) x q c here asked =
+    cond_both (eqb h x) (Some (port_for (near_ends h) (new_desk h))) (port_at (map (λ (d : Desk). port_for (near_ends d.host) d) (map new_desk hosts)) x)
+    (λ o. o ≡ Some q → ⊥)
+    (λ _ e. let same : port_for (near_ends h) (new_desk h) ≡ q = cc in let none : None ≡ Some c = ap asked_at same ∙ asked in cc none)
+    (λ _ e. asks_nobody near_ends hosts x q c e asked) here
+
+module _ (n : ℕ) (hosts : List ℕ) (t : List Entry) (m : Memory) (would : WouldFind m.content (book_in t n) (last_in t n)) where
+  abbrev content : List ℕ
+  content = m.content
+
+  abbrev book : Book
+  book = book_in t n
+
+  abbrev tables : HciTables
+  tables = after_commands no_tables (take would.many book.commands)
+
+  abbrev now : State
+  now = started_state (state_of content)
+
+  -- the boot, with as many commands as it would find
+  abbrev pub as_found : Entry
+  as_found = entry.Booted n would.many
+
+  pub told_as_found : FindsCommands t n would.many
+  told_as_found = go would.which
+    where
+      go : (would.many ≡ length book.commands) ⊎ ((suc would.many ≡ length book.commands) × (last_in t n ≡ CutBehindCommand) × IsSome (current content))
+          → FindsCommands t n would.many
+      go (inl all) = inl all
+      go (inr less) = inr (less.0, less.1)
+
+  most : would.many ≤ length book.commands
+  most = go would.which
+    where
+      go : (would.many ≡ length book.commands) ⊎ ((suc would.many ≡ length book.commands) × (last_in t n ≡ CutBehindCommand) × IsSome (current content))
+          → would.many ≤ length book.commands
+      go (inl all) = omega (arith, all)
+      go (inr less) = let z = less.0 in omega (arith, z)
+
+  knows_now : (o : Option Side) → current content ≡ o → Knows (after_writes (boot_writes content) content) now (close (tables_of content))
+  knows_now (Some side) is =
+      subst (λ w. Knows (after_writes w content) now (close (tables_of content))) (sym (ap (λ p. option_map_or (λ _. []) p format_writes) is))
+      (subst (λ s. Knows content s (close (tables_of content))) (sym (ap (λ p. option_map_or (λ _. state_of content) p formatted) is))
+      (knows_used content tables _ would.finds (subst IsSome (sym is) refl)))
+  knows_now None is =
+      subst (λ w. Knows (after_writes w content) now (close (tables_of content))) (sym (ap (λ p. option_map_or (λ _. []) p format_writes) is))
+      (subst (λ s. Knows (after_writes format_writes content) s (close (tables_of content)))
+      (sym (ap (λ p. option_map_or (λ _. state_of content) p formatted) is))
+      (knows_formatted content tables _ would.finds is))
+
+  book_then : book_in (t ++ as_found ∷ []) n ≡ with_found would.many book
+  book_then = book_more t (as_found ∷ []) n ∙ ap (λ b. cond b (with_found would.many book) book) (eq-eqb n n refl)
+
+  tables_then : close (tables_of content) ≡ (book_in (t ++ as_found ∷ []) n).tables
+  tables_then = would.finds.keeps.holds.tables_are ∙ ap (λ (b : Book). b.tables) (sym book_then)
+
+  count_then : count_of now ≡ min (length (commands_in (t ++ as_found ∷ []) n)) (2 ^ 32 - 1)
+  count_then =
+      counted content (state_of content) now (says content tables _ would.finds) refl ∙ would.finds.keeps.count_is
+      ∙ same would.many (length book.commands) (length (take would.many book.commands)) (length-take would.many book.commands) most
+      ∙ ap (λ (b : Book). min (length b.commands) (2 ^ 32 - 1)) (sym book_then)
+    where
+      same : (many l k : ℕ) → k ≡ min many l → many ≤ l → min many (2 ^ 32 - 1) ≡ min k (2 ^ 32 - 1)
+      same many l k a b = omega arith
+
+  pub runs_as_found : fails_within (length (boot_writes content)) m.plan ≡ false
+      → NodeKeeps n hosts (t ++ as_found ∷ []) (after_planned (boot_writes content) m) (Some (found n hosts content))
+  runs_as_found none = record {
+    would = finds_all _ (book_in (t ++ as_found ∷ []) n) (last_in (t ++ as_found ∷ []) n) (close (tables_of content)) (count_of now) knows.finds
+        (ap close tables_then ∙ closed_book (t ++ as_found ∷ []) n) count_then;
+    runs = record {
+      number = refl;
+      hosts_are = new_hosts hosts;
+      knows = knows;
+      sorted = (good_found content).0;
+      recordable = (good_found content).1;
+      tables_are = tables_then;
+      count_is = count_then;
+      on = tt;
+      waits = waits_anew hosts;
+      allowed = λ z near_ends x q c here asked. absurd (asks_nobody near_ends hosts x q c here asked);
+    };
+  } where
+    knows : Knows (after_planned (boot_writes content) m).content now (close (tables_of content))
+    knows = subst (λ x. Knows x now (close (tables_of content))) (sym (planned_whole (boot_writes content) m none).0) (knows_now (current content) refl)
+
+-- Whatever happens to a world, no read of a memory is to fail.
+
+-- ## One memory
+
+pub planned_reads : (writes : List Write) (m : Memory) → (after_planned writes m).failing_read ≡ m.failing_read
+planned_reads [] m = refl
+planned_reads (w ∷ writes) m = go (is_next m.plan) (planned_reads writes (memory_after m w.at w.bytes))
+  where
+    one : (b : Bool) → is_next m.plan ≡ b → (memory_after m w.at w.bytes).failing_read ≡ m.failing_read
+    one true q = rw q refl
+    one false q = rw q refl
+
+    go : (b : Bool) → (after_planned writes (memory_after m w.at w.bytes)).failing_read ≡ (memory_after m w.at w.bytes).failing_read
+        → (cond b (memory_after m w.at w.bytes) (after_planned writes (memory_after m w.at w.bytes))).failing_read ≡ m.failing_read
+    go true later = one (is_next m.plan) refl
+    go false later = later ∙ one (is_next m.plan) refl
+
+-- ## Sites
+
+abbrev AreFine : List Site → Type 0
+AreFine sites = AllByRecursion (λ (s : Site). s.memory.failing_read ≡ None) sites
+
+each : (f : Site → Site) → ((s : Site) → (f s).memory.failing_read ≡ s.memory.failing_read) → (sites : List Site) → AreFine sites → AreFine (map f sites)
+each f same [] a = tt
+each f same (s ∷ sites) a = (same s ∙ a.0, each f same sites a.1)
+
+one_of : (h : ℕ) (f : Site → Site) → ((s : Site) → s.memory.failing_read ≡ None → (f s).memory.failing_read ≡ None) → (sites : List Site) → AreFine sites
+    → AreFine (with_site h f sites)
+one_of h f keeps [] a = tt
+one_of h f keeps (s ∷ sites) a = (go (s.host == h), one_of h f keeps sites a.1)
+  where
+    go : (b : Bool) → (changed_if b f s).memory.failing_read ≡ None
+    go true = keeps s a.0
+    go false = a.0
+
+pub reads_at_first : (hosts : List ℕ) → ReadsGoThrough (new_world hosts)
+reads_at_first hosts = record { controller = refl; hosts = go hosts }
+  where
+    go : (hosts : List ℕ) → AreFine (map (new_site (replicate 65536 255)) hosts)
+    go [] = tt
+    go (h ∷ hosts) = (refl, go hosts)
+
+memory_found : (n : ℕ) (w : NodeWorld) → ReadsGoThrough w → (memory_at w n).failing_read ≡ None
+memory_found n w a = by_number (n == 0) refl
+  where
+    by_site : (sites : List Site) → AreFine sites → (option_map_or (λ (s : Site). s.memory) (site_at sites n) (new_memory [])).failing_read ≡ None
+    by_site [] a = refl
+    by_site (s ∷ sites) a = go (s.host == n) refl (by_site sites a.1)
+      where
+        go : (b : Bool) → (s.host == n) ≡ b → (option_map_or (λ (s : Site). s.memory) (site_at sites n) (new_memory [])).failing_read ≡ None
+            → (option_map_or (λ (s : Site). s.memory) (site_at (s ∷ sites) n) (new_memory [])).failing_read ≡ None
+        go true q later = rw q a.0
+        go false q later = rw q later
+
+    by_number : (b : Bool) → (n == 0) ≡ b → (memory_at w n).failing_read ≡ None
+    by_number true q = rw q a.controller
+    by_number false q = rw q (by_site w.sites a.hosts)
+
+-- ## Steps
+
+after_controller_reads : (w : NodeWorld) (h : ℕ) (comes : Comes) (f : Work → Work) → ReadsGoThrough w → ReadsGoThrough (controller_does w h comes f).0
+after_controller_reads w h comes f a =
+    by_controller (λ p. ReadsGoThrough p.0) w h comes f a
+    (λ r q. let k : Work = controller_work w r h comes f in
+    record { controller = planned_reads k.writes w.memory ∙ a.controller; hosts = each (link_after_controller h comes k) (λ s. refl) w.sites a.hosts })
+
+after_host_reads : (w : NodeWorld) (h : ℕ) (comes : Comes) (f : Work → Work) → ReadsGoThrough w → ReadsGoThrough (host_does w h comes f).0
+after_host_reads w h comes f a =
+    by_host (λ p. ReadsGoThrough p.0) w h comes f a
+    (λ s r found is. let k : Work = host_work s r comes f in
+    record { controller = a.controller; hosts = one_of h (after_host comes k) (λ t b. planned_reads k.writes t.memory ∙ b) w.sites a.hosts })
+
+coming_reads : (w : NodeWorld) (e : End) (comes : Comes) → ReadsGoThrough w → ReadsGoThrough (comes_at w e comes).0
+coming_reads w e comes a =
+    by_coming (λ p. ReadsGoThrough p.0) w e comes a (λ i is q. after_host_reads w e.link comes (steps (AtEnd e.link i)) a)
+    (λ i is q. after_controller_reads w e.link comes (steps (AtEnd e.link i)) a)
+
+power_reads : (n : ℕ) (w : NodeWorld) → ReadsGoThrough w → ReadsGoThrough (loses_power_at n w)
+power_reads n w a =
+    by_power ReadsGoThrough n w (λ q. record { controller = a.controller; hosts = each _ (λ s. refl) w.sites a.hosts })
+    (λ q. record { controller = a.controller; hosts = one_of n host_cut (λ s b. b) w.sites a.hosts })
+
+with_memory_reads : (n : ℕ) (m : Memory) (w : NodeWorld) → m.failing_read ≡ None → ReadsGoThrough w → ReadsGoThrough (with_memory n m w)
+with_memory_reads n m w none a =
+    by_memory ReadsGoThrough n w m (λ q. record { controller = none; hosts = a.hosts })
+    (λ q. record { controller = a.controller; hosts = one_of n (λ s. record s { memory = m }) (λ s b. none) w.sites a.hosts })
+
+with_node_reads : (n : ℕ) (r : Running) (w : NodeWorld) → ReadsGoThrough w → ReadsGoThrough (with_node n r w)
+with_node_reads n r w a =
+    by_running ReadsGoThrough n w r (λ q. record { controller = a.controller; hosts = a.hosts })
+    (λ q. record { controller = a.controller; hosts = one_of n (λ s. record s { node = Some r }) (λ s b. b) w.sites a.hosts })
+
+boot_reads : (w : NodeWorld) (n : ℕ) → ReadsGoThrough w → ReadsGoThrough (boots w n).0
+boot_reads w n a =
+    let m : Memory = memory_at w n in
+    let none = planned_reads (boot_writes m.content) m ∙ memory_found n w a in
+    let v : NodeWorld = boot_written w n in
+    let b : ReadsGoThrough v = with_memory_reads n (after_planned (boot_writes m.content) m) w none a in
+    by_boot (λ p. ReadsGoThrough p.0) w n (power_reads n v b) (with_node_reads n (boot_found w n) v b)
+
+lost_reads : (w : NodeWorld) (e : End) (why : Loss) → ReadsGoThrough w → ReadsGoThrough (frame_lost w e why).0
+lost_reads w e why a =
+    by_loss (λ p. ReadsGoThrough p.0) w e why
+    (λ q. record {
+      controller = a.controller;
+      hosts = one_of e.link (λ s. record (site_lost e why s) { node = counts why e.link s.node }) (λ s b. b) w.sites a.hosts;
+    })
+    (λ q. record { controller = a.controller; hosts = one_of e.link (site_lost e why) (λ s b. b) w.sites a.hosts })
+
+-- ## Ticks
+
+near_reads : (w : NodeWorld) → ReadsGoThrough w → ReadsGoThrough (controller_ticks w).0
+near_reads w a =
+    by_controller_tick (λ p. ReadsGoThrough p.0) w (λ q. record { controller = a.controller; hosts = each _ (λ s. refl) w.sites a.hosts })
+    (λ r q. let k : Work = near_tick w r in
+    record { controller = planned_reads k.writes w.memory ∙ a.controller; hosts = each (site_ticked k) (λ s. refl) w.sites a.hosts })
+
+far_reads : (sites : List Site) → AreFine sites → AreFine (hosts_tick sites).0
+far_reads [] a = tt
+far_reads (s ∷ sites) a = (
+  by_host_tick (λ p. p.0.memory.failing_read ≡ None) s (λ q. a.0) (λ r q. planned_reads (host_tick s r).writes s.memory ∙ a.0),
+  far_reads sites a.1,
+)
+
+tick_reads : (w : NodeWorld) → ReadsGoThrough w → ReadsGoThrough (world_ticks w).0
+tick_reads w a =
+    let old : ReadsGoThrough (all_aged w).0 = record { controller = a.controller; hosts = each _ (λ s. refl) w.sites a.hosts } in
+    let near : ReadsGoThrough (controller_ticks (all_aged w).0).0 = near_reads (all_aged w).0 old in
+    record { controller = near.controller; hosts = far_reads (controller_ticks (all_aged w).0).0.sites near.hosts }
+
+-- ## Whatever happens
+
+pub reads_behind_step : (w : NodeWorld) (c : Happening) → ReadsGoThrough w → ReadsGoThrough (world_step w c).0
+reads_behind_step w (Boots n) a = boot_reads w n a
+reads_behind_step w (IsCut n) a = power_reads n w a
+reads_behind_step w (Gives e m) a = after_host_reads w e.link NoInput (begins_with e.link (sending e.link m)) a
+reads_behind_step w (Inits e identity pipes) a = after_host_reads w e.link NoInput (begins_with e.link (beginning identity pipes)) a
+reads_behind_step w (Takes e) a = coming_reads w e NextFrame a
+reads_behind_step w (Loses e why) a = lost_reads w e why a
+reads_behind_step w Ticks a = tick_reads w a
+reads_behind_step w (Resets e window) a = coming_reads w e (AsksReset window) a
+reads_behind_step w (Activates h sync power) a =
+    coming_reads (comes_at w (end_c h) (Starts power)).0 (end_h h) (Starts sync) (coming_reads w (end_c h) (Starts power) a)
+reads_behind_step w (Arms n plan) a = with_memory_reads n (record (memory_at w n) { plan = Some plan }) w (memory_found n w a) a
+
+-- In every world behind lines the memory of each node is in order, so that it boots.
 
 map_same : (sites : List Site) → map (λ (s : Site). s) sites ≡ sites
 map_same [] = refl

@@ -1,11 +1,20 @@
 -- What is kept of hosts, one by one, as something happens to each of them.
-use Rattle.std.proofs.Common.{◌≡◌, ℕ, suc, ◌+◌, ◌<◌, ◌≤◌, List, [], ◌∷◌, ◌++◌, length, get_or, map, refl, ap, sym, subst, ◌∙◌, append_assoc, append-nil}
-use Rattle.std.proofs.Common.{arith}
-use Rattle.std.specs.Prelude.{slice_set}
-use Rattle.std.specs.List.{flat_map}
-use Rattle.std.proofs.lemmas.List.{get_or_at, set_at, length-append, length-map}
+use Rattle.std.proofs.Common.{◌≡◌, ℕ, suc, ◌+◌, ◌<◌, ◌≤◌, List, [], ◌∷◌, ◌++◌, length, get_or, map, refl, ap, sym, subst, ◌∙◌, append_assoc, append-nil, arith}
+use Rattle.std.proofs.Common.{◌==◌, Bool, true, false, drop, ap₂, ◌≢◌, max, take}
+use Rattle.std.specs.Prelude.{slice_set, Some, None}
+use Rattle.std.specs.List.{flat_map, AllByRecursion}
+use Rattle.std.proofs.lemmas.List.{get_or_at, set_at, length-append, length-map, map-append, drop-set-lt, drop_more, length-take-le, get_or-set_same}
+use Rattle.std.proofs.lemmas.List.{get_or-set_other, take-append-drop}
 use Rattle.std.proofs.lemmas.Grind.{flat_map-append}
-use Rattle.node_world.proofs.Words.{Entry, HostSite, Site, SiteIs, SitesAre}
+use Rattle.std.specs.Option.{option_map_or}
+use Rattle.std.proofs.lemmas.Bool.{eqb-true, eqb-false}
+use Rattle.node_world.proofs.Words.{AreDifferent, AreSessions, Control, Controller, Entry, HasOneEnd, HaveRoom, HostSite, IsHost, IsNodePlace, IsOnly, Link}
+use Rattle.node_world.proofs.Words.{NumberedEnd, Port, Site, SiteIs, SitesAre, StandsAt, Wires, WiresStandFor, changed_if, entries_for, frames_emitted}
+use Rattle.node_world.proofs.Words.{frames_out, number_of, port_at, put_all, puts_entries, sent_port, sent_to, site_at, swapped, with_port}
+use Rattle.node_laws.specs.telling.Telling.{hosts_in}
+use Rattle.node_sites.specs.FramesOut.{SendsFrom}
+use Rattle.node_world.specs.Controllers.{due_at, has_frames}
+use Rattle.node_world.proofs.EndsGo.{all_far}
 
 pub as_many : (ks : List HostSite) (sites : List Site) → SitesAre ks sites → length ks ≡ length sites
 as_many [] [] a = refl
@@ -159,3 +168,316 @@ walk_ends f g now sites before after i w over = go w.left refl
         ap (λ xs. length (map f w.done ++ xs)) q ∙ (length-append (map f w.done) (s ∷ back)
         ∙ ap (λ n. n + length (s ∷ back)) (length-map w.done f ∙ w.place)) in
         absurd (let more : length now ≡ i + length (s ∷ back) = many ∙ long in omega (arith, more, over))
+
+-- The frames of a node go out at its ends of the links to all hosts.
+
+-- ## Ends to which nothing was sent yet
+
+one_stays : (k h : ℕ) (ports : List Port) (p : Port) → (k == h) ≡ false → IsOnly h p ports → IsOnly h p (with_port k sent_port ports)
+one_stays k h [] p q a = tt
+one_stays k h (x ∷ ports) p q a = (go (x.desk.host == k) refl, one_stays k h ports p q a.1)
+  where
+    go : (b : Bool) → (x.desk.host == k) ≡ b → ((changed_if (x.desk.host == k) sent_port x).desk.host == h) ≡ true
+        → changed_if (x.desk.host == k) sent_port x ≡ p
+    go true e is =
+        let there : (x.desk.host == h) ≡ true = rw e at is in
+        let same : x.desk.host ≡ k = eqb-true x.desk.host k e in
+        let other : (x.desk.host == h) ≡ false = ap (λ n. n == h) same ∙ q in
+        absurd (let z : true ≡ false = sym there ∙ other in cc)
+    go false e is = rw e (a.0 (rw e at is))
+
+found_stays : (k h : ℕ) (ports : List Port) (p : Port) → (k == h) ≡ false → port_at ports h ≡ Some p → port_at (with_port k sent_port ports) h ≡ Some p
+found_stays k h [] p q f = absurd (cc f)
+found_stays k h (x ∷ ports) p q f = go (x.desk.host == k) (x.desk.host == h) refl refl (found_stays k h ports p q)
+  where
+    go : (b c : Bool) → (x.desk.host == k) ≡ b → (x.desk.host == h) ≡ c
+        → (port_at ports h ≡ Some p → port_at (with_port k sent_port ports) h ≡ Some p) → port_at (with_port k sent_port (x ∷ ports)) h ≡ Some p
+    go true true e d later =
+        let same : x.desk.host ≡ k = eqb-true x.desk.host k e in
+        let other : (x.desk.host == h) ≡ false = ap (λ n. n == h) same ∙ q in
+        absurd (let z : true ≡ false = sym d ∙ other in cc)
+    go true false e d later = rw e (rw d (later (rw d at f)))
+    go false true e d later = rw e (rw d (rw d at f))
+    go false false e d later = rw e (rw d (later (rw d at f)))
+
+-- an end stays as it is while frames go out to others
+pub stays : (hosts : List ℕ) (h : ℕ) (ports : List Port) (p : Port) → AllByRecursion (λ k. (k == h) ≡ false) hosts → port_at ports h ≡ Some p
+    → IsOnly h p ports → (port_at (sent_to hosts ports) h ≡ Some p) × IsOnly h p (sent_to hosts ports)
+stays [] h ports p a f only = (f, only)
+stays (k ∷ hosts) h ports p a f only = stays hosts h (with_port k sent_port ports) p a.1 (found_stays k h ports p a.0 f) (one_stays k h ports p a.0 only)
+
+pub sent_last : (hosts : List ℕ) (h : ℕ) (ports : List Port) → sent_to (hosts ++ h ∷ []) ports ≡ with_port h sent_port (sent_to hosts ports)
+sent_last [] h ports = refl
+sent_last (k ∷ hosts) h ports = sent_last hosts h (with_port k sent_port ports)
+
+-- those before one of different hosts are others
+pub others_before : (front : List ℕ) (h : ℕ) (back : List ℕ) → AreDifferent (front ++ h ∷ back) → AllByRecursion (λ k. (k == h) ≡ false) front
+others_before [] h back d = tt
+others_before (x ∷ front) h back d = (swapped h x (last front d.0), others_before front h back d.1)
+  where
+    last : (xs : List ℕ) → AllByRecursion (λ k. (k == x) ≡ false) (xs ++ h ∷ back) → (h == x) ≡ false
+    last [] a = a.0
+    last (y ∷ xs) a = last xs a.1
+
+pub of_these : {X : Type 0} (Q : X → Type 0) (front : List X) (x : X) (back : List X) → AllByRecursion Q (front ++ x ∷ back) → Q x
+of_these Q [] x back a = a.0
+of_these Q (y ∷ front) x back a = of_these Q front x back a.1
+
+-- ## One host after another
+
+-- the frames went out to the first hosts
+pub record SendingOn (Runs : List Port → Type 0) (ports : List Port) (now : List HostSite) (hosts : List Site) (before after : List Entry) (i : ℕ)
+    : Type 0 where
+  pub walked : Walked (has_frames ports) (frames_emitted ports) now hosts before after i
+  pub runs : Runs (sent_to (hosts_in walked.done) ports)
+
+pub sends_first : (Runs : List Port → Type 0) (ports : List Port) (now : List HostSite) (hosts : List Site) (entries : List Entry)
+    → Runs ports → SitesAre now hosts → SendingOn Runs ports now hosts entries entries 0
+sends_first Runs ports now hosts entries runs a =
+    let first = walk_begins (has_frames ports) (frames_emitted ports) now hosts entries a in
+    record { walked = first.walked; runs = subst Runs (ap (λ xs. sent_to (hosts_in xs) ports) (sym first.done_is)) runs }
+
+-- those to the next one
+pub record SendsNext (Runs : List Port → Type 0) (ports : List Port) (now : List HostSite) (hosts : List Site) (before after : List Entry) (i : ℕ)
+    (k : HostSite) : Type 1 where
+  pub ends : List Port
+  pub port : Port
+  pub link : Link
+  pub sends : SendsFrom (Runs ends) (record { link = k.host; at_host = false }) port ends
+  pub wires : WiresStandFor k.wires link
+  pub goes : (Again : List Port → Type 0) (new : Wires) (later : List Entry) → Again (with_port k.host sent_port ends)
+      → WiresStandFor new (put_all link (frames_out port.side)) → later ≡ after ++ entries_for k.host (puts_entries Controller link (frames_out port.side))
+      → SendingOn Again ports (slice_set now i (record k { wires = new })) hosts before later (i + 1)
+
+pub sends_next : (Runs : List Port → Type 0) (ports : List Port) (now : List HostSite) (hosts : List Site) (before after : List Entry) (i : ℕ)
+    (k : HostSite) → AreDifferent (hosts_in hosts) → AllByRecursion (HasOneEnd ports) (hosts_in hosts)
+    → SendingOn Runs ports now hosts before after i → i < length now → k ≡ get_or now i k → SendsNext Runs ports now hosts before after i k
+sends_next Runs ports now hosts before after i k different ends s lt read =
+    let done : List Site = s.walked.done in
+    let n : Next (has_frames ports) (frames_emitted ports) now hosts before after i k done =
+    walk_next (has_frames ports) (frames_emitted ports) now hosts before after i k s.walked lt read in
+    let x : Site = n.site in
+    let all : hosts_in hosts ≡ hosts_in done ++ x.host ∷ hosts_in n.back = ap hosts_in n.is ∙ map-append (λ (z : Site). z.host) done (x ∷ n.back) in
+    let one : HasOneEnd ports x.host =
+    of_these (HasOneEnd ports) (hosts_in done) x.host (hosts_in n.back) (subst (AllByRecursion (HasOneEnd ports)) all ends) in
+    let others : AllByRecursion (λ h. (h == x.host) ≡ false) (hosts_in done) =
+    others_before (hosts_in done) x.host (hosts_in n.back) (subst AreDifferent all different) in
+    let now_ends : List Port = sent_to (hosts_in done) ports in
+    let there = stays (hosts_in done) x.host ports one.port others one.here one.only in
+    let At : ℕ → Type 0 = λ h. SendsFrom (Runs now_ends) (record { link = h; at_host = false }) one.port now_ends in
+    let due : due_at ports x.host ≡ frames_out one.port.side = ap (λ o. option_map_or (λ (p : Port). frames_out p.side) o []) one.here in
+    record {
+      ends = now_ends;
+      port = one.port;
+      link = x.link;
+      sends = subst At (sym n.here.host) (record { runs = s.runs; here = there.0; only = there.1 });
+      wires = n.here.wires;
+      goes = λ Again new later runs wires noted.
+          let W : List Control → Type 0 = λ cs. WiresStandFor new (put_all x.link cs) in
+          let site : SiteIs (record k { wires = new }) (has_frames ports x) =
+          with_frames k new x (due_at ports x.host) n.here (subst W (sym due) wires) in
+          let told : later ≡ after ++ frames_emitted ports x =
+          noted ∙ (ap (λ h. after ++ entries_for h (puts_entries Controller x.link (frames_out one.port.side))) n.here.host
+          ∙ ap (λ cs. after ++ entries_for x.host (puts_entries Controller x.link cs)) (sym due)) in
+          let longer = n.goes (record k { wires = new }) later site told in
+          let names : sent_to (hosts_in longer.walked.done) ports ≡ with_port x.host sent_port now_ends =
+          ap (λ xs. sent_to (hosts_in xs) ports) longer.done_is
+          ∙ (ap (λ hs. sent_to hs ports) (map-append (λ (z : Site). z.host) done (x ∷ [])) ∙ sent_last (hosts_in done) x.host ports) in
+          record {
+            walked = longer.walked;
+            runs = subst Again (ap (λ h. with_port h sent_port now_ends) n.here.host ∙ sym names) runs;
+          };
+    }
+  where
+    with_frames : (k : HostSite) (new : Wires) (x : Site) (cs : List Control) → SiteIs k x → WiresStandFor new (put_all x.link cs)
+        → SiteIs (record k { wires = new }) (record x { link = put_all x.link cs })
+    with_frames k new x cs a wires =
+        let Q : NumberedEnd → Type 0 = λ e. IsNodePlace k.power x.memory x.node (λ h. e) in
+        record { host = a.host; wires = wires; place = subst Q (sym (all_far x.link cs)) a.place }
+
+pub all_sent : (Runs : List Port → Type 0) (ports : List Port) (now : List HostSite) (hosts : List Site) (before after : List Entry) (i : ℕ)
+    → SendingOn Runs ports now hosts before after i → length now ≤ i → Runs (sent_to (hosts_in hosts) ports) × SitesAre now (map (has_frames ports) hosts)
+    × (after ≡ before ++ flat_map (frames_emitted ports) hosts)
+all_sent Runs ports now hosts before after i s over =
+    let e = walk_ends (has_frames ports) (frames_emitted ports) now hosts before after i s.walked over in
+    (subst Runs (ap (λ xs. sent_to (hosts_in xs) ports) e.2) s.runs, e.0, e.1)
+
+-- the room that is left on the wires to the hosts behind one to which frames went out
+pub room_left : (now : List HostSite) (i : ℕ) (k : HostSite) → i < length now → HaveRoom (drop i now) → HaveRoom (drop (i + 1) (slice_set now i k))
+room_left now i k lt a =
+    let parts : drop i now ≡ get_or now i k ∷ drop (i + 1) now = drop_more now i k lt in
+    let same : drop (i + 1) (slice_set now i k) ≡ drop (i + 1) now = drop-set-lt (i + 1) now i k (omega arith) in
+    let R : List HostSite → Type 0 = λ xs. HaveRoom xs in
+    let all : HaveRoom (get_or now i k ∷ drop (i + 1) now) = subst R parts a in
+    subst R (sym same) all.1
+
+-- The place of a host in what is kept of all hosts, and the numbers of the sessions of the controller's ends.
+
+-- none of the first ones has this number
+pub record PassedBy (i h : ℕ) (sites : List Site) : Type 0 where
+  pub front : List Site
+  pub back : List Site
+  pub is : sites ≡ front ++ back
+  pub place : length front ≡ i
+  pub others : AllByRecursion (λ (s : Site). (s.host == h) ≡ false) front
+
+pub none_passed : (h : ℕ) (sites : List Site) → PassedBy 0 h sites
+none_passed h sites = record { front = []; back = sites; is = refl; place = refl; others = tt }
+
+all_last : {X : Type 0} (Q : X → Type 0) (xs : List X) (x : X) → AllByRecursion Q xs → Q x → AllByRecursion Q (xs ++ x ∷ [])
+all_last Q [] x a q = (q, tt)
+all_last Q (y ∷ xs) x a q = (a.0, all_last Q xs x a.1 q)
+
+not_found : (h : ℕ) (sites : List Site) → AllByRecursion (λ (s : Site). (s.host == h) ≡ false) sites → site_at sites h ≡ None
+not_found h [] a = refl
+not_found h (s ∷ sites) a = let q : (s.host == h) ≡ false = a.0 in rw q (not_found h sites a.1)
+
+-- what is read at a place stands for the host there
+pub record There (i : ℕ) (ks : List HostSite) (front back : List Site) (k : HostSite) : Type 0 where
+  pub site : Site
+  pub rest : List Site
+  pub is : back ≡ site ∷ rest
+  pub here : SiteIs k site
+
+pub there : (i : ℕ) (ks : List HostSite) (front back : List Site) (k : HostSite) → SitesAre ks (front ++ back)
+    → length front ≡ i → i < length ks → k ≡ get_or ks i k → There i ks front back k
+there i ks front [] k a place lt read =
+    let many : length ks ≡ length (front ++ []) = as_many ks (front ++ []) a in
+    let none : length (front ++ []) ≡ i = ap length (append-nil front) ∙ place in
+    absurd (let over : length ks ≡ i = many ∙ none in omega (arith, over, lt))
+there i ks front (s ∷ rest) k a place lt read =
+    record { site = s; rest = rest; is = refl; here = read_there ks front s rest i k place a read }
+
+-- it is the host with this number
+pub place_found : (i h : ℕ) (ks : List HostSite) (sites : List Site) (k : HostSite) → SitesAre ks sites → PassedBy i h sites
+    → i < length ks → k ≡ get_or ks i k → k.host ≡ h → StandsAt i h sites
+place_found i h ks sites k a p lt read host =
+    let t = there i ks p.front p.back k (subst (SitesAre ks) p.is a) p.place lt read in
+    record {
+      front = p.front;
+      site = t.site;
+      back = t.rest;
+      is = p.is ∙ ap (λ xs. p.front ++ xs) t.is;
+      place = p.place;
+      host = sym t.here.host ∙ host;
+    }
+
+-- so it is wherever it was looked for
+pub place_is : (i h : ℕ) (ks : List HostSite) (sites : List Site) (k : HostSite) → SitesAre ks sites
+    → i < length ks → k ≡ get_or ks i k → k.host ≡ h → StandsAt i h sites
+place_is i h ks sites k a lt read host =
+    let parts : take i sites ++ drop i sites ≡ sites = take-append-drop i sites in
+    let many : length ks ≡ length sites = as_many ks sites a in
+    let long : length (take i sites) ≡ i = length-take-le i sites (omega (arith, many, lt)) in
+    let t = there i ks (take i sites) (drop i sites) k (subst (SitesAre ks) (sym parts) a) long lt read in
+    record {
+      front = take i sites;
+      site = t.site;
+      back = t.rest;
+      is = sym parts ∙ ap (λ xs. take i sites ++ xs) t.is;
+      place = long;
+      host = sym t.here.host ∙ host;
+    }
+
+-- or not
+pub passes_by : (i h : ℕ) (ks : List HostSite) (sites : List Site) (k : HostSite) → SitesAre ks sites → PassedBy i h sites
+    → i < length ks → k ≡ get_or ks i k → (k.host == h) ≡ false → PassedBy (i + 1) h sites
+passes_by i h ks sites k a p lt read other =
+    let t = there i ks p.front p.back k (subst (SitesAre ks) p.is a) p.place lt read in
+    record {
+      front = p.front ++ t.site ∷ [];
+      back = t.rest;
+      is = p.is ∙ (ap (λ xs. p.front ++ xs) t.is ∙ sym (append_assoc p.front (t.site ∷ []) t.rest));
+      place = length-append p.front (t.site ∷ []) ∙ ap (λ n. n + 1) p.place;
+      others = all_last (λ (s : Site). (s.host == h) ≡ false) p.front t.site p.others (ap (λ n. n == h) (sym t.here.host) ∙ other);
+    }
+
+pub none_there : (i h : ℕ) (ks : List HostSite) (sites : List Site) → SitesAre ks sites → PassedBy i h sites → length ks ≤ i → site_at sites h ≡ None
+none_there i h ks sites a p over = go p.back refl
+  where
+    go : (back : List Site) → p.back ≡ back → site_at sites h ≡ None
+    go [] q =
+        let all : sites ≡ p.front = p.is ∙ (ap (λ xs. p.front ++ xs) q ∙ append-nil p.front) in
+        ap (λ xs. site_at xs h) all ∙ not_found h p.front p.others
+    go (s ∷ rest) q =
+        let many : length ks ≡ length sites = as_many ks sites a in
+        let long : length sites ≡ i + length (s ∷ rest) =
+        ap length p.is ∙ (ap (λ xs. length (p.front ++ xs)) q ∙ (length-append p.front (s ∷ rest) ∙ ap (λ n. n + length (s ∷ rest)) p.place)) in
+        absurd (let more : length ks ≡ i + length (s ∷ rest) = many ∙ long in omega (arith, more, over))
+
+-- ## Numbers of sessions
+
+-- the numbers of the first ends are there
+pub record NumbersFound (i : ℕ) (sessions : List ℕ) (sites : List Site) : Type 0 where
+  pub front : List Site
+  pub back : List Site
+  pub is : sites ≡ front ++ back
+  pub place : length front ≡ i
+  pub numbers : AreDifferent (hosts_in sites) → AllByRecursion IsHost (hosts_in sites) → AreSessions sessions front
+
+pub no_numbers : (sessions : List ℕ) (sites : List Site) → NumbersFound 0 sessions sites
+no_numbers sessions sites = record { front = []; back = sites; is = refl; place = refl; numbers = λ d a. tt }
+
+kept_numbers : (front : List Site) (h n : ℕ) (sessions : List ℕ) → AllByRecursion (λ k. (k == h) ≡ false) (hosts_in front)
+    → AreSessions sessions front → AreSessions (slice_set sessions h n) front
+kept_numbers [] h n sessions d a = tt
+kept_numbers (s ∷ front) h n sessions d a =
+    let other : s.host ≢ h = eqb-false s.host h d.0 in
+    (get_or-set_other sessions h s.host n 0 other ∙ a.0, kept_numbers front h n sessions d.1 a.1)
+
+-- one more number
+pub number_found : (i : ℕ) (ks : List HostSite) (sites : List Site) (sessions : List ℕ) (k : HostSite) (n : ℕ) → SitesAre ks sites
+    → NumbersFound i sessions sites → i < length ks → k ≡ get_or ks i k → length sessions ≡ 8 → k.host < 8
+    → n ≡ max k.wires.controller.emitted k.wires.controller.took → NumbersFound (i + 1) (slice_set sessions k.host n) sites
+number_found i ks sites sessions k n a f lt read eight low number =
+    let t = there i ks f.front f.back k (subst (SitesAre ks) f.is a) f.place lt read in
+    let x : Site = t.site in
+    let parts : sites ≡ f.front ++ x ∷ t.rest = f.is ∙ ap (λ xs. f.front ++ xs) t.is in
+    let all : hosts_in sites ≡ hosts_in f.front ++ x.host ∷ hosts_in t.rest = ap hosts_in parts ∙ map-append (λ (z : Site). z.host) f.front (x ∷ t.rest) in
+    let is : n ≡ number_of x.link.controller =
+    number ∙ ap₂ max t.here.wires.here.emitted_is t.here.wires.here.took_is in
+    record {
+      front = f.front ++ x ∷ [];
+      back = t.rest;
+      is = parts ∙ sym (append_assoc f.front (x ∷ []) t.rest);
+      place = length-append f.front (x ∷ []) ∙ ap (λ m. m + 1) f.place;
+      numbers = λ different hosts.
+          let others = others_before (hosts_in f.front) x.host (hosts_in t.rest) (subst AreDifferent all different) in
+          let S : ℕ → Type 0 = λ h. AreSessions (slice_set sessions h n) (f.front ++ x ∷ []) in
+          let there : x.host < length sessions = omega (arith, t.here.host, low, eight) in
+          subst S (sym t.here.host) (all_last (λ (s : Site). get_or (slice_set sessions x.host n) s.host 0 ≡ number_of s.link.controller) f.front x
+          (kept_numbers f.front x.host n sessions others (f.numbers different hosts)) (get_or-set_same sessions x.host n 0 there ∙ is));
+    }
+
+-- a number of no host
+pub number_passed : (i : ℕ) (ks : List HostSite) (sites : List Site) (sessions : List ℕ) (k : HostSite) → SitesAre ks sites
+    → NumbersFound i sessions sites → i < length ks → k ≡ get_or ks i k → 8 ≤ k.host → NumbersFound (i + 1) sessions sites
+number_passed i ks sites sessions k a f lt read high =
+    let t = there i ks f.front f.back k (subst (SitesAre ks) f.is a) f.place lt read in
+    let x : Site = t.site in
+    let parts : sites ≡ f.front ++ x ∷ t.rest = f.is ∙ ap (λ xs. f.front ++ xs) t.is in
+    let all : hosts_in sites ≡ hosts_in f.front ++ x.host ∷ hosts_in t.rest = ap hosts_in parts ∙ map-append (λ (z : Site). z.host) f.front (x ∷ t.rest) in
+    record {
+      front = f.front ++ x ∷ [];
+      back = t.rest;
+      is = parts ∙ sym (append_assoc f.front (x ∷ []) t.rest);
+      place = length-append f.front (x ∷ []) ∙ ap (λ m. m + 1) f.place;
+      numbers = λ different hosts.
+          let host : IsHost x.host = of_these IsHost (hosts_in f.front) x.host (hosts_in t.rest) (subst (AllByRecursion IsHost) all hosts) in
+          let low = host.1 in
+          absurd (omega (arith, t.here.host, low, high));
+    }
+
+pub numbers_are : (i : ℕ) (ks : List HostSite) (sites : List Site) (sessions : List ℕ) → SitesAre ks sites
+    → NumbersFound i sessions sites → length ks ≤ i → AreDifferent (hosts_in sites) → AllByRecursion IsHost (hosts_in sites) → AreSessions sessions sites
+numbers_are i ks sites sessions a f over different hosts = go f.back refl
+  where
+    go : (back : List Site) → f.back ≡ back → AreSessions sessions sites
+    go [] q =
+        let all : sites ≡ f.front = f.is ∙ (ap (λ xs. f.front ++ xs) q ∙ append-nil f.front) in
+        subst (AreSessions sessions) (sym all) (f.numbers different hosts)
+    go (s ∷ rest) q =
+        let many : length ks ≡ length sites = as_many ks sites a in
+        let long : length sites ≡ i + length (s ∷ rest) =
+        ap length f.is ∙ (ap (λ xs. length (f.front ++ xs)) q ∙ (length-append f.front (s ∷ rest) ∙ ap (λ n. n + length (s ∷ rest)) f.place)) in
+        absurd (let more : length ks ≡ i + length (s ∷ rest) = many ∙ long in omega (arith, more, over))

@@ -62,7 +62,7 @@ pub use Rattle.node_machine.specs.world.World.{near_end_in, new_site, new_world,
 pub use Rattle.node_machine.specs.world.World.{with_memory, with_node, with_site, work_of, world_step, world_ticks}
 pub use Rattle.node_machine.specs.world.World.Happening.{Activates, Arms, Boots, Gives, Inits, IsCut, Loses, Resets, Takes, Ticks}
 pub use Rattle.node_sites.proofs.Powers.{kept_is}
-pub use Rattle.node_sites.proofs.Renumbered.{none_noted, noted_behind, work_numbers}
+pub use Rattle.node_sites.proofs.Numbered.{none_noted, noted_behind, work_numbers}
 pub use Rattle.node_sites.specs.Arrivals.{IsArrivalOf, as_comes, refusal_arrived}
 pub use Rattle.node_sites.specs.FramesOut.{IsOnly, sent_port}
 pub use Rattle.node_sites.specs.LinksKept.{SameWires, WiresStandFor, as_it_comes, with_bare_wires}

@@ -1,23 +1,112 @@
--- What is asked of a world behind lines holds there.
-use Rattle.std.proofs.Common.{◌≡◌, ℕ, ◌==◌, Bool, true, false, List, [], ◌∷◌, ◌++◌, refl, sym, subst}
-use Rattle.std.specs.Prelude.{Some, ◌||◌}
-use Rattle.std.specs.List.{AllByRecursion, list_any}
-use Rattle.std.proofs.lemmas.Bool.{true≢false}
-use Rattle.node_world.proofs.Words.{AreTimely, FewBehind, FollowsNodes, Header, IsHost, IsNodeHeader, IsNodeOf, IsPlayable, IsPlayedLine, IsSentByHost}
-use Rattle.node_world.proofs.Words.{IsSoundMemory, Line, MayGoOn, MayPlay, NodeHistory, NoneIsMisread, Site, after-append, memory_at, new_world, nodes_behind}
-use Rattle.node_world.proofs.Words.{site_at}
+-- What may stand below a header of nodes is what the laws of worlds of nodes ask for.
+use Rattle.std.proofs.Common.{◌≡◌, ℕ, ◌<◌, ◌==◌, false, List, [], ◌∷◌, sym, arith, Bool, true, ◌++◌, refl, subst, ◌≢◌, zero, suc, ◌+◌, ◌≤◌, ap₂, ◌∙◌, length}
+use Rattle.std.proofs.Common.{ap, append_assoc}
+use Rattle.std.specs.Prelude.{Some, None, ◌||◌, cond, Option, not, ◌&&◌, if◌then◌else◌}
+use Rattle.std.specs.List.{AllByRecursion, list_any, filter, range_with_len}
+use Rattle.std.specs.List.Sorted.{IsStrictlySortedBy}
+use Rattle.std.specs.declared.cmp.Ordering.TheVariants.{Less}
+use Rattle.std.specs.Ordering.{nat_cmp}
+use Rattle.std.proofs.lemmas.Bool.{ne_eqb, true≢false, eq-eqb, eqb-true}
+use Rattle.std.proofs.lemmas.Cmp.{ranked}
+use Rattle.std.proofs.lemmas.List.Elements.{recursion_from_All}
+use Rattle.std.proofs.lemmas.Map.Keys.{sorted_head, sorted_tail, sorted_from_strictly_increasing}
+use Rattle.std.specs.Option.{option_map, option_map_or}
+use Rattle.std.proofs.lemmas.List.{length-map}
+use Rattle.node_world.proofs.Words.{AreDifferent, AreTimely, End, Entry, FewBehind, FollowsNodes, Header, IsHost, IsNodeHeader, IsNodeOf, IsPlayable}
+use Rattle.node_world.proofs.Words.{IsPlayedLine, IsSentByHost, IsSoundMemory, Line, MayGoOn, MayPlay, Memory, NodeHistory, NoneIsMisread, Running, Side, Site}
+use Rattle.node_world.proofs.Words.{after-append, after_planned, boot_found, boot_writes, boot_written, boots, count_of, current, ends_in_order, ends_take_all}
+use Rattle.node_world.proofs.Words.{fails_within, frames_at, has, host_cut, is_clear, is_running, loses_power_at, mask_of, memory_at, new_world, node_at}
+use Rattle.node_world.proofs.Words.{node_of, nodes_behind, site_at, started_state, state_of, with_memory, with_node, with_site}
+use Rattle.trace_model.specs.Lines.{MayFollow}
 use Rattle.trace_model.specs.declared.line.Line.TheVariants as line
+use Rattle.node_laws.specs.kept.Hosts.{AreHosts}
 use Rattle.node_machine.specs.world.World.{NodeWorld}
-use Rattle.node_machine.specs.world.NodeHistories.{occurrences_in, steps_from}
+use Rattle.node_machine.specs.world.NodeHistories.{occurrences_in, steps_from, world_after}
 use Rattle.node_laws.specs.telling.Telling.{hosts_in}
 use Rattle.node_laws.specs.links.Runs.{ArePlayable}
 use Rattle.node_laws.proofs.order.Lines.{watches, of_none, IsSo, all_so_behind, behind_history}
 use Rattle.node_laws.proofs.order.Ticking.{timely}
-use Rattle.lines_told.proofs.lines.Told.{all-append, sure-append}
+use Rattle.lines_told.proofs.lines.Told.{all-append, sure-append, sure_round, takes_so}
 use Rattle.node_sites.specs.Memories.{KeepsSome}
+use Rattle.gate_admin.specs.View.{hosts_where}
+use Rattle.node_laws.proofs.steps.StepWalks.{is_in_mask}
+use Rattle.node_laws.proofs.links.Noticing.{from_mask}
+use Rattle.trace_model.specs.declared.entry.Entry.TheVariants as entry
+use Rattle.journal_laws.specs.declared.state.State.{State}
+use Rattle.journal_laws.specs.Banks.{other, is_opened_gate, head}
+use Rattle.journal_laws.specs.Journal.{unformatted, journal_at, state_by, count}
+use Rattle.hci_tables.specs.Tables.{close}
+use Rattle.hci_store.specs.Image.{tables_of}
+use Rattle.lines_told.specs.lines.Plays.{round_in, taking_in}
 use Rattle.node_world.specs.Whole.{after_ticks}
+use Rattle.node_world.specs.Worlds.{IsPeekedSo, at_rest}
+use Rattle.node_world.specs.Rounds.{MayGoRound}
 use Rattle.node_world.proofs.MemoriesKeep.{keeps_at_first, keeps_behind_lines, controller_in_order, hosts_in_order}
-use Rattle.node_world.proofs.LinesFit.{are_hosts, each_line, playable, sent_by_host}
+
+-- ## Hosts
+
+abbrev pub IsAbove : ℕ → ℕ → Type 0
+IsAbove x y = nat_cmp x y ≡ Less
+
+pub above : (x y : ℕ) → IsAbove x y → x < y
+above x y a = ranked x y Less (sym a)
+
+others : (x : ℕ) (xs : List ℕ) → AllByRecursion (IsAbove x) xs → AllByRecursion (λ y. (y == x) ≡ false) xs
+others x [] a = tt
+others x (y ∷ xs) a = (ne_eqb y x (λ z. let more = above x y a.0 in omega (arith, z, more)), others x xs a.1)
+
+different : (xs : List ℕ) → IsStrictlySortedBy nat_cmp xs → AreDifferent xs
+different [] a = tt
+different (x ∷ xs) a = (others x xs (sorted_head nat_cmp x xs a), different xs (sorted_tail nat_cmp x xs a))
+
+pub are_hosts : (header : Header) → IsNodeHeader header → AreHosts header.hosts.items
+are_hosts header is = record {
+  all = recursion_from_All IsHost header.hosts.items is.hosts;
+  different = different header.hosts.items (sorted_from_strictly_increasing header.hosts.items is.rising);
+}
+
+-- ## Lines
+
+pub each_line : (P Q : Line → Type 0) → ((l : Line) → P l → Q l) → (lines : List Line) → AllByRecursion P lines → AllByRecursion Q lines
+each_line P Q one [] a = tt
+each_line P Q one (l ∷ lines) a = (one l a.0, each_line P Q one lines a.1)
+
+pub playable : (header : Header) (l : Line) → MayFollow header l → IsPlayable l
+playable header (line.Send e pid message) is = (is.pipe, is.some)
+playable header (line.Reset e None) is = tt
+playable header (line.Reset e (Some w)) is = let low = is.1.0 in (omega (arith, low), is.1.1)
+playable header (line.Deliver e count) is = tt
+playable header (line.Lose e) is = tt
+playable header (line.Damage e places) is = tt
+playable header (line.Tick times) is = tt
+playable header (line.Busy e) is = tt
+playable header (line.Ready e) is = tt
+playable header (line.Boot node) is = tt
+playable header (line.Cut node) is = tt
+playable header (line.Activate host sync power) is = tt
+playable header (line.Arm node nth fill) is = tt
+playable header (line.Init e identity pipes) is = tt
+playable header (line.Tables node) is = tt
+playable header (line.Settle rounds) is = tt
+
+pub sent_by_host : (header : Header) → IsNodeHeader header → (l : Line) → MayFollow header l → IsSentByHost l
+sent_by_host header nodes (line.Send e pid message) is = is.sender nodes.nodes
+sent_by_host header nodes (line.Reset e window) is = tt
+sent_by_host header nodes (line.Deliver e count) is = tt
+sent_by_host header nodes (line.Lose e) is = tt
+sent_by_host header nodes (line.Damage e places) is = tt
+sent_by_host header nodes (line.Tick times) is = tt
+sent_by_host header nodes (line.Busy e) is = tt
+sent_by_host header nodes (line.Ready e) is = tt
+sent_by_host header nodes (line.Boot node) is = tt
+sent_by_host header nodes (line.Cut node) is = tt
+sent_by_host header nodes (line.Activate host sync power) is = tt
+sent_by_host header nodes (line.Arm node nth fill) is = tt
+sent_by_host header nodes (line.Init e identity pipes) is = tt
+sent_by_host header nodes (line.Tables node) is = tt
+sent_by_host header nodes (line.Settle rounds) is = tt
+
+-- What is asked of a world behind lines holds there.
 
 -- ## Behind lines
 
@@ -135,3 +224,297 @@ may_play header lines said is a sure few may =
       ticks = λ times q n m. timely_ticking header is lines play sure n;
       boots = λ n node off. sound_behind header is lines a sure n node;
     }
+
+-- The mask of the hosts of a header stands for them.
+
+-- ## Rising numbers
+
+abbrev IsRisingFrom : ℕ → List ℕ → Type 0
+IsRisingFrom a [] = Unit {0}
+IsRisingFrom a (x ∷ xs) = (a ≤ x) × IsRisingFrom (x + 1) xs
+
+all_above : (x : ℕ) (xs : List ℕ) → AllByRecursion (IsAbove x) xs → AllByRecursion (λ y. x + 1 ≤ y) xs
+all_above x [] a = tt
+all_above x (y ∷ xs) a = (let more = above x y a.0 in omega (arith, more), all_above x xs a.1)
+
+rising : (a : ℕ) (xs : List ℕ) → AllByRecursion (λ x. a ≤ x) xs → IsStrictlySortedBy nat_cmp xs → IsRisingFrom a xs
+rising a [] low sorted = tt
+rising a (x ∷ xs) low sorted =
+    (low.0, rising (x + 1) xs (all_above x xs (sorted_head nat_cmp x xs sorted)) (sorted_tail nat_cmp x xs sorted))
+
+none_below : (a x : ℕ) (xs : List ℕ) → x < a → IsRisingFrom a xs → list_any (λ k. k == x) xs ≡ false
+none_below a x [] low r = refl
+none_below a x (y ∷ ys) low r =
+    let from = r.0 in
+    let other : (y == x) ≡ false = ne_eqb y x (λ z. omega (arith, z, from, low)) in
+    rw other (none_below (y + 1) x ys (omega (arith, from, low)) r.1)
+
+-- those of a range that stand in a list of rising numbers within it are that list
+found : (n a top : ℕ) (xs : List ℕ) (test : ℕ → Bool) → a + n ≡ top → ((h : ℕ) → a ≤ h → test h ≡ list_any (λ k. k == h) xs) → IsRisingFrom a xs
+    → AllByRecursion (λ x. x < top) xs → filter test (range_with_len a n) ≡ xs
+found zero a top [] test e is r small = refl
+found zero a top (x ∷ xs) test e is r small = absurd (let from = r.0 in let below = small.0 in omega (arith, from, below, e))
+found (suc n) a top [] test e is r small =
+    let none : test a ≡ false = is a (omega arith) in
+    rw none (found n (a + 1) top [] test (omega (arith, e)) (λ h low. is h (omega (arith, low))) tt tt)
+found (suc n) a top (x ∷ xs) test e is r small =
+    go (x == a) refl (λ up is2. found n (a + 1) top xs test (omega (arith, e)) is2 up small.1)
+    (λ up. found n (a + 1) top (x ∷ xs) test (omega (arith, e)) (λ h low. is h (omega (arith, low))) up small)
+  where
+    from : a ≤ x
+    from = r.0
+
+    go : (b : Bool) → (x == a) ≡ b
+        → (IsRisingFrom (a + 1) xs → ((h : ℕ) → a + 1 ≤ h → test h ≡ list_any (λ k. k == h) xs) → filter test (range_with_len (a + 1) n) ≡ xs)
+        → (IsRisingFrom (a + 1) (x ∷ xs) → filter test (range_with_len (a + 1) n) ≡ x ∷ xs) → filter test (range_with_len a (suc n)) ≡ x ∷ xs
+    go true q later last =
+        let same : x ≡ a = eqb-true x a q in
+        let here : test a ≡ true = is a (omega arith) ∙ rw q refl in
+        let rest : filter test (range_with_len (a + 1) n) ≡ xs =
+        later (subst (λ k. IsRisingFrom (k + 1) xs) same r.1)
+        (λ h low. is h (omega (arith, low)) ∙ (let other : (x == h) ≡ false = ne_eqb x h (λ z. omega (arith, z, low, same)) in rw other refl)) in
+        rw here (ap₂ (λ y ys. y ∷ ys) (sym same) rest)
+    go false q later last =
+        let more : a ≢ x = λ z. true≢false (sym (eq-eqb x a (sym z)) ∙ q) in
+        let none : test a ≡ false = is a (omega arith) ∙ rw q (none_below (x + 1) a xs (omega (arith, from)) r.1) in
+        rw none (last (omega (arith, from, more), r.1))
+
+-- ## Masks
+
+filter_same : (p q : ℕ → Bool) → ((n : ℕ) → p n ≡ q n) → (ns : List ℕ) → filter p ns ≡ filter q ns
+filter_same p q same [] = refl
+filter_same p q same (n ∷ ns) = ap₂ (λ b rest. cond b (n ∷ rest) rest) (same n) (filter_same p q same ns)
+
+one_of_hosts : (n : ℕ) (hosts : List ℕ) → AllByRecursion IsHost hosts → list_any (λ k. k == n) hosts ≡ true → IsHost n
+one_of_hosts n [] a q = absurd (true≢false (sym q))
+one_of_hosts n (h ∷ hosts) a q = go (h == n) refl (one_of_hosts n hosts a.1)
+  where
+    go : (b : Bool) → (h == n) ≡ b → (list_any (λ k. k == n) hosts ≡ true → IsHost n) → IsHost n
+    go true e later = subst IsHost (eqb-true h n e) a.0
+    go false e later = later (rw e at q)
+
+agree : (a b : Bool) → (a ≡ true → b ≡ true) → (b ≡ true → a ≡ true) → a ≡ b
+agree true b f g = sym (f refl)
+agree false true f g = g refl
+agree false false f g = refl
+
+small : (hosts : List ℕ) → AllByRecursion IsHost hosts → AllByRecursion (λ x. x < 8) hosts
+small [] a = tt
+small (h ∷ hosts) a = (let most = a.0.1 in omega (arith, most), small hosts a.1)
+
+some : (hosts : List ℕ) → AllByRecursion IsHost hosts → AllByRecursion (λ x. 1 ≤ x) hosts
+some [] a = tt
+some (h ∷ hosts) a = (a.0.0, some hosts a.1)
+
+pub masked : (header : Header) → IsNodeHeader header
+    → hosts_where (has (mask_of (hosts_where (λ (host : ℕ). list_any (λ (k : ℕ). k == host) header.hosts.items)))) ≡ header.hosts.items
+unfolding hosts_where
+masked header is =
+    let hosts : List ℕ = header.hosts.items in
+    let test : ℕ → Bool = λ host. list_any (λ k. k == host) hosts in
+    let are : AllByRecursion IsHost hosts = recursion_from_All IsHost hosts is.hosts in
+    let same : (n : ℕ) → has (mask_of (hosts_where test)) n ≡ test n =
+    λ n. agree (has (mask_of (hosts_where test)) n) (test n) (from_mask test n)
+    (λ q. let host = one_of_hosts n hosts are q in is_in_mask test n host.0 host.1 q) in
+    filter_same (has (mask_of (hosts_where test))) test same (range_with_len 1 7)
+    ∙ found 7 1 8 hosts test refl (λ h low. refl)
+    (rising 1 hosts (some hosts are) (sorted_from_strictly_increasing hosts is.rising)) (small hosts are)
+
+-- A memory in order that is read while its node is at rest is what a boot of the node would find.
+
+-- ## A host that is changed
+
+site_with : (n : ℕ) (f : Site → Site) → ((x : Site) → (f x).host ≡ x.host) → (sites : List Site) (s : Site) → site_at sites n ≡ Some s
+    → site_at (with_site n f sites) n ≡ Some (f s)
+site_with n f same [] s q = absurd (cc q)
+site_with n f same (x ∷ sites) s q = go (x.host == n) refl (site_with n f same sites s)
+  where
+    go : (b : Bool) → (x.host == n) ≡ b → (site_at sites n ≡ Some s → site_at (with_site n f sites) n ≡ Some (f s))
+        → site_at (with_site n f (x ∷ sites)) n ≡ Some (f s)
+    go true e later =
+        let is : Some x ≡ Some s = rw e at q in
+        let one : x ≡ s = cc in
+        let here : ((f x).host == n) ≡ true = ap (λ k. k == n) (same x) ∙ e in
+        rw (e, here) (ap (λ y. Some (f y)) one)
+    go false e later = rw e (rw e (later (rw e at q)))
+
+-- ## Boots
+
+module _ (v : NodeWorld) (n : ℕ) (there : (n == 0) ≡ false → (s : Site) × (site_at v.sites n ≡ Some s)) where
+  boots_so : fails_within (length (boot_writes (memory_at v n).content)) (memory_at v n).plan ≡ false
+      → boots v n ≡ (with_node n (boot_found v n) (boot_written v n), entry.Booted n (count_of (boot_found v n).core.journal) ∷ [])
+  boots_so none = rw none refl
+
+  -- a node is there as it was put there
+  node_put : (r : Running) (m : Memory) → node_at (with_node n r (with_memory n m v)) n ≡ Some r
+  node_put r m = go (n == 0) refl
+    where
+      f : Site → Site
+      f = λ s. record s { memory = m }
+
+      g : Site → Site
+      g = λ s. record s { node = Some r }
+
+      go : (b : Bool) → (n == 0) ≡ b → node_at (with_node n r (with_memory n m v)) n ≡ Some r
+      go true q = rw q refl
+      go false q =
+          let s = there q in
+          let one = site_with n f (λ x. refl) v.sites s.0 s.1 in
+          let two : site_at (with_site n g (with_site n f v.sites)) n ≡ Some (g (f s.0)) =
+          site_with n g (λ x. refl) (with_site n f v.sites) (f s.0) one in
+          rw (q, two) refl
+
+  -- its memory is what was put there
+  memory_put : (m : Memory) → memory_at (with_memory n m v) n ≡ m
+  memory_put m = go (n == 0) refl
+    where
+      go : (b : Bool) → (n == 0) ≡ b → memory_at (with_memory n m v) n ≡ m
+      go true q = rw q refl
+      go false q =
+          let s = there q in
+          let one = site_with n (λ (x : Site). record x { memory = m }) (λ x. refl) v.sites s.0 s.1 in
+          rw (q, one) refl
+
+  still_there : (m : Memory) → (n == 0) ≡ false → (s : Site) × (site_at (with_memory n m v).sites n ≡ Some s)
+  still_there m q =
+      let s = there q in
+      let f : Site → Site = λ (x : Site). record x { memory = m } in
+      let is : (with_memory n m v).sites ≡ with_site n f v.sites = rw q refl in
+      (f s.0, ap (λ xs. site_at xs n) is ∙ site_with n f (λ x. refl) v.sites s.0 s.1)
+
+-- the state of a memory, by the bank in use
+abbrev state_in : List ℕ → Option Side → State
+state_in content o =
+    state_by o (option_map_or (journal_at content) o unformatted) (option_map_or (λ side. is_opened_gate (head content (other side)).gate) o false)
+
+counted_anew : (content : List ℕ) → count_of (started_state (state_of content)) ≡ count content
+counted_anew content = go (current content)
+  where
+    go : (o : Option Side) → count_of (started_state (state_in content o)) ≡ count_of (state_in content o)
+    go None = refl
+    go (Some side) = refl
+
+-- the memory of a node at rest
+module _ (w : NodeWorld) (n : ℕ) (there : (n == 0) ≡ false → (s : Site) × (site_at w.sites n ≡ Some s)) where
+  abbrev resting : Memory
+  resting = record (memory_at w n) { plan = None }
+
+  lost_there : (n == 0) ≡ false → (s : Site) × (site_at (loses_power_at n w).sites n ≡ Some s)
+  lost_there q =
+      let s = there q in
+      let is : (loses_power_at n w).sites ≡ with_site n host_cut w.sites = rw q refl in
+      (host_cut s.0, ap (λ xs. site_at xs n) is ∙ site_with n host_cut (λ x. refl) w.sites s.0 s.1)
+
+  rest_there : (n == 0) ≡ false → (s : Site) × (site_at (at_rest n w).sites n ≡ Some s)
+  rest_there q = still_there (loses_power_at n w) n lost_there resting q
+
+  memory_rests : memory_at (at_rest n w) n ≡ resting
+  memory_rests = memory_put (loses_power_at n w) n lost_there resting
+
+  pub peeked : IsSoundMemory (memory_at w n) → IsPeekedSo w n (memory_at w n).content
+  peeked sound =
+      let v : NodeWorld = at_rest n w in
+      let content : List ℕ = (memory_at w n).content in
+      let none : fails_within (length (boot_writes (memory_at v n).content)) (memory_at v n).plan ≡ false =
+      ap (λ (m : Memory). fails_within (length (boot_writes m.content)) m.plan) memory_rests in
+      let same : (memory_at v n).content ≡ content = ap (λ (m : Memory). m.content) memory_rests in
+      let so = boots_so v n rest_there none in
+      let put = node_put v n rest_there (boot_found v n) (after_planned (boot_writes (memory_at v n).content) (memory_at v n)) in
+      record {
+        sound = sound.image;
+        booted =
+            ap (λ (p : NodeWorld × List Entry). p.1) so
+            ∙ ap (λ k. entry.Booted n k ∷ []) (ap (λ c. count_of (started_state (state_of c))) same ∙ counted_anew content);
+        tables =
+            ap (λ (p : NodeWorld × List Entry). option_map (λ (r : Running). r.core.tables) (node_at p.0 n)) so
+            ∙ (ap (λ (o : Option Running). option_map (λ (r : Running). r.core.tables) o) put ∙ ap (λ c. Some (close (tables_of c))) same);
+      }
+
+-- A world behind lines may go through a round.
+
+-- ## At most seven links
+
+above_few : (x : ℕ) (xs : List ℕ) → x ≤ 7 → AllByRecursion (IsAbove x) xs → AllByRecursion IsHost xs → IsStrictlySortedBy nat_cmp xs → x + length xs ≤ 7
+above_few x [] low a hosts s = omega (arith, low)
+above_few x (y ∷ ys) low a hosts s =
+    let more = above x y a.0 in
+    let rest = above_few y ys hosts.0.1 (sorted_head nat_cmp y ys s) hosts.1 (sorted_tail nat_cmp y ys s) in
+    omega (arith, more, rest)
+
+hosts_few : (hosts : List ℕ) → AllByRecursion IsHost hosts → IsStrictlySortedBy nat_cmp hosts → length hosts ≤ 7
+hosts_few [] a s = omega arith
+hosts_few (x ∷ xs) a s =
+    let rest = above_few x xs a.0.1 (sorted_head nat_cmp x xs s) a.1 (sorted_tail nat_cmp x xs s) in
+    let some = a.0.0 in
+    omega (arith, rest, some)
+
+pub links_few : (header : Header) → IsNodeHeader header → length header.hosts.items ≤ 7
+links_few header is =
+    hosts_few header.hosts.items (recursion_from_All IsHost header.hosts.items is.hosts) (sorted_from_strictly_increasing header.hosts.items is.rising)
+
+-- ## What the ends take, as lines
+
+-- the lines of a round without its tick
+abbrev takings_in : NodeWorld → List End → List Line
+takings_in w [] = []
+takings_in w (e ∷ ends) = taking_in w e ++ takings_in (world_after w (taking_in w e)) ends
+
+takings_first : (ends : List End) (w : NodeWorld) → round_in w ends ≡ takings_in w ends ++ line.Tick None ∷ []
+takings_first [] w = refl
+takings_first (e ∷ ends) w =
+    let v : NodeWorld = world_after w (taking_in w e) in
+    ap (λ ls. taking_in w e ++ ls) (takings_first ends v) ∙ sym (append_assoc (taking_in w e) (takings_in v ends) (line.Tick None ∷ []))
+
+takings_go : (ends : List End) (w : NodeWorld) → world_after w (takings_in w ends) ≡ (ends_take_all w ends).0
+takings_go [] w = refl
+takings_go (e ∷ ends) w =
+    let v : NodeWorld = world_after w (taking_in w e) in
+    after-append (taking_in w e) (takings_in v ends) w ∙ (takings_go ends v ∙ ap (λ (u : NodeWorld). (ends_take_all u ends).0) (takes_so w e).world)
+
+takings_play : (ends : List End) (w : NodeWorld) → ArePlayable (takings_in w ends)
+takings_play [] w = tt
+takings_play (e ∷ ends) w =
+    let v : NodeWorld = world_after w (taking_in w e) in
+    all-append IsPlayable (taking_in w e) (takings_in v ends) (one (is_running w (node_of e) && not (is_clear (frames_at w e)))) (takings_play ends v)
+  where
+    one : (b : Bool) → ArePlayable (if b then line.Deliver e None ∷ [] else [])
+    one true = (tt, tt)
+    one false = tt
+
+sure_first : (xs ys : List Line) (w : NodeWorld) → NoneIsMisread w (xs ++ ys) → NoneIsMisread w xs
+sure_first [] ys w sure = tt
+sure_first (x ∷ xs) ys w sure = (sure.0, sure_first xs ys _ sure.1)
+
+-- ## Behind lines
+
+module _ (header : Header) (is : IsNodeHeader header) (lines : List Line) (a : AllByRecursion (IsPlayedLine header) lines)
+    (sure : NoneIsMisread (new_world header.hosts.items) lines) where
+  abbrev w : NodeWorld
+  w = nodes_behind header lines
+
+  abbrev more : List Line
+  more = takings_in w (ends_in_order w)
+
+  timely_then : AreTimely (ends_take_all w (ends_in_order w)).0
+  timely_then =
+      let quiet : NoneIsMisread w more =
+      sure_first more (line.Tick None ∷ []) w (subst (NoneIsMisread w) (takings_first (ends_in_order w) w) (sure_round (ends_in_order w) w)) in
+      subst AreTimely (after-append lines more (new_world header.hosts.items) ∙ takings_go (ends_in_order w) w)
+      (timely_behind header is (lines ++ more)
+      (all-append IsPlayable lines more (are_playable header lines a) (takings_play (ends_in_order w) w))
+      (sure-append lines more (new_world header.hosts.items) sure quiet))
+
+  pub may_go_round : FewBehind 250000000 w → MayGoRound w
+  may_go_round few =
+      let hosts : hosts_in w.sites ≡ header.hosts.items = hosts_behind header is lines (are_playable header lines a) sure in
+      let many : length (hosts_in w.sites) ≡ length w.sites = length-map w.sites (λ (s : Site). s.host) in
+      let same : length (hosts_in w.sites) ≡ length header.hosts.items = ap (λ (ns : List ℕ). length ns) hosts in
+      let most = links_few header is in
+      record {
+        takes = record {
+          links = omega (arith, many, same, most);
+          goes_on = goes_on_behind header is lines (are_playable header lines a) sure;
+          few = few;
+        };
+        timely = timely_then;
+      }

@@ -15,13 +15,14 @@ ghost use Rattle.gate_admin.specs.View.{has, hosts_where};
 ghost use Rattle.node_laws.specs.telling.Telling.{hosts_in};
 ghost use Rattle.node_sites.specs.Memories.{IsSoundMemory};
 
-use crate::controller_sites::{empty_all, send_to_all};
+use crate::controller_sites::empty_all;
 use node_sites::noted::{Noted, note_last};
 use node_sites::places::HostSite;
 use node_sites::power::Power;
+use node_sites::sending::send_frames;
 use std::alloc::Global;
 use swp_base::NoMemory;
-use trace_model::Entry;
+use trace_model::{End, Entry};
 
 /// The power of the controller goes: the wires of all links are empty, and its memory stays.
 pub(crate) fn lose_controller(controller: &mut Power, sites: &mut [HostSite])
@@ -59,8 +60,16 @@ pub(crate) fn finish_controller(
         lose_controller(controller, sites);
         return Ok(());
     }
-    if let Power::On(node) = controller {
-        send_to_all(node, sites, &mut noted.entries)?;
+    let Power::On(node) = controller else {
+        return Ok(());
+    };
+    for i in 0..sites.len() {
+        let site = &mut sites[i];
+        let at = End {
+            link: site.host,
+            at_host: false,
+        };
+        send_frames(node, at, &mut site.wires, &mut noted.entries)?;
     }
     Ok(())
 }

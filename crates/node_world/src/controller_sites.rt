@@ -1,23 +1,15 @@
 //! What happens at all links of the controller, one after another.
 ghost use Rattle.std.specs.Prelude.{◌≡◌, ◌<◌, ◌++◌, List, length, map, IfSome, OnOk};
-ghost use Rattle.std.specs.List.{AllByRecursion, flat_map};
+ghost use Rattle.std.specs.List.{AllByRecursion};
 ghost use Rattle.trace_model.specs.Lines.{IsHost};
-ghost use Rattle.node_machine.specs.Parts.{Core, Port};
 ghost use Rattle.node_machine.specs.world.World.{Site, NodeWorld, all_aged};
-ghost use Rattle.node_core.specs.Running.{RunsAs};
-ghost use Rattle.node_sites.specs.Powers.{node_memory};
 ghost use Rattle.node_laws.specs.kept.Hosts.{AreDifferent};
 ghost use Rattle.node_laws.specs.telling.Telling.{hosts_in};
-ghost use Rattle.node_world.specs.Controllers.{SitesAre, HaveRoom, SendsTo, sent_to, has_frames, frames_emitted, with_bare_link};
-ghost use Rattle.node_world.specs.Controllers.{IsPlaceOf, AreSessions};
+ghost use Rattle.node_world.specs.Controllers.{SitesAre, IsPlaceOf, AreSessions, with_bare_link};
 
-use node_core::RunningNode;
 use node_sites::noted::{Noted, Sessions};
 use node_sites::places::HostSite;
-use node_sites::sending::send_frames;
-use std::alloc::AllocError;
-use swp_base::{MemNv, NoMemory};
-use trace_model::{End, Entry};
+use swp_base::NoMemory;
 
 /// Nothing stands on the wires of any link any more.
 pub(crate) fn empty_all(sites: &mut [HostSite])
@@ -29,48 +21,8 @@ pub(crate) fn empty_all(sites: &mut [HostSite])
     }
 }
 
-/// All frames go out that are due at a node's ends of the links to all hosts.
-///
-/// # Errors
-///
-/// No memory is left; what the wires stand for then isn't said.
-pub(crate) fn send_to_all(
-    node: &mut RunningNode<MemNv>,
-    sites: &mut [HostSite],
-    entries: &mut Vec<Entry>,
-) -> Result<(), AllocError>
-    requires state { (core : Core) × (ports : List Port) × (hosts : List Site) × SendsTo (RunsAs node.old core ports) ports sites.old hosts }
-    requires room { HaveRoom sites.old }
-    ensures stands { (core : Core) (ports : List Port) (hosts : List Site) → SendsTo (RunsAs node.old core ports) ports sites.old hosts
-        → OnOk result (RunsAs node.new core (sent_to (hosts_in hosts) ports) × SitesAre sites.new (map (has_frames ports) hosts)
-        × (entries.new.items ≡ entries.old.items ++ flat_map (frames_emitted ports) hosts)) }
-    ensures memory { node_memory node.new ≡ node_memory node.old }
-{
-    for i in 0..sites.len() {
-        let site = &mut sites[i];
-        let at = End {
-            link: site.host,
-            at_host: false,
-        };
-        send_frames(node, at, &mut site.wires, entries)?;
-    }
-    Ok(())
-}
-
-// The place of the host with this number, which is looked for from the first one on.
-fn searched_place(sites: &[HostSite], host: u8) -> Option<usize>
-    ensures range { IfSome result (λ i. i < length sites.now) }
-    ensures place { (hosts : List Site) → SitesAre sites.now hosts → IsPlaceOf result host hosts }
-{
-    for i in 0..sites.len() {
-        if sites[i].host == host {
-            return Some(i);
-        }
-    }
-    None
-}
-
-/// The place of the host with this number: where all from 01 on are there, as in most worlds, it is one below that.
+/// The place of the host with this number: where all from 01 on are there, as in most worlds, it is one below that; else it is looked for
+/// from the first one on.
 pub(crate) fn place_of(sites: &[HostSite], host: u8) -> Option<usize>
     ensures range { IfSome result (λ i. i < length sites.now) }
     ensures place { (hosts : List Site) → SitesAre sites.now hosts → IsPlaceOf result host hosts }
@@ -79,7 +31,12 @@ pub(crate) fn place_of(sites: &[HostSite], host: u8) -> Option<usize>
     if near < sites.len() && sites[near].host == host {
         return Some(near);
     }
-    searched_place(sites, host)
+    for i in 0..sites.len() {
+        if sites[i].host == host {
+            return Some(i);
+        }
+    }
+    None
 }
 
 /// The numbers of the sessions of the controller's ends of all links.

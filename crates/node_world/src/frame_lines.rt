@@ -11,7 +11,7 @@ ghost use Rattle.node_world.specs.Controllers.{WorldIs, WorldBecomes, MayGoOn, I
 ghost use Rattle.node_world.specs.Whole.{IsMisreadIn, IsWithinBounds, LinePlayed, MayPlay};
 
 use crate::controller_sites::place_of;
-use crate::looking::{damaged_at, no_frame, node_of, on_the_way, runs};
+use crate::looking::{damaged_at, node_of, on_the_way, runs};
 use crate::steps::{comes_to, tick_world};
 use arrayvec::ArrayVec;
 use link_wires::{Damaged, Misread, taken};
@@ -42,12 +42,16 @@ pub(crate) fn deliver_line(
         → OnOk result (LinePlayed controller.new sites.new noted.new.entries.items (line_step w (line.Deliver at count))) }
     ensures memory { OnOk result (noted.new.short ≡ false) }
 {
-    if let Some(cause) = no_frame(controller, sites, at) {
-        return refuse(noted, cause);
+    let node = node_of(at);
+    if !runs(controller, sites, node) {
+        return refuse(noted, NoCause::Off);
     }
-    let times = taken(count, on_the_way(sites, at));
-    for _ in 0..times {
-        if !runs(controller, sites, node_of(at)) {
+    let standing = on_the_way(sites, at);
+    if standing == 0 {
+        return refuse(noted, NoCause::Empty);
+    }
+    for _ in 0..taken(count, standing) {
+        if !runs(controller, sites, node) {
             return Ok(());
         }
         comes_to(controller, sites, at, Incoming::NextFrame, noted)?;
@@ -100,10 +104,13 @@ pub(crate) fn lose_line(
         → OnOk result (LinePlayed controller.new sites.new noted.new.entries.items (line_step w (line.Lose at))) }
     ensures memory { OnOk result (noted.new.short ≡ false) }
 {
-    match no_frame(controller, sites, at) {
-        Some(cause) => refuse(noted, cause),
-        None => lose_frame(controller, sites, at, LostCause::Asked, noted),
+    if !runs(controller, sites, node_of(at)) {
+        return refuse(noted, NoCause::Off);
     }
+    if on_the_way(sites, at) == 0 {
+        return refuse(noted, NoCause::Empty);
+    }
+    lose_frame(controller, sites, at, LostCause::Asked, noted)
 }
 
 /// A line `damage`: the first frame on the way to the end is taken as it was, or lost, or the line is refused. Where another frame is read

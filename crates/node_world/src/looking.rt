@@ -1,8 +1,7 @@
 //! What is looked up of the world: which nodes run, and what stands on the wires.
-ghost use Rattle.std.specs.Prelude.{◌≡◌, List, length};
-ghost use Rattle.trace_model.specs.declared.line.Line.TheVariants as line;
+ghost use Rattle.std.specs.Prelude.{◌≡◌, length};
 ghost use Rattle.node_machine.specs.world.World.{NodeWorld, node_of};
-ghost use Rattle.node_machine.specs.world.Lines.{frames_at, is_running, refusal_in};
+ghost use Rattle.node_machine.specs.world.Lines.{frames_at, is_running};
 ghost use Rattle.link_wires.specs.Damages.{Finds};
 ghost use Rattle.node_world.specs.Controllers.{SitesAre, WorldIs, MayGoOn};
 
@@ -40,19 +39,6 @@ pub(crate) fn on_the_way(sites: &[HostSite], to: End) -> usize
         Some(place) => sites[place].wires.standing(to),
         None => 0,
     }
-}
-
-/// Why a line is refused that takes or loses the first frame on the way to an end: its node doesn't run, or there is no such frame.
-pub(crate) fn no_frame(controller: &Power, sites: &[HostSite], to: End) -> Option<NoCause>
-    ensures { (w : NodeWorld) → WorldIs controller.now sites.now w → MayGoOn w → result ≡ refusal_in w (line.Lose to) }
-{
-    if !runs(controller, sites, node_of(to)) {
-        return Some(NoCause::Off);
-    }
-    if on_the_way(sites, to) == 0 {
-        return Some(NoCause::Empty);
-    }
-    None
 }
 
 /// What a line that damages the first frame on the way to an end at these places finds there.

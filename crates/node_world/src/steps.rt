@@ -1,15 +1,13 @@
 //! The steps of the nodes of the world: something comes to an end of one, or time passes.
 ghost use Rattle.std.specs.Prelude.{◌≡◌, ◌+◌, ◌<◌, ◌^◌, true, false, IfOk, OnOk};
 ghost use Rattle.node_machine.specs.Node.NodeInput.{TimePasses};
-ghost use Rattle.node_machine.specs.world.World.{NodeWorld, Site, comes_at, end_c, link_to, node_at, node_of};
-ghost use Rattle.node_machine.specs.world.World.{controller_ticks, host_ticks, hosts_tick, world_ticks};
+ghost use Rattle.node_machine.specs.world.World.{NodeWorld, Site, comes_at, controller_ticks, host_ticks, node_at, node_of, world_ticks};
 ghost use Rattle.node_machine.specs.world.Lines.{machine_in};
 ghost use Rattle.node_sites.specs.Arrivals.{as_comes, MayArrive};
 ghost use Rattle.node_sites.specs.Places.{SiteIs};
-ghost use Rattle.node_world.specs.Controllers.{SitesAre, WorldIs, WorldBecomes, WorldUnless, MayGoOn, IsThere, AreTimely, HaveRoom, FewAreCounted};
-ghost use Rattle.node_world.specs.Controllers.{FewAreCountedAt, near_ticks};
+ghost use Rattle.node_world.specs.Controllers.{WorldIs, WorldBecomes, MayGoOn, IsThere, AreTimely, HaveRoom, FewAreCounted};
 ghost use Rattle.node_world.specs.HostSteps.{host_hears, refusal_coming, IsHostOf, CountsComing, MayTick, HasBecome, BecomesUnless};
-ghost use Rattle.node_world.specs.Whole.{IsWithinBounds, SitesTick, AreToTick, if_accepted};
+ghost use Rattle.node_world.specs.Whole.{IsWithinBounds, if_accepted};
 
 use crate::controller::finish_controller;
 use crate::controller_sites::{age_all, place_of, sessions_of};
@@ -67,54 +65,6 @@ fn comes_to_host(
     }
 }
 
-// This comes to the controller's end of the link with this host. Where the controller doesn't run, or no frame is on the way, nothing
-// happens; and where a reset is refused, which is answered.
-#[inline(always)]
-fn comes_to_controller(
-    controller: &mut Power,
-    sites: &mut [HostSite],
-    host: u8,
-    what: Incoming,
-    noted: &mut Noted,
-) -> Result<Option<ResetRefused>, NoMemory>
-    requires state { (w : NodeWorld) × WorldIs controller.old sites.old w × MayGoOn w × IsThere host w }
-    requires may { MayArrive false what }
-    requires room { HaveRoom sites.old }
-    requires memory { noted.old.short ≡ false }
-    ensures refusal { (w : NodeWorld) → WorldIs controller.old sites.old w → MayGoOn w → IsThere host w
-        → IfOk result (λ why. why ≡ refusal_coming w.controller (link_to w.sites host).controller.side (as_comes what)) }
-    ensures stands { (w : NodeWorld) → WorldIs controller.old sites.old w → MayGoOn w → IsThere host w → FewAreCountedAt host (as_comes what) w
-        → IfOk result (WorldUnless controller.new sites.new noted.old.entries.items noted.new.entries.items w (comes_at w (end_c host) (as_comes what))) }
-    ensures memory { OnOk result (noted.new.short ≡ false) }
-{
-    let at = End {
-        link: host,
-        at_host: false,
-    };
-    let Power::On(node) = controller else {
-        return Ok(None);
-    };
-    let Some(place) = place_of(sites, host) else {
-        return Ok(None);
-    };
-    let site = &mut sites[place];
-    let Some(arrived) = site.wires.comes(at, what, &mut noted.entries)? else {
-        return Ok(None);
-    };
-    noted.sessions = sessions_of(sites);
-    let input = NodeInput::At {
-        host,
-        what: arrived.as_input(),
-    };
-    match step(node, input, noted) {
-        Ok(live) => {
-            finish_controller(controller, sites, live, noted)?;
-            Ok(None)
-        }
-        Err(why) => Ok(Some(why)),
-    }
-}
-
 /// This comes to an end. Where its node doesn't run, or no frame is on the way, nothing happens; and where a reset is refused, which is
 /// answered.
 ///
@@ -139,12 +89,30 @@ pub(crate) fn comes_to(
         (if_accepted why w (comes_at w at (as_comes what)))) }
     ensures memory { OnOk result (noted.new.short ≡ false) }
 {
-    if !at.at_host {
-        return comes_to_controller(controller, sites, at.link, what, noted);
+    let Some(place) = place_of(sites, at.link) else {
+        return Ok(None);
+    };
+    if at.at_host {
+        return comes_to_host(&mut sites[place], what, noted);
     }
-    match place_of(sites, at.link) {
-        Some(place) => comes_to_host(&mut sites[place], what, noted),
-        None => Ok(None),
+    let Power::On(node) = controller else {
+        return Ok(None);
+    };
+    let site = &mut sites[place];
+    let Some(arrived) = site.wires.comes(at, what, &mut noted.entries)? else {
+        return Ok(None);
+    };
+    noted.sessions = sessions_of(sites);
+    let input = NodeInput::At {
+        host: at.link,
+        what: arrived.as_input(),
+    };
+    match step(node, input, noted) {
+        Ok(live) => {
+            finish_controller(controller, sites, live, noted)?;
+            Ok(None)
+        }
+        Err(why) => Ok(Some(why)),
     }
 }
 

@@ -1,7 +1,7 @@
 use Rattle.std.proofs.Common.{ℕ, List, refl, sym, ap, subst, ◌∙◌}
 use Rattle.node_world.proofs.Words.{EndsBoot, IsSoundMemory, Memory, On, count_of, kept_is, link_to, memory_kept, on_ok}
 use Rattle.node_laws.specs.telling.Telling.{hosts_in}
-use Rattle.node_world.proofs.ControllersPower.{boot_runs, boot_lost}
+use Rattle.node_world.proofs.ControllersHear.{boot_runs, boot_lost}
 use Rattle.node_world.proofs.controller.boot_controller.Goals as goal
 
 pub boot-requires-clause-memory : goal.boot-requires-clause-memory

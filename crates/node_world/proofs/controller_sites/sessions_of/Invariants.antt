@@ -1,6 +1,6 @@
 use Rattle.std.proofs.Common.{◌≡◌, List, length}
 use Rattle.node_world.proofs.Words.{Site, SitesAre}
-use Rattle.node_world.proofs.PlacesFound.{NumbersFound}
+use Rattle.node_world.proofs.SitesKept.{NumbersFound}
 use Rattle.node_world.proofs.controller_sites.sessions_of.Given as goal
 
 -- the numbers of so many are put there

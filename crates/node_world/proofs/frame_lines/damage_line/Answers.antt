@@ -5,10 +5,8 @@ use Rattle.trace_model.specs.declared.line.Line.TheVariants as line
 use Rattle.nv_journal.proofs.Appending.{on_err}
 use Rattle.node_world.proofs.Words.{Finds, Loses, Takes, frames_at, is_running, misread_in, node_of}
 use Rattle.link_wires.specs.declared.finding.Damaged.TheVariants.{Refused, Same, Lost, Undetected}
-use Rattle.node_world.proofs.Comings.{unrefused}
-use Rattle.node_world.proofs.LinesDamage.{finds_read, lost_is, misread_not, off_refused, on_refused, same_is}
-use Rattle.node_world.proofs.LinesEnd.{line_goes, line_refused}
-use Rattle.node_world.proofs.LinesGo.{is_there, within}
+use Rattle.node_world.proofs.HostsHear.{unrefused}
+use Rattle.node_world.proofs.LinesGo.{finds_read, lost_is, misread_not, off_refused, on_refused, same_is, line_goes, line_refused, is_there, within}
 use Rattle.node_world.proofs.frame_lines.damage_line.Goals as goal
 
 pub comes_to-requires-clause-state : goal.comes_to-requires-clause-state

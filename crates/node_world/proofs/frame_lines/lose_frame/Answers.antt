@@ -1,11 +1,8 @@
 use Rattle.std.proofs.Common.{sym, subst, ℕ}
 use Rattle.std.specs.Prelude.{slice_index_or}
 use Rattle.node_world.proofs.Words.{IsNodePlace, StandsAt, counts, entries_for, first_lost, frame_lost, frames_to, side_of, site_loses}
-use Rattle.node_world.proofs.AtHosts.{at_place, nowhere, site_stands}
-use Rattle.node_world.proofs.ControllersLose.{lost_to_controller}
-use Rattle.node_world.proofs.HostsInWorlds.{loses_in_world}
-use Rattle.node_world.proofs.HostsLose.{lost_far, lost_near}
-use Rattle.node_world.proofs.NearKept.{found_becomes, loses_leaves}
+use Rattle.node_world.proofs.HostsInWorlds.{at_place, nowhere, site_stands, lost_to_controller, loses_in_world, found_becomes, loses_leaves}
+use Rattle.node_world.proofs.HostsDo.{lost_far, lost_near}
 use Rattle.node_world.proofs.frame_lines.lose_frame.Goals as goal
 
 pub loses_frame-requires : goal.loses_frame-requires

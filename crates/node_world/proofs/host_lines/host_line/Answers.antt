@@ -5,18 +5,14 @@ use Rattle.trace_model.specs.declared.entry.Entry.TheVariants as note
 use Rattle.trace_model.specs.declared.entry.NoCause.TheVariants as no
 use Rattle.node_machine.specs.world.World.{NodeWorld}
 use Rattle.node_sites.specs.declared.nodes.Asked.{Asked}
-use Rattle.node_world.proofs.HostsInWorlds.{ChangesSite}
+use Rattle.node_world.proofs.HostsInWorlds.{ChangesSite, at_place, becomes, room_there, site_stands, end_is, nowhere, asked_does, asked_goes, asked_mute}
+use Rattle.node_world.proofs.HostsInWorlds.{asked_there, happening_asked, stays_so, steps_there}
 use Rattle.node_core.specs.Giving.{refusal_noted}
 use Rattle.node_sites.specs.Asking.{deeds_asked, message_asked}
 use Rattle.node_world.specs.Whole.{line_asked}
 use Rattle.node_world.proofs.Words.{End, Entry, IsHostOf, NoInput, RunsAs, Site, SitesBecome, StandsAt, Work, begins_with, host_stepped, node_memory}
 use Rattle.node_world.proofs.Words.{none_noted, refusal_in, sending_refused, site_at, world_step}
-use Rattle.node_world.proofs.AtHosts.{at_place, becomes, room_there, site_stands, end_is, nowhere}
-use Rattle.node_world.proofs.HostsAre.{is_on, is_off, unchanged}
-use Rattle.node_world.proofs.HostsBegin.{begins_at_end, has_end}
-use Rattle.node_world.proofs.HostsFound.{asked_does, asked_goes, asked_mute, asked_there, happening_asked, stays_so, steps_there}
-use Rattle.node_world.proofs.HostsGoOn.{began, is_done}
-use Rattle.node_world.proofs.HostsRefuse.{is_some_host, sending_off, sending_so, still_stands}
+use Rattle.node_world.proofs.HostsHear.{is_on, is_off, unchanged, begins_at_end, has_end, began, is_done, is_some_host, sending_off, sending_so, still_stands}
 use Rattle.node_world.proofs.LinesGo.{hosts_go, hosts_refused}
 use Rattle.node_world.proofs.host_lines.host_line.Goals as goal
 

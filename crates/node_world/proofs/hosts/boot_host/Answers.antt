@@ -1,6 +1,6 @@
 use Rattle.std.proofs.Common.{◌≡◌, ℕ, ◌≤◌, sym, ap, subst, ◌∙◌, arith}
 use Rattle.node_world.proofs.Words.{IsSoundMemory, count_of, kept_is, on_ok}
-use Rattle.node_world.proofs.HostsBoot.{boots_here, runs_now, lost_power}
+use Rattle.node_world.proofs.HostsDo.{boots_here, runs_now, lost_power}
 use Rattle.node_world.proofs.hosts.boot_host.Goals as goal
 
 low_host : (h : ℕ) → h ≤ 7 → (n : ℕ) → n ≡ h → n ≤ 7

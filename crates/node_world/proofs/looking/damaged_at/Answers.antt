@@ -1,6 +1,6 @@
 use Rattle.std.proofs.Common.{sym, subst}
 use Rattle.node_world.proofs.Words.{Finds, HostSite, Link, SiteIs, StandsAt, frames_to, link_is}
-use Rattle.node_world.proofs.AtHosts.{reads, site_stands}
+use Rattle.node_world.proofs.HostsInWorlds.{reads, site_stands}
 use Rattle.node_world.proofs.looking.damaged_at.Goals as goal
 
 pub returns-in-Some : goal.returns-in-Some

@@ -3,8 +3,7 @@ use Rattle.std.specs.Prelude.{is_some}
 use Rattle.std.proofs.lemmas.Bool.{ne_eqb}
 use Rattle.node_world.proofs.Words.{HostSite, SiteIs, StandsAt}
 use Rattle.node_sites.specs.Powers.{is_on}
-use Rattle.node_world.proofs.AtHosts.{reads, runs_alike, site_stands}
-use Rattle.node_world.proofs.HostsPower.{node_there}
+use Rattle.node_world.proofs.HostsInWorlds.{reads, runs_alike, site_stands, node_there}
 use Rattle.node_world.proofs.looking.runs.Goals as goal
 
 pub returns-in-Some : goal.returns-in-Some

@@ -4,15 +4,14 @@ use Rattle.std.specs.List.{AllByRecursion}
 use Rattle.std.proofs.lemmas.Result.{on_ok_weaker}
 use Rattle.trace_model.specs.declared.entry.NoCause.TheVariants as no
 use Rattle.trace_model.specs.declared.line.Line.TheVariants as line
-use Rattle.node_world.proofs.Words.{Activates, Entry, FewBehind, HostSite, IsHost, IsThere, IsWithinBounds, MayGoOn, Power, Starts, WorldBecomes}
-use Rattle.node_world.proofs.Words.{comes_at, end_c, end_h, if_off, is_running}
+use Rattle.node_world.proofs.Words.{Activates, Entry, FewBehind, HostSite, IsHost, IsThere, IsWithinBounds, MayGoOn, Power, Starts, WorldBecomes, comes_at}
+use Rattle.node_world.proofs.Words.{end_c, end_h, if_off, is_running}
 use Rattle.node_machine.specs.world.World.{NodeWorld, activates}
 use Rattle.node_laws.proofs.telling.Events.{comes_goes}
-use Rattle.node_world.proofs.Comings.{unrefused}
+use Rattle.node_world.proofs.HostsHear.{unrefused}
 use Rattle.node_world.proofs.FewInWorlds.{few_behind_coming, longer}
-use Rattle.node_world.proofs.LinesAgain.{hosts_come, there_still}
-use Rattle.node_world.proofs.LinesEnd.{first_is, line_goes, line_refused, off_is, on_is, second_is}
-use Rattle.node_world.proofs.LinesGo.{is_there, within}
+use Rattle.node_world.proofs.RoundsGo.{hosts_come, there_still}
+use Rattle.node_world.proofs.LinesGo.{first_is, line_goes, line_refused, off_is, on_is, second_is, is_there, within}
 use Rattle.node_world.proofs.node_lines.activate_line.Goals as goal
 
 -- the world behind the first step, which is as ready for the second one

@@ -3,15 +3,12 @@ use Rattle.std.specs.Prelude.{None}
 use Rattle.std.specs.List.{each_same}
 use Rattle.std.proofs.lemmas.Bool.{ne_eqb}
 use Rattle.trace_model.specs.declared.line.Line.TheVariants as line
-use Rattle.node_world.proofs.Words.{Arms, Entry, HostSite, LinePlayed, Plan, Power, Site, SiteIs, StandsAt, WorldIs, line_step, link_to, memory_at}
-use Rattle.node_world.proofs.Words.{site_at, with_site, world_step}
+use Rattle.node_world.proofs.Words.{Arms, Entry, HostSite, LinePlayed, Plan, Power, Site, SiteIs, StandsAt, WorldIs, line_step, link_to, memory_at, site_at}
+use Rattle.node_world.proofs.Words.{with_site, world_step}
 use Rattle.arrayvec.specs.ArrayVec.{ArrayVec}
 use Rattle.node_machine.specs.world.World.{NodeWorld}
-use Rattle.node_world.proofs.AtHosts.{reads, site_stands}
-use Rattle.node_world.proofs.HostsInWorlds.{armed_in_world}
-use Rattle.node_world.proofs.HostsPower.{armed, none_changed}
-use Rattle.node_world.proofs.LinesEnd.{line_goes}
-use Rattle.node_world.proofs.NearKept.{found_becomes}
+use Rattle.node_world.proofs.HostsInWorlds.{reads, site_stands, armed_in_world, armed, none_changed, found_becomes}
+use Rattle.node_world.proofs.LinesGo.{line_goes}
 use Rattle.node_world.proofs.node_lines.arm_line.Goals as goal
 
 -- where no host has this number, nothing changes

@@ -6,12 +6,10 @@ use Rattle.trace_model.specs.declared.entry.NoCause.TheVariants as no
 use Rattle.trace_model.specs.declared.line.Line.TheVariants as line
 use Rattle.node_world.proofs.Words.{Boots, Entry, HostSite, IfOff, IsSoundMemory, Running, Site, SiteIs, StandsAt, Uicc, WorldBecomes, after_planned}
 use Rattle.node_world.proofs.Words.{boot_writes, boots, fails_within, host_boots, host_cut, is_running, memory_at, new_link_end, new_uicc, node_at}
-use Rattle.node_world.proofs.AtHosts.{is_host, nowhere, reads, site_stands}
-use Rattle.node_world.proofs.HostsBoot.{boot_goes, boot_stops}
-use Rattle.node_world.proofs.HostsInWorlds.{boots_in_world}
-use Rattle.node_world.proofs.HostsPower.{memory_there, node_there}
-use Rattle.node_world.proofs.LinesEnd.{line_goes, line_refused, node_known, stands_not, runs_refused, boots_free}
-use Rattle.node_world.proofs.NearKept.{LeavesNear, cut_leaves, found_becomes}
+use Rattle.node_world.proofs.HostsInWorlds.{is_host, nowhere, reads, site_stands, boots_in_world, memory_there, node_there, LeavesNear, cut_leaves}
+use Rattle.node_world.proofs.HostsInWorlds.{found_becomes}
+use Rattle.node_world.proofs.HostsDo.{boot_goes, boot_stops}
+use Rattle.node_world.proofs.LinesGo.{line_goes, line_refused, node_known, stands_not, runs_refused, boots_free}
 use Rattle.node_world.proofs.node_lines.boot_line.Goals as goal
 
 -- a boot leaves the controller's end of the link as it is

@@ -4,8 +4,7 @@ use Rattle.std.specs.Option.{option_map}
 use Rattle.std.proofs.lemmas.Bool.{ne_eqb}
 use Rattle.hci_tables.specs.Tables.{HciTables}
 use Rattle.node_world.proofs.Words.{HostSite, Running, SiteIs, StandsAt, node_at}
-use Rattle.node_world.proofs.AtHosts.{reads, site_stands}
-use Rattle.node_world.proofs.HostsPower.{node_there}
+use Rattle.node_world.proofs.HostsInWorlds.{reads, site_stands, node_there}
 use Rattle.node_world.proofs.node_lines.copied_tables.Goals as goal
 
 abbrev tables_at : Option Running → Option HciTables

@@ -6,13 +6,10 @@ use Rattle.trace_model.specs.declared.entry.Entry.TheVariants as note
 use Rattle.trace_model.specs.declared.entry.NoCause.TheVariants as no
 use Rattle.trace_model.specs.declared.line.Line.TheVariants as line
 use Rattle.node_world.proofs.Words.{Entry, HostSite, IsCut, SiteIs, StandsAt, WorldBecomes, host_cut, is_running, node_at, world_step}
-use Rattle.node_world.proofs.AtHosts.{reads, site_stands}
-use Rattle.node_world.proofs.ControllersPower.{was_cut}
-use Rattle.node_world.proofs.HostsBoot.{was_cut_off}
-use Rattle.node_world.proofs.HostsInWorlds.{cut_in_world}
-use Rattle.node_world.proofs.HostsPower.{node_nowhere, runs_so}
-use Rattle.node_world.proofs.LinesEnd.{line_goes, line_refused, off_is, on_is, stands_there}
-use Rattle.node_world.proofs.NearKept.{cut_leaves, found_becomes}
+use Rattle.node_world.proofs.HostsInWorlds.{reads, site_stands, cut_in_world, node_nowhere, runs_so, cut_leaves, found_becomes}
+use Rattle.node_world.proofs.ControllersHear.{was_cut}
+use Rattle.node_world.proofs.HostsDo.{was_cut_off}
+use Rattle.node_world.proofs.LinesGo.{line_goes, line_refused, off_is, on_is, stands_there}
 use Rattle.node_world.proofs.node_lines.cut_line.Goals as goal
 
 pub returns-then-not-runs-clause-stands : goal.returns-then-not-runs-clause-stands

@@ -6,9 +6,7 @@ use Rattle.trace_model.specs.declared.entry.Entry.TheVariants as note
 use Rattle.trace_model.specs.declared.line.Line.TheVariants as line
 use Rattle.trace_model.specs.declared.entry.NoCause.TheVariants as no
 use Rattle.node_world.specs.HostSteps.{reset_noted}
-use Rattle.node_world.proofs.LinesEnd.{line_refused, off_is, first_is}
-use Rattle.node_world.proofs.LinesGo.{within, is_there, world_goes, world_refused}
-use Rattle.node_world.proofs.LinesReset.{reset_runs}
+use Rattle.node_world.proofs.LinesGo.{line_refused, off_is, first_is, within, is_there, world_goes, world_refused, reset_runs}
 use Rattle.node_world.proofs.node_lines.reset_line.Goals as goal
 
 pub returns-then-not-runs-clause-stands : goal.returns-then-not-runs-clause-stands

@@ -1,9 +1,8 @@
 use Rattle.std.proofs.Common.{◌≡◌, ℕ, ◌<◌, ◌≤◌, true, false, ap, sym, subst, ◌∙◌, arith, length}
 use Rattle.std.specs.Prelude.{replicate}
 use Rattle.node_world.proofs.Words.{NextFrame, Takes, WorldHasGone, all_happen, frames_at, is_running, node_of}
-use Rattle.node_world.proofs.Comings.{unrefused}
-use Rattle.node_world.proofs.LinesAgain.{few_on_way, again_begins, again_ends, again_goes, again_next, again_stops, bounds_again}
-use Rattle.node_world.proofs.LinesAgain.{hosts_come, there_still}
+use Rattle.node_world.proofs.HostsHear.{unrefused}
+use Rattle.node_world.proofs.RoundsGo.{few_on_way, again_begins, again_ends, again_goes, again_next, again_stops, bounds_again, hosts_come, there_still}
 use Rattle.node_world.proofs.rounds.take_all.Goals as goal
 
 pub loop-init : goal.loop-init

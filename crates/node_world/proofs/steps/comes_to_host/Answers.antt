@@ -3,12 +3,9 @@ use Rattle.std.specs.Prelude.{Some, None, Ok, replicate}
 use Rattle.node_world.proofs.Words.{Entry, HasBecome, Host, HostSite, Link, LinkInput, On, Site, arrival, as_comes, entries_for, exchanged, session_at}
 use Rattle.node_ends.specs.Inputs.{input_of_end}
 use Rattle.node_sites.specs.Numbers.{with_session_number}
-use Rattle.node_world.proofs.Comings.{as_none, as_some, may_arrive, off_refuses_none, none_refused, wires_as_were, arrived_noted}
+use Rattle.node_world.proofs.HostsHear.{as_none, as_some, may_arrive, off_refuses_none, none_refused, wires_as_were, arrived_noted, is_on, is_off}
+use Rattle.node_world.proofs.HostsHear.{unchanged_as, hears_off, hears_none, begins_at_end, heard, is_done, refused_here, still_stands, may_start}
 use Rattle.node_world.proofs.ControllersHear.{come_resets}
-use Rattle.node_world.proofs.HostsAre.{is_on, is_off, unchanged_as, hears_off, hears_none}
-use Rattle.node_world.proofs.HostsBegin.{begins_at_end}
-use Rattle.node_world.proofs.HostsGoOn.{heard, is_done}
-use Rattle.node_world.proofs.HostsRefuse.{refused_here, still_stands, may_start}
 use Rattle.node_world.proofs.steps.comes_to_host.Goals as goal
 
 pub returns-in_default-clause-refusal : goal.returns-in_default-clause-refusal

@@ -2,12 +2,11 @@ use Rattle.std.proofs.Common.{◌≡◌, ℕ, ◌+◌, ◌<◌, ◌≤◌, ◌^�
 use Rattle.std.specs.Prelude.{slice_index_or}
 use Rattle.node_world.proofs.Words.{AreToTick, Entry, Site, near_ticks}
 use Rattle.node_world.specs.Whole.{IsToTick, SitesTick}
-use Rattle.node_world.proofs.ControllersAge.{older, older_world, older_timely, older_goes_on, older_resets, older_few, older_is, then_ticks}
+use Rattle.node_world.proofs.WorldsTick.{older, older_world, older_timely, older_goes_on, older_resets, older_few, older_is, then_ticks, all_tick}
+use Rattle.node_world.proofs.WorldsTick.{hosts_may_tick, tick_of, tick_told, ticks_are}
 use Rattle.node_world.proofs.ControllersHear.{room_kept}
-use Rattle.node_world.proofs.FramesToAll.{of_these}
-use Rattle.node_world.proofs.NearKept.{counted_in_tick, room_for_all}
-use Rattle.node_world.proofs.SitesKept.{walk_begins, walk_next, walk_ends}
-use Rattle.node_world.proofs.WorldsTick.{all_tick, hosts_may_tick, tick_of, tick_told, ticks_are}
+use Rattle.node_world.proofs.SitesKept.{of_these, walk_begins, walk_next, walk_ends}
+use Rattle.node_world.proofs.HostsInWorlds.{counted_in_tick, room_for_all}
 use Rattle.node_world.proofs.steps.tick_world.Goals as goal
 
 it_may : (sites front : List Site) (s : Site) (back : List Site) → sites ≡ front ++ s ∷ back → AreToTick sites → IsToTick s

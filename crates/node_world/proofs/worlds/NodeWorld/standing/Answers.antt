@@ -1,6 +1,6 @@
 use Rattle.std.proofs.Common.{◌≡◌, ◌≤◌, List, length, subst, sym, arith}
 use Rattle.node_world.proofs.Words.{SitesAre, frames_at, lines_played, nodes_behind}
-use Rattle.node_world.proofs.LinesAgain.{few_on_way}
+use Rattle.node_world.proofs.RoundsGo.{few_on_way}
 use Rattle.node_world.proofs.WorldsStepped.{in_order_behind}
 use Rattle.node_world.proofs.worlds.NodeWorld.standing.Goals as goal
 

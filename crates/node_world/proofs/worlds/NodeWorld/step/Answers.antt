@@ -10,7 +10,7 @@ use Rattle.node_sites.specs.declared.noted.Noted.{Noted}
 use Rattle.node_world.specs.Whole.{IsMisreadIn}
 use Rattle.node_world.specs.declared.worlds.NodeWorld.{NodeWorld}
 use Rattle.node_world.proofs.Words.{Header, HostSite, Line, LinePlayed, MayPlay, Play, Power, WorldIs, line_step, lines_played, misread_in, nodes_behind}
-use Rattle.node_world.proofs.LinesDamage.{is_sound, sound_reads}
+use Rattle.node_world.proofs.LinesGo.{is_sound, sound_reads}
 use Rattle.node_world.proofs.WorldsStepped.{may_be_said, stands_answered, entries_answered, steps_few}
 use Rattle.node_world.proofs.worlds.NodeWorld.step.Goals as goal
 
