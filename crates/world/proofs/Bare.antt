@@ -1,26 +1,37 @@
 -- A bare end has no activation, and one input adds at most one control frame to those that are due.
 use Rattle.std.proofs.Common.{◌≡◌, ℕ, suc, ◌+◌, ◌≤◌, Bool, true, false, cond, List, [], ◌∷◌, ◌++◌, length, map, refl, ap, sym, subst, length-append, arith}
-use Rattle.std.specs.Prelude.{Option, Some, None, is_some, not, nat_lt, ◌==◌}
+use Rattle.std.proofs.Common.{max, ◌∙◌}
+use Rattle.std.specs.Prelude.{Option, Some, None, is_some, not, nat_lt, ◌==◌, IfSome}
+use Rattle.world.proofs.Words.{AreNoted, Asked, Control, Due, End, EndState, Entry, Fetch, FetchMessage, Give, GoesOut, HasHappened, Hold, IsMidway, Link}
+use Rattle.world.proofs.Words.{LinkEnd, LinkInput, LinkStandsFor, LinkState, Message, NoCause, Node, NodeStandsFor, Place, Side, Take, Waiting, after_input}
+use Rattle.world.proofs.Words.{becomes, end_is, ended_by, fetched, frames_out, give_refusal, here_entries, idle, if_up, is_open, more_noted, new_link_end}
+use Rattle.world.proofs.Words.{put_all, puts_entries, report, reset_by, reset_refusal, side_of, tick_answer, tick_entries, ticked, ticks_at_controller, told}
+use Rattle.world.proofs.Words.{turn, whole_acked, window_of, with_ended}
 use Rattle.swp_base.specs.declared.control_frames.Kind.{Kind}
 use Rattle.swp_base.specs.declared.control_frames.Kind.TheVariants.{Rr, Rej, Rnr, Srej}
-use Rattle.world.proofs.Words.{Asked, Control, Due, EndState, Fetch, FetchMessage, Give, Hold, LinkEnd, LinkInput, LinkState, Message, Take, Waiting}
-use Rattle.world.proofs.Words.{after_input, fetched, give_refusal, if_up, is_open, new_link_end, reset_by, reset_refusal, tick_answer, ticked, turn, window_of}
 use Rattle.swp_base.specs.declared.control_frames.Control.TheVariants.{I, S, Rset, Ua, Act, Clt}
 use Rattle.swp_act.specs.declared.ActEvent.{ActEvent}
 use Rattle.swp_act.specs.declared.ActEvent.TheVariants.{Start as ActStart, Take as ActTake, Tick as ActTick, Stop as ActStop}
 use Rattle.shdlc_core.specs.declared.answers.LinkState.TheVariants.{Down, Up}
 use Rattle.shdlc_core.specs.declared.answers.Due.TheVariants.{Rr as Rr_due, Rej as Rej_due, Rnr as Rnr_due, Rset as Rset_due, Ua as Ua_due}
-use Rattle.shdlc_core.specs.Machine.{Fragment, taken, take_answer, place_of, acknowledged, ahead, received, runs_timer}
-use Rattle.shdlc_core.specs.Machine.{reset_with, stopped, with_ready}
-use Rattle.link_laws.specs.machine.Machine.{Refused, Turn, after_inputs, moved, put_down}
-use Rattle.link_laws.specs.machine.Machine.{activated}
-use Rattle.link_laws.specs.machine.Machine.{heard, took, is_faulty, news, given}
-use Rattle.link_laws.specs.machine.Machine.{aside_refusal}
-use Rattle.link_laws.specs.machine.Machine.{unless, in_front, frame_fetched}
+use Rattle.shdlc_core.specs.Machine.{Fragment, taken, take_answer, place_of, acknowledged, ahead, received, runs_timer, reset_with, stopped, with_ready}
+use Rattle.link_laws.specs.machine.Machine.{Refused, Turn, after_inputs, moved, put_down, activated, heard, took, is_faulty, news, given, aside_refusal}
+use Rattle.link_laws.specs.machine.Machine.{unless, in_front, frame_fetched, ActDue, Report, sent_all}
 use Rattle.link_laws.specs.machine.Machine.Role.{Bare}
 use Rattle.link_laws.specs.machine.Machine.LinkInput.{TakeUnknown, TakeBroken, Tick, Reset, Start, Stop, FromNode}
 use Rattle.link_laws.specs.machine.Machine.Turn.{SetAside, Release}
-use Rattle.world.specs.Nodes.{Reached}
+use Rattle.link_laws.specs.messages.Links.{number_of, with_controller}
+use Rattle.link_laws.specs.entries.Entries.{End as Who, Entry as Noted, told_of, input_entries, sent_unless}
+use Rattle.swp_base.specs.declared.link_terms.Cause.{Cause}
+use Rattle.link_end.specs.declared.report.LinkReport.{LinkReport}
+use Rattle.link_end.specs.Reports.{report_told, nothing_told}
+use Rattle.link_end.specs.Idle.{IsIdle}
+use Rattle.trace_model.specs.declared.entry.Entry.TheVariants as entry
+use Rattle.link_laws.specs.messages.Links.Comes.{NoInput}
+use Rattle.link_laws.specs.messages.Links.EndEvent.{Step}
+use Rattle.link_laws.specs.entries.Entries.Entry.{Sent}
+use Rattle.history.specs.Follows.{as_noted}
+use Rattle.world.specs.Nodes.{Reached, HasFewDue}
 
 -- ## No activation
 
@@ -281,3 +292,143 @@ hold_most e held q = one_at_most e (with_ready e.shdlc (not held)) q (ready_adds
 
 pub give_most : (e : LinkEnd) (m : Message) → e.shdlc.due ≡ [] → AtMost 1 (turn e (Give m))
 give_most e m q = unless_most (give_refusal e m) e (given e m) 1 (idle_most e q) (idle_most e q)
+
+-- A step of an end: what comes to it or what its node does, and then its frames go out.
+
+-- an end that has sent all its frames has room
+pub bare_here : {near far : Side} {resets : ℕ} {l : Link} → LinkStandsFor near far resets l → IsBare l.controller.side
+bare_here {l} h = is_bare l.controller.side h.here.has.node.has.reached
+
+pub room_here : {near far : Side} {resets : ℕ} {l : Link} → LinkStandsFor near far resets l → HasFewDue l.controller.side
+room_here h =
+    let a = ap (λ (xs : List ActDue). length xs) (bare_here h).1 in
+    let d = ap (λ (xs : List Due). length xs) h.here.idle in
+    omega (arith, a, d)
+
+-- the end of the near side has become e
+pub midway : {near far : Side} {resets : ℕ} {l : Link} {new : Node} {e : LinkEnd} (b : Bool) → LinkStandsFor near far resets l
+    → NodeStandsFor new e → length e.shdlc.due ≤ 1 → IsMidway (record near { node = new }) far resets (with_ended l b) e
+midway false h node few =
+    record {
+      here = record { node = node; put_is = h.here.has.put_is; took_is = h.here.has.took_is; wire_is = h.here.has.wire_is };
+      few = omega (arith, few);
+      there = h.there;
+      count = h.count;
+    }
+midway true h node few =
+    record {
+      here = record { node = node; put_is = h.here.has.put_is; took_is = h.here.has.took_is; wire_is = h.here.has.wire_is };
+      few = omega (arith, few);
+      there = h.there;
+      count = h.count;
+    }
+
+-- the number of the session of the near end
+pub session_is : {near far : Side} {resets : ℕ} {l : Link} → LinkStandsFor near far resets l → max near.emitted near.took ≡ number_of l.controller
+session_is {near} {l} h = ap (λ n. max n near.took) h.here.has.put_is ∙ ap (λ n. max l.controller.emitted n) h.here.has.took_is
+
+-- what is noted of an input, in its place
+told_here : {near far : Side} {resets : ℕ} {l : Link} {at : End} {place : Place} {mid : List Entry} (i : LinkInput) (before : List Entry)
+    → LinkStandsFor near far resets l → place ≡ record { at = at; session = max near.emitted near.took }
+    → AreNoted place.at before mid (told (side_of place.at) place.session (report l.controller.side i) (whole_acked (after_input l.controller.side i)))
+    → AreNoted at before mid (told_of (side_of at) l.controller i)
+told_here {l} {at} {mid} i before h is noted =
+    let k : ℕ = whole_acked (after_input l.controller.side i) in
+    rw (← session_is h) (rw is at noted)
+
+-- and then of the frames that went out
+pub input_noted : {near far : Side} {resets : ℕ} {l : Link} {at : End} {place : Place} {mid now : List Entry} (i : LinkInput) (before : List Entry)
+    → LinkStandsFor near far resets l → place ≡ record { at = at; session = max near.emitted near.took }
+    → AreNoted place.at before mid (told (side_of place.at) place.session (report l.controller.side i) (whole_acked (after_input l.controller.side i)))
+    → AreNoted at mid now
+    (puts_entries (side_of at) (with_ended l (is_some (ended_by l.controller.side i))) (frames_out (after_input l.controller.side i)))
+    → AreNoted at before now (input_entries (side_of at) l i [] GoesOut)
+input_noted {l} {at} {mid} {now} i before h is noted put =
+    more_noted at before (told_of (side_of at) l.controller i)
+    (puts_entries (side_of at) (with_ended l (is_some (ended_by l.controller.side i))) (frames_out (after_input l.controller.side i)))
+    (told_here i before h is noted) put
+
+-- ## An end at which nothing is under way
+
+-- its tick changes nothing of the link
+pub idle_ticks : (l : Link) → IsIdle l.controller.side → ticks_at_controller l [] GoesOut ≡ l
+idle_ticks l still =
+    let m : LinkEnd = l.controller.side in
+    let none : ended_by m Tick ≡ None = ap (λ (r : LinkReport). r.ended) still.told in
+    ap (λ (c : Option Cause). becomes (with_ended l (is_some c)) (after_input m Tick)) none
+    ∙ (ap (λ (e : LinkEnd). becomes l e) still.same
+    ∙ (ap (λ (cs : List Control). with_controller (put_all l cs) (sent_all m)) still.frames ∙ ap (λ (e : LinkEnd). with_controller l e) still.sent))
+
+told_nothing : (who : Who) (n k : ℕ) (r : Report) → report_told r ≡ nothing_told → r.got ≡ [] → told who n r k ≡ []
+told_nothing who n k r is none =
+    let ended : r.ended ≡ None = ap (λ (x : LinkReport). x.ended) is in
+    let began : r.began ≡ false = ap (λ (x : LinkReport). x.began) is in
+    let active : r.became_active ≡ false = ap (λ (x : LinkReport). x.became_active) is in
+    let gave_up : r.gave_up ≡ None = ap (λ (x : LinkReport). x.gave_up) is in
+    let acked : r.acked ≡ 0 = ap (λ (x : LinkReport). x.acked) is in
+    rw (ended, began, active, gave_up, acked, none) refl
+
+-- and nothing is noted of it
+pub idle_entries : (who : Who) (l : Link) → IsIdle l.controller.side → tick_entries who l idle ≡ []
+idle_entries who l still =
+    let m : LinkEnd = l.controller.side in
+    let none : ended_by m Tick ≡ None = ap (λ (r : LinkReport). r.ended) still.told in
+    let put : puts_entries who (with_ended l (is_some (ended_by m Tick))) (frames_out (after_input m Tick)) ≡ [] =
+    ap (λ (c : Option Cause). puts_entries who (with_ended l (is_some c)) (frames_out (after_input m Tick))) none
+    ∙ (ap (λ (e : LinkEnd). puts_entries who l (frames_out e)) still.same ∙ ap (λ (cs : List Control). puts_entries who l cs) still.frames) in
+    ap (λ (es : List Noted). told_of who l.controller Tick ++ es) put
+    ∙ ap (λ (es : List Noted). es ++ []) (told_nothing who (number_of l.controller) (whole_acked (after_input m Tick)) (report m Tick) still.told refl)
+
+-- A message is given to an end, and a step that is refused.
+
+-- ## A step that is refused
+
+-- the end of the near side stands for the same state
+pub still : {near far : Side} {resets : ℕ} {l : Link} {new : Node} → LinkStandsFor near far resets l → NodeStandsFor new l.controller.side
+    → LinkStandsFor (record near { node = new }) far resets l
+still h node =
+    record {
+      here = record {
+        has = record { node = node; put_is = h.here.has.put_is; took_is = h.here.has.took_is; wire_is = h.here.has.wire_is };
+        idle = h.here.idle;
+      };
+      there = h.there;
+      count = h.count;
+    }
+
+-- a refused message changes nothing
+pub refused_give : {near far : Side} {resets : ℕ} {l : Link} {new : Node} (x : Message) (o : Option NoCause) (entries : List Entry)
+    → LinkStandsFor near far resets l → o ≡ as_noted (give_refusal l.controller.side x) → NodeStandsFor new (turn l.controller.side (Give x))
+    → IfSome o (λ why. LinkStandsFor (record near { node = new }) far resets l × (entries ≡ entries))
+refused_give x None entries h is node = tt
+refused_give {near} {far} {resets} {l} {new} x (Some why) entries h is node = by (give_refusal l.controller.side x) refl
+  where
+    by : (r : Option Refused) → give_refusal l.controller.side x ≡ r → LinkStandsFor (record near { node = new }) far resets l × (entries ≡ entries)
+    by None q = absurd (let z : Some why ≡ None = is ∙ ap as_noted q in cc)
+    by (Some because) q =
+        let same : turn l.controller.side (Give x) ≡ l.controller.side = rw q refl in
+        (still h (rw same at node), refl)
+
+-- ## A message that is given
+
+pub accepted : (o : Option NoCause) (r : Option Refused) → o ≡ as_noted r → is_some o ≡ false → r ≡ None
+accepted o None is none = refl
+accepted o (Some why) is none = absurd (let z : true ≡ false = sym (ap is_some is) ∙ none in cc)
+
+pub gives : {near far : Side} {resets : ℕ} {l : Link} {at : End} {session : ℕ} {x : Message} {message : List ℕ} {before mid now : List Entry}
+    → session ≡ number_of l.controller → give_refusal l.controller.side x ≡ None → message ≡ x.1
+    → mid ≡ before ++ entry.Sent at session x.0 message ∷ []
+    → LinkStandsFor near far resets (becomes l (turn l.controller.side (Give x)))
+    × AreNoted at mid now (puts_entries (side_of at) l (frames_out (turn l.controller.side (Give x))))
+    → HasHappened near far resets l (Step NoInput (Give x ∷ []) GoesOut) at before now
+gives {l} {at} {session} {x} {before} {mid} {now} number taken is push sent =
+    let puts : List Noted = puts_entries (side_of at) l (frames_out (turn l.controller.side (Give x))) in
+    let first : List Noted = Sent (side_of at) (number_of l.controller) x ∷ [] in
+    let notes : here_entries (side_of at) l (Step NoInput (Give x ∷ []) GoesOut) ≡ first ++ puts =
+    ap (λ o. (sent_unless o (side_of at) (number_of l.controller) x ++ []) ++ puts) taken in
+    let T : List Noted → Type 0 = λ ns. AreNoted at before now ns in
+    let noted : AreNoted at before mid first =
+    push ∙ ap (λ (b : List ℕ). before ++ entry.Sent at session x.0 b ∷ []) is
+    ∙ ap (λ n. before ++ entry.Sent at n x.0 x.1 ∷ []) number
+    ∙ ap (λ z. before ++ entry.Sent z (number_of l.controller) x.0 x.1 ∷ []) (sym (end_is at)) in
+    record { stands = sent.0; noted = subst T (sym notes) (more_noted at before first puts noted sent.1) }

@@ -1,13 +1,24 @@
--- The world stands for the history of its header, and for a history with one line or one round more.
-use Rattle.std.proofs.Common.{◌≡◌, ℕ, ◌+◌, ◌<◌, Bool, true, false, List, [], ◌∷◌, ◌++◌, refl, sym, ap, ◌∙◌, arith, subst}
-use Rattle.std.proofs.Common.{true≢false, append-nil, append_assoc}
-use Rattle.std.specs.Prelude.{IsTrue, Option, Some, None}
-use Rattle.std.specs.List.{AllByRecursion, list_any}
+-- Lines and rounds have a link make few RSETs.
+use Rattle.std.proofs.Common.{◌≡◌, ℕ, zero, suc, ◌+◌, ◌*◌, ◌≤◌, true, false, List, [], ◌∷◌, ◌++◌, length, replicate, sym, subst, arith, ◌<◌, Bool, refl, ap}
+use Rattle.std.proofs.Common.{◌∙◌, true≢false, append-nil, append_assoc}
+use Rattle.std.specs.Prelude.{Option, Some, None, IfSome, unwrap_or, IsTrue}
+use Rattle.std.specs.List.{AllByRecursion, list_any, fold}
 use Rattle.std.proofs.lemmas.List.Concat.{flat_map-append}
-use Rattle.world.proofs.Words.{BareWorld, Controller, Does, DoesAll, End, Entry, FewRsets, HaveSent, Header, History, Host, IsLineOf, IsPlayFor, Line, Link}
-use Rattle.world.proofs.Words.{LinkStandsFor, Outcome, Play, Round, Said, Side, SidesStandFor, WorldStandsFor, bare_link, bare_link_behind, bare_round_lines}
-use Rattle.world.proofs.Words.{end_for, end_of, host_of, lines-append, lines_lead, lines_played, lines_said, link_after_all, link_after_line, link_after_lines}
-use Rattle.world.proofs.Words.{link_at, misread, most_rsets, new_link_end, noted, other_end, outcome_of, round_behind, round_on, rounds_played, told_below}
+use Rattle.world.proofs.Words.{BareWorld, Caused, Controller, Does, DoesAll, End, Entry, FewRsets, Given, HaveSent, Header, History, Host, IsLineOf, IsPlayFor}
+use Rattle.world.proofs.Words.{Line, Link, LinkStandsFor, NoCause, OnDemand, Outcome, Play, Readied, Round, Said, Side, SidesStandFor, Taken, Ticked, WasLost}
+use Rattle.world.proofs.Words.{WasReset, WorldStandsFor, bare_link, bare_link_behind, bare_round_lines, causes_in, damage_causes, end_for, end_of, events_at}
+use Rattle.world.proofs.Words.{first_verdict, frames_to, host_of, lines-append, lines_lead, lines_played, lines_said, link_after, link_after_all}
+use Rattle.world.proofs.Words.{link_after_line, link_after_lines, link_at, misread, most_rsets, new_link_end, noted, other_end, outcome_of, refusal}
+use Rattle.world.proofs.Words.{round_behind, round_on, rounds_played, taken_of, taking_on, told_below}
+use Rattle.trace_model.specs.declared.line.Line.TheVariants as line
+use Rattle.history.specs.BareRsets.{rsets_by_bare}
+use Rattle.history.specs.Damage.{Verdict}
+use Rattle.history.specs.Damage.Verdict.{Same, LostFor, Undetected}
+use Rattle.history.specs.Histories.{Cause, Step, events_of, causes_of, all_events, all_entries}
+use Rattle.history.specs.Histories.Outcome.{Refused}
+use Rattle.history.proofs.RsetsInBareWorlds.{few_after}
+use Rattle.lines_told.proofs.lines.Told.{no_more_rounds, no_more_said, one_round, one_said, takes_on, bare_known, bare_lines_may_be_played, for_with}
+use Rattle.lines_told.proofs.lines.Told.{played_more, sure_on}
 use Rattle.trace_model.specs.declared.line.Line.TheVariants.{Send, Deliver, Lose, Damage, Tick, Reset, Busy, Ready, Boot, Cut, Activate, Arm, Init, Tables}
 use Rattle.trace_model.specs.declared.line.Line.TheVariants.{Settle}
 use Rattle.trace_model.specs.Lines.{IsHeader}
@@ -15,25 +26,106 @@ use Rattle.link_laws.specs.machine.Machine.Role.{Bare}
 use Rattle.link_laws.specs.messages.Links.{new_numbered_end}
 use Rattle.link_laws.proofs.messages.RsetNumbers.{start_numbered}
 use Rattle.link_laws.specs.messages.Links.IsStart.{IsBare}
-use Rattle.history.specs.Histories.{Step, events_of, causes_of, all_events, all_entries}
 use Rattle.history.specs.Follows.{Follows, StepsFollow, opened, with_step}
 use Rattle.history.proofs.Leading.{events_in, after_events}
 use Rattle.history.specs.Legal.{Legal, Complete, Prefix, Settled, is_chain_fault}
 use Rattle.history.proofs.legal.Settled.{only_one}
 use Rattle.lines_told.specs.lines.Below.{IsPlayedLine}
-use Rattle.lines_told.specs.lines.Plays.{told_behind, told_of_play}
+use Rattle.lines_told.specs.lines.Plays.{told_behind, told_of_play, lines_of_play}
 use Rattle.lines_told.specs.lines.RoundLines.{IsRoundLine}
-use Rattle.lines_told.proofs.lines.Told.{bare_known, bare_lines_may_be_played, for_with, no_more_rounds, no_more_said, one_round, one_said, played_more}
-use Rattle.lines_told.proofs.lines.Told.{sure_on}
 use Rattle.link_wires.specs.declared.finding.Misread.{Misread}
-use Rattle.node_world.proofs.FewPlays.{few_with_line, few_with_one_round}
+use Rattle.node_world.proofs.WorldsStepped.{few_with_line, few_with_one_round}
 use Rattle.world.specs.Sides.{SideStandsFor}
 use Rattle.world.specs.Lines.{IsMisread, damaged_by, told_on}
 use Rattle.world.specs.BareWorlds.{HasBareRoom, HasBareRoomToSettle, bare_entries, with_steps}
-use Rattle.world.proofs.Given.{sent_line}
-use Rattle.world.proofs.LineLemmas.{seen_back, seen_here}
-use Rattle.world.proofs.RoundLemmas.{sent_round}
-use Rattle.world.proofs.RsetsOfPlays.{fewer, line_few, round_few, most_said, most_round}
+use Rattle.world.proofs.Given.{causes_of-events, sent_line}
+use Rattle.world.proofs.RoundLemmas.{seen_back, seen_here, sent_round}
+
+-- few RSETs are as few as this
+pub fewer : (n k : ℕ) (l : Link) → n ≤ k → FewRsets n l → FewRsets k l
+fewer n k l less few = record { made = let z = few.made in omega (arith, z, less); numbered = few.numbered }
+
+-- the same happens again and again, with so many RSETs each time
+repeated_few : (c : Cause) (k : ℕ) (n : ℕ) (l : Link) → FewRsets n l → FewRsets (n + rsets_by_bare c * k) (link_after_all l (replicate k c))
+repeated_few c zero n l few = fewer n (n + rsets_by_bare c * 0) l (omega arith) few
+repeated_few c (suc k) n l few =
+    let b : ℕ = rsets_by_bare c in
+    let more = repeated_few c k (n + b) (link_after l c) (few_after n l c few) in
+    let q : b * suc k ≡ b + b * k = omega arith in
+    fewer (n + b + b * k) (n + b * suc k) (link_after_all (link_after l c) (replicate k c)) (omega (arith, q)) more
+
+-- frames that are taken make none
+taken_few : (e : End) (k n : ℕ) (l : Link) → FewRsets n l → FewRsets n (link_after_all l (replicate k (Taken e)))
+taken_few e k n l few =
+    fewer (n + 0 * k) n (link_after_all l (replicate k (Taken e))) (omega arith) (repeated_few (Taken e) k n l few)
+
+once : (n k : ℕ) (l : Link) (c : Cause) → rsets_by_bare c ≤ k → FewRsets n l → FewRsets (n + k) (link_after l c)
+once n k l c most few = fewer (n + rsets_by_bare c) (n + k) (link_after l c) (omega (arith, most)) (few_after n l c few)
+
+-- a line that a bare world plays makes 200 at most
+few_ticks : (times : Option ℕ) → IfSome times (λ n. (1 ≤ n) × (n ≤ 100)) → unwrap_or times 1 ≤ 100
+few_ticks None may = omega arith
+few_ticks (Some n) may = may.1
+
+damaged_few : (e : End) (v : Option Verdict) (n : ℕ) (l : Link) → FewRsets n l → FewRsets (n + 200) (link_after_all l (damage_causes e v))
+damaged_few e None n l few = fewer n (n + 200) l (omega arith) few
+damaged_few e (Some Same) n l few = once n 200 l (Taken e) (omega arith) few
+damaged_few e (Some (LostFor why)) n l few = once n 200 l (WasLost e why) (omega arith) few
+damaged_few e (Some (Undetected read)) n l few = fewer n (n + 200) l (omega arith) few
+
+caused_few : (header : Header) (n : ℕ) (l : Link) (said : Line) → IsLineOf header said → FewRsets n l
+    → FewRsets (n + 200) (link_after_all l (causes_in l said))
+caused_few header n l (line.Send e pid message) is few = once n 200 l (Given e (pid, message)) (omega arith) few
+caused_few header n l (line.Deliver e count) is few =
+    let k : ℕ = taken_of count (frames_to l e) in
+    fewer n (n + 200) (link_after_all l (replicate k (Taken e))) (omega arith) (taken_few e k n l few)
+caused_few header n l (line.Lose e) is few = once n 200 l (WasLost e OnDemand) (omega arith) few
+caused_few header n l (line.Damage e places) is few = damaged_few e (first_verdict (frames_to l e) places.items) n l few
+caused_few header n l (line.Tick times) is few =
+    let k : ℕ = unwrap_or times 1 in
+    let most = few_ticks times is in
+    fewer (n + 2 * k) (n + 200) (link_after_all l (replicate k Ticked)) (omega (arith, most)) (repeated_few Ticked k n l few)
+caused_few header n l (line.Reset e window) is few = once n 200 l (WasReset e window) (omega arith) few
+caused_few header n l (line.Busy e) is few = once n 200 l (Readied e false) (omega arith) few
+caused_few header n l (line.Ready e) is few = once n 200 l (Readied e true) (omega arith) few
+caused_few header n l (line.Boot node) is few = absurd is
+caused_few header n l (line.Cut node) is few = absurd is
+caused_few header n l (line.Activate host sync power) is few = absurd is
+caused_few header n l (line.Arm node nth fill) is few = absurd is
+caused_few header n l (line.Init e identity pipes) is few = absurd is
+caused_few header n l (line.Tables node) is few = absurd is
+caused_few header n l (line.Settle rounds) is few = absurd is
+
+pub line_few : (header : Header) (n h : ℕ) (l : Link) (said : Line) → IsLineOf header said → FewRsets n l
+    → FewRsets (n + 200) (link_after_line l (outcome_of h l said))
+line_few header n h l said is few = go (refusal l said)
+  where
+    decided : Option NoCause → Outcome
+    decided (Some cause) = Refused cause
+    decided None = Caused (events_at h l (causes_in l said))
+
+    go : (o : Option NoCause) → FewRsets (n + 200) (link_after_line l (decided o))
+    go (Some cause) = fewer n (n + 200) l (omega arith) few
+    go None =
+        rw (causes_of-events h l (causes_in l said)) (caused_few header n l said is few)
+
+-- and a round two
+pub round_few : (n h : ℕ) (ends : List End) (l : Link) → FewRsets n l → FewRsets (n + 2) (link_after_lines h l (round_on h l ends))
+round_few n h [] l few = few_after n l Ticked few
+round_few n h (e ∷ ends) l few =
+    let next : Link = link_after_lines h l (taking_on l e) in
+    let taken : FewRsets n next = rw (← takes_on h l e) at (taken_few e (length (frames_to l e)) n l few) in
+    rw (lines-append h (taking_on l e) (round_on h next ends) l) (round_few n h ends next taken)
+
+-- ## Plays
+
+pub most_said : (plays : List Play) (said : Line) → most_rsets plays + 200 ≡ most_rsets (plays ++ Said said ∷ [])
+most_said plays said = let a = one_said plays said in let b = no_more_rounds plays said in omega (arith, a, b)
+
+pub most_round : (plays : List Play) → most_rsets plays + 2 ≡ most_rsets (plays ++ Round ∷ [])
+most_round plays = let a = no_more_said plays in let b = one_round plays in omega (arith, a, b)
+
+-- The world stands for the history of its header, and for a history with one line or one round more.
 
 -- ## A history with one line more
 
@@ -59,13 +151,11 @@ steps_grow h l [] (step ∷ steps) line follows none = absurd follows
 steps_grow h l (x ∷ lines) [] line follows none = absurd follows
 steps_grow h l (x ∷ lines) (step ∷ steps) line follows none =
     let now : Link = link_after_line l step.outcome in
-    let same = after_events l (events_of step.outcome) (events_in steps) in
-    let P : Link → Type 0 = λ m. StepsFollow h now (lines ++ line ∷ []) (steps ++ last_step h m line ∷ []) in
-    let Q : Link → Type 0 = λ m. misread m line ≡ None in (
+    let same = after_events l (events_of step.outcome) (events_in steps) in (
       follows.0,
       follows.1,
       follows.2,
-      subst P (sym same) (steps_grow h now lines steps line follows.3 (subst Q same none)),
+      rw (← same) at (steps_grow h now lines steps line follows.3 (rw same at none)),
     )
 
 follows_grow : (header : Header) (lines : List Line) (t : History) (line : Line) → Follows header lines t → misread (link_at t) line ≡ None
@@ -258,17 +348,13 @@ step_stands {now} {header} {plays} {t} {line} law s link =
     let h = s.before in
     let next : List Play = plays ++ Said line ∷ [] in
     let are = for_with header plays (Said line) h.plays_are (played_line header line s.is_line) in
-    let F : List Line → Type 0 = λ ls. Follows header ls (with_step t line) in
     let follows : Follows header (lines_played header next) (with_step t line) =
-    subst F (sym (played_more header plays (Said line))) (follows_grow header (lines_played header plays) t line h.follows s.none_misread) in
+    rw (← played_more header plays (Said line)) at (follows_grow header (lines_played header plays) t line h.follows s.none_misread) in
     let last = link_stepped header t line h.follows.header_is in
-    let P : Link → Type 0 = λ l. LinkStandsFor now.controller now.host now.resets l in
-    let Q : Link → Type 0 = λ l. HaveSent l (lines_said plays + 1) in
-    let R : Link → Type 0 = λ l. FewRsets (most_rsets next) l in
     let more = one_said plays line in
     let most = most_said plays line in
     let sent : HaveSent (link_at (with_step t line)) (lines_said plays + 1) =
-    subst Q (sym last) (sent_line (lines_said plays) (host_of header) (link_at t) line h.sent) in
+    rw (← last) at (sent_line (lines_said plays) (host_of header) (link_at t) line h.sent) in
     let a = sent.here in
     let b = sent.there in
     let few = line_few header (most_rsets plays) (host_of header) (link_at t) line s.is_line h.resets in
@@ -282,9 +368,9 @@ step_stands {now} {header} {plays} {t} {line} law s link =
       few = few_with_line plays line h.few s.room;
       follows = follows;
       legal = legal law header (lines_played header next) (with_step t line) (lines_of_plays header next h.is_header are) h.is_header follows;
-      link = subst P (sym last) link;
+      link = rw (← last) at link;
       sent = record { here = omega (arith, a, more); there = omega (arith, b, more) };
-      resets = subst R (sym last) (fewer (most_rsets plays + 200) (most_rsets next) after (omega (arith, most)) few);
+      resets = rw (← last) at (fewer (most_rsets plays + 200) (most_rsets next) after (omega (arith, most)) few);
       stepped = omega (arith, counted, before, more);
       rounds = s.same ∙ h.rounds ∙ sym (no_more_rounds plays line);
     }
@@ -397,19 +483,15 @@ went_round {now} {header} {plays} {t} law s link told =
     let u : History = with_steps t lines in
     let are = for_with header plays Round h.plays_are tt in
     let is : lines ≡ round_on host l (ends_of header) = round_of header before t off h.follows in
-    let F : List Line → Type 0 = λ ls. Follows header ls u in
     let sure = round_sure header lines (bare_known header h.is_header.bare h.is_header.one before) in
     let follows : Follows header (lines_played header next) u =
-    subst F (sym (played_more header plays Round)) (follows_more header lines before t h.follows sure) in
+    rw (← played_more header plays Round) at (follows_more header lines before t h.follows sure) in
     let last : link_at u ≡ link_after_lines host l (round_on host l (ends_of header)) =
     link_at-more host lines t (ap host_of h.follows.header_is) ∙ ap (link_after_lines host l) is in
-    let P : Link → Type 0 = λ m. LinkStandsFor now.controller now.host now.resets m in
-    let Q : Link → Type 0 = λ m. HaveSent m (lines_said plays) in
-    let R : Link → Type 0 = λ m. FewRsets (most_rsets next) m in
     let same = no_more_said plays in
     let more = one_round plays in
     let most = most_round plays in
-    let sent : HaveSent (link_at u) (lines_said plays) = subst Q (sym last) (sent_round (lines_said plays) host (ends_of header) l h.sent) in
+    let sent : HaveSent (link_at u) (lines_said plays) = rw (← last) at (sent_round (lines_said plays) host (ends_of header) l h.sent) in
     let a = sent.here in
     let b = sent.there in
     let after : Link = link_after_lines host l (round_on host l (ends_of header)) in
@@ -424,9 +506,9 @@ went_round {now} {header} {plays} {t} law s link told =
         few = few_with_one_round plays h.few s.room;
         follows = follows;
         legal = legal law header (lines_played header next) u (lines_of_plays header next h.is_header are) h.is_header follows;
-        link = subst P (sym last) link;
+        link = rw (← last) at link;
         sent = record { here = omega (arith, a, same); there = omega (arith, b, same) };
-        resets = subst R (sym last) (fewer (most_rsets plays + 2) (most_rsets next) after (omega (arith, most)) few);
+        resets = rw (← last) at (fewer (most_rsets plays + 2) (most_rsets next) after (omega (arith, most)) few);
         stepped = s.same ∙ h.stepped ∙ sym same;
         rounds = omega (arith, counted, rounds, more);
       };
@@ -442,3 +524,66 @@ round_goes {now} {t} at law s is does =
     let P : End → Type 0 = λ e.
     DoesAll now.controller now.host now.resets e (link_at t) (round_on e.link (link_at t) (e ∷ other_end e ∷ [])) [] (bare_entries now) in
     let z = subst P is does in went_round law s z.stands z.noted_are
+
+-- The link behind plays made few RSETs, and its ends were given few messages.
+
+-- so many RSETs were made at most, and so many messages given to an end
+pub record IsLow (n m : ℕ) (l : Link) : Type 0 where
+  pub resets : FewRsets n l
+  pub sent : HaveSent l m
+
+lower : (n m k j : ℕ) (l : Link) → n ≤ k → m ≤ j → IsLow n m l → IsLow k j l
+lower n m k j l p q a =
+    let here = a.sent.here in
+    let there = a.sent.there in
+    record { resets = fewer n k l p a.resets; sent = record { here = omega (arith, here, q); there = omega (arith, there, q) } }
+
+module _ (header : Header) (is : IsHeader header) where
+  abbrev behind : List Line → List Play → Link
+  behind before plays = bare_link_behind header (fold (λ (ls : List Line) (p : Play). ls ++ lines_of_play header ls p) before plays)
+
+  said_low : (n m : ℕ) (before : List Line) (said : Line) → IsPlayFor header (Said said) → IsLow n m (bare_link_behind header before)
+      → IsLow (n + 200) (m + 1) (bare_link_behind header (before ++ said ∷ []))
+  said_low n m before said may a =
+      let h : ℕ = host_of header in
+      let l : Link = bare_link_behind header before in
+      subst (IsLow (n + 200) (m + 1)) (sym (lines-append h before (said ∷ []) bare_link))
+      (record {
+        resets = line_few header n h l said (bare_line header said is.bare may) a.resets;
+        sent = sent_line m h l said a.sent;
+      })
+
+  round_low : (n m : ℕ) (before : List Line) → IsLow n m (bare_link_behind header before)
+      → IsLow (n + 2) m (bare_link_behind header (before ++ round_behind header before))
+  round_low n m before a =
+      let h : ℕ = host_of header in
+      let l : Link = bare_link_behind header before in
+      let ends : List End = end_of h Controller ∷ end_of h Host ∷ [] in
+      let goes = lines-append h before (round_behind header before) bare_link ∙ ap (link_after_lines h l) (bare_round_lines header is.bare before) in
+      subst (IsLow (n + 2) m) (sym goes) (record { resets = round_few n h ends l a.resets; sent = sent_round m h ends l a.sent })
+
+  low_behind : (plays : List Play) (before : List Line) (n m : ℕ) → AllByRecursion (IsPlayFor header) plays → IsLow n m (bare_link_behind header before)
+      → IsLow (n + most_rsets plays) (m + lines_said plays) (behind before plays)
+  low_behind [] before n m may a = lower n m (n + most_rsets []) (m + 0) (bare_link_behind header before) (omega arith) (omega arith) a
+  low_behind (Said said ∷ plays) before n m may a =
+      let s : ℕ = lines_said plays in
+      let r : ℕ = rounds_played plays in
+      let next : List Line = before ++ said ∷ [] in
+      lower (n + 200 + (200 * s + 2 * r)) (m + 1 + s) (n + (200 * suc s + 2 * r)) (m + suc s) (behind next plays) (omega arith) (omega arith)
+      (low_behind plays next (n + 200) (m + 1) may.1 (said_low n m before said may.0 a))
+  low_behind (Round ∷ plays) before n m may a =
+      let s : ℕ = lines_said plays in
+      let r : ℕ = rounds_played plays in
+      let next : List Line = before ++ round_behind header before in
+      lower (n + 2 + (200 * s + 2 * r)) (m + s) (n + (200 * s + 2 * suc r)) (m + s) (behind next plays) (omega arith) (omega arith)
+      (low_behind plays next (n + 2) m may.1 (round_low n m before a))
+
+  pub plays_low : (plays : List Play) → AllByRecursion (IsPlayFor header) plays
+      → IsLow (most_rsets plays) (lines_said plays) (bare_link_behind header (lines_played header plays))
+  plays_low plays may =
+      let first : IsLow 0 0 bare_link = record {
+        resets = record { made = omega arith; numbered = start_numbered bare_link IsBare };
+        sent = record { here = omega arith; there = omega arith };
+      } in
+      lower (0 + most_rsets plays) (0 + lines_said plays) (most_rsets plays) (lines_said plays) (bare_link_behind header (lines_played header plays))
+      (omega arith) (omega arith) (low_behind plays [] 0 0 may first)

@@ -253,5 +253,4 @@ sent_line n h l line sent = go (refusal l line)
     go : (o : Option NoCause) → HaveSent (link_after_line l (decided o)) (n + 1)
     go (Some cause) = weaker n l sent
     go None =
-        let P : List Cause → Type 0 = λ cs. HaveSent (link_after_all l cs) (n + 1) in
-        subst P (sym (causes_of-events h l (causes_in l line))) (sent_caused n l line sent)
+        rw (causes_of-events h l (causes_in l line)) (sent_caused n l line sent)

@@ -260,8 +260,7 @@ answered_reset m window r h told = by (reset_refusal m) refl
 pub reset_so_kept : {n : Node} {k : Kept} {pool : PoolState} {m after : LinkEnd} → NodeStandsFor n m → IsLeft n k pool after → after ≡ m
     → NodeStandsFor (record { «end» = k; pool = pool; acked = n.acked }) m
 reset_so_kept {k} {pool} h left same =
-    let P : LinkEnd → Type 0 = λ e. EndStandsFor k pool e in
-    kept_as h (subst P same left.stands) (account_left h.has left) h.has.reached refl refl
+    kept_as h (rw same at left.stands) (account_left h.has left) h.has.reached refl refl
 
 -- ## Messages that come
 
@@ -295,11 +294,10 @@ pub fetches_none : {n : Node} {k : Kept} {m : LinkEnd} {fetched : Option (ℕ ×
     → NodeStandsFor (record { «end» = k; pool = n.pool; acked = n.acked }) (turn m FetchMessage)
     × AreNoted place.at entries entries (map (Got (side_of place.at) place.session) m.got)
 fetches_none {n} {k} {m} place entries h none =
-    let P : Option (ℕ × Chain) → Type 0 = λ o. Accounts k n.pool (option_map (λ (x : ℕ × Chain). x.1) o) in
     let got = nothing_oldest m.got (sym h.oldest_is ∙ ap (option_map (λ (x : ℕ × Chain). (x.0, chain_bytes n.pool x.1))) none) in
     let reached = reached_on m (FromNode FetchMessage) tt h.has.reached in (
       record {
-        has = record { stands = h.stands; accounts = subst P none h.accounts; reached = reached; acked = h.has.acked };
+        has = record { stands = h.stands; accounts = rw none at h.accounts; reached = reached; acked = h.has.acked };
         fetched = ap (drop 1) got;
       },
       sym (ap (λ ms. entries ++ entries_for place.at.link (map (Got (side_of place.at) place.session) ms)) got ∙ append-nil entries),
@@ -313,11 +311,10 @@ pub fetches_one : {n : Node} {k : Kept} {m : LinkEnd} {fetched : Option (ℕ × 
     → NodeStandsFor (record { «end» = k; pool = pool; acked = n.acked }) (turn m FetchMessage)
     × AreNoted place.at before now (map (Got (side_of place.at) place.session) m.got)
 fetches_one {n} {k} {m} {pid} {chain} {pool} place before h one gives keeps is noted =
-    let P : Option (ℕ × Chain) → Type 0 = λ o. Accounts k n.pool (option_map (λ (x : ℕ × Chain). x.1) o) in
     let first = sym h.oldest_is ∙ ap (option_map (λ (x : ℕ × Chain). (x.0, chain_bytes n.pool x.1))) one in
     let left = fetched_none k n.pool (turn m FetchMessage) h.stands h.none_left in
     let got = only_oldest m.got (pid, chain_bytes n.pool chain) first left in
-    let given = given_own n.pool pool k (turn m FetchMessage) chain h.stands (subst P one h.accounts) gives keeps in
+    let given = given_own n.pool pool k (turn m FetchMessage) chain h.stands (rw one at h.accounts) gives keeps in
     let reached = reached_on m (FromNode FetchMessage) tt h.has.reached in (
       record {
         has = record { stands = given.0; accounts = given.1; reached = reached; acked = h.has.acked };
@@ -358,5 +355,4 @@ taken_input bytes c q = rw q refl
 pub can_fetch : {n : Node} {k : Kept} {pool : PoolState} {m m2 : LinkEnd} {acked : ℕ} {new : Node} → NodeStandsFor n m → IsLeft n k pool m2
     → new ≡ record { «end» = k; pool = pool; acked = acked } → CanFetch new m2
 can_fetch {m2} h left is =
-    let P : Node → Type 0 = λ x. CanFetch x m2 in
-    subst P (sym is) (record { stands = left.stands; accounts = account_left h.has left })
+    rw is (record { stands = left.stands; accounts = account_left h.has left })

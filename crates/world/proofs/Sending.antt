@@ -1,18 +1,93 @@
--- An end sends its frames one by one.
-use Rattle.std.proofs.Common.{◌≡◌, ℕ, suc, ◌≤◌, List, [], ◌∷◌, ◌++◌, length, refl, ap, sym, subst, ◌∙◌, append_assoc, arith}
+-- What happens at one end of a link.
+use Rattle.std.proofs.Common.{◌≡◌, ℕ, List, drop, sym, subst, suc, ◌≤◌, [], ◌∷◌, ◌++◌, length, refl, ap, ◌∙◌, append_assoc, arith, Bool, true, false, max}
 use Rattle.std.proofs.lemmas.List.{append-nil}
-use Rattle.std.specs.Prelude.{Ok, Option, Some, None, IfSome, option_map}
-use Rattle.world.proofs.Words.{AreNoted, Control, Due, End, EndState, Entry, Fetch, IsMidway, Link, LinkEnd, LinkStandsFor, Node, NodeStandsFor, Side}
-use Rattle.world.proofs.Words.{after_input, becomes, control_of, entries_for, fetched, frames_out, more_noted, put, put_all, puts_entries, side_of}
+use Rattle.std.specs.Prelude.{Ok, Option, Some, None, IfSome, option_map, is_some}
+use Rattle.world.proofs.Words.{AreNoted, Buffer, Control, Due, End, EndState, Entry, Fetch, FetchMessage, Flying, GoesOut, HasHappened, IsMidway, Link}
+use Rattle.world.proofs.Words.{LinkEnd, LinkStandsFor, Node, NodeStandsFor, OnWire, Place, Side, Take, WireStandsFor, after_input, becomes, control_of, end_is}
+use Rattle.world.proofs.Words.{ended_by, entries_for, fetched, frames_out, happens_at_controller, here_entries, more_noted, put, put_all, puts_entries, report}
+use Rattle.world.proofs.Words.{side_of, told, turn, whole_acked, with_ended}
+use Rattle.link_laws.specs.sessions.Sessions.{aged_wire, is_rset, took_with}
+use Rattle.link_laws.specs.messages.Links.{NumberedEnd, Loss, with_controller}
+use Rattle.link_laws.specs.messages.Links.EndEvent.{Lose, Step}
+use Rattle.link_laws.specs.entries.Entries.{first_lost, Entry as Noted, put_entries, told_of, left_after, taken_entries}
+use Rattle.link_wires.specs.Putting.{GoesOutOf}
+use Rattle.link_wires.proofs.GoingOut.{put_stays}
 use Rattle.swp_lpdu.specs.Controls.{lpdu_of}
 use Rattle.shdlc_core.specs.Machine.{frame_due, frames_of, after_frames}
-use Rattle.link_laws.specs.machine.Machine.{among, next_frame, sent_all}
-use Rattle.link_laws.specs.messages.Links.{with_controller}
-use Rattle.link_laws.specs.entries.Entries.{Entry as Noted, put_entries}
-use Rattle.world.proofs.Bare.{is_bare, plain_fetched}
+use Rattle.link_laws.specs.machine.Machine.{among, next_frame, sent_all, Turn}
+use Rattle.link_end.specs.declared.«end».End.{End as Kept}
+use Rattle.link_end.specs.Ends.{EndStandsFor}
 use Rattle.link_laws.proofs.machine.Reports.{fetched_due}
 use Rattle.link_laws.proofs.sessions.Ties.{nothing_sent}
 use Rattle.link_laws.proofs.places.Joined.{after_frames_idle, fetched_idle, no_due}
+use Rattle.trace_model.specs.declared.entry.Entry.TheVariants as entry
+use Rattle.link_laws.specs.messages.Links.Comes.{NextFrame}
+use Rattle.link_laws.specs.entries.Entries.Entry.{Took}
+use Rattle.link_wires.specs.Wires.{IsMade, kept_of}
+use Rattle.link_wires.proofs.Wires.{IsTakenOff, first_is, there_is_one, there_is_none, taken_off}
+use Rattle.world.specs.Sides.{SideStandsFor}
+use Rattle.world.proofs.Bare.{is_bare, plain_fetched}
+use Rattle.world.proofs.Nodes.{fetches_frame}
+
+pub put_is : {near far : Side} {resets : ℕ} {l : Link} {m : LinkEnd} {e n : ℕ} {wire : Buffer Flying} (c : Control) → IsMidway near far resets l m
+    → GoesOutOf e wire n (put l c) → IsMidway (record near { emitted = e }) (record far { wire = wire }) n (put l c) m
+put_is {near} {far} {l = l} {m} {e} {wire = wire} c h sent =
+    let s = put_stays l c in
+    let T : ℕ → Type 0 = λ k. near.took ≡ k in
+    let W : List OnWire → Type 0 = λ ws. WireStandsFor near.wire ws in
+    let H : NumberedEnd → Type 0 = λ k. SideStandsFor (record far { wire = wire }) k (put l c).to_host in
+    record {
+      here = record {
+        node = h.here.node;
+        put_is = sent.emitted_is;
+        took_is = subst T (sym s.took) h.here.took_is;
+        wire_is = subst W (sym s.wire) h.here.wire_is;
+      };
+      few = h.few;
+      there = subst H (sym s.host)
+          (record {
+            has = record { node = h.there.has.node; put_is = h.there.has.put_is; took_is = h.there.has.took_is; wire_is = sent.wire_is };
+            idle = h.there.idle;
+          });
+      count = sent.count;
+    }
+
+pub goes_out : {near far : Side} {resets : ℕ} {l : Link} {m : LinkEnd} → IsMidway near far resets l m → GoesOutOf near.emitted far.wire resets l
+goes_out h = record { emitted_is = h.here.put_is; wire_is = h.there.has.wire_is; count = h.count }
+
+-- the first frame is lost
+pub lost_is : {near far : Side} {resets : ℕ} {l : Link} {why : Loss} {at : End} {wire : Buffer Flying} {before now : List Entry}
+    → LinkStandsFor near far resets l
+    → WireStandsFor wire (drop 1 l.to_controller) × AreNoted at before now (first_lost (side_of at) why l.to_controller)
+    → HasHappened (record near { wire = wire }) far resets l (Lose why) at before now
+lost_is h r =
+    record {
+      stands = record {
+        here = record {
+          has = record { node = h.here.has.node; put_is = h.here.has.put_is; took_is = h.here.has.took_is; wire_is = r.0 };
+          idle = h.here.idle;
+        };
+        there = h.there;
+        count = h.count;
+      };
+      noted = r.1;
+    }
+
+-- the frames to the near end have grown older
+pub aged_is : {near far : Side} {resets : ℕ} {l : Link} {wire : Buffer Flying} → LinkStandsFor near far resets l
+    → WireStandsFor wire (aged_wire l.to_controller)
+    → LinkStandsFor (record near { wire = wire }) far resets (record l { to_controller = aged_wire l.to_controller })
+aged_is h w =
+    record {
+      here = record {
+        has = record { node = h.here.has.node; put_is = h.here.has.put_is; took_is = h.here.has.took_is; wire_is = w };
+        idle = h.here.idle;
+      };
+      there = h.there;
+      count = h.count;
+    }
+
+-- An end sends its frames one by one.
 
 -- ## The frames of an end without ACT frames
 
@@ -78,6 +153,11 @@ pub record IsAboutToSend (new : Node) (e : LinkEnd) (fetched : Option (List ℕ)
   pub fetched_is : fetched ≡ option_map lpdu_of (next_frame e)
   pub read : IfSome (next_frame e) (λ c. control_of (lpdu_of c) ≡ Ok c)
 
+pub fetched_there : {n : Node} {k : Kept} {e : LinkEnd} {out : Option (List ℕ)} → NodeStandsFor n e → EndStandsFor k n.pool (after_input e Fetch)
+    → k.inbox ≡ n.«end».inbox → out ≡ option_map lpdu_of (next_frame e) → IfSome (next_frame e) (λ c. control_of (lpdu_of c) ≡ Ok c)
+    → IsAboutToSend (record n { «end» = k }) e out
+fetched_there h stands inbox is read = record { node = fetches_frame h stands inbox; fetched_is = is; read = read }
+
 pub sending_goes_on : {at : End} {near far near2 far2 : Side} {new : Node} {resets resets2 : ℕ} {l : Link} {m : LinkEnd} {before mid now : List Entry}
     {left : ℕ} {lpdu : List ℕ} {fetched : Option (List ℕ)} (s : Sending at near far resets l m before mid (suc left)) → IsAboutToSend new s.e fetched
     → fetched ≡ Some lpdu → Puts at (record near { node = new }) far resets near2 far2 resets2 lpdu mid now
@@ -89,17 +169,15 @@ sending_goes_on {at} {near} {far} {near2} {far2} {new} {resets} {resets2} {l} {m
     go (Some c) q =
         let bytes : lpdu ≡ lpdu_of c =
         ap (or_these lpdu) (sym is ∙ (a.fetched_is ∙ ap (option_map lpdu_of) q)) in
-        let R : Option Control → Type 0 = λ o. IfSome o (λ c. control_of (lpdu_of c) ≡ Ok c) in
-        let read_is : control_of (lpdu_of c) ≡ Ok c = subst R q a.read in
+        let read_is : control_of (lpdu_of c) ≡ Ok c = rw q at a.read in
         let due : frame_due s.e.shdlc ≡ Some c = sym (plain_next s.e s.no_acts) ∙ q in
         let frames : frames_of (suc left) s.e.shdlc ≡ c ∷ frames_of left (fetched s.e.shdlc) = first_frame s.e.shdlc c left due in
         let f : LinkEnd = record s.e { shdlc = fetched s.e.shdlc } in
-        let N : LinkEnd → Type 0 = λ z. NodeStandsFor new z in
         let few : length (fetched s.e.shdlc).due ≤ 12 = (let i = fetched_due s.e.shdlc 11 s.midway.few in omega (arith, i)) in
         let halfway : IsMidway (record near { node = new }) far resets s.link f =
         record {
           here = record {
-            node = subst N (plain_fetched s.e s.no_acts) a.node;
+            node = rw (plain_fetched s.e s.no_acts) at a.node;
             put_is = s.midway.here.put_is;
             took_is = s.midway.here.took_is;
             wire_is = s.midway.here.wire_is;
@@ -140,10 +218,9 @@ sent {at} {near} {far} {new} {resets} {l} {m} {before} s node idle none after =
       there = s.midway.there;
       count = s.midway.count;
     } in
-    let P : Link → Type 0 = λ k. LinkStandsFor (record near { node = new }) far resets k in
     let notes : puts_entries (side_of at) l (frames_out m) ≡ s.notes =
     s.notes_are ∙ (ap (λ cs. s.notes ++ puts_entries (side_of at) s.link cs) none ∙ append-nil s.notes) in (
-      subst P (ap (λ k. with_controller k s.e) link ∙ ap (λ e. with_controller (put_all l (frames_out m)) e) last) stands,
+      rw (ap (λ k. with_controller k s.e) link ∙ ap (λ e. with_controller (put_all l (frames_out m)) e) last) at stands,
       s.noted ∙ ap (λ ns. before ++ entries_for at.link ns) (sym notes),
     )
 
@@ -158,10 +235,9 @@ sending_stops {at} {near} {far} {new} {resets} {l} {m} {before} {now} {left} s a
     go (Some c) q = absurd (let z : Some (lpdu_of c) ≡ None = sym (ap (option_map lpdu_of) q) ∙ (sym a.fetched_is ∙ is) in cc)
     go None q =
         let none : frame_due s.e.shdlc ≡ None = sym (plain_next s.e s.no_acts) ∙ q in
-        let N : LinkEnd → Type 0 = λ z. NodeStandsFor new z in
         let same : after_input s.e Fetch ≡ s.e =
         plain_fetched s.e s.no_acts ∙ ap (λ x. record s.e { shdlc = x }) (fetched_idle s.e.shdlc none) in
-        sent s (subst N same a.node) (no_due s.e.shdlc none) (nothing_sent left s.e.shdlc none) (after_frames_idle left s.e.shdlc none)
+        sent s (rw same at a.node) (no_due s.e.shdlc none) (nothing_sent left s.e.shdlc none) (after_frames_idle left s.e.shdlc none)
 
 -- the most frames were sent
 pub sending_ends : {at : End} {near far : Side} {resets : ℕ} {l : Link} {m : LinkEnd} {before now : List Entry}
@@ -172,3 +248,171 @@ sending_ends s = sent s s.midway.here.node (empty s.e.shdlc.due s.few) refl refl
     empty : (ds : List Due) → length ds ≤ 0 → ds ≡ []
     empty [] i = refl
     empty (d ∷ ds) i = absurd (omega (arith, i))
+
+-- An end takes the first frame on the wire to it.
+
+-- ## The first frame
+
+-- x is the first frame on the wire to the near end; without it the wire is so
+pub record TakesFirst (l : Link) (wire : Buffer Flying) (flying : Flying) : Type 0 where
+  pub x : OnWire
+  pub xs : List OnWire
+  pub wire_is : l.to_controller ≡ x ∷ xs
+  pub first : flying ≡ kept_of x
+  pub made : IsMade x
+  pub left : WireStandsFor wire xs
+
+pub takes_first : {near far : Side} {resets : ℕ} {l : Link} {wire : Buffer Flying} {flying : Flying} → LinkStandsFor near far resets l
+    → IsTakenOff near.wire wire (Some flying) → TakesFirst l wire flying
+takes_first {near} {l} {wire} {flying} h off = go l.to_controller refl
+  where
+    P : List OnWire → Type 0
+    P w = WireStandsFor near.wire w
+
+    go : (w : List OnWire) → l.to_controller ≡ w → TakesFirst l wire flying
+    go [] q = absurd (there_is_none (subst P q h.here.has.wire_is) off)
+    go (x ∷ xs) q =
+        let kept = subst P q h.here.has.wire_is in
+        record {
+          x = x;
+          xs = xs;
+          wire_is = q;
+          first = first_is kept off;
+          made = kept.made.0;
+          left = taken_off kept off;
+        }
+
+-- there is none
+pub takes_none : {near far : Side} {resets : ℕ} {l : Link} {turns : List Turn} {at : End} {wire : Buffer Flying} {entries : List Entry}
+    → LinkStandsFor near far resets l → IsTakenOff near.wire wire None
+    → HasHappened (record near { wire = wire }) far resets l (Step NextFrame turns GoesOut) at entries entries
+takes_none {near} {far} {resets} {l} {turns} {at} {wire} {entries} h off = go l.to_controller refl
+  where
+    P : List OnWire → Type 0
+    P w = WireStandsFor near.wire w
+
+    Q : List OnWire → Type 0
+    Q w = WireStandsFor wire w
+
+    go : (w : List OnWire) → l.to_controller ≡ w → HasHappened (record near { wire = wire }) far resets l (Step NextFrame turns GoesOut) at entries entries
+    go (x ∷ xs) q = absurd (there_is_one (subst P q h.here.has.wire_is) off)
+    go [] q =
+        let kept = subst P q h.here.has.wire_is in
+        let empty : WireStandsFor wire [] =
+        record {
+          frames = ap (λ (b : Buffer Flying). b.items) off.new_is ∙ ap (drop 1) kept.frames;
+          capacity = ap (λ (b : Buffer Flying). b.capacity) off.new_is ∙ kept.capacity;
+          few = omega arith;
+          made = tt;
+        } in
+        let R : Link → Type 0 = λ k. LinkStandsFor (record near { wire = wire }) far resets k in
+        let same : happens_at_controller l (Step NextFrame turns GoesOut) ≡ l = rw q refl in
+        let notes : here_entries (side_of at) l (Step NextFrame turns GoesOut) ≡ [] = rw q refl in
+        record {
+          stands = subst R (sym same)
+              (record {
+                here = record {
+                  has = record { node = h.here.has.node; put_is = h.here.has.put_is; took_is = h.here.has.took_is; wire_is = subst Q (sym q) empty };
+                  idle = h.here.idle;
+                };
+                there = h.there;
+                count = h.count;
+              });
+          noted = sym (ap (λ ns. entries ++ entries_for at.link ns) notes ∙ append-nil entries);
+        }
+
+-- ## It is taken
+
+-- the greatest number taken
+took_is : {near far : Side} {resets : ℕ} {l : Link} {flying : Flying} (x : OnWire) → LinkStandsFor near far resets l → flying ≡ kept_of x
+    → IsMade x → max near.took flying.number ≡ took_with l.controller.took x
+took_is {l} {flying} x h first made =
+    ap (λ n. max n flying.number) h.here.has.took_is ∙ ap (λ (f : Flying). max l.controller.took f.number) first ∙ by (is_rset x.frame) refl
+  where
+    by : (b : Bool) → is_rset x.frame ≡ b → max l.controller.took x.number ≡ took_with l.controller.took x
+    by true q = rw q refl
+    by false q = rw q (ap (λ n. max l.controller.took n) (made.1 q) ∙ least l.controller.took)
+      where
+        least : (n : ℕ) → max n 0 ≡ n
+        least n = omega arith
+
+-- the link as the frame was taken
+abbrev left_with : Link → OnWire → List OnWire → Bool → Link
+left_with l x xs b =
+    let m : Link = with_ended (record l { to_controller = xs }) b in
+    record m { controller = record m.controller { took = took_with l.controller.took x } }
+
+taken_with : {near far : Side} {resets : ℕ} {l : Link} {xs : List OnWire} {new : Node} {wire : Buffer Flying} {took : ℕ} {e : LinkEnd}
+    (x : OnWire) (b : Bool) → LinkStandsFor near far resets l → NodeStandsFor new e → length e.shdlc.due ≤ 1 → WireStandsFor wire xs
+    → took ≡ took_with l.controller.took x
+    → IsMidway (record near { node = new; wire = wire; took = took }) far resets (left_with l x xs b) e
+taken_with x false h node few left is =
+    record {
+      here = record { node = node; put_is = h.here.has.put_is; took_is = is; wire_is = left };
+      few = omega (arith, few);
+      there = h.there;
+      count = h.count;
+    }
+taken_with x true h node few left is =
+    record {
+      here = record { node = node; put_is = h.here.has.put_is; took_is = is; wire_is = left };
+      few = omega (arith, few);
+      there = h.there;
+      count = h.count;
+    }
+
+pub taken_midway : {near far : Side} {resets : ℕ} {l : Link} {new : Node} {wire : Buffer Flying} {flying : Flying} {took : ℕ} {e : LinkEnd}
+    (f : TakesFirst l wire flying) → LinkStandsFor near far resets l → NodeStandsFor new e → length e.shdlc.due ≤ 1
+    → took ≡ max near.took flying.number
+    → IsMidway (record near { node = new; wire = wire; took = took }) far resets (left_after l f.x f.xs) e
+taken_midway {l} f h node few is =
+    taken_with f.x (is_some (ended_by l.controller.side (Take f.x.frame))) h node few f.left (is ∙ took_is f.x h f.first f.made)
+
+-- its LPDU is read as this frame
+pub reads_first : {l : Link} {wire : Buffer Flying} {flying : Flying} (f : TakesFirst l wire flying) → control_of flying.lpdu ≡ Ok f.x.frame
+reads_first f = ap (λ (z : Flying). control_of z.lpdu) f.first ∙ f.made.0
+
+-- what is noted of it, in its place
+told_taken : {near far : Side} {resets : ℕ} {l : Link} {at : End} {place : Place} {took : ℕ} {mid : List Entry} (x : OnWire) (before : List Entry)
+    → LinkStandsFor near far resets l → took ≡ took_with l.controller.took x → place ≡ record { at = at; session = max near.emitted took }
+    → AreNoted place.at before mid
+    (told (side_of place.at) place.session (report l.controller.side (Take x.frame)) (whole_acked (after_input l.controller.side (Take x.frame))))
+    → AreNoted at before mid (told_of (side_of at) (record l.controller { took = took_with l.controller.took x }) (Take x.frame))
+told_taken {l} {at} {took} {mid} x before h is so noted =
+    let k : ℕ = whole_acked (after_input l.controller.side (Take x.frame)) in
+    rw (← ap (λ n. max n took) h.here.has.put_is ∙ ap (λ n. max l.controller.emitted n) is) (rw so at noted)
+
+took_noted : {flying : Flying} {mid : List Entry} (at : End) (x : OnWire) (before : List Entry) → flying ≡ kept_of x
+    → mid ≡ before ++ entry.Took at flying.lpdu ∷ [] → AreNoted at before mid (Took (side_of at) x.frame ∷ [])
+took_noted at x before first is =
+    is ∙ ap (λ (f : Flying). before ++ entry.Took at f.lpdu ∷ []) first
+    ∙ ap (λ z. before ++ entry.Took z (lpdu_of x.frame) ∷ []) (sym (end_is at))
+
+pub taken : {near far near2 far2 : Side} {resets resets2 : ℕ} {l : Link} {at : End} {place : Place} {wire : Buffer Flying} {flying : Flying}
+    {took : ℕ} {before mid then now : List Entry} (f : TakesFirst l wire flying) → LinkStandsFor near far resets l
+    → took ≡ max near.took flying.number → place ≡ record { at = at; session = max near.emitted took }
+    → mid ≡ before ++ entry.Took at flying.lpdu ∷ []
+    → AreNoted place.at mid then
+    (told (side_of place.at) place.session (report l.controller.side (Take f.x.frame)) (whole_acked (after_input l.controller.side (Take f.x.frame))))
+    → (let e : LinkEnd = turn (after_input l.controller.side (Take f.x.frame)) FetchMessage in
+    LinkStandsFor near2 far2 resets2 (becomes (left_after l f.x f.xs) e)
+    × AreNoted at then now (puts_entries (side_of at) (left_after l f.x f.xs) (frames_out e)))
+    → HasHappened near2 far2 resets2 l (Step NextFrame (FetchMessage ∷ []) GoesOut) at before now
+taken {near2} {far2} {resets2} {l} {at} {before} {mid} {then} {now} f h is so push told sent =
+    let e : LinkEnd = turn (after_input l.controller.side (Take f.x.frame)) FetchMessage in
+    let number = is ∙ took_is f.x h f.first f.made in
+    let a : List Noted = Took (side_of at) f.x.frame ∷ [] in
+    let b : List Noted = told_of (side_of at) (record l.controller { took = took_with l.controller.took f.x }) (Take f.x.frame) in
+    let d : List Noted = puts_entries (side_of at) (left_after l f.x f.xs) (frames_out e) in
+    let q = f.wire_is in
+    let link : happens_at_controller l (Step NextFrame (FetchMessage ∷ []) GoesOut) ≡ becomes (left_after l f.x f.xs) e = rw q refl in
+    let notes : here_entries (side_of at) l (Step NextFrame (FetchMessage ∷ []) GoesOut) ≡ taken_entries (side_of at) l f.x f.xs (FetchMessage ∷ []) GoesOut =
+    rw q refl in
+    let R : Link → Type 0 = λ k. LinkStandsFor near2 far2 resets2 k in
+    let T : List Noted → Type 0 = λ ns. AreNoted at before now ns in
+    record {
+      stands = subst R (sym link) sent.0;
+      noted = subst T (sym notes)
+          (more_noted at before a (b ++ d) (took_noted at f.x before f.first push)
+          (more_noted at mid b d (told_taken f.x mid h number so told) sent.1));
+    }

@@ -13,7 +13,6 @@ ghost use Rattle.node_world.specs.Worlds.{AreFewWithParts};
 ghost use Rattle.world.specs.declared.fault.WorldFault.TheVariants as fault;
 
 use crate::fault::WorldFault;
-use crate::forgetting::forget;
 use crate::line_steps::{end_of, play_line};
 use crate::rounds::play_round;
 use crate::side::Side;
@@ -220,4 +219,21 @@ fn opening(alloc: Global, link: u8) -> Result<Vec<Entry>, AllocError>
         session: 0,
     })?;
     Ok(entries)
+}
+
+// Nothing is noted any more. The memory of a message that was noted serves the next one.
+#[inline(always)]
+fn forget(entries: &mut Vec<Entry>, spare: &mut Vec<u8>)
+    ensures { entries.new.items ≡ [] }
+{
+    'entries: while let Some(entry) = entries.pop() {
+        match entry {
+            Entry::Emit { lpdu, .. } | Entry::Took { lpdu, .. } | Entry::Lost { lpdu, .. } => {
+                drop(lpdu);
+            }
+            Entry::Sent { message, .. } | Entry::Got { message, .. } => *spare = message.bytes,
+            Entry::No { .. } | Entry::Acked { .. } | Entry::Up { .. } | Entry::Down { .. } => {}
+            other => drop(other),
+        }
+    }
 }

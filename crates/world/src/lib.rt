@@ -6,7 +6,6 @@
 mod bare_world;
 mod damage_line;
 mod fault;
-mod forgetting;
 mod line_steps;
 mod lines;
 mod node;

@@ -6,11 +6,11 @@ ghost use Rattle.link_laws.specs.messages.Links.{Link};
 ghost use Rattle.history.specs.Follows.{machine_of};
 ghost use Rattle.world.specs.Lines.{SidesStandFor, Does};
 
-use crate::forgetting::kept;
 use crate::side::Side;
 use crate::steps::send_all;
 use link_wires::lose_first;
 use std::alloc::AllocError;
+use std::mem::replace;
 use trace_model::{End, Entry, LostCause, NoCause, Octets};
 
 /// A line `send`: the message, which isn't empty, is given to the end to send on a pipe of 0 to 111, or the line is refused.
@@ -37,13 +37,15 @@ pub(crate) fn send_line(
         entries.push(Entry::No { cause })?;
         return Ok(());
     }
-    let place = near.place(at);
-    let message = kept(spare, message)?;
+    let alloc = *spare.allocator();
+    let mut bytes = replace(spare, Vec::new(alloc));
+    bytes.clear();
+    bytes.extend_from_slice(message.as_slice())?;
     entries.push(Entry::Sent {
         at,
-        session: place.session,
+        session: near.emitted.max(near.took),
         pid,
-        message,
+        message: Octets { bytes },
     })?;
     send_all(at, near, far, resets, entries)
 }

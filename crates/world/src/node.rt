@@ -2,11 +2,11 @@
 ghost use Rattle.std.specs.Prelude.{◌≡◌, IfOk};
 ghost use Rattle.block_pool.specs.Pool.{IsLive, chain_bytes};
 
-use crate::forgetting::left_over;
 use block_pool::{Chain, Pool};
 use link_end::{LinkReport, ResetRefused, SendRefused};
 use std::alloc::{AllocError, Global};
-use swp_base::{Control, Lpdu, NoMemory, Role};
+use std::mem::replace;
+use swp_base::{Control, NoMemory, Role};
 use swp_lpdu::LpduFault;
 use trace_model::{End, Entry, NoCause, Octets};
 
@@ -28,22 +28,21 @@ pub(crate) struct Place {
 /// The node of a bare end.
 #[derive(Drop)]
 pub(crate) struct Node {
-    end: link_end::End,
-    pool: Pool,
+    pub(crate) end: link_end::End,
+    pub(crate) pool: Pool,
     // How many messages of the session are acknowledged; 4,294,967,295 stands for any greater number.
     acked: u32,
 }
 
 impl Node {
     ghost use Rattle.std.specs.Prelude.{◌≡◌, ℕ, ◌<◌, ◌≤◌, ◌^◌, [], ◌∷◌, ◌++◌, OnOk, OnErr, IfOk, IfErr, IfSome, IsOk, ◌↔◌, List, None, Some, Ok, length, map};
-    ghost use Rattle.std.specs.Prelude.{option_map};
     ghost use Rattle.swp_base.specs.declared.control_frames.Control.{Control as Frame};
-    ghost use Rattle.swp_lpdu.specs.Controls.{lpdu_of, control_of};
+    ghost use Rattle.swp_lpdu.specs.Controls.{control_of};
     ghost use Rattle.hcp_packet.specs.Packets.{IsSendable};
-    ghost use Rattle.link_laws.specs.machine.Machine.{LinkEnd as Machine, Bare, Message, report, new_link_end, after_input, next_frame, turn, give_refusal};
+    ghost use Rattle.link_laws.specs.machine.Machine.{LinkEnd as Machine, Bare, Message, report, new_link_end, after_input, turn, give_refusal};
     ghost use Rattle.link_laws.specs.machine.Machine.{reset_refusal, whole_acked};
     ghost use Rattle.link_laws.specs.machine.AtRest.{end_rests};
-    ghost use Rattle.link_laws.specs.machine.Machine.LinkInput.{Take, Tick, Reset, Fetch};
+    ghost use Rattle.link_laws.specs.machine.Machine.LinkInput.{Take, Tick, Reset};
     ghost use Rattle.link_laws.specs.machine.Machine.Turn.{Give, Hold, FetchMessage};
     ghost use Rattle.link_laws.specs.entries.Entries.{told};
     ghost use Rattle.link_laws.specs.entries.Entries.Entry.{Got};
@@ -219,16 +218,6 @@ impl Node {
         self.end.hold(held);
     }
 
-    /// Fetches the frame that is to be sent now. None where nothing is to be sent.
-    pub(crate) fn next_out(&mut self) -> Option<Lpdu>
-        requires { (m : Machine) × NodeStandsFor self.old m }
-        ensures stands { (m : Machine) → NodeStandsFor self.old m → NodeStandsFor self.new (after_input m Fetch) }
-        ensures answer { (m : Machine) → NodeStandsFor self.old m → result ≡ option_map lpdu_of (next_frame m) }
-        ensures read { (m : Machine) → NodeStandsFor self.old m → IfSome (next_frame m) (λ c. control_of (lpdu_of c) ≡ Ok c) }
-    {
-        self.end.next_out(&self.pool)
-    }
-
     /// Whether the end doesn't wait for the acceptance of a reset, and where it is up all messages sent in its session are acknowledged.
     pub(crate) fn is_at_rest(&self) -> bool
         ensures { (m : Machine) → NodeStandsFor self.now m → result ≡ end_rests m }
@@ -242,7 +231,8 @@ fn copied(spare: &mut Vec<u8>, pool: &Pool, chain: &Chain) -> Result<Octets, All
     requires { IsLive pool.now chain.now }
     ensures { IfOk result (λ octets. octets ≡ chain_bytes pool.now chain.now) }
 {
-    let mut bytes = left_over(spare);
+    let alloc = *spare.allocator();
+    let mut bytes = replace(spare, Vec::new(alloc));
     bytes.resize(pool.len(chain) as usize, 0)?;
     let _count = pool.copy_out(chain, 0, &mut bytes);
     Ok(Octets { bytes })

@@ -42,7 +42,7 @@ pub(crate) fn send_all(
     ensures grows { resets.new ≤ resets.old + 12 }
 {
     for _ in 0..MOST_FRAMES {
-        let Some(lpdu) = near.node.next_out() else {
+        let Some(lpdu) = near.node.end.next_out(&near.node.pool) else {
             return Ok(());
         };
         put_frame(at, lpdu, &mut near.emitted, &mut far.wire, resets, entries)?;

@@ -2,8 +2,8 @@ use Rattle.std.proofs.Common.{List, [], ◌∷◌, ◌++◌, refl, sym, ap, ◌�
 use Rattle.world.proofs.Words.{No, OnWire, Taken, WasLost, damage_causes, first_verdict, frames_to, on_ok, seen_from}
 use Rattle.link_laws.specs.messages.Links.{Loss}
 use Rattle.history.specs.Follows.{if_out_of_reach}
-use Rattle.world.proofs.LineLemmas.{refused_does, happened_does}
-use Rattle.world.proofs.Stepping.{lost_is}
+use Rattle.world.proofs.RoundLemmas.{refused_does, happened_does}
+use Rattle.world.proofs.Sending.{lost_is}
 use Rattle.world.proofs.damage_line.damage_line.Goals as goal
 
 pub returns-in_ok-push-in-Refused-clause-stands : goal.returns-in_ok-push-in-Refused-clause-stands

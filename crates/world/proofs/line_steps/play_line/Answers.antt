@@ -1,9 +1,8 @@
-use Rattle.std.proofs.Common.{◌≡◌, refl, sym, ap, subst, ◌∙◌}
+use Rattle.std.proofs.Common.{◌≡◌, refl, sym, ap, ◌∙◌}
 use Rattle.std.specs.Prelude.{true, false}
-use Rattle.world.proofs.Words.{End, IsLineOf, Line, Readied, end_for, on_ok, seen_from}
+use Rattle.world.proofs.Words.{End, Readied, end_for, on_ok, seen_from}
 use Rattle.trace_model.specs.declared.line.Line.TheVariants as line
-use Rattle.world.proofs.LineLemmas.{same_does, happened_does}
-use Rattle.world.proofs.Repeating.{few_here, few_short}
+use Rattle.world.proofs.RoundLemmas.{same_does, happened_does, few_here, few_short}
 use Rattle.world.proofs.line_steps.play_line.Goals as goal
 
 pub returns-in-Send-clause-stands : goal.returns-in-Send-clause-stands
@@ -54,29 +53,22 @@ returns-in-Ready-clause-stands c l h sent =
     (happened_does r c.requires.nothing (record { cause = Readied c.args.at true; none = refl; causes = refl; is = refl })))
 
 pub returns-in-Boot : goal.returns-in-Boot
-returns-in-Boot c =
-    let P : Line → Type 0 = λ x. IsLineOf c.requires.line.0 x in absurd (subst P c.in-Boot.is c.requires.line.1)
+returns-in-Boot c = absurd (rw c.in-Boot.is at c.requires.line.1)
 
 pub returns-in-Cut : goal.returns-in-Cut
-returns-in-Cut c =
-    let P : Line → Type 0 = λ x. IsLineOf c.requires.line.0 x in absurd (subst P c.in-Cut.is c.requires.line.1)
+returns-in-Cut c = absurd (rw c.in-Cut.is at c.requires.line.1)
 
 pub returns-in-Activate : goal.returns-in-Activate
-returns-in-Activate c =
-    let P : Line → Type 0 = λ x. IsLineOf c.requires.line.0 x in absurd (subst P c.in-Activate.is c.requires.line.1)
+returns-in-Activate c = absurd (rw c.in-Activate.is at c.requires.line.1)
 
 pub returns-in-Arm : goal.returns-in-Arm
-returns-in-Arm c =
-    let P : Line → Type 0 = λ x. IsLineOf c.requires.line.0 x in absurd (subst P c.in-Arm.is c.requires.line.1)
+returns-in-Arm c = absurd (rw c.in-Arm.is at c.requires.line.1)
 
 pub returns-in-Init : goal.returns-in-Init
-returns-in-Init c =
-    let P : Line → Type 0 = λ x. IsLineOf c.requires.line.0 x in absurd (subst P c.in-Init.is c.requires.line.1)
+returns-in-Init c = absurd (rw c.in-Init.is at c.requires.line.1)
 
 pub returns-in-Tables : goal.returns-in-Tables
-returns-in-Tables c =
-    let P : Line → Type 0 = λ x. IsLineOf c.requires.line.0 x in absurd (subst P c.in-Tables.is c.requires.line.1)
+returns-in-Tables c = absurd (rw c.in-Tables.is at c.requires.line.1)
 
 pub returns-in-Settle : goal.returns-in-Settle
-returns-in-Settle c =
-    let P : Line → Type 0 = λ x. IsLineOf c.requires.line.0 x in absurd (subst P c.in-Settle.is c.requires.line.1)
+returns-in-Settle c = absurd (rw c.in-Settle.is at c.requires.line.1)

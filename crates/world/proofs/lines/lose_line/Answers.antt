@@ -1,7 +1,7 @@
 use Rattle.std.proofs.Common.{[], ◌∷◌, ◌++◌, refl, ap, ◌∙◌}
 use Rattle.world.proofs.Words.{Empty, No, OnDemand, WasLost, on_ok, seen_from}
-use Rattle.world.proofs.LineLemmas.{refused_does, happened_does, none_there, some_there}
-use Rattle.world.proofs.Stepping.{lost_is}
+use Rattle.world.proofs.RoundLemmas.{refused_does, happened_does, none_there, some_there}
+use Rattle.world.proofs.Sending.{lost_is}
 use Rattle.world.proofs.lines.lose_line.Goals as goal
 
 pub returns-then-is_empty : goal.returns-then-is_empty

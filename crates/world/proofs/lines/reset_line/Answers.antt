@@ -2,10 +2,8 @@ use Rattle.std.proofs.Common.{[], ◌∷◌, ◌++◌, refl, sym, ap, ◌∙◌}
 use Rattle.std.specs.Prelude.{is_some}
 use Rattle.world.proofs.Words.{Link, LinkEnd, No, WasReset, after_input, ended_by, on_ok, seen_from, with_ended}
 use Rattle.link_laws.specs.machine.Machine.LinkInput.{Reset}
-use Rattle.world.proofs.Bare.{reset_most}
-use Rattle.world.proofs.Acting.{room_here, midway, input_noted}
-use Rattle.world.proofs.Giving.{still}
-use Rattle.world.proofs.LineLemmas.{refused_does, happened_does, some_holds}
+use Rattle.world.proofs.Bare.{reset_most, room_here, midway, input_noted, still}
+use Rattle.world.proofs.RoundLemmas.{refused_does, happened_does, some_holds}
 use Rattle.world.proofs.lines.reset_line.Goals as goal
 
 pub reset-requires-clause-stands : goal.reset-requires-clause-stands

@@ -1,7 +1,6 @@
 use Rattle.std.proofs.Common.{[], ◌∷◌, ◌++◌, List, replicate, sym, ap, ◌∙◌, arith, subst}
 use Rattle.world.proofs.Words.{Empty, Entry, HasRepeated, No, Taken, frames_to, on_ok}
-use Rattle.world.proofs.LineLemmas.{refused_does, none_there, some_there}
-use Rattle.world.proofs.Repeating.{repeats_does, kept_len, taken_few}
+use Rattle.world.proofs.RoundLemmas.{refused_does, none_there, some_there, repeats_does, kept_len, taken_few}
 use Rattle.world.proofs.repeats.deliver_line.Goals as goal
 
 pub returns-then-is_empty-clause-stands : goal.returns-then-is_empty-clause-stands

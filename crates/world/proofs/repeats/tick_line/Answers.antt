@@ -2,7 +2,7 @@ use Rattle.std.proofs.Common.{◌≡◌, ℕ, suc, ◌+◌, List, replicate, ref
 use Rattle.world.proofs.Words.{Entry, HasRepeated, Ticked, link_after_all}
 use Rattle.std.specs.Prelude.{unwrap_or}
 use Rattle.world.proofs.Given.{sent_repeated}
-use Rattle.world.proofs.Repeating.{repeats_none, repeats_more, repeats_does}
+use Rattle.world.proofs.RoundLemmas.{repeats_none, repeats_more, repeats_does}
 use Rattle.world.proofs.repeats.tick_line.Goals as goal
 
 pub loop-init : goal.loop-init

@@ -1,7 +1,6 @@
 use Rattle.std.proofs.Common.{◌≡◌, ℕ, length, subst, arith}
 use Rattle.world.proofs.Words.{HasRepeated, Taken, frames_to, on_ok}
-use Rattle.world.proofs.Repeating.{kept_len}
-use Rattle.world.proofs.RoundLemmas.{does_taking}
+use Rattle.world.proofs.RoundLemmas.{kept_len, does_taking}
 use Rattle.world.proofs.rounds.take_all.Goals as goal
 
 pub take_frames-requires-clause-times : goal.take_frames-requires-clause-times

@@ -1,7 +1,6 @@
 use Rattle.std.proofs.Common.{not, false}
 use Rattle.world.proofs.Words.{Hold, LinkEnd, on_ok, turn}
-use Rattle.world.proofs.Bare.{hold_most}
-use Rattle.world.proofs.Acting.{room_here, midway}
+use Rattle.world.proofs.Bare.{hold_most, room_here, midway}
 use Rattle.world.proofs.steps.set_ready.Goals as goal
 
 pub hold-requires : goal.hold-requires

@@ -2,10 +2,9 @@ use Rattle.std.proofs.Common.{sym, ◌∙◌}
 use Rattle.std.specs.Prelude.{Some}
 use Rattle.world.proofs.Words.{FetchMessage, LinkEnd, Take, after_input, on_ok, turn}
 use Rattle.link_laws.specs.entries.Entries.{left_after}
-use Rattle.world.proofs.Bare.{took_most}
-use Rattle.world.proofs.Acting.{bare_here, room_here}
+use Rattle.world.proofs.Bare.{took_most, bare_here, room_here}
 use Rattle.link_wires.proofs.Wires.{IsTakenOff}
-use Rattle.world.proofs.Taking.{takes_first, takes_none, taken_midway, reads_first, taken}
+use Rattle.world.proofs.Sending.{takes_first, takes_none, taken_midway, reads_first, taken}
 use Rattle.world.proofs.steps.take_frame.Goals as goal
 
 pub returns-in_default-clause-stands : goal.returns-in_default-clause-stands

@@ -5,8 +5,7 @@ use Rattle.lines_told.specs.lines.Plays.{lines_played, rounds_to_rest, told_of_p
 use Rattle.lines_told.specs.lines.Plays.Play.{Round}
 use Rattle.world.specs.declared.world_steps.World.{World}
 use Rattle.world.specs.Worlds.{IsWorldAt, world_header}
-use Rattle.world.proofs.Histories.{plays_may}
-use Rattle.world.proofs.Playing.{begins_so}
+use Rattle.world.proofs.Playing.{plays_may, begins_so}
 use Rattle.world_laws.proofs.schedules.Resting.{brings_all}
 use Rattle.world_settle.specs.Fronts.{IsFrontNoted}
 use Rattle.world_settle.proofs.Rounds.{all_needed, none_needed, rests_so, room_behind, under_own_header}

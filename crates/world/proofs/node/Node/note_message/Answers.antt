@@ -25,18 +25,16 @@ copied-requires c =
     let f = c.next_message in
     let pool = c.args.self.now.pool in
     let m = c.requires.0 in
-    let P : Option Chain → Type 0 = λ o. Accounts f.new.self pool o in
     fetched_live f.new.self pool c.in-Some.chain
-    (subst P (ap (option_map (λ x. x.1)) c.in-Some.is) (f.ensures.accounts pool m c.requires.1.stands c.requires.1.accounts))
+    (rw (ap (option_map (λ x. x.1)) c.in-Some.is) at (f.ensures.accounts pool m c.requires.1.stands c.requires.1.accounts))
 
 pub give-requires : goal.give-requires
 give-requires c =
     let f = c.next_message in
     let pool = c.args.self.now.pool in
     let m = c.requires.0 in
-    let P : Option Chain → Type 0 = λ o. Accounts f.new.self pool o in
     fetched_live f.new.self pool c.in-Some.chain
-    (subst P (ap (option_map (λ x. x.1)) c.in-Some.is) (f.ensures.accounts pool m c.requires.1.stands c.requires.1.accounts))
+    (rw (ap (option_map (λ x. x.1)) c.in-Some.is) at (f.ensures.accounts pool m c.requires.1.stands c.requires.1.accounts))
 
 pub returns : goal.returns
 returns c m h =

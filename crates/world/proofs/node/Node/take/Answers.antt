@@ -29,11 +29,10 @@ returns c m frame h room is few =
     let t = c.take_read-report in
     let read = c.requires.read in
     let input = taken_input read.0 frame (sym read.1 ∙ is) in
-    let P : LinkInput → Type 0 = λ i. EndStandsFor t.new.self t.new.pool (after_input m i) in
     let taken : HasTakenInput c.args.self.now t.new.self t.new.pool m (Take frame) t.result =
     record {
       has = h.has;
-      left = record { stands = subst P input (t.ensures.stands m read.0 h.has.stands read.1); elsewhere = t.ensures.elsewhere };
+      left = record { stands = rw input at (t.ensures.stands m read.0 h.has.stands read.1); elsewhere = t.ensures.elsewhere };
       told = t.ensures.answer m read.0 h.has.stands read.1 ∙ ap (λ i. told_of (report m i)) input;
       reports = take_so m frame (is_sound m h.has.reached);
       sendable = tt;

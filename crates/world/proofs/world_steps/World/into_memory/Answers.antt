@@ -1,7 +1,7 @@
 use Rattle.std.proofs.Common.{◌≡◌, rules}
 use Rattle.lines_told.specs.lines.Below.{memory_behind}
 use Rattle.world.proofs.Words.{lines_played}
-use Rattle.world.proofs.Histories.{world_kept}
+use Rattle.world.proofs.Playing.{world_kept}
 use Rattle.world.proofs.world_steps.World.into_memory.Goals as goal
 
 pub returns-clause-kept : goal.returns-clause-kept

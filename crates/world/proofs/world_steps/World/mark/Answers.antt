@@ -3,7 +3,7 @@ use Rattle.std.specs.Prelude.{Some, replicate}
 use Rattle.trace_model.specs.declared.entry.Entry.TheVariants.{Echo, Settled}
 use Rattle.trace_model.specs.declared.line.Line.TheVariants as line
 use Rattle.world.proofs.Words.{Below, Entry, Play, Round, Said, World, lines_said, rounds_played}
-use Rattle.node_world.proofs.FewPlays.{few_at_all}
+use Rattle.node_world.proofs.WorldsStepped.{few_at_all}
 use Rattle.world.specs.declared.world_steps.OpenLine.{OpenLine}
 use Rattle.world.specs.Worlds.{MayBeMarked, MayClose, MayCountBelow, MayOpen}
 use Rattle.world.proofs.Below.{bare_counts, stands_nodes}

@@ -8,8 +8,7 @@ use Rattle.world.specs.declared.world_steps.OpenLine.{OpenLine}
 use Rattle.node_world.specs.Worlds.{nodes_entries}
 use Rattle.world.specs.BareWorlds.{bare_entries}
 use Rattle.world.proofs.Below.{bare_faults, bare_may, bare_room, bare_stands, bare_tells, stands_nodes}
-use Rattle.world.proofs.Histories.{parts_with, within_legal}
-use Rattle.world.proofs.Playing.{played_parts, said_within, part_sure, stands_with_part, never_undetected}
+use Rattle.world.proofs.Playing.{parts_with, within_legal, played_parts, said_within, part_sure, stands_with_part, never_undetected}
 use Rattle.world.proofs.world_steps.World.part.Goals as goal
 
 pub step-requires-clause-room : goal.step-requires-clause-room

@@ -3,9 +3,8 @@ use Rattle.std.proofs.lemmas.Result.{on_ok_weaker}
 use Rattle.world.proofs.Words.{Said, World}
 use Rattle.world.specs.declared.world_steps.Below.TheVariants.{Bare, Nodes}
 use Rattle.world.proofs.Below.{bare_faults, bare_may, bare_room, bare_stands, bare_sure, bare_tells, stands_nodes}
-use Rattle.world.proofs.Histories.{world_legal}
+use Rattle.world.proofs.Playing.{world_legal, line_fits, stands_with_line}
 use Rattle.lines_told.proofs.lines.Told.{few_with_said}
-use Rattle.world.proofs.Playing.{line_fits, stands_with_line}
 use Rattle.world.proofs.world_steps.World.step.Goals as goal
 
 pub step-requires-clause-room : goal.step-requires-clause-room
