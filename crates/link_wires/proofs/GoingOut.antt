@@ -1,7 +1,6 @@
 -- A frame is put on the wire to the other end, or the first one on a wire is lost.
 use Rattle.std.proofs.Common.{◌≡◌, ℕ, ◌+◌, Bool, true, false, cond, List, [], ◌∷◌, ◌++◌, drop, refl, ap, sym, subst, ◌∙◌}
-use Rattle.std.proofs.lemmas.List.{append-nil}
-use Rattle.std.specs.Prelude.{Ok, Some, None}
+use Rattle.std.specs.Prelude.{Ok, Some}
 use Rattle.circular_buffer.specs.Buffer.{Buffer}
 use Rattle.swp_base.specs.declared.control_frames.Control.{Control}
 use Rattle.swp_lpdu.specs.Controls.{lpdu_of, control_of}
@@ -13,21 +12,18 @@ use Rattle.trace_model.specs.Ends.{other_end}
 use Rattle.link_laws.specs.sessions.Sessions.{OnWire, is_rset, fits}
 use Rattle.link_laws.specs.messages.Links.{Link, Loss, put}
 use Rattle.link_laws.specs.entries.Entries.Entry.{Emit as NotedEmit}
-use Rattle.link_laws.specs.entries.Entries.{End as Which, far as far_side, put_entries, pushed_out, wire_with, first_lost}
+use Rattle.link_laws.specs.entries.Entries.{far as far_side, put_entries, pushed_out, wire_with, first_lost}
 use Rattle.history.specs.Steps.{lost_as}
 use Rattle.link_wires.specs.declared.wire.Flying.{Flying}
 use Rattle.link_wires.specs.Notes.{side_of, AreNoted}
 use Rattle.link_wires.specs.Wires.{WireStandsFor, IsMade, kept_of}
 use Rattle.link_wires.specs.Putting.{GoesOutOf}
 use Rattle.link_wires.proofs.Notes.{end_is, more_noted}
-use Rattle.link_wires.proofs.Wires.{IsTakenOff, first_is, there_is_one, there_is_none, taken_off}
+use Rattle.link_wires.proofs.Wires.{IsTakenOff, first_is, there_is_none, taken_off}
+use Rattle.link_laws.proofs.Cases.{by_test}
 
 other_side : (at : End) → side_of (other_end at) ≡ far_side (side_of at)
-other_side at = by at.at_host refl
-  where
-    by : (b : Bool) → at.at_host ≡ b → side_of (other_end at) ≡ far_side (side_of at)
-    by true q = rw q refl
-    by false q = rw q refl
+other_side at = by_test at.at_host (λ q. rw q refl) (λ q. rw q refl)
 
 emit_noted : (at : End) (before mid : List Entry) (c : Control) → mid ≡ before ++ entry.Emit at (lpdu_of c) ∷ []
     → AreNoted at before mid (NotedEmit (side_of at) c ∷ [])
@@ -54,11 +50,8 @@ put_is {resets} {l} {c} {old} {e} {n} {k} {kept} {wire} {mid} {now} at before h 
 
     all : AreNoted at before now (put_entries (side_of at) l c)
     all =
-        let P : List OnWire → Type 0 = λ w. AreNoted at mid now (pushed_out (far_side (side_of at)) w) in
-        let Q : Which → Type 0 =
-        λ z. AreNoted at mid now (pushed_out z (l.to_host ++ record { frame = c; age = 0; number = k } ∷ [])) in
         more_noted at before (NotedEmit (side_of at) c ∷ []) (pushed_out (far_side (side_of at)) (wire_with l c))
-        (emit_noted at before mid c noted) (subst P all_wire (subst Q (other_side at) put_last.1))
+        (emit_noted at before mid c noted) (rw all_wire at (rw (other_side at) at put_last.1))
 
     wire_is : WireStandsFor wire (fits (wire_with l c))
     wire_is = let P : List OnWire → Type 0 = λ w. WireStandsFor wire (fits w) in subst P all_wire put_last.0
@@ -82,11 +75,9 @@ pub record Stays (l m : Link) : Type 0 where
   pub took : m.controller.took ≡ l.controller.took
 
 pub put_stays : (l : Link) (c : Control) → Stays l (put l c)
-put_stays l c = by (is_rset c) refl
-  where
-    by : (b : Bool) → is_rset c ≡ b → Stays l (put l c)
-    by true q = rw q (record { host = refl; wire = refl; took = refl })
-    by false q = rw q (record { host = refl; wire = refl; took = refl })
+put_stays l c =
+    by_test (is_rset c)
+    (λ q. rw q (record { host = refl; wire = refl; took = refl })) (λ q. rw q (record { host = refl; wire = refl; took = refl }))
 
 pub flying_is : (lpdu : List ℕ) (c : Control) (k : ℕ) → lpdu ≡ lpdu_of c
     → record { lpdu = lpdu; age = 0; number = k } ≡ kept_of (record { frame = c; age = 0; number = k })
@@ -110,8 +101,3 @@ lost_first {cause} {flying = flying} why before to (x ∷ xs) kept so off noted 
       noted ∙ ap (λ (f : Flying). before ++ entry.Lost to f.lpdu cause ∷ []) first ∙ ap (λ c. before ++ entry.Lost to (lpdu_of x.frame) c ∷ []) so
           ∙ ap (λ z. before ++ entry.Lost z (lpdu_of x.frame) (lost_as why) ∷ []) (sym (end_is to)),
     )
-
-pub none_lost : {wire : Buffer Flying} (why : Loss) (now : List Entry) (to : End) (frames : List OnWire) → WireStandsFor wire frames
-    → IsTakenOff wire wire None → WireStandsFor wire (drop 1 frames) × AreNoted to now now (first_lost (side_of to) why frames)
-none_lost why now to [] kept off = (kept, sym (append-nil now))
-none_lost why now to (x ∷ xs) kept off = absurd (there_is_one kept off)

@@ -1,19 +1,16 @@
 -- What is noted at an end, one thing behind another.
-use Rattle.std.proofs.Common.{◌≡◌, ℕ, Bool, true, false, List, ◌++◌, refl, ap, sym, ◌∙◌, append_assoc}
+use Rattle.std.proofs.Common.{◌≡◌, ℕ, List, ◌++◌, refl, ap, sym, ◌∙◌, append_assoc}
 use Rattle.std.proofs.lemmas.List.Concat.{flat_map-append}
 use Rattle.trace_model.specs.declared.entry.Entry.{Entry}
 use Rattle.trace_model.specs.declared.line.End.{End}
 use Rattle.link_laws.specs.entries.Entries.{Entry as Noted}
 use Rattle.history.specs.Steps.{end_of, entry_of, entries_for}
 use Rattle.link_wires.specs.Notes.{side_of, AreNoted}
+use Rattle.link_laws.proofs.Cases.{by_test}
 
 -- an end is the one on its side of its link
 pub end_is : (at : End) → end_of at.link (side_of at) ≡ at
-end_is at = by at.at_host refl
-  where
-    by : (b : Bool) → at.at_host ≡ b → end_of at.link (side_of at) ≡ at
-    by true q = rw q refl
-    by false q = rw q refl
+end_is at = by_test at.at_host (λ q. rw q refl) (λ q. rw q refl)
 
 pub entries-append : (h : ℕ) (a b : List Noted) → entries_for h (a ++ b) ≡ entries_for h a ++ entries_for h b
 entries-append h a b = flat_map-append (entry_of h) a b

@@ -1,5 +1,5 @@
 -- The frames on a wire: one more is put there, and all grow older.
-use Rattle.std.proofs.Common.{◌≡◌, ℕ, suc, ◌+◌, ◌-◌, ◌<◌, ◌≤◌, Bool, true, false, cond, List, [], ◌∷◌, ◌++◌, length, drop, map, refl, ap, sym, subst, ◌∙◌}
+use Rattle.std.proofs.Common.{◌≡◌, ℕ, suc, ◌+◌, ◌-◌, ◌<◌, ◌≤◌, true, false, cond, List, [], ◌∷◌, ◌++◌, length, drop, map, refl, ap, sym, ◌∙◌}
 use Rattle.std.proofs.Common.{append_assoc, length-append, arith}
 use Rattle.std.proofs.lemmas.List.{append-nil}
 use Rattle.std.proofs.lemmas.Grind.{common_steps}
@@ -22,6 +22,7 @@ use Rattle.link_wires.specs.Notes.{side_of}
 use Rattle.link_wires.specs.Wires.{WireStandsFor, IsMade, kept_of}
 use Rattle.link_wires.specs.Notes.{AreNoted}
 use Rattle.link_wires.proofs.Notes.{end_is, more_noted}
+use Rattle.link_laws.proofs.Cases.{by_list, by_test}
 
 map-append : (a b : List OnWire) → map kept_of (a ++ b) ≡ map kept_of a ++ map kept_of b
 map-append a b = grind (arith, common_steps)
@@ -67,27 +68,25 @@ pub record IsPutLast (wire new : Buffer Flying) (flying : Flying) (out : Option 
 
 was_lost : {wire new : Buffer Flying} {flying lost : Flying} {frames : List OnWire} → WireStandsFor wire frames → IsPutLast wire new flying (Some lost)
     → (length frames ≡ 64) × (Some lost ≡ slice_get (wire.items ++ flying ∷ []) 0)
-was_lost {wire} {flying} {lost} {frames} w put = by (nat_lt (length wire.items) wire.capacity) refl
-  where
-    by : (b : Bool) → nat_lt (length wire.items) wire.capacity ≡ b → (length frames ≡ 64) × (Some lost ≡ slice_get (wire.items ++ flying ∷ []) 0)
-    by true q = absurd (let z : Some lost ≡ None = rw q at put.out_is in cc)
-    by false q =
-        let z : Some lost ≡ slice_get (wire.items ++ flying ∷ []) 0 = rw q at put.out_is in
-        let i = ltb-false (length wire.items) wire.capacity q in
-        let l = lengths wire frames w in
-        let f = w.few in let k = w.capacity in (omega (arith, i, l, f, k), z)
+was_lost {wire} {flying} {lost} {frames} w put =
+    by_test (nat_lt (length wire.items) wire.capacity)
+    (λ q. absurd (let z : Some lost ≡ None = rw q at put.out_is in cc))
+    (λ q.
+    let z : Some lost ≡ slice_get (wire.items ++ flying ∷ []) 0 = rw q at put.out_is in
+    let i = ltb-false (length wire.items) wire.capacity q in
+    let l = lengths wire frames w in
+    let f = w.few in let k = w.capacity in (omega (arith, i, l, f, k), z))
 
 pub not_full : {wire new : Buffer Flying} {flying : Flying} {frames : List OnWire} → WireStandsFor wire frames → IsPutLast wire new flying None
     → length frames < 64
-not_full {wire} {flying} {frames} w put = by (nat_lt (length wire.items) wire.capacity) refl
-  where
-    by : (b : Bool) → nat_lt (length wire.items) wire.capacity ≡ b → length frames < 64
-    by true q =
-        let i = ltb-true (length wire.items) wire.capacity q in
-        let l = lengths wire frames w in let k = w.capacity in omega (arith, i, l, k)
-    by false q =
-        let z : None ≡ slice_get (wire.items ++ flying ∷ []) 0 = rw q at put.out_is in
-        absurd (some_first wire.items flying (sym z))
+not_full {wire} {flying} {frames} w put =
+    by_test (nat_lt (length wire.items) wire.capacity)
+    (λ q.
+    let i = ltb-true (length wire.items) wire.capacity q in
+    let l = lengths wire frames w in let k = w.capacity in omega (arith, i, l, k))
+    (λ q.
+    let z : None ≡ slice_get (wire.items ++ flying ∷ []) 0 = rw q at put.out_is in
+    absurd (some_first wire.items flying (sym z)))
 
 -- there was room
 pub has_room : {wire new : Buffer Flying} {flying : Flying} {frames : List OnWire} (x : OnWire) (to : End) (entries : List Entry)
@@ -104,15 +103,13 @@ has_room {wire} {new} {flying} {frames} x to entries w is read made few =
     let new_is : new ≡ buffer (map kept_of all) 64 =
     made ∙ ap (λ n. buffer (keep_last n (wire.items ++ flying ∷ [])) n) w.capacity ∙ ap (λ l. buffer (keep_last 64 l) 64) items
     ∙ ap (λ l. buffer l 64) kept in
-    let P : List OnWire → Type 0 = λ l. WireStandsFor new l in
     let stays : fits all ≡ all = rw small refl in (
-      subst P (sym stays)
-          (record {
-            frames = ap (λ (b : Buffer Flying). b.items) new_is;
-            capacity = ap (λ (b : Buffer Flying). b.capacity) new_is;
-            few = omega (arith, len, few);
-            made = all_joined frames (x ∷ []) w.made (read, tt);
-          }),
+      rw stays (record {
+        frames = ap (λ (b : Buffer Flying). b.items) new_is;
+        capacity = ap (λ (b : Buffer Flying). b.capacity) new_is;
+        few = omega (arith, len, few);
+        made = all_joined frames (x ∷ []) w.made (read, tt);
+      }),
       (let z : pushed_out (side_of to) all ≡ [] = rw small refl in sym (ap (λ n. entries ++ entries_for to.link n) z ∙ append-nil entries)),
     )
 
@@ -136,15 +133,13 @@ was_full {wire} {new} {flying} {lost} (y ∷ frames) x to before w is read put n
     put.new_is ∙ ap (λ n. buffer (keep_last n (wire.items ++ flying ∷ [])) n) w.capacity ∙ ap (λ l. buffer (keep_last 64 l) 64) items
     ∙ ap (λ l. buffer l 64) kept in
     let gone : lost ≡ kept_of y = some_is lost (kept_of y) ((was_lost w put).1 ∙ ap (λ l. slice_get l 0) items) in
-    let P : List OnWire → Type 0 = λ l. WireStandsFor new l in
     let stays : fits (y ∷ all) ≡ all = rw big refl in (
-      subst P (sym stays)
-          (record {
-            frames = ap (λ (b : Buffer Flying). b.items) new_is;
-            capacity = ap (λ (b : Buffer Flying). b.capacity) new_is;
-            few = omega (arith, len, full);
-            made = all_joined frames (x ∷ []) w.made.1 (read, tt);
-          }),
+      rw stays (record {
+        frames = ap (λ (b : Buffer Flying). b.items) new_is;
+        capacity = ap (λ (b : Buffer Flying). b.capacity) new_is;
+        few = omega (arith, len, full);
+        made = all_joined frames (x ∷ []) w.made.1 (read, tt);
+      }),
       (let z : pushed_out (side_of to) (y ∷ all) ≡ Lost (side_of to) y.frame TooMany ∷ [] = rw big refl in
           noted ∙ ap (λ (f : Flying). before ++ entry.Lost to f.lpdu Full ∷ []) gone
           ∙ ap (λ es. before ++ es) (sym (lost_entry to y)) ∙ ap (λ n. before ++ entries_for to.link n) (sym z)),
@@ -186,9 +181,8 @@ too_old {new} {flying} {x} {frames} to before w off old noted =
     let age : 4 ≤ x.age = let z = ap (λ (f : Flying). f.age) first in omega (arith, z, old) in
     let q : nat_lt x.age 4 ≡ false = le-ltb x.age 4 age in
     let none : frames ++ aged_wire (x ∷ []) ≡ frames = rw q (append-nil frames) in
-    let told : aged_entries (side_of to) (x ∷ []) ≡ Lost (side_of to) x.frame TooOld ∷ [] = rw q refl in
-    let P : List OnWire → Type 0 = λ l. WireStandsFor new l in (
-      subst P (sym none) (taken_off w off),
+    let told : aged_entries (side_of to) (x ∷ []) ≡ Lost (side_of to) x.frame TooOld ∷ [] = rw q refl in (
+      rw (← none) at (taken_off w off),
       noted ∙ ap (λ (f : Flying). before ++ entry.Lost to f.lpdu Age ∷ []) first
           ∙ ap (λ es. before ++ es) (sym (old_entry to x)) ∙ ap (λ n. before ++ entries_for to.link n) (sym told),
     )
@@ -209,9 +203,8 @@ grows_older {new} {flying} {x} {frames} to entries w off young made =
     let small : nat_lt 64 (length (frames ++ older ∷ [])) ≡ false = le-ltb 64 (length (frames ++ older ∷ [])) (omega (arith, len, few)) in
     let fit : fits (frames ++ older ∷ []) ≡ frames ++ older ∷ [] = rw small refl in
     let put = has_room older to entries (taken_off w off)
-    (ap (λ (f : Flying). record { lpdu = f.lpdu; age = f.age + 1; number = f.number }) first) w.made.0 made few in
-    let P : List OnWire → Type 0 = λ l. WireStandsFor new l in (
-      subst P (fit ∙ ap (λ l. frames ++ l) (sym one)) put.0,
+    (ap (λ (f : Flying). record { lpdu = f.lpdu; age = f.age + 1; number = f.number }) first) w.made.0 made few in (
+      rw (fit ∙ ap (λ l. frames ++ l) (sym one)) at put.0,
       sym (ap (λ n. entries ++ entries_for to.link n) told ∙ append-nil entries),
     )
 
@@ -229,12 +222,11 @@ pub record Aging (to : End) (frames : List OnWire) (wire : Buffer Flying) (befor
 pub aging_starts : {to : End} {frames : List OnWire} {wire : Buffer Flying} {entries : List Entry} {n : ℕ} → WireStandsFor wire frames
     → n ≡ length wire.items → Aging to frames wire entries entries n
 aging_starts {frames} {wire} {entries} w q =
-    let P : List OnWire → Type 0 = λ l. WireStandsFor wire l in
     record {
       rest = frames;
       done = [];
       notes = [];
-      stands = subst P (sym (append-nil frames)) w;
+      stands = rw (← append-nil frames) at w;
       left_is = sym (q ∙ lengths wire frames w);
       wire_is = refl;
       notes_are = refl;
@@ -242,18 +234,10 @@ aging_starts {frames} {wire} {entries} w q =
     }
 
 one_wire : (x : OnWire) (xs : List OnWire) → aged_wire (x ∷ xs) ≡ aged_wire (x ∷ []) ++ aged_wire xs
-one_wire x xs = by (nat_lt x.age 4) refl
-  where
-    by : (b : Bool) → nat_lt x.age 4 ≡ b → aged_wire (x ∷ xs) ≡ aged_wire (x ∷ []) ++ aged_wire xs
-    by true q = rw q refl
-    by false q = rw q refl
+one_wire x xs = by_test (nat_lt x.age 4) (λ q. rw q refl) (λ q. rw q refl)
 
 one_note : (to : End) (x : OnWire) (xs : List OnWire) → aged_entries (side_of to) (x ∷ xs) ≡ aged_entries (side_of to) (x ∷ []) ++ aged_entries (side_of to) xs
-one_note to x xs = by (nat_lt x.age 4) refl
-  where
-    by : (b : Bool) → nat_lt x.age 4 ≡ b → aged_entries (side_of to) (x ∷ xs) ≡ aged_entries (side_of to) (x ∷ []) ++ aged_entries (side_of to) xs
-    by true q = rw q refl
-    by false q = rw q refl
+one_note to x xs = by_test (nat_lt x.age 4) (λ q. rw q refl) (λ q. rw q refl)
 
 -- what one frame that grows older leaves
 abbrev pub Ages : End → Buffer Flying → Buffer Flying → List Entry → List Entry → Type 0
@@ -263,37 +247,32 @@ Ages to wire new before now =
 
 pub aging_goes_on : {to : End} {frames : List OnWire} {wire new : Buffer Flying} {before mid now : List Entry} {left : ℕ}
     → Aging to frames wire before mid (suc left) → Ages to wire new mid now → Aging to frames new before now left
-aging_goes_on {to} {frames} {wire} {new} {before} {now} {left} a ages = go a.rest refl
-  where
-    go : (rest : List OnWire) → a.rest ≡ rest → Aging to frames new before now left
-    go [] q = absurd (let z = ap length q in let l = a.left_is in omega (arith, z, l))
-    go (x ∷ xs) q =
-        let P : List OnWire → Type 0 = λ l. WireStandsFor wire (l ++ a.done) in
-        let Q : List OnWire → Type 0 = λ l. WireStandsFor new l in
-        let r = ages x (xs ++ a.done) (subst P q a.stands) in
-        record {
-          rest = xs;
-          done = a.done ++ aged_wire (x ∷ []);
-          notes = a.notes ++ aged_entries (side_of to) (x ∷ []);
-          stands = subst Q (append_assoc xs a.done (aged_wire (x ∷ []))) r.0;
-          left_is = (let z = ap length q in let l = a.left_is in omega (arith, z, l));
-          wire_is = a.wire_is ∙ (ap (λ l. a.done ++ aged_wire l) q ∙ (ap (λ l. a.done ++ l) (one_wire x xs)
-              ∙ sym (append_assoc a.done (aged_wire (x ∷ [])) (aged_wire xs))));
-          notes_are = a.notes_are ∙ (ap (λ l. a.notes ++ aged_entries (side_of to) l) q ∙ (ap (λ l. a.notes ++ l) (one_note to x xs)
-              ∙ sym (append_assoc a.notes (aged_entries (side_of to) (x ∷ [])) (aged_entries (side_of to) xs))));
-          noted = more_noted to before a.notes (aged_entries (side_of to) (x ∷ [])) a.noted r.1;
-        }
+aging_goes_on {to} {frames} {wire} {new} {before} {now} {left} a ages =
+    by_list a.rest
+    (λ q. absurd (let z = ap length q in let l = a.left_is in omega (arith, z, l)))
+    (λ x xs q.
+    let r = ages x (xs ++ a.done) (rw q at a.stands) in
+    record {
+      rest = xs;
+      done = a.done ++ aged_wire (x ∷ []);
+      notes = a.notes ++ aged_entries (side_of to) (x ∷ []);
+      stands = rw (append_assoc xs a.done (aged_wire (x ∷ []))) at r.0;
+      left_is = (let z = ap length q in let l = a.left_is in omega (arith, z, l));
+      wire_is = a.wire_is ∙ (ap (λ l. a.done ++ aged_wire l) q ∙ (ap (λ l. a.done ++ l) (one_wire x xs)
+          ∙ sym (append_assoc a.done (aged_wire (x ∷ [])) (aged_wire xs))));
+      notes_are = a.notes_are ∙ (ap (λ l. a.notes ++ aged_entries (side_of to) l) q ∙ (ap (λ l. a.notes ++ l) (one_note to x xs)
+          ∙ sym (append_assoc a.notes (aged_entries (side_of to) (x ∷ [])) (aged_entries (side_of to) xs))));
+      noted = more_noted to before a.notes (aged_entries (side_of to) (x ∷ [])) a.noted r.1;
+    })
 
 pub aging_ends : {to : End} {frames : List OnWire} {wire : Buffer Flying} {before now : List Entry} → Aging to frames wire before now 0
     → WireStandsFor wire (aged_wire frames) × AreNoted to before now (aged_entries (side_of to) frames)
-aging_ends {to} {frames} {wire} {before} {now} a = go a.rest refl
-  where
-    go : (rest : List OnWire) → a.rest ≡ rest → WireStandsFor wire (aged_wire frames) × AreNoted to before now (aged_entries (side_of to) frames)
-    go (x ∷ xs) q = absurd (let z = ap length q in let l = a.left_is in omega (arith, z, l))
-    go [] q =
-        let P : List OnWire → Type 0 = λ l. WireStandsFor wire l in
-        let w : aged_wire frames ≡ a.rest ++ a.done =
-        a.wire_is ∙ (ap (λ l. a.done ++ aged_wire l) q ∙ (append-nil a.done ∙ ap (λ l. l ++ a.done) (sym q))) in
-        let n : aged_entries (side_of to) frames ≡ a.notes =
-        a.notes_are ∙ (ap (λ l. a.notes ++ aged_entries (side_of to) l) q ∙ append-nil a.notes) in
-        (subst P (sym w) a.stands, a.noted ∙ ap (λ l. before ++ entries_for to.link l) (sym n))
+aging_ends {to} {frames} {wire} {before} {now} a =
+    by_list a.rest
+    (λ q.
+    let w : aged_wire frames ≡ a.rest ++ a.done =
+    a.wire_is ∙ (ap (λ l. a.done ++ aged_wire l) q ∙ (append-nil a.done ∙ ap (λ l. l ++ a.done) (sym q))) in
+    let n : aged_entries (side_of to) frames ≡ a.notes =
+    a.notes_are ∙ (ap (λ l. a.notes ++ aged_entries (side_of to) l) q ∙ append-nil a.notes) in
+    (rw (← w) at a.stands, a.noted ∙ ap (λ l. before ++ entries_for to.link l) (sym n)))
+    (λ x xs q. absurd (let z = ap length q in let l = a.left_is in omega (arith, z, l)))

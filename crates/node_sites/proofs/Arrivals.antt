@@ -1,5 +1,5 @@
 -- What comes to an end of a link of a world: the first frame on its way there is taken off its wire, or activation empties both.
-use Rattle.std.proofs.Common.{◌≡◌, ℕ, Bool, true, false, List, [], ◌∷◌, ◌++◌, drop, map, max, refl, ap, ap₂, sym, subst, ◌∙◌, append-nil, arith}
+use Rattle.std.proofs.Common.{◌≡◌, ℕ, Bool, true, false, List, [], ◌∷◌, ◌++◌, drop, map, max, refl, ap, ap₂, sym, ◌∙◌, append-nil, arith}
 use Rattle.std.specs.Prelude.{Option, Some, None, Result, Ok, option_map, option_to_list}
 use Rattle.circular_buffer.specs.Buffer.{Buffer}
 use Rattle.swp_base.specs.declared.control_frames.Control.{Control}
@@ -76,14 +76,13 @@ one_taken {k} {new} {flying} {took} {read} {now} at l before w off is says noted
     go [] w = absurd (there_is_none w.wire_is off)
     go (x ∷ xs) w =
         let first : flying ≡ kept_of x = first_is w.wire_is off in
-        let N : Flying → Type 0 = λ f. took ≡ max k.took f.number in
         record {
           lpdu = Some (lpdu_of x.frame);
           first = (refl, w.wire_is.made.0.0);
           says = ap (λ r. Some (arrived.Frame r)) (says ∙ ap (λ (f : Flying). control_of f.lpdu) first);
           stands_now = record {
             emitted_is = w.emitted_is;
-            took_is = subst N first is ∙ (ap (λ n. max n x.number) w.took_is ∙ took_so l.controller.took x w.wire_is.made.0);
+            took_is = rw first at is ∙ (ap (λ n. max n x.number) w.took_is ∙ took_so l.controller.took x w.wire_is.made.0);
             wire_is = taken_off w.wire_is off;
           };
           noted = noted ∙ ap (λ (f : Flying). before ++ note.Took at f.lpdu ∷ []) first;
@@ -93,16 +92,14 @@ one_taken {k} {new} {flying} {took} {read} {now} at l before w off is says noted
 
 pub far_end : {k : Wires} (to : End) (l : Link) → to.at_host ≡ true → WiresStandFor k (seen_from to l) → WireEndIs k.host l.controller l.to_controller
 far_end {k} to l q w =
-    let W : Link → Type 0 = λ m. WiresStandFor k m in
     let same : seen_from to l ≡ exchanged l = rw q refl in
-    (subst W same w).there
+    (rw same at w).there
 
 pub near_end : {k : Wires} (to : End) (l : Link) → to.at_host ≡ false → WiresStandFor k (seen_from to l)
     → WireEndIs k.controller l.controller l.to_controller
 near_end {k} to l q w =
-    let W : Link → Type 0 = λ m. WiresStandFor k m in
     let same : seen_from to l ≡ l = rw q refl in
-    (subst W same w).here
+    (rw same at w).here
 
 far_without : {k : Wires} {e : WireEnd} (l : Link) → WiresStandFor k (exchanged l) → TookFirst e l
     → WiresStandFor (record k { host = e }) (exchanged (without_first l))
@@ -130,17 +127,15 @@ pub far_taken : {k : Wires} {e : WireEnd} {before now : List Entry} {came : Opti
     → WiresStandFor k (seen_from to l) → IsTakenFirst to l (TookFirst e l) before now came
     → IsTakenFirst to l (WiresStandFor (record k { host = e }) (seen_from to (without_first l))) before now came
 far_taken {k} to l q w t =
-    let W : Link → Type 0 = λ m. WiresStandFor k m in
     let same : seen_from to l ≡ exchanged l = rw q refl in
-    with_stands t (λ f. rw q (far_without l (subst W same w) f))
+    with_stands t (λ f. rw q (far_without l (rw same at w) f))
 
 pub near_taken : {k : Wires} {e : WireEnd} {before now : List Entry} {came : Option Arrived} (to : End) (l : Link) → to.at_host ≡ false
     → WiresStandFor k (seen_from to l) → IsTakenFirst to l (TookFirst e l) before now came
     → IsTakenFirst to l (WiresStandFor (record k { controller = e }) (seen_from to (without_first l))) before now came
 near_taken {k} to l q w t =
-    let W : Link → Type 0 = λ m. WiresStandFor k m in
     let same : seen_from to l ≡ l = rw q refl in
-    with_stands t (λ f. rw q (near_without l (subst W same w) f))
+    with_stands t (λ f. rw q (near_without l (rw same at w) f))
 
 -- ## A frame
 

@@ -173,13 +173,12 @@ pub sending_ends : {runs : List Port → Type 0} {wires : Wires} {at : End} {por
 sending_ends {runs} {wires} {at} {ports} {p} {l} before s only none idle =
     let link : s.link ≡ put_all l (frames_out p.side) = sym (ap (put_all s.link) none) ∙ s.link_is in
     let last : s.e ≡ sent_all p.side = sym idle ∙ s.end_is in
-    let W : Link → Type 0 = λ m. WiresStandFor wires (seen_from at m) in
     let notes : puts_entries (side_of at) l (frames_out p.side) ≡ s.notes =
     s.notes_are ∙ (ap (λ cs. s.notes ++ puts_entries (side_of at) s.link cs) none ∙ append-nil s.notes) in
     let ends : with_port at.link (with_side s.e) ports ≡ with_port at.link sent_port ports =
     same_with at.link p (with_side s.e) sent_port ports only (ap (λ e. with_side e p) last) in (
       subst runs ends s.runs,
-      subst W link s.wires,
+      rw link at s.wires,
       s.noted ∙ ap (λ ns. before ++ entries_for at.link ns) (sym notes),
     )
 
@@ -223,9 +222,8 @@ pub sending_next : {Runs Again : List Port → Type 0} {wires new : Wires} {at :
 sending_next before n i zero c q s whole next runs r =
     absurd (let z : Some c ≡ None = sym next ∙ (ap next_frame s.end_is ∙ whole.none) in cc)
 sending_next {Again = Again} {new = new} {at = at} {ports} {p} {l} {now = now} before n i (suc left) c q s whole next runs r =
-    let P : ℕ → Type 0 = λ z. Sending Again new at ports p l before now z in
     let less : left ≡ n - (i + 1) = omega (arith, q) in
-    subst P less (sending_goes_on before c s next runs r)
+    rw (← less) (sending_goes_on before c s next runs r)
 
 pub sending_stops : {Runs : List Port → Type 0} {wires : Wires} {at : End} {ports : List Port} {p : Port} {l : Link} {now : List Entry} {left : ℕ}
     (Again : List Port → Type 0) (before : List Entry) (s : Sending Runs wires at ports p l before now left) → IsOnly at.link p ports → SendsOneByOne s.e

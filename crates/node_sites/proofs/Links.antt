@@ -1,5 +1,5 @@
 -- What happens on the wires of a link.
-use Rattle.std.proofs.Common.{◌≡◌, ℕ, true, false, List, ◌++◌, drop, refl, ap, sym, subst, ◌∙◌, append_assoc}
+use Rattle.std.proofs.Common.{◌≡◌, ℕ, true, false, List, ◌++◌, drop, refl, ap, sym, ◌∙◌, append_assoc}
 use Rattle.circular_buffer.specs.Buffer.{Buffer}
 use Rattle.swp_base.specs.declared.control_frames.Control.{Control}
 use Rattle.trace_model.specs.declared.entry.Entry.{Entry}
@@ -34,8 +34,7 @@ pub lost_to_host : {k : Wires} {wire : Buffer Flying} {now : List Entry} (before
     × AreNoted to before now (first_lost (side_of to) why (frames_to l to))
 lost_to_host {now = now} before to l why q w r =
     let frames : frames_to l to ≡ l.to_host = rw q refl in
-    let P : List OnWire → Type 0 = λ ws. AreNoted to before now (first_lost (side_of to) why ws) in
-    (rw q (record { here = w.here; there = with_wire w.there r.0; count = w.count }), subst P (sym frames) r.1)
+    (rw q (record { here = w.here; there = with_wire w.there r.0; count = w.count }), rw (← frames) at r.1)
 
 pub lost_to_controller : {k : Wires} {wire : Buffer Flying} {now : List Entry} (before : List Entry) (to : End) (l : Link) (why : Loss) → to.at_host ≡ false
     → WiresStandFor k l → WireStandsFor wire (drop 1 l.to_controller) × AreNoted to before now (first_lost (side_of to) why l.to_controller)
@@ -43,8 +42,7 @@ pub lost_to_controller : {k : Wires} {wire : Buffer Flying} {now : List Entry} (
     × AreNoted to before now (first_lost (side_of to) why (frames_to l to))
 lost_to_controller {now = now} before to l why q w r =
     let frames : frames_to l to ≡ l.to_controller = rw q refl in
-    let P : List OnWire → Type 0 = λ ws. AreNoted to before now (first_lost (side_of to) why ws) in
-    (rw q (record { here = with_wire w.here r.0; there = w.there; count = w.count }), subst P (sym frames) r.1)
+    (rw q (record { here = with_wire w.here r.0; there = w.there; count = w.count }), rw (← frames) at r.1)
 
 -- ## Frames grow older
 
@@ -56,8 +54,7 @@ pub aged_is : {k : Wires} {l : Link} {near far : Buffer Flying} {mid now : List 
     (record { controller = record k.controller { wire = near }; host = record k.host { wire = far }; resets = k.resets }) (aged l)
     × (now ≡ before ++ entries_for host (aged_entries Controller l.to_controller ++ aged_entries Host l.to_host))
 aged_is {l = l} {mid = mid} {now = now} host before to is w first second =
-    let P : End → Type 0 = λ e. now ≡ mid ++ entries_for e.link (aged_entries (side_of e) l.to_host) in
-    let later : now ≡ mid ++ entries_for host (aged_entries Host l.to_host) = subst P is second.1 in
+    let later : now ≡ mid ++ entries_for host (aged_entries Host l.to_host) = rw is at second.1 in
     let near : List Entry = entries_for host (aged_entries Controller l.to_controller) in
     let far : List Entry = entries_for host (aged_entries Host l.to_host) in (
       record { here = with_wire w.here first.0; there = with_wire w.there second.0; count = w.count },
@@ -70,17 +67,15 @@ aged_is {l = l} {mid = mid} {now = now} host before to is w first second =
 pub near_goes_out : {k : Wires} {l : Link} (e : End) → e.at_host ≡ false → WiresStandFor k (seen_from e l)
     → GoesOutOf k.controller.emitted k.host.wire k.resets l
 near_goes_out {k} {l} e q w =
-    let P : Link → Type 0 = λ m. WiresStandFor k m in
     let same : seen_from e l ≡ l = rw q refl in
-    let v = subst P same w in
+    let v = rw same at w in
     record { emitted_is = v.here.emitted_is; wire_is = v.there.wire_is; count = v.count }
 
 pub far_goes_out : {k : Wires} {l : Link} (e : End) → e.at_host ≡ true → WiresStandFor k (seen_from e l)
     → GoesOutOf k.host.emitted k.controller.wire k.resets l
 far_goes_out {k} {l} e q w =
-    let P : Link → Type 0 = λ m. WiresStandFor k m in
     let same : seen_from e l ≡ exchanged l = rw q refl in
-    let v = subst P same w in
+    let v = rw same at w in
     record { emitted_is = v.there.emitted_is; wire_is = v.here.wire_is; count = v.count }
 
 pub near_put : {k : Wires} {emitted n : ℕ} {wire : Buffer Flying} (l : Link) (c : Control) (e : End) → e.at_host ≡ false → WiresStandFor k (seen_from e l)
@@ -88,15 +83,12 @@ pub near_put : {k : Wires} {emitted n : ℕ} {wire : Buffer Flying} (l : Link) (
     → WiresStandFor
     (record { controller = record k.controller { emitted = emitted }; host = record k.host { wire = wire }; resets = n }) (seen_from e (put l c))
 near_put {k} {emitted} {n} {wire} l c e q w out =
-    let P : Link → Type 0 = λ m. WiresStandFor k m in
-    let v = subst P (let same : seen_from e l ≡ l = rw q refl in same) w in
+    let v = rw (let same : seen_from e l ≡ l = rw q refl in same) at w in
     let s : Stays l (put l c) = put_stays l c in
-    let H : NumberedEnd → Type 0 = λ h. WireEndIs (record k.host { wire = wire }) h (put l c).to_host in
-    let W : List OnWire → Type 0 = λ ws. WireStandsFor k.controller.wire ws in
     rw q
     (record {
-      here = record { emitted_is = out.emitted_is; took_is = v.here.took_is ∙ sym s.took; wire_is = subst W (sym s.wire) v.here.wire_is };
-      there = subst H (sym s.host) (with_wire v.there out.wire_is);
+      here = record { emitted_is = out.emitted_is; took_is = v.here.took_is ∙ sym s.took; wire_is = rw (← s.wire) at v.here.wire_is };
+      there = rw (← s.host) at (with_wire v.there out.wire_is);
       count = out.count;
     })
 
@@ -105,14 +97,11 @@ pub far_put : {k : Wires} {emitted n : ℕ} {wire : Buffer Flying} (l : Link) (c
     → WiresStandFor
     (record { controller = record k.controller { wire = wire }; host = record k.host { emitted = emitted }; resets = n }) (seen_from e (put l c))
 far_put {k} {emitted} {n} {wire} l c e q w out =
-    let P : Link → Type 0 = λ m. WiresStandFor k m in
-    let v = subst P (let same : seen_from e l ≡ exchanged l = rw q refl in same) w in
+    let v = rw (let same : seen_from e l ≡ exchanged l = rw q refl in same) at w in
     let s : Stays l (put l c) = put_stays l c in
-    let H : NumberedEnd → Type 0 = λ h. WireEndIs (record k.controller { wire = wire }) h (put l c).to_host in
-    let W : List OnWire → Type 0 = λ ws. WireStandsFor k.host.wire ws in
     rw q
     (record {
-      here = subst H (sym s.host) (with_wire v.here out.wire_is);
-      there = record { emitted_is = out.emitted_is; took_is = v.there.took_is ∙ sym s.took; wire_is = subst W (sym s.wire) v.there.wire_is };
+      here = rw (← s.host) at (with_wire v.here out.wire_is);
+      there = record { emitted_is = out.emitted_is; took_is = v.there.took_is ∙ sym s.took; wire_is = rw (← s.wire) at v.there.wire_is };
       count = out.count;
     })

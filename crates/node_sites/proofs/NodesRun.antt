@@ -33,6 +33,7 @@ use Rattle.node_sites.specs.WorldNodes.{BeginsOver, HasGone, IsNotedSo}
 use Rattle.node_sites.specs.declared.noted.Noted.{Noted}
 use Rattle.node_sites.specs.Numbers.{as_told}
 use Rattle.node_sites.proofs.Numbered.{as_watched, as_noted}
+use Rattle.link_laws.proofs.Cases.{by_test}
 
 -- a node in a step, without what was noted
 abbrev pub bare : Work → Work
@@ -47,20 +48,14 @@ then_regardless : (f g : Work → Work) → IsRegardless f → IsRegardless g �
 then_regardless f g one other w = other (f w) ∙ (ap (λ (v : Work). bare (g v)) (one w) ∙ sym (other (f (bare w))))
 
 unless_regardless : (f : Work → Work) → IsRegardless f → IsRegardless (unless_cut f)
-unless_regardless f reg w = by w.cut refl
-  where
-    by : (b : Bool) → w.cut ≡ b → bare (unless_cut f w) ≡ bare (unless_cut f (bare w))
-    by true q = ap bare (stays_cut f w q) ∙ sym (ap bare (stays_cut f (bare w) q))
-    by false q = ap bare (goes_on f w q) ∙ (reg w ∙ sym (ap bare (goes_on f (bare w) q)))
+unless_regardless f reg w =
+    by_test w.cut
+    (λ q. ap bare (stays_cut f w q) ∙ sym (ap bare (stays_cut f (bare w) q))) (λ q. ap bare (goes_on f w q) ∙ (reg w ∙ sym (ap bare (goes_on f (bare w) q))))
 
 -- ## Deeds
 
 commit_regardless : (c : Command) → IsRegardless (commit c)
-commit_regardless c w = by (fails_within (length (commit_writes w.core.journal w.core.tables (body_of c))) w.plan) refl
-  where
-    by : (b : Bool) → fails_within (length (commit_writes w.core.journal w.core.tables (body_of c))) w.plan ≡ b → bare (commit c w) ≡ bare (commit c (bare w))
-    by true q = rw q refl
-    by false q = rw q refl
+commit_regardless c w = by_test (fails_within (length (commit_writes w.core.journal w.core.tables (body_of c))) w.plan) (λ q. rw q refl) (λ q. rw q refl)
 
 done_regardless : (h : ℕ) (d : Deed) → IsRegardless (done h d)
 done_regardless h (Commits c) w = commit_regardless c w
@@ -88,19 +83,10 @@ handles_regardless : (h : ℕ) (m : Message) (deeds : List Deed) → IsRegardles
 handles_regardless h m deeds w = all_regardless h deeds _ ∙ sym (all_regardless h deeds _)
 
 holds_regardless : (h : ℕ) (short : ℕ × ℕ) → IsRegardless (holds_back h short)
-holds_regardless h short w = by (option_map_or (λ (p : Port). p.desk.holds) (port_at w.ports h) false) refl
-  where
-    by : (b : Bool) → option_map_or (λ (p : Port). p.desk.holds) (port_at w.ports h) false ≡ b
-        → bare (holds_back h short w) ≡ bare (holds_back h short (bare w))
-    by true q = rw q refl
-    by false q = rw q refl
+holds_regardless h short w = by_test (option_map_or (λ (p : Port). p.desk.holds) (port_at w.ports h) false) (λ q. rw q refl) (λ q. rw q refl)
 
 lets_regardless : (h : ℕ) → IsRegardless (lets_go h)
-lets_regardless h w = by (option_map_or (λ (p : Port). is_held p.side) (port_at w.ports h) false) refl
-  where
-    by : (b : Bool) → option_map_or (λ (p : Port). is_held p.side) (port_at w.ports h) false ≡ b → bare (lets_go h w) ≡ bare (lets_go h (bare w))
-    by true q = rw q refl
-    by false q = rw q refl
+lets_regardless h w = by_test (option_map_or (λ (p : Port). is_held p.side) (port_at w.ports h) false) (λ q. rw q refl) (λ q. rw q refl)
 
 turns_regardless : (h : ℕ) (messages : List Message) → IsRegardless (have_turns h messages)
 turns_regardless h [] w = lets_regardless h w
@@ -199,11 +185,10 @@ pub goes_so : {n n2 : Node Memory} {noted start : List Entry} {short : Bool} {w 
 goes_so {n} {n2} {w = w} {f = f} live regardless begins b is =
     let made : List Write = b.sure ++ b.torn in
     let same : bare (f w) ≡ bare (record b.after { plan = (node_memory n2).plan }) = regardless w ∙ ap bare (planned_step b begins.plan) in
-    let W : List Write → Type 0 = λ ws. node_memory n2 ≡ after_planned ws (node_memory n) in
     let R : Work → Type 0 = λ v. RunsAs n2 v.core v.ports in
     record {
       power = ap (λ (v : Work). v.cut) same ∙ (b.stands.power ∙ ap not (sym is));
-      memory = subst W (sym (ap (λ (v : Work). v.writes) same ∙ (b.written ∙ ap (λ (ws : List Write). ws ++ made) begins.writes))) (planned_writes b);
+      memory = rw (← ap (λ (v : Work). v.writes) same ∙ (b.written ∙ ap (λ (ws : List Write). ws ++ made) begins.writes)) at (planned_writes b);
       runs = λ up. subst R (sym same) (b.stands.runs (b.stands.power ∙ ap not (sym is ∙ up)));
     }
 
@@ -212,8 +197,7 @@ pub noted_so : {m m2 : Memory} {n2 : Node Memory} (noted : Noted) {sessions : Li
     → Brings WritesAsPlanned m m2 (HasStepped n2 (as_told noted.sessions noted.entries.items) noted.short (as_told sessions start)) f w
     → IsNotedSo noted sessions start (f w).entries
 noted_so noted {sessions} {start} plan b =
-    let P : Work → Type 0 = λ v. IsNotedSo noted sessions start v.entries in
-    subst P (sym (planned_step b plan)) (as_noted noted sessions start b.after.entries b.stands.noted_are)
+    rw (planned_step b plan) (as_noted noted sessions start b.after.entries b.stands.noted_are)
 
 -- A host that sends a message by itself, or begins an init, does what the world asks for.
 
@@ -231,11 +215,9 @@ asked_bare noted short b =
 -- ## Without a write
 
 pub sending_writes : (h pipe : ℕ) (message : List ℕ) (w : Work) → (all_done h (sending h (pipe, message)) w).writes ≡ w.writes
-sending_writes h pipe message w = by (pipe == 1 && is_command_message message) refl
-  where
-    by : (b : Bool) → (pipe == 1 && is_command_message message) ≡ b → (all_done h (sending h (pipe, message)) w).writes ≡ w.writes
-    by true q = ap (λ (v : Work). v.writes) (sym (given_order h pipe message w q))
-    by false q = ap (λ (v : Work). v.writes) (sym (given_other h pipe message w q))
+sending_writes h pipe message w =
+    by_test (pipe == 1 && is_command_message message)
+    (λ q. ap (λ (v : Work). v.writes) (sym (given_order h pipe message w q))) (λ q. ap (λ (v : Work). v.writes) (sym (given_other h pipe message w q)))
 
 pub beginning_writes : (h : ℕ) (identity : List ℕ) (pipes : List (List ℕ)) (w : Work) → w.cut ≡ false
     → (all_done h (beginning identity pipes) w).writes ≡ w.writes

@@ -37,6 +37,7 @@ use Rattle.node_sites.specs.Numbers.{IsNumbered, AreNumbered, CountsFew, StaysCo
 use Rattle.node_sites.specs.Numbers.{as_told}
 use Rattle.node_sites.specs.declared.noted.Noted.{Noted as Kept}
 use Rattle.node_sites.specs.WorldNodes.{IsNotedSo, IsNotedBehind}
+use Rattle.link_laws.proofs.Cases.{by_test}
 
 end_link : (h : ℕ) (who : Side) → (end_of h who).link ≡ h
 end_link h Controller = refl
@@ -213,18 +214,10 @@ module _ (session : ℕ → ℕ) where
       }
 
   late_of : (p : Port) → IsOf p → IsOf (reset_late p)
-  late_of p q = go (is_late p) refl
-    where
-      go : (b : Bool) → is_late p ≡ b → IsOf (reset_late p)
-      go true z = rw z q
-      go false z = rw z q
+  late_of p q = by_test (is_late p) (λ z. rw z q) (λ z. rw z q)
 
   late_noted : (core : Core) (p : Port) → IsOf p → StaysCounted p.side (Some (Reset None)) → AreNumbered session (told_late core p)
-  late_noted core p q few = go (is_late p) refl
-    where
-      go : (b : Bool) → is_late p ≡ b → AreNumbered session (told_late core p)
-      go true z = rw z (told_numbered core p (Some (Reset None)) q few)
-      go false z = rw z tt
+  late_noted core p q few = by_test (is_late p) (λ z. rw z (told_numbered core p (Some (Reset None)) q few)) (λ z. rw z tt)
 
   -- all notices that come to their hundredth tick
   all_late : (core : Core) (ports : List Port) → AllByRecursion IsOf ports
@@ -249,18 +242,10 @@ module _ (session : ℕ → ℕ) where
       }
 
   forgets_of : (ports : List Port) (p : Port) → IsOf p → IsOf (forgets ports p)
-  forgets_of ports p q = go (is_forgotten ports (asked_at p)) refl
-    where
-      go : (b : Bool) → is_forgotten ports (asked_at p) ≡ b → IsOf (forgets ports p)
-      go true z = rw z q
-      go false z = rw z q
+  forgets_of ports p q = by_test (is_forgotten ports (asked_at p)) (λ z. rw z q) (λ z. rw z q)
 
   without_of : (p : Port) → IsOf p → IsOf (without_notice p)
-  without_of p q = go (is_over p) refl
-    where
-      go : (b : Bool) → is_over p ≡ b → IsOf (without_notice p)
-      go true z = rw z q
-      go false z = rw z q
+  without_of p q = by_test (is_over p) (λ z. rw z q) (λ z. rw z q)
 
   -- ## Steps
 
@@ -376,11 +361,10 @@ as_noted n sessions start t told = record { are = λ off. by n.sessions (told of
         → (k ≡ sessions) × (n.entries.items ≡ start ++ map (with_session_number (session_at sessions)) t)
     by k q =
         let same : k ≡ sessions = cc in
-        let M : List ℕ → Type 0 = λ ks. map (with_swapped_number (session_at ks)) n.entries.items ≡ map f start ++ map unnumbered t in
         let rest : map (with_swapped_number (session_at k)) n.entries.items ≡ map f start ++ map unnumbered t = cc in (
           same,
           sym (all_twice (session_at sessions) n.entries.items)
-              ∙ (ap (map f) (subst M same rest)
+              ∙ (ap (map f) (rw same at rest)
               ∙ (map-append f (map f start) (map unnumbered t)
               ∙ ap₂ (λ x y. x ++ y) (all_twice (session_at sessions) start) (noted_back (session_at sessions) t))),
         )

@@ -66,8 +66,7 @@ all_read (suc most) m n ok none (inl done) = done
 all_read (suc most) m n ok none (inr (inl failed)) = absurd (true≢false (sym (one_read m n false none failed.1).0))
 all_read (suc most) m n ok none (inr (inr rest)) =
     let first = (one_read m rest.0 true none rest.1).1 in
-    let N : Memory → Type 0 = λ x. x.failing_read ≡ None in
-    let later = all_read most rest.0 n ok (subst N (sym first) none) rest.2 in
+    let later = all_read most rest.0 n ok (rw (← first) at none) rest.2 in
     (later.0, later.1 ∙ first)
 
 -- ## What stands in the memory
@@ -110,8 +109,7 @@ module _ (m : Memory) (may : IsSoundMemory m) where
       → AreMade WritesAsPlanned (boot_writes m.content) m ok n
   written_as ok n h =
       let A : Memory → List Write → Type 0 = λ x ws. AreMade WritesAsPlanned ws x ok n in
-      let B : Memory → Type 0 = λ x. A x (ready_writes m.content) in
-      subst (A m) (ready_as_boot m.content may.version) (subst B (all_read 37 m h.read true may.reads h.behind).1 h.made)
+      subst (A m) (ready_as_boot m.content may.version) (rw (all_read 37 m h.read true may.reads h.behind).1 at h.made)
 
   -- all writes went through, or one of them failed
   pub boots_so : (n : Memory) → HasWritten ReadsAsPlanned WritesAsPlanned (λ (x : Memory). x.content) (ready_writes m.content) m true n
@@ -231,10 +229,8 @@ module _ (m : Memory) (near : ℕ → NumberedEnd) (h : ℕ) (why : Loss) where
       → IsNodePlace (On n) m node near → IsNodePlace (On n2) m (counts why h node) near
   counted n n2 None broken memory runs place = absurd place
   counted n n2 (Some r) broken memory runs place =
-      let O : Option Running → Type 0 = λ o. IsNodePlace (On n2) m o near in
-      let R : List Port → Type 0 = λ ps. RunsAs n2 r.core ps in
-      subst O (sym (counts_one why h r broken)) (
+      rw (counts_one why h r broken) (
         memory ∙ place.0,
-        subst R (error_ends h near r.desks) (runs r.core (map (λ (d : Desk). port_for (near d.host) d) r.desks) place.1),
+        rw (error_ends h near r.desks) at (runs r.core (map (λ (d : Desk). port_for (near d.host) d) r.desks) place.1),
         still_sent h near r.desks place.2,
       )

@@ -1,15 +1,11 @@
-use Rattle.std.proofs.Common.{◌≡◌, ℕ, ◌+◌, cond, List, ◌∷◌, [], ◌++◌, sym, ap, ◌∙◌, subst}
+use Rattle.std.proofs.Common.{◌≡◌, ℕ, ◌+◌, cond, List, ◌∷◌, [], ◌++◌, sym, ap, ◌∙◌}
 use Rattle.std.specs.Prelude.{Some, None, Ok}
 use Rattle.swp_base.specs.declared.control_frames.Control.{Control as Frame}
 use Rattle.swp_lpdu.specs.Controls.{control_of}
 use Rattle.trace_model.specs.declared.entry.Entry.TheVariants as entry
-use Rattle.trace_model.specs.declared.line.End.{End}
 use Rattle.trace_model.specs.Ends.{other_end}
-use Rattle.link_laws.specs.sessions.Sessions.{OnWire, fits}
-use Rattle.link_laws.specs.entries.Entries.{pushed_out}
+use Rattle.link_laws.specs.sessions.Sessions.{OnWire}
 use Rattle.link_wires.specs.declared.wire.Flying.{Flying}
-use Rattle.link_wires.specs.Notes.{side_of, AreNoted}
-use Rattle.link_wires.specs.Wires.{WireStandsFor}
 use Rattle.link_wires.proofs.Results.{none_is}
 use Rattle.link_wires.proofs.Wires.{IsPutLast, has_room, was_full, not_full}
 use Rattle.link_wires.proofs.GoingOut.{IsNumbered, put_is, flying_is, made_is}
@@ -48,12 +44,9 @@ returns-in_ok-push-2-clause-stands c l frame h is read =
     let numbers = numbered (goal.at.returns-in_ok-push-2-clause-stands c).After-push_back frame read in
     let put : IsPutLast c.args.wire.now b.new.self flying (Some c.in-Some.lost) =
     record { out_is = sym c.in-Some.is ∙ b.ensures.value; new_is = b.ensures.items } in
-    let P : End → Type 0 = λ z. WireStandsFor b.new.self (fits (l.to_host ++ x ∷ []))
-    × AreNoted z c.push.new.self.items c.push-in-Some.new.self.items (pushed_out (side_of z) (l.to_host ++ x ∷ [])) in
     put_is c.args.at c.args.entries.now.items h numbers
     (c.in_ok-push.ensures.items ∙ ap (λ (b : List ℕ). c.args.entries.now.items ++ entry.Emit c.args.at b ∷ []) (c.copied.ensures ∙ is))
-    (subst P c.other.ensures
-    (was_full l.to_host x c.other.result c.push.new.self.items h.wire_is (flying_is c.args.lpdu frame k is)
+    (rw c.other.ensures at (was_full l.to_host x c.other.result c.push.new.self.items h.wire_is (flying_is c.args.lpdu frame k is)
     (made_is c.args.lpdu frame k (c.args.resets.now + 1) is read numbers.number_is) put c.in_ok-push-2.ensures.items))
 
 pub returns-in_default-clause-stands : goal.returns-in_default-clause-stands

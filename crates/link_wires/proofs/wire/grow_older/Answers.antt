@@ -1,5 +1,5 @@
-use Rattle.std.proofs.Common.{◌≡◌, ℕ, suc, ◌+◌, ◌-◌, subst, arith}
-use Rattle.link_wires.proofs.Wires.{Aging, aging_starts, aging_goes_on, aging_ends}
+use Rattle.std.proofs.Common.{◌≡◌, suc, ◌+◌, ◌-◌, arith}
+use Rattle.link_wires.proofs.Wires.{aging_starts, aging_goes_on, aging_ends}
 use Rattle.link_wires.proofs.wire.grow_older.Goals as goal
 
 pub loop-init : goal.loop-init
@@ -9,11 +9,9 @@ loop-init c frames w =
 pub loop-preserved : goal.loop-preserved
 loop-preserved c frames w =
     let left : c.len-end.result - c.loop.counter ≡ suc (c.len-end.result - (c.loop.counter + 1)) = omega (arith, c.loop-test.true) in
-    let P : ℕ → Type 0 = λ n. Aging c.args.to frames c.loop.wire c.args.entries.now.items c.loop.entries.items n in
-    aging_goes_on (subst P left (c.loop.invariant frames w)) c.in_ok-age_first.ensures
+    aging_goes_on (rw left at (c.loop.invariant frames w)) c.in_ok-age_first.ensures
 
 pub returns : goal.returns
 returns c frames w =
     let none : c.len-end.result - c.loop.counter ≡ 0 = omega (arith, c.loop-test.false) in
-    let P : ℕ → Type 0 = λ n. Aging c.args.to frames c.loop.wire c.args.entries.now.items c.loop.entries.items n in
-    aging_ends (subst P none (c.loop.invariant frames w))
+    aging_ends (rw none at (c.loop.invariant frames w))

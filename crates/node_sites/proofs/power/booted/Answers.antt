@@ -1,11 +1,8 @@
-use Rattle.std.proofs.Common.{◌≡◌, true, ℕ, List, length, map, refl, sym, ap, ◌∙◌, subst}
-use Rattle.swp_base.specs.InMemory.{Memory, ReadsAsPlanned, WritesAsPlanned}
-use Rattle.journal_laws.specs.Planned.{fails_within, after_planned}
+use Rattle.std.proofs.Common.{◌≡◌, ℕ, List, length, map, refl, sym, ap, ◌∙◌, subst}
+use Rattle.swp_base.specs.InMemory.{Memory}
 use Rattle.node_machine.specs.Parts.{Core}
-use Rattle.node_machine.specs.Node.{boot_writes}
 use Rattle.node_ends.specs.Making.{new_port}
-use Rattle.node_core.specs.declared.booting.BootFault.{BootFault}
-use Rattle.node_core.specs.Booting.{IsBootRefused, hosts_linked, role_at}
+use Rattle.node_core.specs.Booting.{hosts_linked, role_at}
 use Rattle.node_core.specs.Running.{RunsAs}
 use Rattle.node_sites.specs.Memories.{IsSoundMemory}
 use Rattle.node_sites.specs.WorldBoots.{EndsBoot}
@@ -31,20 +28,14 @@ pub of-requires-in-Journal : goal.of-requires-in-Journal
 of-requires-in-Journal c =
     let m : Memory = c.into_nv.result in
     let same : m ≡ _ = c.into_nv.ensures.nv ∙ c.into_memory.ensures in
-    let P : BootFault → Type 0 = λ f. IsBootRefused ReadsAsPlanned WritesAsPlanned (λ (x : Memory). x.faults) true (λ (x : Memory). x.content) m
-    c.in-Err.field-0.nv f in
     let refused = refused_so m (subst IsSoundMemory (sym same) c.requires.memory) (λ (x : Memory). x.faults) c.in-Err.field-0.nv
-    c.in-Journal.field-0 (subst P c.in-Journal.is c.in-Err.ensures.refused) in
+    c.in-Journal.field-0 (rw c.in-Journal.is at c.in-Err.ensures.refused) in
     ap (λ (x : Memory). length x.content) refused.1 ∙ size_kept m c.into_nv.ensures.size
 
 pub returns-in-Journal-clause-booted : goal.returns-in-Journal-clause-booted
 returns-in-Journal-clause-booted c =
     let m : Memory = c.into_nv.result in
     let same : m ≡ _ = c.into_nv.ensures.nv ∙ c.into_memory.ensures in
-    let P : BootFault → Type 0 = λ f. IsBootRefused ReadsAsPlanned WritesAsPlanned (λ (x : Memory). x.faults) true (λ (x : Memory). x.content) m
-    c.in-Err.field-0.nv f in
     let refused = refused_so m (subst IsSoundMemory (sym same) c.requires.memory) (λ (x : Memory). x.faults) c.in-Err.field-0.nv
-    c.in-Journal.field-0 (subst P c.in-Journal.is c.in-Err.ensures.refused) in
-    let E : Memory → Type 0 = λ x. (fails_within (length (boot_writes x.content)) x.plan ≡ true)
-    × (c.of-in-Journal.result ≡ after_planned (boot_writes x.content) x) in
-    subst E same (refused.0, c.of-in-Journal.ensures ∙ refused.1)
+    c.in-Journal.field-0 (rw c.in-Journal.is at c.in-Err.ensures.refused) in
+    rw (← same) (refused.0, c.of-in-Journal.ensures ∙ refused.1)

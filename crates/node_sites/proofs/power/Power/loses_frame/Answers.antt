@@ -1,4 +1,4 @@
-use Rattle.std.proofs.Common.{ℕ, ap, map, sym, subst, ◌∙◌}
+use Rattle.std.proofs.Common.{ℕ, ap, map, sym, ◌∙◌}
 use Rattle.std.specs.Prelude.{Option, Some, None}
 use Rattle.swp_base.specs.InMemory.{Memory}
 use Rattle.link_laws.specs.messages.Links.{NumberedEnd}
@@ -6,7 +6,6 @@ use Rattle.node_machine.specs.Parts.{Desk, Running}
 use Rattle.node_machine.specs.world.World.{port_for}
 use Rattle.node_core.specs.declared.node.Node.{Node}
 use Rattle.node_core.specs.Running.{RunsAs}
-use Rattle.node_sites.specs.declared.power.Power.{Power}
 use Rattle.node_sites.specs.declared.power.Power.TheVariants.{On}
 use Rattle.node_sites.specs.Powers.{IsNodePlace}
 use Rattle.node_sites.proofs.Powers.{counted, plain, while_off}
@@ -24,8 +23,7 @@ runs_here n m None near place = absurd place
 pub refused-requires : goal.refused-requires
 refused-requires c =
     let q = c.requires.state in
-    let P : Power → Type 0 = λ k. IsNodePlace k q.0 q.1 q.2 in
-    let here = runs_here c.in-On.node q.0 q.1 q.2 (subst P c.in-On.is q.3) in
+    let here = runs_here c.in-On.node q.0 q.1 q.2 (rw c.in-On.is at q.3) in
     record { runs = (here.r.core, _, here.runs) }
 
 pub returns-then-not-is_refusal : goal.returns-then-not-is_refusal
@@ -34,9 +32,8 @@ returns-then-not-is_refusal c m node near why place cause =
 
 pub returns-in-On : goal.returns-in-On
 returns-in-On c m node near why place cause =
-    let P : Power → Type 0 = λ k. IsNodePlace k m node near in
     counted m near c.args.host why c.in-On.node c.refused.new.self node (sym (c.is_refusal.ensures why cause) ∙ c.if-not-is_refusal.false)
-    (ap (λ s. s.journal.nv) c.refused.ensures.store) c.refused.ensures.runs (subst P c.in-On.is place)
+    (ap (λ s. s.journal.nv) c.refused.ensures.store) c.refused.ensures.runs (rw c.in-On.is at place)
 
 pub returns-in_default : goal.returns-in_default
 returns-in_default c m node near why place cause = while_off m near c.args.host why c.args.self.now node c.in_default.not-On place
