@@ -1,9 +1,9 @@
 -- What is known of the controller by what is kept of it, and what comes to its ends.
-use Rattle.std.proofs.Common.{◌≡◌, ℕ, ◌+◌, ◌<◌, ◌^◌, ◌==◌, true, false, List, [], ◌∷◌, ◌++◌, get_or, map, refl, ap, ap₂, sym, subst, ◌∙◌, length}
+use Rattle.std.proofs.Common.{◌≡◌, ℕ, ◌==◌, true, false, List, [], ◌∷◌, ◌++◌, get_or, map, refl, ap, ap₂, sym, subst, ◌∙◌, length}
 use Rattle.std.specs.Prelude.{Option, Some, None, slice_set}
 use Rattle.std.specs.List.{AllByRecursion}
 use Rattle.node_world.proofs.Words.{AreDifferent, AreTimely, AsksReset, AtController, Clf, Comes, Core, CutOff, Desk, EndsBoot, Entry, HaveRoom, HostSite}
-use Rattle.node_world.proofs.Words.{IfOff, IsNodePlace, IsThere, Link, LinkEnd, LinkInput, MayGoOn, Memory, NextFrame, NoInput, Node, NumberedEnd, Off, On}
+use Rattle.node_world.proofs.Words.{IsNodePlace, IsThere, Link, LinkEnd, LinkInput, MayGoOn, Memory, NextFrame, NoInput, Node, NumberedEnd, Off, On}
 use Rattle.node_world.proofs.Words.{OnWire, Port, Power, Running, RunsAs, Site, SiteIs, SitesAre, StandsAt, Starts, Step, Stops, Wires, WiresStandFor}
 use Rattle.node_world.proofs.Words.{WorldBecomes, after_planned, as_it_comes, as_it_comes_to, between, boot_writes, boots, changed_if, comes_at, comes_to}
 use Rattle.node_world.proofs.Words.{count_of, end_c, fails_within, found, happens, happens_at_controller, input_of, kept_alike, kept_is, link_is, link_to}
@@ -27,8 +27,7 @@ pub record PlaceIsOn (m : Memory) (node : Option Running) (near : ℕ → Number
 pub place_is_on : (k : Power) (m : Memory) (node : Option Running) (near : ℕ → NumberedEnd) (n : Node Memory) → k ≡ On n
     → IsNodePlace k m node near → PlaceIsOn m node near n
 place_is_on k m node near n q place =
-    let Q : Power → Type 0 = λ a. IsNodePlace a m node near in
-    go node refl (subst Q q place)
+    go node refl (rw q at place)
   where
     go : (o : Option Running) → node ≡ o → IsNodePlace (On n) m o near → PlaceIsOn m node near n
     go (Some r) runs p = record { running = r; runs = runs; place = p }
@@ -111,9 +110,8 @@ comes_there i h comes ks sites s new p different is a now =
     let all : as_it_comes_to h comes sites ≡ p.front ++ record s { link = as_it_comes s.link comes } ∷ p.back =
     ap (as_it_comes_to h comes) parts ∙ (map-parts f p.front s p.back ∙ (ap (λ xs. xs ++ f s ∷ map f p.back) front
     ∙ (ap (λ x. p.front ++ x ∷ map f p.back) one ∙ ap (λ xs. p.front ++ record s { link = as_it_comes s.link comes } ∷ xs) back))) in
-    let S : List Site → Type 0 = λ xs. SitesAre (slice_set ks i new) xs in
     let before : SitesAre ks (p.front ++ s ∷ p.back) = subst (SitesAre ks) parts a in
-    subst S (sym all) (written_there ks p.front s (record s { link = as_it_comes s.link comes }) p.back i new p.place before now)
+    rw all (written_there ks p.front s (record s { link = as_it_comes s.link comes }) p.back i new p.place before now)
 
 -- what is kept of the one that is changed
 pub changed_there : (i h : ℕ) (f : Site → Site) (ks : List HostSite) (sites : List Site) (s : Site) (new : HostSite) (p : StandsAt i h sites)
@@ -131,17 +129,15 @@ changed_there i h f ks sites s new p different is a now =
     let all : with_site h f sites ≡ p.front ++ f s ∷ p.back =
     ap (with_site h f) parts ∙ (map-parts g p.front s p.back ∙ (ap (λ xs. xs ++ g s ∷ map g p.back) front
     ∙ (ap (λ x. p.front ++ x ∷ map g p.back) one ∙ ap (λ xs. p.front ++ f s ∷ xs) back))) in
-    let S : List Site → Type 0 = λ xs. SitesAre (slice_set ks i new) xs in
     let before : SitesAre ks (p.front ++ s ∷ p.back) = subst (SitesAre ks) parts a in
-    subst S (sym all) (written_there ks p.front s (f s) p.back i new p.place before now)
+    rw all (written_there ks p.front s (f s) p.back i new p.place before now)
 
 -- what is kept of it while nothing comes
 pub stays_there : (i h : ℕ) (ks : List HostSite) (sites : List Site) (s : Site) (new : HostSite) (p : StandsAt i h sites) → p.site ≡ s
     → SitesAre ks sites → SiteIs new s → SitesAre (slice_set ks i new) sites
 stays_there i h ks sites s new p is a now =
     let parts : sites ≡ p.front ++ s ∷ p.back = p.is ∙ ap (λ x. p.front ++ x ∷ p.back) is in
-    let S : List Site → Type 0 = λ xs. SitesAre (slice_set ks i new) xs in
-    subst S (sym parts) (written_there ks p.front s s p.back i new p.place (subst (SitesAre ks) parts a) now)
+    rw parts (written_there ks p.front s s p.back i new p.place (subst (SitesAre ks) parts a) now)
 
 -- what is kept of the host at a place
 pub site_read : (i h : ℕ) (ks : List HostSite) (sites : List Site) (s : Site) (k : HostSite) (p : StandsAt i h sites) → p.site ≡ s
@@ -165,18 +161,16 @@ come_far l NoInput = refl
 pub site_with : (k : HostSite) (wires : Wires) (s : Site) (l : Link) → l.host ≡ s.link.host → WiresStandFor wires l → SiteIs k s
     → SiteIs (record k { wires = wires }) (record s { link = l })
 site_with k wires s l same w a =
-    let Q : NumberedEnd → Type 0 = λ e. IsNodePlace k.power s.memory s.node (λ h. e) in
-    record { host = a.host; wires = w; place = subst Q (sym same) a.place }
+    record { host = a.host; wires = w; place = rw (← same) at a.place }
 
 -- where all links have as many RSETs, there is as much room
 pub room_kept : (ks news : List HostSite) (sites after : List Site) → SitesAre ks sites → SitesAre news after
     → map (λ (s : Site). s.link.resets) after ≡ map (λ (s : Site). s.link.resets) sites → HaveRoom ks → HaveRoom news
 room_kept [] [] [] [] a b q r = tt
 room_kept (k ∷ ks) (n ∷ news) (s ∷ sites) (t ∷ after) a b q r =
-    let N : ℕ → Type 0 = λ m. m + 17 < 2 ^ 32 in
     let one : t.link.resets ≡ s.link.resets = cc in
     let rest : map (λ (s : Site). s.link.resets) after ≡ map (λ (s : Site). s.link.resets) sites = cc in
-    (subst N (a.0.wires.count ∙ (sym one ∙ sym b.0.wires.count)) r.0, room_kept ks news sites after a.1 b.1 rest r.1)
+    (rw (a.0.wires.count ∙ (sym one ∙ sym b.0.wires.count)) at r.0, room_kept ks news sites after a.1 b.1 rest r.1)
 room_kept ks (n ∷ news) sites [] a b q r = absurd b
 room_kept ks [] sites (t ∷ after) a b q r = absurd b
 room_kept (k ∷ ks) news [] after a b q r = absurd a
@@ -222,15 +216,13 @@ module _ (w : NodeWorld) (h : ℕ) (may : MayGoOn w) (there : IsThere h w) (i : 
   pub sites_with : (comes : Comes) (new : Wires) → WiresStandFor new (as_it_comes (link_to w.sites h) comes)
       → SitesAre (slice_set ks i (record k { wires = new })) (as_it_comes_to h comes w.sites)
   sites_with comes new stand =
-      let W : Link → Type 0 = λ l. WiresStandFor new (as_it_comes l comes) in
       comes_there i h comes ks w.sites there.0 (record k { wires = new }) st may.orderly.different is all
-      (site_with k new there.0 (as_it_comes there.0.link comes) (come_far there.0.link comes) (subst W link stand) here)
+      (site_with k new there.0 (as_it_comes there.0.link comes) (come_far there.0.link comes) (rw link at stand) here)
 
   -- nothing has
   pub sites_still : (new : Wires) → WiresStandFor new (link_to w.sites h) → SitesAre (slice_set ks i (record k { wires = new })) w.sites
   sites_still new stand =
-      let W : Link → Type 0 = λ l. WiresStandFor new l in
-      stays_there i h ks w.sites there.0 (record k { wires = new }) st is all (site_with k new there.0 there.0.link refl (subst W link stand) here)
+      stays_there i h ks w.sites there.0 (record k { wires = new }) st is all (site_with k new there.0 there.0.link refl (rw link at stand) here)
 
 -- The power of the controller is cut, or it boots: what is kept stands for the world behind that.
 
@@ -244,8 +236,7 @@ all_left [] (s ∷ sites) a = absurd a
 all_left (k ∷ ks) [] a = absurd a
 all_left (k ∷ ks) (s ∷ sites) a =
     let g = goes_on s.link NoInput None [] refl tt in
-    let Q : NumberedEnd → Type 0 = λ e. IsNodePlace k.power s.memory s.node (λ h. e) in
-    (record { host = a.0.host; wires = same_stand (cut_same g) a.0.wires; place = subst Q (sym (far s.link)) a.0.place }, all_left ks sites a.1)
+    (record { host = a.0.host; wires = same_stand (cut_same g) a.0.wires; place = rw (← far s.link) at a.0.place }, all_left ks sites a.1)
   where
     far : (l : Link) → (happens_at_controller l (Step NoInput [] CutOff)).host ≡ l.host
     far l =
@@ -283,11 +274,10 @@ boot_stops w q = rw q refl
 new_sides : (w : NodeWorld) (sites : List Site) → w.controller ≡ None → AreTimely w → AllByRecursion (λ (x : Site). site_at w.sites x.host ≡ Some x) sites
     → AllByRecursion (λ h. (link_to w.sites h).controller.side ≡ new_link_end (Clf new_clf)) (hosts_in sites)
 new_sides w [] off timely a = tt
-new_sides w (x ∷ sites) off timely a =
-    let Off : Option Running → Type 0 = λ o. IfOff o (new_link_end (Clf new_clf)) x.link.controller.side in (
-      ap (λ (l : Link). l.controller.side) (link_is w.sites x.host x a.0) ∙ subst Off off (timely x.host x a.0).controller,
-      new_sides w sites off timely a.1,
-    )
+new_sides w (x ∷ sites) off timely a = (
+  ap (λ (l : Link). l.controller.side) (link_is w.sites x.host x a.0) ∙ rw off at (timely x.host x a.0).controller,
+  new_sides w sites off timely a.1,
+)
 
 new_ends : (near : ℕ → NumberedEnd) (hosts : List ℕ) → AllByRecursion (λ h. (near h).side ≡ new_link_end (Clf new_clf)) hosts
     → map between (map (new_port named.Clf) hosts) ≡ map between (map (λ (d : Desk). port_for (near d.host) d) (map new_desk hosts))

@@ -76,10 +76,8 @@ sent_everywhere (h ∷ hosts) (p ∷ ports) d q =
     let rest : hosts_of_ends ports ≡ hosts = cc in
     let there : (p.desk.host == h) ≡ true = ap (λ n. n == h) host ∙ same_number h in
     let first : changed_if (p.desk.host == h) sent_port p ≡ sent_port p = rw there refl in
-    let D : List ℕ → Type 0 = λ hs. AllByRecursion (λ k. (k == h) ≡ false) hs in
-    let now : with_port h sent_port (p ∷ ports) ≡ sent_port p ∷ ports = ap₂ (λ (x : Port) xs. x ∷ xs) first (none ports (subst D (sym rest) d.0)) in
-    let F : ℕ → Type 0 = λ n. AllByRecursion (λ k. (k == n) ≡ false) hosts in
-    let others : AllByRecursion (λ k. (k == p.desk.host) ≡ false) hosts = subst F (sym host) d.0 in
+    let now : with_port h sent_port (p ∷ ports) ≡ sent_port p ∷ ports = ap₂ (λ (x : Port) xs. x ∷ xs) first (none ports (rw (← rest) at d.0)) in
+    let others : AllByRecursion (λ k. (k == p.desk.host) ≡ false) hosts = rw (← host) at d.0 in
     ap (sent_to hosts) now ∙ (past hosts (sent_port p) ports others ∙ ap (λ xs. sent_port p ∷ xs) (sent_everywhere hosts ports d.1 rest))
   where
     none : (xs : List Port) → AllByRecursion (λ k. (k == h) ≡ false) (hosts_of_ends xs) → with_port h sent_port xs ≡ xs
@@ -187,8 +185,7 @@ module _ (v : Work) (starts out : Site → Link) (so : Site → Ending → Link)
 
   placed : (k : HostSite) (s : Site) (l m : Link) → m.host ≡ l.host → WiresStandFor k.wires m → Near k s l → Near k s m
   placed k s l m q wires a =
-      let Q : NumberedEnd → Type 0 = λ e. IsNodePlace k.power s.memory s.node (λ h. e) in
-      record { host = a.host; wires = wires; place = subst Q (sym q) a.place }
+      record { host = a.host; wires = wires; place = rw (← q) at a.place }
 
   pub midway_stands : (ks : List HostSite) (sites : List Site) (a : EachSteps sites) → SitesAre ks (map starts_so sites) → SitesAre ks (midway sites a)
   midway_stands [] [] a b = tt
@@ -207,12 +204,9 @@ module _ (v : Work) (starts out : Site → Link) (so : Site → Ending → Link)
       one =
           let e : EndSteps v s (starts s) (out s) (so s) = a.0 in
           let due : due_at v.ports s.host ≡ frames_out e.port.side = ap (λ o. option_map_or (λ (p : Port). frames_out p.side) o []) e.here in
-          let F : List Control → Type 0 = λ cs. Near k s (put_all e.link cs) in
-          let sent : Near k s (put_all e.link (frames_out e.port.side)) = subst F due b.0 in
+          let sent : Near k s (put_all e.link (frames_out e.port.side)) = rw due at b.0 in
           let w = sent.wires in
-          let L : Link → Type 0 = λ l. Near k s l in
-          subst L (sym e.goes_out)
-          (record {
+          rw e.goes_out (record {
             host = sent.host;
             wires = record {
               here = record { emitted_is = w.here.emitted_is; took_is = w.here.took_is; wire_is = w.here.wire_is };
@@ -236,9 +230,7 @@ module _ (v : Work) (starts out : Site → Link) (so : Site → Ending → Link)
           let same : SameWires (with_bare_wires e.link) (with_bare_wires m) =
           record { to_controller = refl; to_host = refl; resets = refl; controller = (refl, refl); host = (refl, refl) } in
           let gone : SameWires (with_bare_wires e.link) (cut m) = same_twice same (silent_same m (new_link_end (renewed m.controller.side.role))) in
-          let L : Link → Type 0 = λ l. Near k s l in
-          subst L (sym e.goes_off)
-          (placed k s (with_bare_wires e.link) (cut m) (ended_far m (is_up m.controller.side.shdlc.phase)) (same_stand gone b.0.wires) b.0)
+          rw e.goes_off (placed k s (with_bare_wires e.link) (cut m) (ended_far m (is_up m.controller.side.shdlc.phase)) (same_stand gone b.0.wires) b.0)
 
 -- What is kept of the controller and of all hosts stands for the world behind a step of the controller.
 
@@ -365,7 +357,7 @@ pub ends_sent : (near far : ℕ → NumberedEnd) (desks : List Desk) → ((h : �
     → AllByRecursion (λ (p : Port). next_frame p.side ≡ None) (map (λ (d : Desk). port_for (far d.host) d) desks)
 ends_sent near far [] q a = tt
 ends_sent near far (d ∷ desks) q a =
-    let P : LinkEnd → Type 0 = λ e. next_frame e ≡ None in (subst P (q d.host) a.0, ends_sent near far desks q a.1)
+    (rw (q d.host) at a.0, ends_sent near far desks q a.1)
 
 pub ends_fresh : (near : ℕ → NumberedEnd) (desks : List Desk)
     → AllByRecursion (λ (p : Port). (p.late ≡ false) × (p.ended ≡ false)) (map (λ (d : Desk). port_for (near d.host) d) desks)
@@ -474,9 +466,7 @@ module _ (w : NodeWorld) (r : Running) (h : ℕ) (comes : Comes) (i : LinkInput)
   numbers_of sessions (d ∷ desks) (x ∷ sites) q a b =
       let host : d.host ≡ x.host = cc in
       let rest : map (λ (d : Desk). d.host) desks ≡ hosts_in sites = cc in
-      let N : ℕ → Type 0 = λ k. number_of (near k) ≡ get_or sessions k 0 in
-      let L : Link → Type 0 = λ l. number_of (near_end_in l (comes_to h comes x.host)) ≡ get_or sessions x.host 0 in
-      (subst N (sym host) (subst L (sym (link_is w.sites x.host x a.0)) b.0), numbers_of sessions desks sites rest a.1 b.1)
+      (rw (← host) at (rw (← link_is w.sites x.host x a.0) at b.0), numbers_of sessions desks sites rest a.1 b.1)
 
   pub numbered : (sessions : List ℕ) → AreSessions sessions (as_it_comes_to h comes w.sites) → FewAreCounted (AtEnd h i) w
       → AreNumbered (λ k. get_or sessions k 0) Then.entries
@@ -530,14 +520,12 @@ module _ (w : NodeWorld) (r : Running) (h : ℕ) (comes : Comes) (i : LinkInput)
       → node_memory n ≡ after_planned Then.writes w.memory → RunsAs n Then.core Then.ports
       → GoesOnWith k ks n Then mid_sites before now → Becomes k ks before now
   step_went_on k ks n before now on memory run g =
-      let B : NodeWorld × List Entry → Type 0 = λ x. WorldBecomes k ks before now x in
-      subst B (sym step_is) (went_on w Then starts out so may.orderly.different hosts_then each k ks n before now on memory run g)
+      rw step_is (went_on w Then starts out so may.orderly.different hosts_then each k ks n before now on memory run g)
 
   pub step_went_off : (k : Power) (ks : List HostSite) (n : Node Memory) (before now : List Entry) → Then.cut ≡ true
       → node_memory n ≡ after_planned Then.writes w.memory → WentOffWith k ks n Then mid_sites before now → Becomes k ks before now
   step_went_off k ks n before now off memory g =
-      let B : NodeWorld × List Entry → Type 0 = λ x. WorldBecomes k ks before now x in
-      subst B (sym step_is) (went_off w Then starts out so may.orderly.different hosts_then each k ks n before now off memory g)
+      rw step_is (went_off w Then starts out so may.orderly.different hosts_then each k ks n before now off memory g)
 
   -- the step ends in either way
   pub step_ends : {T F : Type 0} (result : Result T F) (live : Bool) (k : Power) (ks : List HostSite) (old n : Node Memory) (before now : List Entry)

@@ -4,7 +4,7 @@ use Rattle.std.specs.Prelude.{Option, Some, None, length, replicate, unwrap_or, 
 use Rattle.std.specs.List.{AllByRecursion}
 use Rattle.node_world.proofs.Words.{AreSendable, AsksReset, AtEnd, Comes, CountsFew, Desk, FewOn, FewOnEach, Happening, IsFromOutside, Link, LinkEnd}
 use Rattle.node_world.proofs.Words.{LinkInput, Message, NextFrame, NoInput, NumberedEnd, OnWire, Port, Reset, Site, Starts, StaysCounted, Stops, Tick}
-use Rattle.node_world.proofs.Words.{TimePasses, after_input, has_come, input_at, link_to, near_end_in, port_for, site_at, taken_of, took_with}
+use Rattle.node_world.proofs.Words.{TimePasses, after_input, has_come, input_at, link_to, near_end_in, port_for, taken_of, took_with}
 use Rattle.link_laws.specs.machine.Machine.Role.{Bare}
 use Rattle.link_laws.specs.messages.Links.{new_link}
 use Rattle.node_world.specs.Bounds.{AcksWithin, AckWithin}
@@ -34,17 +34,6 @@ resets_fit n l q f = let r = f.resets in omega (arith, q, r)
 
 new_few : (n : ℕ) → FewOn n (new_link Bare Bare)
 new_few n = record { resets = omega arith; controller = omega arith; host = omega arith }
-
-pub few_at_site : (n h : ℕ) (s : Site) (sites : List Site) → FewOnEach n sites → site_at sites h ≡ Some s → FewOn n s.link
-few_at_site n h s [] a q = cc
-few_at_site n h s (x ∷ sites) a q = go (x.host == h) refl (few_at_site n h s sites a.1)
-  where
-    go : (b : Bool) → (x.host == h) ≡ b → (site_at sites h ≡ Some s → FewOn n s.link) → FewOn n s.link
-    go true r later =
-        let is : Some x ≡ Some s = rw r at q in
-        let one : x ≡ s = cc in
-        subst (λ (y : Site). FewOn n y.link) one a.0
-    go false r later = later (rw r at q)
 
 -- the link to any host
 pub few_to : (n h : ℕ) (sites : List Site) → FewOnEach n sites → FewOn n (link_to sites h)

@@ -14,7 +14,6 @@ use Rattle.node_world.proofs.Words.{renewed, same_number, sent_all, sent_port, s
 use Rattle.node_world.proofs.Words.{with_bare_wires, with_controller, with_ended, work_of}
 use Rattle.link_laws.specs.machine.Machine.{started, deactivated}
 use Rattle.link_laws.specs.messages.Links.{becomes, silent}
-use Rattle.link_wires.specs.Wires.{WireStandsFor}
 use Rattle.node_laws.proofs.telling.Steps.{IsStep, after_coming, Goes, begun, stepped, steps_keep}
 use Rattle.node_sites.specs.LinksKept.{without_first}
 use Rattle.link_laws.specs.entries.Entries.{End as Side}
@@ -27,23 +26,22 @@ use Rattle.shdlc_core.specs.declared.answers.LinkState.TheVariants.{Up}
 use Rattle.node_machine.specs.Node.{is_late}
 use Rattle.node_laws.proofs.telling.Ticks.{IfLate, TickedOfTicks as Ticked, not_late, older, ticked_of_ticks as ticked}
 use Rattle.node_laws.proofs.telling.WorldTicks.{opened as tick_opened, up_late, young_ports}
+pub use Rattle.link_laws.proofs.messages.Project.{host_ended as ended_far}
 
 -- ## The same wires
 
 pub same_stand : {k : Wires} {l m : Link} → SameWires l m → WiresStandFor k l → WiresStandFor k m
 same_stand {k} s w =
-    let C : List OnWire → Type 0 = λ ws. WireStandsFor k.controller.wire ws in
-    let H : List OnWire → Type 0 = λ ws. WireStandsFor k.host.wire ws in
     record {
       here = record {
         emitted_is = w.here.emitted_is ∙ sym s.controller.0;
         took_is = w.here.took_is ∙ sym s.controller.1;
-        wire_is = subst C (sym s.to_controller) w.here.wire_is;
+        wire_is = rw (← s.to_controller) at w.here.wire_is;
       };
       there = record {
         emitted_is = w.there.emitted_is ∙ sym s.host.0;
         took_is = w.there.took_is ∙ sym s.host.1;
-        wire_is = subst H (sym s.to_host) w.there.wire_is;
+        wire_is = rw (← s.to_host) at w.there.wire_is;
       };
       count = w.count ∙ sym s.resets;
     }
@@ -57,10 +55,6 @@ same_exchanged s = record { to_controller = s.to_host; to_host = s.to_controller
 pub ended_same : (l : Link) (b : Bool) → SameWires l (with_ended l b)
 ended_same l true = record { to_controller = refl; to_host = refl; resets = refl; controller = (refl, refl); host = (refl, refl) }
 ended_same l false = no_change l
-
-pub ended_far : (l : Link) (b : Bool) → (with_ended l b).host ≡ l.host
-ended_far l true = refl
-ended_far l false = refl
 
 pub silent_same : (l : Link) (e : LinkEnd) → SameWires (with_bare_wires l) (silent l e)
 silent_same l e = go (is_up l.controller.side.shdlc.phase)
@@ -151,10 +145,8 @@ pub cut_same : {l : Link} {comes : Comes} {turns : List Turn} {e : LinkEnd} (g :
     → SameWires (with_bare_wires (as_it_comes l comes)) (happens_at_controller l (Step comes turns CutOff))
 cut_same {l} {comes} {turns} {e} g =
     let m : Link = with_controller g.link (sent_all e) in
-    let P : Link → Type 0 = λ k. SameWires (with_bare_wires (as_it_comes l comes)) k in
     let same : SameWires g.link m = record { to_controller = refl; to_host = refl; resets = refl; controller = (refl, refl); host = (refl, refl) } in
-    subst P (sym g.cut)
-    (same_twice (emptied_same (same_twice g.wires same)) (silent_same m (new_link_end (renewed m.controller.side.role))))
+    rw g.cut (same_twice (emptied_same (same_twice g.wires same)) (silent_same m (new_link_end (renewed m.controller.side.role))))
 
 -- What a step of a node is on each of its links.
 
@@ -171,8 +163,7 @@ end_goes h who l comes o v q c a =
     let e : LinkEnd = after_coming (near_end_in l comes).side o in
     let turns : turns_at v h ≡ a.port.turns = ap (λ x. option_map_or (λ (p : Port). p.turns) x []) a.here in
     let side : a.port.side ≡ turned e (turns_at v h) = a.is ∙ ap (turned e) (sym turns) in
-    let P : LinkEnd → Type 0 = λ x. GoesOn l comes (turns_at v h) x in
-    record { port = a.port; here = a.here; session = a.session; goes = subst P (sym side) (goes_on l comes o (turns_at v h) q c) }
+    record { port = a.port; here = a.here; session = a.session; goes = rw (← side) at (goes_on l comes o (turns_at v h) q c) }
 
 -- ## The controller
 
@@ -224,11 +215,9 @@ pub out_behind : {k : Wires} {l : Link} {comes : Comes} {v : Work} {h : ℕ} (g 
     → WiresStandFor k (put_all g.goes.link (frames_out g.port.side))
     → IsBehind k l (happens_at_controller l (Step comes (turns_at v h) GoesOut)) g.port.side
 out_behind {k} {l} g w =
-    let P : Link → Type 0 = λ m. IsBehind k l m g.port.side in
     let m : Link = g.goes.link in
     let cs : List Control = frames_out g.port.side in
-    subst P (sym g.goes.out)
-    (record {
+    rw g.goes.out (record {
       wires = record {
         here = record { emitted_is = w.here.emitted_is; took_is = w.here.took_is; wire_is = w.here.wire_is };
         there = w.there;
@@ -315,9 +304,8 @@ module _ (w : NodeWorld) (r : Running) (k : ℕ) (comes : Comes) (i : LinkInput)
       → IsBehind kept s.link (link_after_controller k comes After s).link g.port.side
   site_behind {kept} s found on g wires =
       let happens : Ending → Link = λ e. happens_at_controller s.link (Step (comes_to k comes s.host) (turns_at After s.host) e) in
-      let P : Ending → Type 0 = λ e. IsBehind kept s.link (happens e) g.port.side in
       let ending : ending_of After ≡ GoesOut = ap (λ (b : Bool). cond b CutOff GoesOut) on in
-      subst P (sym ending) (out_behind g wires)
+      rw ending (out_behind g wires)
 
   abbrev near : ℕ → NumberedEnd
   near h = near_end_in (link_to w.sites h) (comes_to k comes h)

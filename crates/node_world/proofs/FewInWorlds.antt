@@ -37,6 +37,9 @@ use Rattle.link_laws.specs.machine.Machine.Role.{Bare}
 use Rattle.link_laws.specs.messages.Links.{silent, finished, has_taken, has_restarted, steps_at_controller}
 use Rattle.node_machine.specs.world.World.{NodeWorld, controller_does, activates}
 use Rattle.node_machine.proofs.world.Cases.{by_power, by_memory, by_running, by_boot, by_loss, site_lost}
+use Rattle.link_laws.proofs.sessions.Sending.{at_most_one as one_at_most}
+pub use Rattle.link_laws.proofs.entries.Together.{ticks_host as far_stays_ticked}
+use Rattle.link_laws.proofs.messages.Project.{host_ended as ended_host}
 
 -- ## Whole messages
 
@@ -325,10 +328,6 @@ abbrev rsets : List Control → ℕ
 rsets [] = 0
 rsets (c ∷ cs) = cond (is_rset c) 1 0 + rsets cs
 
-one_at_most : (b : Bool) → cond b 1 0 ≤ 1
-one_at_most true = omega arith
-one_at_most false = omega arith
-
 rsets_append : (xs ys : List Control) → rsets (xs ++ ys) ≡ rsets xs + rsets ys
 rsets_append [] ys = omega arith
 rsets_append (x ∷ xs) ys = let z = rsets_append xs ys in omega (arith, z)
@@ -402,10 +401,6 @@ record Steps (acked : ℕ) (l m : Link) : Type 0 where
 ended_resets : (l : Link) (b : Bool) → (with_ended l b).resets ≡ l.resets
 ended_resets l true = refl
 ended_resets l false = refl
-
-ended_host : (l : Link) (b : Bool) → (with_ended l b).host ≡ l.host
-ended_host l true = refl
-ended_host l false = refl
 
 new_acked : (r : Role) → (new_link_end r).shdlc.session.acked ≡ 0
 new_acked Bare = refl
@@ -543,9 +538,6 @@ few_ticked_so n l late ts ending f = go (late && not (is_waiting l.controller.si
 
 pub far_stays : (l : Link) (comes : Comes) (ts : List Turn) (ending : Ending) → (steps_at_controller l comes ts ending).host ≡ l.host
 far_stays l comes ts ending = (steps_near l comes ts ending).far
-
-pub far_stays_ticked : (l : Link) (ts : List Turn) (ending : Ending) → (ticks_at_controller l ts ending).host ≡ l.host
-far_stays_ticked l ts ending = (input_steps l Tick ts ending tt).far
 
 -- Few RSETs were put on the links of a world, and few fragments are acknowledged, behind so many steps of nodes.
 

@@ -4,7 +4,7 @@ use Rattle.std.proofs.Common.{length, ap₂}
 use Rattle.std.specs.Prelude.{Option, Some, None}
 use Rattle.std.specs.List.{AllByRecursion}
 use Rattle.std.specs.Option.{option_map_or}
-use Rattle.node_world.proofs.Words.{Control, Core, CutOff, Desk, End, Ending, EndsBoot, Entry, GoesOut, HasBecome, Host, HostSite, IfOff, IsNodePlace, IsOnly}
+use Rattle.node_world.proofs.Words.{Control, Core, CutOff, Desk, End, Ending, EndsBoot, Entry, GoesOut, HasBecome, Host, HostSite, IsNodePlace, IsOnly}
 use Rattle.node_world.proofs.Words.{IsToSend, Link, LinkEnd, Lose, Loss, MayTick, Memory, NoInput, Node, NumberedEnd, Off, On, Port, Power, Running, RunsAs}
 use Rattle.node_world.proofs.Words.{SameWires, Site, SiteIs, Tick, Turn, Uicc, Wires, WiresStandFor, Work, after_input, after_planned, at, between}
 use Rattle.node_world.proofs.Words.{boot_writes, changed_if, count_of, counts, ending_of, entries_for, exchanged, fails_within, found, frames_noted}
@@ -57,14 +57,12 @@ ends_next : (h : ℕ) (p : Port) (near_end : NumberedEnd) (ports : List Port) �
     → map between (with_port h sent_port ports)
     ≡ map between (map (λ (d : Desk). port_for near_end d) (map (λ (x : Port). x.desk) ports))
 ends_next h p near_end ports q f side =
-    let Q : List Port → Type 0 = λ ps. map between (with_port h sent_port ps)
-    ≡ map between (map (λ (d : Desk). port_for near_end d) (map (λ (x : Port). x.desk) ps)) in
     let there : (p.desk.host == h) ≡ true = at_host ports h p f in
     let sent : changed_if (p.desk.host == h) sent_port p ≡ sent_port p = rw there refl in
     let one : map between (with_port h sent_port (p ∷ [])) ≡ map between (map (λ (d : Desk). port_for near_end d) (p.desk ∷ [])) =
     ap (λ (x : Port). between x ∷ []) sent
     ∙ ap (λ (e : LinkEnd). record { desk = p.desk; side = e; session = 0; late = false; ended = false; turns = [] } ∷ []) (sym side) in
-    subst Q (sym (one_port h p ports q f)) one
+    rw (one_port h p ports q f) one
 
 -- ## It runs on
 
@@ -98,9 +96,7 @@ module _ (s : Site) (step : List Turn → Ending → Link) (k : Work) (e : EndDo
       let Place : Power → Type 0 = λ a. IsNodePlace a (after_planned k.writes s.memory) (Some left) (λ h. near_end) in
       let place : Place (On r.node) = (r.memory ∙ memory, ports, all_sent left.desks (sent_all e.port.side) none) in
       let w = r.wires in
-      let S : Site → Type 0 = λ x. SiteIs new x in
-      subst S (sym is)
-      (record {
+      rw is (record {
         host = host;
         wires = record {
           here = w.here;
@@ -114,12 +110,10 @@ module _ (s : Site) (step : List Turn → Ending → Link) (k : Work) (e : EndDo
   cut_so : SameWires (with_bare_wires e.link) (step_so true)
   cut_so =
       let m : Link = with_controller e.link (sent_all e.port.side) in
-      let C : Link → Type 0 = λ x. SameWires (with_bare_wires e.link) x in
       let same : SameWires (with_bare_wires m) (with_bare_wires e.link) =
       record { to_controller = refl; to_host = refl; resets = refl; controller = (refl, refl); host = (refl, refl) } in
       let silent = silent_same m (new_link_end (renewed m.controller.side.role)) in
-      subst C (sym e.cut)
-      (record {
+      rw e.cut (record {
         to_controller = silent.to_controller;
         to_host = silent.to_host;
         resets = silent.resets;
@@ -132,8 +126,7 @@ module _ (s : Site) (step : List Turn → Ending → Link) (k : Work) (e : EndDo
       let is : host_behind s step k ≡ goes_to (step_so true) None = ap (λ (b : Bool). goes_to (step_so b) (cond b None (Some left))) off in
       let Place : Power → Type 0 = λ a. IsNodePlace a (after_planned k.writes s.memory) None (λ h. (step_so true).controller) in
       let place : Place (Off (node_memory n)) = memory in
-      let S : Site → Type 0 = λ x. SiteIs new x in
-      subst S (sym is) (record { host = host; wires = same_stand (same_exchanged cut_so) r.wires; place = subst Place (sym r.off) place })
+      rw is (record { host = host; wires = same_stand (same_exchanged cut_so) r.wires; place = subst Place (sym r.off) place })
 
 -- What a host does in a step, as the world keeps it: proved once for whatever begins the step.
 
@@ -193,8 +186,7 @@ module _ (mid : HostSite) (live : Bool) (noted : List Entry) (short : Bool) (bef
 pub becomes_same : (m : Link) (e : LinkEnd) → frames_out e ≡ [] → SameWires m (becomes m e)
 becomes_same m e q =
     let put : List Control → Link = λ cs. let k : Link = put_all m cs in record k { controller = record k.controller { side = sent_all e } } in
-    let P : List Control → Type 0 = λ cs. SameWires m (put cs) in
-    subst P (sym q) (record { to_controller = refl; to_host = refl; resets = refl; controller = (refl, refl); host = (refl, refl) })
+    rw q (record { to_controller = refl; to_host = refl; resets = refl; controller = (refl, refl); host = (refl, refl) })
 
 -- an end that wasn't activated sends nothing at a tick
 quiet : (e : LinkEnd) → e ≡ new_link_end (Uicc new_uicc) → frames_out (after_input e Tick) ≡ []
@@ -203,24 +195,18 @@ quiet e q = ap (λ x. frames_out (after_input x Tick)) q
 pub still_wires : (l : Link) → l.controller.side ≡ new_link_end (Uicc new_uicc) → SameWires l (ticks_at_controller l [] GoesOut)
 still_wires l q =
     let g = ticks_on l false [] (λ late. absurd (cc late)) in
-    let W : Link → Type 0 = λ m. SameWires l m in
-    subst W (sym g.out) (same_twice g.wires (becomes_same g.link (after_input l.controller.side Tick) (quiet l.controller.side q)))
+    rw g.out (same_twice g.wires (becomes_same g.link (after_input l.controller.side Tick) (quiet l.controller.side q)))
 
 pub tick_off : (k : HostSite) (s : Site) (entries : List Entry) → SiteIs k s → s.node ≡ None → MayTick s → HasBecome k entries entries (host_ticks s)
 tick_off k s entries is off may =
-    let New : Option Running → Type 0 = λ o. IfOff o (new_link_end (Uicc new_uicc)) s.link.host.side in
-    let side : s.link.host.side ≡ new_link_end (Uicc new_uicc) = subst New off may.off in
+    let side : s.link.host.side ≡ new_link_end (Uicc new_uicc) = rw off at may.off in
     let after : Link = exchanged (ticks_at_controller (exchanged s.link) [] GoesOut) in
     let none : host_ticks s ≡ (record s { link = after }, []) = rw off refl in
-    let B : Site × List Entry → Type 0 = λ x. HasBecome k entries entries x in
-    let Here : Option Running → Type 0 = λ o. IsNodePlace k.power s.memory o (λ h. s.link.host) in
-    let There : Option Running → Type 0 = λ o. IsNodePlace k.power s.memory o (λ h. after.host) in
-    subst B (sym none)
-    (record {
+    rw none (record {
       site = record {
         host = is.host;
         wires = same_stand (same_exchanged (still_wires (exchanged s.link) side)) is.wires;
-        place = subst There (sym off) (same_place k.power (subst Here off is.place));
+        place = rw (← off) at (same_place k.power (rw off at is.place));
       };
       noted = sym (append-nil entries);
     })
@@ -244,16 +230,12 @@ module _ (new : HostSite) (s : Site) (to : End) (why : Loss) (host : new.host �
   -- on its way to the controller
   pub lost_near : IsNodePlace new.power s.memory s.node (λ h. s.link.host) → SiteIs new (record s { link = happens s.link (at to (Lose why)) })
   lost_near place =
-      let Q : NumberedEnd → Type 0 = λ e. IsNodePlace new.power s.memory s.node (λ h. e) in
-      record { host = host; wires = wires; place = subst Q (sym (same_host to s.link why)) place }
+      record { host = host; wires = wires; place = rw (← same_host to s.link why) at place }
 
   -- or to the host, for whose REC_ERROR it may count
   pub lost_far : to.at_host ≡ true → IsNodePlace new.power s.memory (counts why s.host s.node) (λ h. s.link.host) → SiteIs new (site_loses to why s)
   lost_far far place =
-      let Q : NumberedEnd → Type 0 = λ e. IsNodePlace new.power s.memory (counts why s.host s.node) (λ h. e) in
-      let S : Site → Type 0 = λ x. SiteIs new x in
-      subst S (sym (ap (λ b. record s { link = happens s.link (at to (Lose why)); node = cond b (counts why s.host s.node) s.node }) far))
-      (record { host = host; wires = wires; place = subst Q (sym (same_host to s.link why)) place })
+      rw (ap (λ b. record s { link = happens s.link (at to (Lose why)); node = cond b (counts why s.host s.node) s.node }) far) (record { host = host; wires = wires; place = rw (← same_host to s.link why) at place })
 
 -- A host of the world boots.
 
@@ -280,8 +262,7 @@ pub boots_here : (k : HostSite) (new : Power) (s : Site) → SiteIs k s → (s.h
 boots_here k new s is other booted =
     let links : hosts_linked s.host 0 ≡ s.host ∷ [] = rw other refl in
     let E : ℕ → Memory → Type 0 = λ h m. EndsBoot h (hosts_linked h 0) m new in
-    let H : List ℕ → Type 0 = λ hs. EndsBoot s.host hs s.memory new in
-    subst H links (subst (E s.host) (kept_is k.power s.memory s.node (λ h. s.link.host) is.place)
+    rw (← links) (subst (E s.host) (kept_is k.power s.memory s.node (λ h. s.link.host) is.place)
     (subst (λ h. E h (memory_kept k.power)) is.host booted))
 
 pub runs_now : (k : HostSite) (new : Power) (s : Site) (n : Node Memory) (count : ℕ) (before : List Entry) {now : List Entry} → new ≡ On n

@@ -1,7 +1,7 @@
 -- A host of the world as a step of it begins.
 use Rattle.std.proofs.Common.{◌≡◌, ℕ, ◌==◌, ◌≤◌, ◌<◌, Bool, true, false, cond, max, List, [], ◌∷◌, ◌++◌, map, replicate, get_or, refl, ap, ap₂, sym, subst}
 use Rattle.std.proofs.Common.{◌∙◌, arith, ◌&&◌, append-nil}
-use Rattle.std.specs.Prelude.{Option, Some, None, is_some, Result, OnOk, option_map, Ok, Err, MatchResult, is_ok}
+use Rattle.std.specs.Prelude.{Option, Some, None, is_some, Result, OnOk, option_map, Ok}
 use Rattle.std.specs.List.{AllByRecursion}
 use Rattle.std.proofs.lemmas.List.{get_or-replicate}
 use Rattle.std.proofs.lemmas.Bool.{eqb-false}
@@ -13,7 +13,7 @@ use Rattle.node_world.proofs.Words.{Tick, TimePasses, Turn, Wires, WiresStandFor
 use Rattle.node_world.proofs.Words.{begins_with, between, entries_for, exchanged, frames_noted, frames_out, happens_at_controller, has_come, host_behind}
 use Rattle.node_world.proofs.Words.{host_hears, host_opened, host_stepped, host_tick, host_ticks, host_work, hosts_of_ends, if_accepted, input_at, input_of}
 use Rattle.node_world.proofs.Words.{is_rset, kept_alike, near_end_in, next_frame, node_memory, noted_behind, number_of, port_at, port_for, put, puts_entries}
-use Rattle.node_world.proofs.Words.{refusal_arrived, refusal_coming, reset_refusal, same_number, sending, sending_refused, session_at, side_of, steps}
+use Rattle.node_world.proofs.Words.{refusal_arrived, refusal_coming, reset_refusal, same_number, sending_refused, session_at, side_of, steps}
 use Rattle.node_world.proofs.Words.{ticked_so, took_with, wires_for, work_numbers, work_of}
 use Rattle.link_laws.specs.entries.Entries.{put_entries, End as Side}
 use Rattle.node_laws.specs.telling.Telling.{is_due, NoneDue}
@@ -24,7 +24,6 @@ use Rattle.node_sites.specs.WorldNodes.{IsNotedSo}
 use Rattle.node_sites.proofs.Numbered.{Numbers, stepped, begun, arrival_numbered}
 use Rattle.trace_model.specs.declared.entry.NoCause.TheVariants as no
 use Rattle.link_laws.specs.machine.Machine.{give_refusal}
-use Rattle.node_machine.specs.Parts.Deed.{Sends, Orders}
 use Rattle.node_machine.specs.Controller.{is_command_message}
 use Rattle.node_machine.specs.world.Lines.{if_waiting}
 use Rattle.node_core.proofs.Asking.{asked_may}
@@ -43,18 +42,9 @@ use Rattle.node_sites.specs.Numbers.{with_session_number}
 use Rattle.node_machine.proofs.world.Cases.{after_tick}
 use Rattle.node_world.specs.HostSteps.{EndDoes, CountsComing}
 use Rattle.node_world.proofs.EndsGo.{same_stand, same_exchanged, EndGoes, host_ends, host_begins, EndTicks, host_end_ticks}
-
--- what comes changes no end by itself
-pub near_side : (l : Link) (comes : Comes) → (near_end_in l comes).side ≡ l.controller.side
-near_side l NextFrame = go l.to_controller
-  where
-    go : (w : List OnWire) → (near_end_in (record l { to_controller = w }) NextFrame).side ≡ l.controller.side
-    go [] = refl
-    go (x ∷ xs) = refl
-near_side l (AsksReset window) = refl
-near_side l (Starts value) = refl
-near_side l Stops = refl
-near_side l NoInput = refl
+pub use Rattle.node_core.proofs.SeenAsNode.{never_refused as done_always}
+pub use Rattle.node_laws.proofs.readings.Sites.{near_end_side as near_side}
+pub use Rattle.node_laws.proofs.telling.Events.{sending_mute}
 
 same_ports : (a b : NumberedEnd) (desks : List Desk) → a.side ≡ b.side
     → map between (map (λ (d : Desk). port_for a d) desks) ≡ map between (map (λ (d : Desk). port_for b d) desks)
@@ -213,11 +203,9 @@ module _ (s : Site) (r : Running) (is : IsHostOf s) (runs : s.node ≡ Some r) w
 
     numbers : Numbers Session Start
     numbers =
-        let P : ℕ → Type 0 = λ n. AllByRecursion (λ (d : Desk). n ≡ Session d.host) r.desks in
         work_numbers Session r s.memory.plan (λ k. Near) (entries_for s.host (arrival Host (exchanged s.link) comes))
         (arrival_numbered Session s.host Host (exchanged s.link) comes)
-        (subst P (sym (number_coming (exchanged s.link) comes))
-        (all_always (number_of (as_it_comes (exchanged s.link) comes).controller) s.host r.desks node.ends is.low))
+        (rw (← number_coming (exchanged s.link) comes) at (all_always (number_of (as_it_comes (exchanged s.link) comes).controller) s.host r.desks node.ends is.low))
 
     abbrev pub step_at_end : List Turn → Ending → Link
     step_at_end turns ending = happens_at_controller (exchanged s.link) (Step comes turns ending)
@@ -237,10 +225,9 @@ module _ (s : Site) (r : Running) (is : IsHostOf s) (runs : s.node ≡ Some r) w
     pub hears : (i : LinkInput) → input_of (exchanged s.link) comes ≡ Some i → CountsOn s.link.host.side i
         → HostDoes s step_at_end (as_it_comes (exchanged s.link) comes) (wires_for (exchanged s.link) comes) (host_work s r comes (steps (AtEnd s.host i)))
     hears i q few =
-        let C : LinkEnd → Type 0 = λ e. CountsOn e i in
         does_so (host_work s r comes (steps (AtEnd s.host i))) (host_ends s r comes is.number node i q)
         (steps_keep s.host (s.host ∷ []) s.host i Start keeps)
-        (stepped Session (AtEnd s.host i) Start (at_few s.host Near i r.desks node.ends (subst C (sym (near_side (exchanged s.link) comes)) few)) numbers)
+        (stepped Session (AtEnd s.host i) Start (at_few s.host Near i r.desks node.ends (rw (← near_side (exchanged s.link) comes) at few)) numbers)
 
   -- it does something by itself
   pub begins : (deeds : List Deed) → AreMute deeds
@@ -301,12 +288,6 @@ module _ (mid : HostSite) (was n : Node Memory) (live : Bool) where
 -- what was done holds
 pub done_so : {T E P : Type 0} {r : Result T E} {x : T} → r ≡ Ok x → OnOk r P → P
 done_so {P = P} is h = subst (λ r. OnOk r P) is h
-
--- a step that is never refused was done
-pub done_always : {X : Type 0} (r : Result X ResetRefused)
-    → MatchResult r (λ done. ◌≡◌ {A = Option ResetRefused} None None) (λ (why : ResetRefused). ◌≡◌ {A = Option ResetRefused} None (Some why)) → is_ok r ≡ true
-done_always (Ok done) m = refl
-done_always (Err why) m = cc
 
 -- something has come, or nothing
 pub as_some : {new : Wires} {to : End} {l : Link} {what : Incoming} {before now : List Entry} {o : Option Arrived} {a : Arrived} → o ≡ Some a
@@ -372,8 +353,7 @@ wires_as_were {new} {to} {l} {before} {now} {why} what a port h = go what a h.is
     go coming.NextFrame (arrived.Start value) is w noted q = absurd is
     go (coming.Reset window) a is w noted q = (w, noted ∙ append-nil before)
     go (coming.Start value) a is w noted q =
-        let R : Arrived → Type 0 = λ x. refusal_arrived x port ≡ Some why in
-        let none : None ≡ Some why = subst R is q in absurd (cc none)
+        let none : None ≡ Some why = rw is at q in absurd (cc none)
 
 -- ## What is noted of it
 
@@ -416,8 +396,7 @@ pub record IsOn (k : HostSite) (s : Site) (n : Node Memory) : Type 0 where
 
 pub is_on : {k : HostSite} {s : Site} {n : Node Memory} → SiteIs k s → k.power ≡ On n → IsOn k s n
 is_on {k} {s} {n} is on =
-    let Q : Power → Type 0 = λ a. IsNodePlace a s.memory s.node (λ h. s.link.host) in
-    go s.node refl (subst Q on is.place)
+    go s.node refl (rw on at is.place)
   where
     go : (o : Option Running) → s.node ≡ o → IsNodePlace (On n) s.memory o (λ h. s.link.host) → IsOn k s n
     go (Some r) runs place = record { running = r; runs = runs; memory = place.0 }
@@ -440,7 +419,7 @@ unchanged entries is = record { site = is; noted = sym (append-nil entries) }
 pub unchanged_as : {k : HostSite} {s : Site} {after : Site × List Entry} (entries : List Entry) → SiteIs k s → after ≡ (s, [])
     → HasBecome k entries entries after
 unchanged_as {k} entries is q =
-    let B : Site × List Entry → Type 0 = λ x. HasBecome k entries entries x in subst B (sym q) (unchanged entries is)
+    rw q (unchanged entries is)
 
 -- ## What happens
 
@@ -549,9 +528,8 @@ pub still_stands : (k : HostSite) (s : Site) (n m : Node Memory) (wires : Wires)
     → (before now : List Entry) → now ≡ before
     → HasBecome (record { host = k.host; wires = wires; power = On m }) before now (s, [])
 still_stands k s n m wires is on stand runs memory before now q =
-    let Q : Power → Type 0 = λ a. IsNodePlace a s.memory s.node (λ h. s.link.host) in
     record {
-      site = record { host = is.host; wires = stand; place = go s.node (subst Q on is.place) };
+      site = record { host = is.host; wires = stand; place = go s.node (rw on at is.place) };
       noted = q ∙ sym (append-nil before);
     }
   where
@@ -560,13 +538,6 @@ still_stands k s n m wires is on stand runs memory before now q =
     go None p = p
 
 -- ## What a host sends by itself
-
-pub sending_mute : (h : ℕ) (m : Message) → AreMute (sending h m)
-sending_mute h m = go (m.0 == 1 && is_command_message m.1)
-  where
-    go : (b : Bool) → AreMute (cond b (Orders m.1 ∷ []) (Sends h m ∷ []))
-    go true = (tt, tt)
-    go false = (tt, tt)
 
 pub beginning_mute : (identity : List ℕ) (pipes : List (List ℕ)) → AreMute (beginning identity pipes)
 beginning_mute identity pipes = (tt, (tt, tt))
@@ -606,7 +577,7 @@ pub is_done : {mid : HostSite} {live : Bool} {now : List Entry}
     → OnOk result (HasBecome new before noted (host_behind s d.step d.w, d.w.entries ++ frames_noted Host s.host d.l d.w))
     → OnOk result (HasBecome new before noted after)
 is_done {before = before} result new noted d r =
-    let B : Site × List Entry → Type 0 = λ x. OnOk result (HasBecome new before noted x) in subst B (sym d.is) r
+    rw d.is r
 
 module _ (k mid : HostSite) (s : Site) (was n : Node Memory) (live : Bool) (before : List Entry) (begun now : Noted) (sessions : List ℕ)
     (numbers : sessions ≡ replicate 8 (max mid.wires.host.emitted mid.wires.host.took)) (is : SiteIs k s)

@@ -593,8 +593,7 @@ on_sendable : (k : Power) (m : Memory) (node : Option Running) (near : ℕ → N
     → AllByRecursion (λ (p : Port). AreSendable p.side.sent) (map (λ (d : Desk). port_for (near d.host) d) r.desks)
 on_sendable (On n) m (Some q) near r place e =
     let one : q ≡ r = cc in
-    let S : Running → Type 0 = λ x. AllByRecursion (λ (p : Port). AreSendable p.side.sent) (map (λ (d : Desk). port_for (near d.host) d) x.desks) in
-    subst S one (given_messages n q.core (map (λ (d : Desk). port_for (near d.host) d) q.desks) place.1)
+    rw one at (given_messages n q.core (map (λ (d : Desk). port_for (near d.host) d) q.desks) place.1)
 on_sendable k m None near r place e = absurd (cc e)
 on_sendable (Off kept) m (Some q) near r place e = absurd place
 
@@ -674,9 +673,8 @@ lost_there : (k : Power) (ks : List HostSite) (w : NodeWorld) (h : ℕ) (s : Sit
     → SitesAre ks (with_site h (lost_on why) w.sites) → now ≡ before ++ entries_for h (first_lost Controller why s.link.to_controller)
     → WorldBecomes k ks before now (frame_lost w (end_c h) why)
 lost_there k ks w h s why before now found place sites noted =
-    let Q : (ℕ → NumberedEnd) → Type 0 = λ near. IsNodePlace k w.memory (counts why h w.controller) near in
     record {
-      world = record { controller = subst Q (sym (all_near h why w.sites)) place; sites = sites };
+      world = record { controller = rw (← all_near h why w.sites) at place; sites = sites };
       noted = noted ∙ ap (λ (l : Link). before ++ entries_for h (first_lost Controller why l.to_controller)) (sym (link_is w.sites h s found));
     }
 

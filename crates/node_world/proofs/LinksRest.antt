@@ -3,7 +3,7 @@ use Rattle.std.proofs.Common.{◌≡◌, ℕ, ◌+◌, ◌<◌, ◌≤◌, Bool,
 use Rattle.std.proofs.Common.{append_assoc, arith, length-append}
 use Rattle.std.specs.Prelude.{◌&&◌, Option, Some, None}
 use Rattle.std.specs.List.{AllByRecursion, list_all}
-use Rattle.node_world.proofs.Words.{AreTimely, Clf, Core, Desk, HasEnds, HostSite, IfItRuns, IfOff, IsNodePlace, MayGoOn, Memory, Node, NumberedEnd, Off, On}
+use Rattle.node_world.proofs.Words.{AreTimely, Clf, Core, Desk, HasEnds, HostSite, IfItRuns, IsNodePlace, MayGoOn, Memory, Node, NumberedEnd, Off, On}
 use Rattle.node_world.proofs.Words.{OnWire, Port, Power, Running, RunsAs, Site, SiteIs, SitesAre, Uicc, is_clear, link_is, link_to, new_clf, new_link_end}
 use Rattle.node_world.proofs.Words.{new_uicc, port_for, site_at}
 use Rattle.link_laws.specs.machine.AtRest.{end_rests}
@@ -53,8 +53,7 @@ host_end_rests s r runs a =
 
 pub new_host_rests : (s : Site) → s.node ≡ None → IsToLookAt s → end_rests s.link.host.side ≡ true
 new_host_rests s off a =
-    let Off : Option Running → Type 0 = λ o. IfOff o (new_link_end (Uicc new_uicc)) s.link.host.side in
-    let new : s.link.host.side ≡ new_link_end (Uicc new_uicc) = subst Off off a.off in
+    let new : s.link.host.side ≡ new_link_end (Uicc new_uicc) = rw off at a.off in
     ap end_rests new
 
 pub far_is : (s : Site) (b : Bool) → is_clear s.link.to_controller ≡ true → is_clear s.link.to_host ≡ true → b ≡ end_rests s.link.host.side
@@ -93,8 +92,7 @@ module _ (w : NodeWorld) (may : MayGoOn w) where
       go : (sites : List Site) → AllByRecursion (λ (s : Site). site_at w.sites s.host ≡ Some s) sites → true ≡ list_all near_rests sites
       go [] a = refl
       go (s ∷ sites) a =
-          let Off : Option Running → Type 0 = λ o. IfOff o (new_link_end (Clf new_clf)) s.link.controller.side in
-          let new : s.link.controller.side ≡ new_link_end (Clf new_clf) = subst Off off (timely s.host s a.0).controller in
+          let new : s.link.controller.side ≡ new_link_end (Clf new_clf) = rw off at (timely s.host s a.0).controller in
           let rests : end_rests s.link.controller.side ≡ true = ap end_rests new in
           rw rests (go sites a.1)
 
@@ -202,8 +200,7 @@ pub record LooksAt (i : ℕ) (sites : List Site) (k : HostSite) : Type 0 where
 pub looks_at : (i : ℕ) (ks : List HostSite) (sites : List Site) (k : HostSite) → SitesAre ks sites
     → AllByRecursion IsToLookAt sites → RestSoFar i sites → i < length ks → k ≡ get_or ks i k → LooksAt i sites k
 looks_at i ks sites k a may so below read =
-    let S : List Site → Type 0 = λ xs. SitesAre ks xs in
-    let t : There i ks so.front so.back k = there i ks so.front so.back k (subst S so.is a) so.place below read in
+    let t : There i ks so.front so.back k = there i ks so.front so.back k (rw so.is at a) so.place below read in
     let is : sites ≡ so.front ++ t.site ∷ t.rest = so.is ∙ ap (λ xs. so.front ++ xs) t.is in
     record {
       site = t.site;

@@ -503,8 +503,7 @@ module _ (hosts : List ℕ) (are : AreHosts hosts) where
     where
       by : (x : Line) → l ≡ x → (goes_on w x).0 ≡ (all_happen w (happenings w x)).0 → KeepsSome hosts (goes_on w x).0
       by x q is =
-          let P : Line → Type 0 = λ y. KeepsSome hosts (all_happen w (happenings w y)).0 in
-          subst (KeepsSome hosts) (sym is) (subst P q (keeps_behind_all (happenings w l) w may k))
+          subst (KeepsSome hosts) (sym is) (rw q at (keeps_behind_all (happenings w l) w may k))
 
       go : (x : Line) → l ≡ x → KeepsSome hosts (goes_on w x).0
       go (line.Tables n) q = k

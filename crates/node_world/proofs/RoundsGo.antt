@@ -8,9 +8,9 @@ use Rattle.std.proofs.lemmas.Bool.{eq-eqb}
 use Rattle.std.proofs.lemmas.List.{length-map}
 use Rattle.node_world.proofs.Words.{AtEnd, Comes, End, Entry, FewBehind, Happening, HostSite, IsHost, IsThere, IsWithinBounds, Line, LineOutcome, LinePlayed}
 use Rattle.node_world.proofs.Words.{MayGoOn, NextFrame, Occurrence, Power, Site, SitesAre, Takes, WorldBecomes, WorldHasGone, WorldIs, after_host, aged}
-use Rattle.node_world.proofs.Words.{all_aged, all_happen, by_coming, by_controller, by_controller_tick, by_host, can_happen, changed_if, comes_at}
+use Rattle.node_world.proofs.Words.{all_aged, all_happen, by_coming, by_controller, by_controller_tick, by_host, can_happen, comes_at}
 use Rattle.node_world.proofs.Words.{controller_ticks, controller_work, end_c, end_h, ends_in_order, ends_take_all, entries_in, frames_at, frames_to, host_work}
-use Rattle.node_world.proofs.Words.{line_step, link_after_controller, link_to, near_tick, refusal_in, site_at, site_ticked, site_unticked, steps, with_site}
+use Rattle.node_world.proofs.Words.{line_step, link_after_controller, link_to, near_tick, refusal_in, site_at, site_ticked, site_unticked, steps}
 use Rattle.node_world.proofs.Words.{world_round, world_step, world_ticks}
 use Rattle.node_machine.specs.world.World.{NodeWorld}
 use Rattle.node_machine.specs.world.Lines.{goes_on}
@@ -23,19 +23,10 @@ use Rattle.node_world.specs.Rounds.{MayTakeAll, MayTakeInOrder}
 use Rattle.node_world.proofs.FewInWorlds.{few_behind_step, longer, few_behind_all}
 use Rattle.node_world.proofs.CountsStay.{repeats}
 use Rattle.node_world.proofs.SitesKept.{as_many}
+use Rattle.node_laws.proofs.kept.Events.{hosts_same as hosts_mapped}
+pub use Rattle.node_laws.proofs.kept.Events.{hosts_with}
 
 -- ## Hosts stay
-
-hosts_mapped : (f : Site → Site) → ((s : Site) → (f s).host ≡ s.host) → (sites : List Site) → hosts_in (map f sites) ≡ hosts_in sites
-hosts_mapped f keeps [] = refl
-hosts_mapped f keeps (s ∷ sites) = ap (λ n. n ∷ hosts_in (map f sites)) (keeps s) ∙ ap (λ ns. s.host ∷ ns) (hosts_mapped f keeps sites)
-
-changed_keeps : (b : Bool) (f : Site → Site) (s : Site) → (f s).host ≡ s.host → (changed_if b f s).host ≡ s.host
-changed_keeps true f s q = q
-changed_keeps false f s q = refl
-
-pub hosts_with : (h : ℕ) (f : Site → Site) → ((s : Site) → (f s).host ≡ s.host) → (sites : List Site) → hosts_in (with_site h f sites) ≡ hosts_in sites
-hosts_with h f keeps sites = hosts_mapped (λ (s : Site). changed_if (s.host == h) f s) (λ s. changed_keeps (s.host == h) f s (keeps s)) sites
 
 abbrev SameHosts : NodeWorld → NodeWorld × List Entry → Type 0
 SameHosts w p = hosts_in p.0.sites ≡ hosts_in w.sites
@@ -217,17 +208,15 @@ module _ (w : NodeWorld) (c : Happening) (most : ℕ) where
   pub again_goes : (k : Power) (ks : List HostSite) (before noted : List Entry) (i n : ℕ) (a : IsSo k ks before noted i)
       → all_happen w (replicate n c) ≡ (a.behind, a.events) → WorldHasGone k ks before noted (all_happen w (replicate n c))
   again_goes k ks before noted i n a same =
-      let G : NodeWorld × List Occurrence → Type 0 = λ p. WorldHasGone k ks before noted p in
-      subst G (sym same) (record { world = a.world; noted = a.told })
+      rw same (record { world = a.world; noted = a.told })
 
   -- the line at which they happen is played behind them
   pub again_plays : (said : Line) (k : Power) (ks : List HostSite) (before noted : List Entry) (i n : ℕ)
       (a : IsSo k ks before noted i) → before ≡ [] → refusal_in w said ≡ None → goes_on w said ≡ of_all (all_happen w (replicate n c))
       → all_happen w (replicate n c) ≡ (a.behind, a.events) → LinePlayed k ks noted (line_step w said)
   again_plays said k ks before noted i n a none e goes same =
-      let L : NodeWorld × LineOutcome → Type 0 = λ p. LinePlayed k ks noted p in
       let step : line_step w said ≡ goes_on w said = rw e refl in
-      subst L (sym (step ∙ (goes ∙ ap of_all same))) (record { world = a.world; told = a.told ∙ ap (λ es. es ++ entries_in a.events) none })
+      rw (step ∙ (goes ∙ ap of_all same)) (record { world = a.world; told = a.told ∙ ap (λ es. es ++ entries_in a.events) none })
 
 -- The ends of a world take what stands on their wires, one after another: which world stands behind them, and what is kept of it.
 
@@ -414,7 +403,6 @@ module _ (w : NodeWorld) where
           let is : hosts_in w.sites ≡ a.done ++ h ∷ back = a.is ∙ ap (λ ns. a.done ++ ns) q in
           let kept = hosts_kept ks a.taken.behind.sites a.taken.gone.world.sites ∙ (a.taken.hosts ∙ is) in
           let same : site.host ≡ h = host_read ks a.done h back i site kept a.place read in
-          let T : List End → Type 0 = λ es. Taken k ks before noted (ends_in_order w) es (250000000 + 256 * i) in
           let long : length (hosts_in w.sites) ≡ length w.sites = length-map w.sites (λ (s : Site). s.host) in
           let seven = may.links in
           record {
@@ -423,7 +411,7 @@ module _ (w : NodeWorld) where
             is = is ∙ ap (λ n. a.done ++ n ∷ back) (sym same);
             place = a.place;
             few = omega (arith, below, many, long, seven);
-            taken = subst T (ap (λ ns. ends_of ns) q ∙ ap (λ n. end_c n ∷ end_h n ∷ ends_of back) (sym same)) a.taken;
+            taken = rw (ap (λ ns. ends_of ns) q ∙ ap (λ n. end_c n ∷ end_h n ∷ ends_of back) (sym same)) at a.taken;
           }
 
   -- both of its ends have taken what stood on their wires
@@ -431,14 +419,13 @@ module _ (w : NodeWorld) where
       (a : NextLink k ks before noted i h)
       → Taken new news before later (ends_in_order w) (ends_of a.back) (250000000 + 256 * i + 128 + 128) → HaveTakenSo new news before later (i + 1)
   link_taken k new ks news before noted later i h a b =
-      let T : ℕ → Type 0 = λ n. Taken new news before later (ends_in_order w) (ends_of a.back) n in
       let same : 250000000 + 256 * i + 128 + 128 ≡ 250000000 + 256 * (i + 1) = omega arith in
       record {
         done = a.done ++ h ∷ [];
         left = a.back;
         is = a.is ∙ sym (append_assoc a.done (h ∷ []) a.back);
         place = length-append a.done (h ∷ []) ∙ ap (λ n. n + 1) a.place;
-        taken = subst T same b;
+        taken = rw same at b;
       }
 
   -- all of them have
@@ -467,12 +454,11 @@ module _ (w : NodeWorld) where
           a.taken.leads
           ∙ (ap (λ ns. followed_by a.taken.events (ends_take_all a.taken.behind (ends_of ns))) q
           ∙ ap (λ es. let p : NodeWorld × List Occurrence = (a.taken.behind, es) in p) (append-nil a.taken.events)) in
-          let G : NodeWorld × List Occurrence → Type 0 = λ p. WorldHasGone k ks before noted p in
           let links : length (hosts_in w.sites) ≡ length w.sites = length-map w.sites (λ (s : Site). s.host) in
           let seven = may.links in
           let few = longer (250000000 + 256 * i) 300000000 a.taken.behind (omega (arith, long, links, seven)) a.taken.few in
           record {
-            gone = subst G (sym all) a.taken.gone;
+            gone = rw (← all) at a.taken.gone;
             within = subst (λ (p : NodeWorld × List Occurrence). IsWithinBounds p.0) (sym all) (record { goes_on = a.taken.goes_on; few = few });
           }
 

@@ -63,8 +63,7 @@ pub read_there : (ks : List HostSite) (front : List Site) (s : Site) (back : Lis
 read_there ks front s back i k place a read =
     let b : Between ks front s back = between ks front s back a in
     let same : k ≡ b.k = read ∙ (ap (λ zs. get_or zs i k) b.is ∙ get_or_at b.before b.k b.behind k i (b.place ∙ place)) in
-    let S : HostSite → Type 0 = λ x. SiteIs x s in
-    subst S (sym same) b.here
+    rw same b.here
 
 -- and written there
 pub written_there : (ks : List HostSite) (front : List Site) (s t : Site) (back : List Site) (i : ℕ) (k : HostSite) → length front ≡ i
@@ -73,8 +72,7 @@ written_there ks front s t back i k place a now =
     let b : Between ks front s back = between ks front s back a in
     let same : slice_set ks i k ≡ b.before ++ k ∷ b.behind =
     ap (λ zs. slice_set zs i k) b.is ∙ set_at b.before b.k b.behind k i (b.place ∙ place) in
-    let A : List HostSite → Type 0 = λ zs. SitesAre zs (front ++ t ∷ back) in
-    subst A (sym same) (together b.before front (k ∷ b.behind) (t ∷ back) b.first (now, b.rest))
+    rw same (together b.before front (k ∷ b.behind) (t ∷ back) b.first (now, b.rest))
 
 -- The first hosts have become what f makes of them, of which g was noted.
 pub record Walked (f : Site → Site) (g : Site → List Entry) (now : List HostSite) (sites : List Site) (before after : List Entry) (i : ℕ)
@@ -120,8 +118,7 @@ walk_next f g now sites before after i k w lt read = go w.left refl
         ap (λ xs. length (map f w.done ++ xs)) q ∙ (ap length (append-nil (map f w.done)) ∙ (length-map w.done f ∙ w.place)) in
         absurd (let over : length now ≡ i = many ∙ none in omega (arith, over, lt))
     go (s ∷ back) q =
-        let A : List Site → Type 0 = λ xs. SitesAre now (map f w.done ++ xs) in
-        let there : SitesAre now (map f w.done ++ s ∷ back) = subst A q w.stands in
+        let there : SitesAre now (map f w.done ++ s ∷ back) = rw q at w.stands in
         let long : length (map f w.done) ≡ i = length-map w.done f ∙ w.place in
         let parts : sites ≡ w.done ++ s ∷ back = w.is ∙ ap (λ xs. w.done ++ xs) q in
         record {
@@ -131,14 +128,13 @@ walk_next f g now sites before after i k w lt read = go w.left refl
           here = read_there now (map f w.done) s back i k long there read;
           goes = λ new later stands noted.
               let all : map f (w.done ++ s ∷ []) ++ back ≡ map f w.done ++ f s ∷ back = more w.done in
-              let N : List Site → Type 0 = λ xs. SitesAre (slice_set now i new) xs in
               record {
                 walked = record {
                   done = w.done ++ s ∷ [];
                   left = back;
                   is = parts ∙ sym (append_assoc w.done (s ∷ []) back);
                   place = length-append w.done (s ∷ []) ∙ ap (λ n. n + 1) w.place;
-                  stands = subst N (sym all) (written_there now (map f w.done) s (f s) back i new long there stands);
+                  stands = rw (← all) at (written_there now (map f w.done) s (f s) back i new long there stands);
                   noted = noted ∙ (ap (λ es. es ++ g s) w.noted ∙ (append_assoc before (flat_map g w.done) (g s)
                       ∙ ap (λ es. before ++ es) (sym (flat_map-append g w.done (s ∷ []) ∙ ap (λ es. flat_map g w.done ++ es) (append-nil (g s))))));
                 };
@@ -158,10 +154,9 @@ walk_ends f g now sites before after i w over = go w.left refl
     go : (left : List Site) → w.left ≡ left → SitesAre now (map f sites) × (after ≡ before ++ flat_map g sites) × (w.done ≡ sites)
     go [] q =
         let all : sites ≡ w.done = w.is ∙ (ap (λ xs. w.done ++ xs) q ∙ append-nil w.done) in
-        let A : List Site → Type 0 = λ xs. SitesAre now xs in
         let same : map f w.done ++ w.left ≡ map f sites =
         ap (λ xs. map f w.done ++ xs) q ∙ (append-nil (map f w.done) ∙ ap (map f) (sym all)) in
-        (subst A same w.stands, w.noted ∙ ap (λ xs. before ++ flat_map g xs) (sym all), sym all)
+        (rw same at w.stands, w.noted ∙ ap (λ xs. before ++ flat_map g xs) (sym all), sym all)
     go (s ∷ back) q =
         let many : length now ≡ length (map f w.done ++ w.left) = as_many now (map f w.done ++ w.left) w.stands in
         let long : length (map f w.done ++ w.left) ≡ i + length (s ∷ back) =
@@ -307,9 +302,8 @@ pub room_left : (now : List HostSite) (i : ℕ) (k : HostSite) → i < length no
 room_left now i k lt a =
     let parts : drop i now ≡ get_or now i k ∷ drop (i + 1) now = drop_more now i k lt in
     let same : drop (i + 1) (slice_set now i k) ≡ drop (i + 1) now = drop-set-lt (i + 1) now i k (omega arith) in
-    let R : List HostSite → Type 0 = λ xs. HaveRoom xs in
-    let all : HaveRoom (get_or now i k ∷ drop (i + 1) now) = subst R parts a in
-    subst R (sym same) all.1
+    let all : HaveRoom (get_or now i k ∷ drop (i + 1) now) = rw parts at a in
+    rw same all.1
 
 -- The place of a host in what is kept of all hosts, and the numbers of the sessions of the controller's ends.
 
@@ -443,9 +437,8 @@ number_found i ks sites sessions k n a f lt read eight low number =
       place = length-append f.front (x ∷ []) ∙ ap (λ m. m + 1) f.place;
       numbers = λ different hosts.
           let others = others_before (hosts_in f.front) x.host (hosts_in t.rest) (subst AreDifferent all different) in
-          let S : ℕ → Type 0 = λ h. AreSessions (slice_set sessions h n) (f.front ++ x ∷ []) in
           let there : x.host < length sessions = omega (arith, t.here.host, low, eight) in
-          subst S (sym t.here.host) (all_last (λ (s : Site). get_or (slice_set sessions x.host n) s.host 0 ≡ number_of s.link.controller) f.front x
+          rw (← t.here.host) at (all_last (λ (s : Site). get_or (slice_set sessions x.host n) s.host 0 ≡ number_of s.link.controller) f.front x
           (kept_numbers f.front x.host n sessions others (f.numbers different hosts)) (get_or-set_same sessions x.host n 0 there ∙ is));
     }
 

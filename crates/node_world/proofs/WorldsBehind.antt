@@ -42,6 +42,9 @@ use Rattle.node_world.specs.Whole.{after_ticks}
 use Rattle.node_world.specs.Worlds.{IsPeekedSo, at_rest}
 use Rattle.node_world.specs.Rounds.{MayGoRound}
 use Rattle.node_world.proofs.MemoriesKeep.{keeps_at_first, keeps_behind_lines, controller_in_order, hosts_in_order}
+pub use Rattle.node_laws.proofs.schedules.Ranges.{hosts_are as are_hosts}
+pub use Rattle.node_laws.proofs.schedules.Ranges.{hosts_few as links_few}
+use Rattle.node_laws.proofs.creations.Knowing.{two_ways as agree}
 
 -- ## Hosts
 
@@ -50,20 +53,6 @@ IsAbove x y = nat_cmp x y ≡ Less
 
 pub above : (x y : ℕ) → IsAbove x y → x < y
 above x y a = ranked x y Less (sym a)
-
-others : (x : ℕ) (xs : List ℕ) → AllByRecursion (IsAbove x) xs → AllByRecursion (λ y. (y == x) ≡ false) xs
-others x [] a = tt
-others x (y ∷ xs) a = (ne_eqb y x (λ z. let more = above x y a.0 in omega (arith, z, more)), others x xs a.1)
-
-different : (xs : List ℕ) → IsStrictlySortedBy nat_cmp xs → AreDifferent xs
-different [] a = tt
-different (x ∷ xs) a = (others x xs (sorted_head nat_cmp x xs a), different xs (sorted_tail nat_cmp x xs a))
-
-pub are_hosts : (header : Header) → IsNodeHeader header → AreHosts header.hosts.items
-are_hosts header is = record {
-  all = recursion_from_All IsHost header.hosts.items is.hosts;
-  different = different header.hosts.items (sorted_from_strictly_increasing header.hosts.items is.rising);
-}
 
 -- ## Lines
 
@@ -293,11 +282,6 @@ one_of_hosts n (h ∷ hosts) a q = go (h == n) refl (one_of_hosts n hosts a.1)
     go true e later = subst IsHost (eqb-true h n e) a.0
     go false e later = later (rw e at q)
 
-agree : (a b : Bool) → (a ≡ true → b ≡ true) → (b ≡ true → a ≡ true) → a ≡ b
-agree true b f g = sym (f refl)
-agree false true f g = g refl
-agree false false f g = refl
-
 small : (hosts : List ℕ) → AllByRecursion IsHost hosts → AllByRecursion (λ x. x < 8) hosts
 small [] a = tt
 small (h ∷ hosts) a = (let most = a.0.1 in omega (arith, most), small hosts a.1)
@@ -447,10 +431,6 @@ hosts_few (x ∷ xs) a s =
     let rest = above_few x xs a.0.1 (sorted_head nat_cmp x xs s) a.1 (sorted_tail nat_cmp x xs s) in
     let some = a.0.0 in
     omega (arith, rest, some)
-
-pub links_few : (header : Header) → IsNodeHeader header → length header.hosts.items ≤ 7
-links_few header is =
-    hosts_few header.hosts.items (recursion_from_All IsHost header.hosts.items is.hosts) (sorted_from_strictly_increasing header.hosts.items is.rising)
 
 -- ## What the ends take, as lines
 

@@ -7,9 +7,9 @@ use Rattle.std.specs.List.{AllByRecursion, list_any, fold}
 use Rattle.std.proofs.lemmas.Result.{on_ok_weaker}
 use Rattle.node_world.proofs.Words.{Activates, AreFewWithParts, AreTimely, Arms, AtController, Boots, End, Entry, FewBehind, FewOnEach, Gives, Happening}
 use Rattle.node_world.proofs.Words.{Header, HostSite, Inits, IsCut, IsNodeHeader, IsNodeOf, IsPlayFor, IsPlayable, IsPlayedLine, Line, LineOutcome, LinePlayed}
-use Rattle.node_world.proofs.Words.{Loses, MayGoOn, MayPlay, Memory, NoCause, NoneIsMisread, Occurrence, Off, OnDemand, Play, Resets, Round, Said, Site}
-use Rattle.node_world.proofs.Words.{SiteIs, SitesAre, StandsAt, Takes, Ticks, WasRefused, WorldHasGone, WorldIs, after-append, all_happen, can_happen}
-use Rattle.node_world.proofs.Words.{ends_in_order, ends_take_all, entries_in, frames_at, has, hosts_stay_behind, if_off, kept_is, line_step}
+use Rattle.node_world.proofs.Words.{Loses, MayGoOn, MayPlay, Memory, NoCause, Occurrence, Off, OnDemand, Play, Resets, Round, Said, Site}
+use Rattle.node_world.proofs.Words.{SiteIs, SitesAre, StandsAt, Takes, Ticks, WasRefused, WorldHasGone, after-append, all_happen, can_happen}
+use Rattle.node_world.proofs.Words.{ends_in_order, ends_take_all, entries_in, frames_at, hosts_stay_behind, if_off, kept_is, line_step}
 use Rattle.node_world.proofs.Words.{lines_may_be_played, lines_played, lines_said, mask_of, memory_at, memory_kept, misread_in, new_site, new_world}
 use Rattle.node_world.proofs.Words.{nodes_behind, refusal_in, round_behind, rounds_played, site_at, taken_of, world_round, world_step}
 use Rattle.gate_admin.specs.View.{hosts_where}
@@ -347,8 +347,6 @@ module _ (old new : NodeWorld) (header : Header) (plays : List Play) (s : IsNode
       → new.mask ≡ old.mask → new.stepped ≡ old.stepped + 1 → new.rounds ≡ old.rounds → new.noted.short ≡ false
       → IsNodeWorldBehind new header (plays ++ Said said ∷ [])
   stands_behind_more said may room none played mask stepped rounds short =
-      let W : Machine → Type 0 = λ v. WorldIs new.controller new.sites.items v in
-      let M : ℕ → Type 0 = λ m. hosts_where (has m) ≡ header.hosts.items in
       let one : lines_said (plays ++ Said said ∷ []) ≡ suc (lines_said plays) = one_said plays said in
       let was : old.stepped ≡ lines_said plays = s.stepped in
       record {
@@ -356,8 +354,8 @@ module _ (old new : NodeWorld) (header : Header) (plays : List Play) (s : IsNode
         plays_are = for_with header plays (Said said) s.plays_are may;
         few = few_with_line plays said s.few room;
         sure = sure_with_said header s.is_header.nodes plays said s.sure none;
-        stands = subst W (sym (played_said header s.is_header.nodes plays said)) played.world;
-        mask_is = subst M (sym mask) s.mask_is;
+        stands = rw (← played_said header s.is_header.nodes plays said) at played.world;
+        mask_is = rw (← mask) at s.mask_is;
         stepped = omega (arith, stepped, was, one);
         rounds = rounds ∙ (s.rounds ∙ sym (no_more_rounds plays said));
         quiet = short;
@@ -369,8 +367,6 @@ module _ (old new : NodeWorld) (header : Header) (plays : List Play) (s : IsNode
       → new.mask ≡ old.mask → new.stepped ≡ old.stepped → new.rounds ≡ old.rounds + 1 → new.noted.short ≡ false
       → IsNodeWorldBehind new header (plays ++ Round ∷ [])
   stands_behind_round before room gone mask stepped rounds short =
-      let W : Machine → Type 0 = λ v. WorldIs new.controller new.sites.items v in
-      let M : ℕ → Type 0 = λ m. hosts_where (has m) ≡ header.hosts.items in
       let one : rounds_played (plays ++ Round ∷ []) ≡ suc (rounds_played plays) = one_round plays in
       let was : old.rounds ≡ rounds_played plays = s.rounds in
       record {
@@ -378,8 +374,8 @@ module _ (old new : NodeWorld) (header : Header) (plays : List Play) (s : IsNode
         plays_are = for_with header plays Round s.plays_are tt;
         few = few_with_one_round plays s.few room;
         sure = sure_with_round header s.is_header.nodes plays s.sure;
-        stands = subst W (sym (played_round header s.is_header.nodes plays)) gone.world;
-        mask_is = subst M (sym mask) s.mask_is;
+        stands = rw (← played_round header s.is_header.nodes plays) at gone.world;
+        mask_is = rw (← mask) at s.mask_is;
         stepped = stepped ∙ (s.stepped ∙ sym (no_more_said plays));
         rounds = omega (arith, rounds, was, one);
         quiet = short;
@@ -397,16 +393,13 @@ pub stands_alike : (old new : NodeWorld) (header : Header) (plays others : List 
     → new.controller ≡ old.controller → new.sites ≡ old.sites → new.mask ≡ old.mask → new.noted ≡ old.noted → new.stepped ≡ lines_said others
     → new.rounds ≡ rounds_played others → IsNodeWorldBehind new header others
 stands_alike old new header plays others s same are few controller sites mask noted stepped rounds =
-    let W : List Line → Type 0 = λ lines. WorldIs old.controller old.sites.items (nodes_behind header lines) in
-    let M : ℕ → Type 0 = λ m. hosts_where (has m) ≡ header.hosts.items in
-    let S : List Line → Type 0 = λ lines. NoneIsMisread (new_world header.hosts.items) lines in
     record {
       is_header = s.is_header;
       plays_are = are;
       few = few;
-      sure = subst S same s.sure;
-      stands = rw (controller, sites) (subst W same s.stands);
-      mask_is = subst M (sym mask) s.mask_is;
+      sure = rw same at s.sure;
+      stands = rw (controller, sites) (rw same at s.stands);
+      mask_is = rw (← mask) at s.mask_is;
       stepped = stepped;
       rounds = rounds;
       quiet = rw noted s.quiet;
@@ -418,7 +411,6 @@ pub stands_at_first : (new : NodeWorld) (header : Header) → IsNodeHeader heade
     → new.mask ≡ mask_of (hosts_where (λ (host : ℕ). list_any (λ (k : ℕ). k == host) header.hosts.items)) → new.stepped ≡ 0
     → new.rounds ≡ 0 → new.noted.short ≡ false → IsNodeWorldBehind new header []
 stands_at_first new header is off sites mask stepped rounds short =
-    let M : ℕ → Type 0 = λ m. hosts_where (has m) ≡ header.hosts.items in
     record {
       is_header = is;
       plays_are = tt;
@@ -428,7 +420,7 @@ stands_at_first new header is off sites mask stepped rounds short =
         controller = rw off refl;
         sites = sites;
       };
-      mask_is = subst M (sym mask) (masked header is);
+      mask_is = rw (← mask) at (masked header is);
       stepped = stepped;
       rounds = rounds;
       quiet = short;
@@ -529,8 +521,7 @@ controller_kept k header plays n s off m kept =
 pub stands_there : (k : NodeWorld) (header : Header) (plays : List Play) (i n : ℕ) → IsNodeWorldBehind k header plays
     → (a : StandsAt i n (nodes_behind header (lines_played header plays)).sites) → (site : HostSite) → site ≡ get_or k.sites.items i site → SiteIs site a.site
 stands_there k header plays i n s a site read =
-    let S : List Site → Type 0 = λ sites. SitesAre k.sites.items sites in
-    read_there k.sites.items a.front a.site a.back i site a.place (subst S a.is s.stands.sites) read
+    read_there k.sites.items a.front a.site a.back i site a.place (rw a.is at s.stands.sites) read
 
 -- the memory of a host
 pub host_kept : (k : NodeWorld) (header : Header) (plays : List Play) (n i : ℕ) → IsNodeWorldBehind k header plays → IsNodeOf header.hosts.items n

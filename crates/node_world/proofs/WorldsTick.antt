@@ -1,19 +1,19 @@
 -- A tick of the controller: how it begins, how what it notes is numbered, and what is behind it.
-use Rattle.std.proofs.Common.{◌≡◌, ℕ, Bool, true, false, not, List, [], ◌∷◌, get_or, map, refl, ap, sym, subst, ◌∙◌, append-nil, ◌==◌, ◌++◌, append_assoc, ◌≤◌}
-use Rattle.std.proofs.Common.{cond, arith}
-use Rattle.std.specs.Prelude.{Option, Some, None, Result, OnOk, ◌&&◌}
+use Rattle.std.proofs.Common.{◌≡◌, ℕ, Bool, true, false, not, List, [], ◌∷◌, get_or, map, refl, ap, sym, subst, ◌∙◌, append-nil, ◌==◌, ◌++◌, append_assoc}
+use Rattle.std.proofs.Common.{arith}
+use Rattle.std.specs.Prelude.{Option, Some, None, Result, OnOk}
 use Rattle.std.specs.List.{AllByRecursion, flat_map}
-use Rattle.node_world.proofs.Words.{AreNumbered, AreSessions, AreTimely, AreToTick, AsksReset, BeginsOver, Clf, CountsFew, CountsOn, CutOff, Desk, Ending}
+use Rattle.node_world.proofs.Words.{AreNumbered, AreSessions, AreTimely, AreToTick, BeginsOver, Clf, CountsFew, CountsOn, CutOff, Desk, Ending}
 use Rattle.node_world.proofs.Words.{Entry, FewAreCounted, FewOn, FewOnEach, GoesOnWith, GoesOut, HasEnds, HasGone, HostSite, IfItRuns, IfOff, IsHost, IsHostOf}
-use Rattle.node_world.proofs.Words.{IsNodePlace, IsWithinBounds, Link, MayGoOn, MayTick, Memory, Node, NumberedEnd, Off, On, Power, Reset, Running, SameWires}
-use Rattle.node_world.proofs.Words.{Site, SiteIs, SitesAre, Tick, TimePasses, Turn, Uicc, WentOffWith, Work, WorldBecomes, WorldIs, after_input, after_planned}
-use Rattle.node_world.proofs.Words.{aged, all_aged, by_controller_tick, by_host_tick, controller_ticks, ending_of, exchanged, frames_out, has_input, host_tick}
-use Rattle.node_world.proofs.Words.{host_ticks, hosts_of_ends, hosts_tick, is_late_at, is_waiting, link_is, link_to, near_tick, near_ticks, new_clf, new_desk}
+use Rattle.node_world.proofs.Words.{IsNodePlace, IsWithinBounds, Link, MayGoOn, MayTick, Memory, Node, NumberedEnd, Off, On, Power, Running, SameWires}
+use Rattle.node_world.proofs.Words.{Site, SiteIs, SitesAre, Tick, TimePasses, Uicc, WentOffWith, Work, WorldBecomes, WorldIs, after_input, after_planned}
+use Rattle.node_world.proofs.Words.{aged, all_aged, by_controller_tick, by_host_tick, controller_ticks, ending_of, exchanged, frames_out, host_tick}
+use Rattle.node_world.proofs.Words.{host_ticks, hosts_of_ends, hosts_tick, is_late_at, link_is, link_to, near_tick, near_ticks, new_clf, new_desk}
 use Rattle.node_world.proofs.Words.{new_link_end, new_uicc, node_memory, number_of, on_ok, port_for, site_at, site_ticked, site_unticked, ticked_so}
 use Rattle.node_world.proofs.Words.{ticks_at_controller, turns_at, work_numbers, work_of, world_ticks}
 use Rattle.node_machine.specs.world.World.{NodeWorld}
 use Rattle.node_machine.proofs.world.Cases.{after_near_tick}
-use Rattle.node_laws.specs.telling.Telling.{IfDue, hosts_in, IsTimely, NoneDue}
+use Rattle.node_laws.specs.telling.Telling.{hosts_in, IsTimely, NoneDue}
 use Rattle.node_laws.proofs.telling.Steps.{tick_keeps}
 use Rattle.node_laws.proofs.telling.Events.{hosts_same_of_nodes as hosts_same, orderly_map}
 use Rattle.node_sites.proofs.Numbered.{stepped}
@@ -25,7 +25,8 @@ use Rattle.node_world.proofs.HostsDo.{becomes_same}
 use Rattle.node_world.proofs.ControllersStep.{EndSteps, mid_hosts, sends_them, went_on, went_off, ends_sent, ends_fresh}
 use Rattle.node_world.proofs.HostsInWorlds.{sendable_on, LeavesNear}
 use Rattle.node_world.proofs.CountsStay.{counts_few_in_tick}
-use Rattle.node_world.proofs.FewInWorlds.{few_behind_ages, few_behind_tick, far_stays, far_stays_ticked}
+use Rattle.node_world.proofs.FewInWorlds.{few_behind_ages, few_behind_tick, far_stays_ticked}
+use Rattle.node_laws.proofs.links.Worlds.{so_host as far_so}
 
 -- ## While it doesn't run
 
@@ -33,9 +34,8 @@ use Rattle.node_world.proofs.FewInWorlds.{few_behind_ages, few_behind_tick, far_
 still_wires : (l : Link) → l.controller.side ≡ new_link_end (Clf new_clf) → SameWires l (ticks_at_controller l [] GoesOut)
 still_wires l q =
     let g = ticks_on l false [] (λ late. absurd (cc late)) in
-    let W : Link → Type 0 = λ m. SameWires l m in
     let none : frames_out (after_input l.controller.side Tick) ≡ [] = ap (λ x. frames_out (after_input x Tick)) q in
-    subst W (sym g.out) (same_twice g.wires (becomes_same g.link (after_input l.controller.side Tick) none))
+    rw g.out (same_twice g.wires (becomes_same g.link (after_input l.controller.side Tick) none))
 
 still_far : (l : Link) → (ticks_at_controller l [] GoesOut).host ≡ l.host
 still_far l =
@@ -51,8 +51,7 @@ all_still (k ∷ ks) (s ∷ sites) q a = (one, all_still ks sites q.1 a.1)
   where
     one : SiteIs k (site_unticked s)
     one =
-        let Q : NumberedEnd → Type 0 = λ e. IsNodePlace k.power s.memory s.node (λ h. e) in
-        record { host = a.0.host; wires = same_stand (still_wires s.link q.0) a.0.wires; place = subst Q (sym (still_far s.link)) a.0.place }
+        record { host = a.0.host; wires = same_stand (still_wires s.link q.0) a.0.wires; place = rw (← still_far s.link) at a.0.place }
 
 off_place : (k : Power) (m : Memory) (near far : ℕ → NumberedEnd) → IsNodePlace k m None near → IsNodePlace k m None far
 off_place (On n) m near far p = p
@@ -105,8 +104,7 @@ module _ (w : NodeWorld) (r : Running) (may : MayGoOn w) (timely : AreTimely w) 
 
   pub each : (x : Site) → site_at w.sites x.host ≡ Some x → EndSteps Ticked x (starts x) (starts x) (so x)
   each x there =
-      let Due : Option Running → Type 0 = λ o. IfDue o x.host x.link.controller.side in
-      let n : NearTicks w r x = controller_end_ticks w x may.orderly there r runs node (subst Due runs (timely x.host x there).up) in
+      let n : NearTicks w r x = controller_end_ticks w x may.orderly there r runs node (rw runs at (timely x.host x there).up) in
       let g = n.ticks in
       record {
         port = g.port;
@@ -133,9 +131,7 @@ module _ (w : NodeWorld) (r : Running) (may : MayGoOn w) (timely : AreTimely w) 
   numbers_of sessions (d ∷ desks) (x ∷ sites) q a b =
       let host : d.host ≡ x.host = cc in
       let rest : map (λ (d : Desk). d.host) desks ≡ hosts_in sites = cc in
-      let N : ℕ → Type 0 = λ k. number_of (plain k) ≡ get_or sessions k 0 in
-      let L : Link → Type 0 = λ l. number_of l.controller ≡ get_or sessions x.host 0 in
-      (subst N (sym host) (subst L (sym (link_is w.sites x.host x a.0)) (sym b.0)), numbers_of sessions desks sites rest a.1 b.1)
+      (rw (← host) at (rw (← link_is w.sites x.host x a.0) at (sym b.0)), numbers_of sessions desks sites rest a.1 b.1)
 
   pub numbered : (sessions : List ℕ) → AreSessions sessions w.sites → FewAreCounted TimePasses w → AreNumbered (λ k. get_or sessions k 0) Ticked.entries
   numbered sessions a few =
@@ -158,11 +154,10 @@ module _ (w : NodeWorld) (r : Running) (may : MayGoOn w) (timely : AreTimely w) 
   pub tick_midway : (old n : Node Memory) (ks : List HostSite) (live : Bool) → HasGone old n Ticked live
       → SitesAre ks w.sites → EndsStep (On n) ks n live Ticked mid_sites
   tick_midway old n ks live gone a =
-      let S : List Site → Type 0 = λ xs. SitesAre ks xs in
       record {
         on = refl;
         sends =
-            sends_them w Ticked starts starts so may.orderly.different hosts_then each ks gone.runs (subst S (sym (same_sites w.sites)) a);
+            sends_them w Ticked starts starts so may.orderly.different hosts_then each ks gone.runs (rw (← same_sites w.sites) at a);
       }
     where
       same_sites : (sites : List Site) → map (λ (s : Site). record s { link = s.link }) sites ≡ sites
@@ -239,9 +234,8 @@ was_there (s ∷ sites) h t q = go (s.host == h) refl (was_there sites h t)
 pub older_timely : (w : NodeWorld) → AreTimely w → AreTimely (older_world w)
 older_timely w timely h t q =
     let was = was_there w.sites h t q in
-    let T : Site → Type 0 = λ x. IsTimely (older_world w) h x in
     let before : IsTimely w h was.site = timely h was.site was.found in
-    subst T was.is (record { controller = before.controller; host = before.host; up = before.up; young = before.young })
+    rw (← was.is) (record { controller = before.controller; host = before.host; up = before.up; young = before.young })
 
 older_hosts : (sites : List Site) → hosts_in (map older sites) ≡ hosts_in sites
 older_hosts [] = refl
@@ -269,8 +263,7 @@ older_few w few = go w.controller few
 
 pub older_is : (k : Power) (ks news : List HostSite) (w : NodeWorld) → WorldIs k ks w → SitesAre news (map older w.sites) → WorldIs k news (older_world w)
 older_is k ks news w world sites =
-    let Q : (ℕ → NumberedEnd) → Type 0 = λ near. IsNodePlace k w.memory w.controller near in
-    record { controller = subst Q (sym (all_near w.sites)) world.controller; sites = sites }
+    record { controller = rw (← all_near w.sites) at world.controller; sites = sites }
 
 pub then_ticks : (k : Power) (ks : List HostSite) (w : NodeWorld) (before mid now : List Entry) → mid ≡ before ++ (all_aged w).1
     → WorldBecomes k ks mid now (controller_ticks (older_world w)) → WorldBecomes k ks before now (near_ticks w)
@@ -291,13 +284,6 @@ record LeavesFar (s t : Site) : Type 0 where
   node : t.node ≡ s.node
   far : t.link.host ≡ s.link.host
 
-far_so : (l : Link) (late : Bool) (ts : List Turn) (ending : Ending) → (ticked_so l late ts ending).host ≡ l.host
-far_so l late ts ending = go (late && not (is_waiting l.controller.side.shdlc))
-  where
-    go : (b : Bool) → (cond b (has_input l (Reset None) ts ending) (ticks_at_controller l ts ending)).host ≡ l.host
-    go true = far_stays l (AsksReset None) ts ending
-    go false = far_stays_ticked l ts ending
-
 -- a host whose tick may come
 record IsReady (s : Site) : Type 0 where
   host : IsHostOf s
@@ -308,11 +294,10 @@ ready_still s t a r =
     let Ends : ℕ → Option Running → Type 0 = λ h o. IfItRuns h (h ∷ []) o in
     let Off : Option Running → NumberedEnd → Type 0 = λ o e. IfOff o (new_link_end (Uicc new_uicc)) e.side in
     let Counts : NumberedEnd → Type 0 = λ e. CountsOn e.side Tick in
-    let Low : ℕ → Type 0 = λ h. h ≤ 7 in
     record {
       host = record {
         number = ap (λ n. n == 0) a.host ∙ r.host.number;
-        low = subst Low (sym a.host) r.host.low;
+        low = rw (← a.host) at r.host.low;
         ends = subst (λ h. Ends h t.node) (sym a.host) (subst (Ends s.host) (sym a.node) r.host.ends);
       };
       may = record {
@@ -417,10 +402,9 @@ all_tick k ks new w before mid now first second =
     let old : List Entry = (all_aged w).1 in
     let ticked : List Entry = (controller_ticks (all_aged w).0).1 in
     let far : List Site × List Entry = hosts_tick near.sites in
-    let Q : (ℕ → NumberedEnd) → Type 0 = λ ends. IsNodePlace k near.memory near.controller ends in
     let same : near_of far.0 ≡ near_of near.sites = λ i h. near_left near.sites h i in
     record {
-      world = record { controller = subst Q (sym same) first.world.controller; sites = second.sites };
+      world = record { controller = rw (← same) at first.world.controller; sites = second.sites };
       noted = second.noted ∙ (ap (λ es. es ++ far.1) first.noted
           ∙ (append_assoc before (old ++ ticked) far.1 ∙ ap (λ es. before ++ es) (append_assoc old ticked far.1)));
     }

@@ -1,6 +1,5 @@
-use Rattle.std.proofs.Common.{sym, subst, ℕ}
 use Rattle.std.specs.Prelude.{slice_index_or}
-use Rattle.node_world.proofs.Words.{IsNodePlace, StandsAt, counts, entries_for, first_lost, frame_lost, frames_to, side_of, site_loses}
+use Rattle.node_world.proofs.Words.{StandsAt, entries_for, first_lost, frame_lost, frames_to, side_of, site_loses}
 use Rattle.node_world.proofs.HostsInWorlds.{at_place, nowhere, site_stands, lost_to_controller, loses_in_world, found_becomes, loses_leaves}
 use Rattle.node_world.proofs.HostsDo.{lost_far, lost_near}
 use Rattle.node_world.proofs.frame_lines.lose_frame.Goals as goal
@@ -28,9 +27,8 @@ returns-then-at-clause-stands c w why world ready there cause =
     let t = at_place c.args.sites.now w c.in-Some.place e.link a c.index-sites-place.result world.sites c.index-sites-place.is ready in
     let k = slice_index_or c.args.sites.now c.in-Some.place c.index-sites-place.result in
     let r = c.in_ok-lose.ensures a.site.link why t.is.wires cause in
-    let P : ℕ → Type 0 = λ h. IsNodePlace c.loses_frame.new.self a.site.memory (counts why h a.site.node) (λ n. a.site.link.host) in
     let site = lost_far (record { host = k.host; wires = c.lose.new.self; power = c.loses_frame.new.self }) a.site e why t.is.host r.0 c.if-at.true
-    (subst P (sym a.host) (c.loses_frame.ensures a.site.memory a.site.node (λ h. a.site.link.host) why t.is.place cause)) in
+    (rw (← a.host) at (c.loses_frame.ensures a.site.memory a.site.node (λ h. a.site.link.host) why t.is.place cause)) in
     found_becomes w c.in-Some.place e.link a o
     (site_loses e why a.site, entries_for e.link (first_lost (side_of e) why (frames_to a.site.link e))) (frame_lost w e why)
     (loses_in_world w e why a.site (site_stands w c.in-Some.place e.link a o) c.if-at.true) (loses_leaves e why a.site c.if-at.true)

@@ -1,5 +1,5 @@
-use Rattle.std.proofs.Common.{ℕ, ◌==◌, true, false, List, [], ◌∷◌, ◌++◌, refl, sym, subst, ◌≡◌, ap, ◌∙◌}
-use Rattle.std.specs.Prelude.{Some, None, replicate, slice_index_or, slice_set}
+use Rattle.std.proofs.Common.{ℕ, ◌==◌, true, false, [], ◌∷◌, ◌++◌, refl, sym, subst, ◌≡◌, ap, ◌∙◌}
+use Rattle.std.specs.Prelude.{Some, None, replicate, slice_index_or}
 use Rattle.std.proofs.lemmas.Result.{on_ok_weaker}
 use Rattle.trace_model.specs.declared.entry.Entry.TheVariants as note
 use Rattle.trace_model.specs.declared.entry.NoCause.TheVariants as no
@@ -10,7 +10,7 @@ use Rattle.node_world.proofs.HostsInWorlds.{asked_there, happening_asked, stays_
 use Rattle.node_core.specs.Giving.{refusal_noted}
 use Rattle.node_sites.specs.Asking.{deeds_asked, message_asked}
 use Rattle.node_world.specs.Whole.{line_asked}
-use Rattle.node_world.proofs.Words.{End, Entry, IsHostOf, NoInput, RunsAs, Site, SitesBecome, StandsAt, Work, begins_with, host_stepped, node_memory}
+use Rattle.node_world.proofs.Words.{End, IsHostOf, NoInput, RunsAs, Site, StandsAt, Work, begins_with, host_stepped, node_memory}
 use Rattle.node_world.proofs.Words.{none_noted, refusal_in, sending_refused, site_at, world_step}
 use Rattle.node_world.proofs.HostsHear.{is_on, is_off, unchanged, begins_at_end, has_end, began, is_done, is_some_host, sending_off, sending_so, still_stands}
 use Rattle.node_world.proofs.LinesGo.{hosts_go, hosts_refused}
@@ -129,11 +129,9 @@ returns-clause-stands c w all ready there =
     let does : ChangesSite w c.args.at.link a.site (host_stepped a.site NoInput (f a.site.host)) (world_step w (happening_asked c.args.at c.args.asked)) =
     subst (ChangesSite w c.args.at.link a.site (host_stepped a.site NoInput (f a.site.host))) (asked_does w c.args.at c.args.asked c.requires.host)
     (steps_there w c.args.at.link a.site found a.host NoInput f) in
-    let B : List Entry → Type 0 = λ es. SitesBecome (slice_set c.args.sites.now c.in-Some.place c.finish_host.new.site) es now
-    (world_step w (happening_asked c.args.at c.args.asked)) in
     on_ok_weaker c.finish_host.result
     (λ b. hosts_go w (line_asked c.args.at c.args.asked) _ (happening_asked c.args.at c.args.asked) now (asked_goes w c.args.at c.args.asked)
     (refusal_so w c.args.at c.args.asked a.site c.requires.host (number_off a.site t.host c.args.at.link a.host) found ∙ sym told)
-    (subst B c.requires.nothing (becomes c.args.sites.now w c.in-Some.place c.args.at.link a c.finish_host.new.site before now
+    (rw c.requires.nothing at (becomes c.args.sites.now w c.in-Some.place c.args.at.link a c.finish_host.new.site before now
     (host_stepped a.site NoInput (f a.site.host)) (world_step w (happening_asked c.args.at c.args.asked)) o all does b)))
     (is_done c.finish_host.result c.finish_host.new.site now d (c.finish_host.ensures.stands a.site d.step d.l d.w before d.midway))

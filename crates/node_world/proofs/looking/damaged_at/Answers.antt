@@ -1,13 +1,10 @@
-use Rattle.std.proofs.Common.{sym, subst}
-use Rattle.node_world.proofs.Words.{Finds, HostSite, Link, SiteIs, StandsAt, frames_to, link_is}
+use Rattle.node_world.proofs.Words.{StandsAt, link_is}
 use Rattle.node_world.proofs.HostsInWorlds.{reads, site_stands}
 use Rattle.node_world.proofs.looking.damaged_at.Goals as goal
 
 pub returns-in-Some : goal.returns-in-Some
 returns-in-Some c w all may =
     let a : StandsAt c.in-Some.place c.args.to.link w.sites = c.in-Some.ensures.place w.sites all in
-    let S : HostSite → Type 0 = λ k. SiteIs k a.site in
-    let is = subst S c.index-sites-place.is (reads c.args.sites.now w c.in-Some.place c.args.to.link a c.index-sites-place.result all c.index-sites-place.is) in
+    let is = rw c.index-sites-place.is at (reads c.args.sites.now w c.in-Some.place c.args.to.link a c.index-sites-place.result all c.index-sites-place.is) in
     let found = site_stands w c.in-Some.place c.args.to.link a may.orderly in
-    let F : Link → Type 0 = λ l. Finds (frames_to l c.args.to) c.args.places.now c.damaged.result in
-    subst F (sym (link_is w.sites c.args.to.link a.site found)) (c.damaged.ensures a.site.link is.wires)
+    rw (link_is w.sites c.args.to.link a.site found) (c.damaged.ensures a.site.link is.wires)

@@ -1,12 +1,11 @@
-use Rattle.std.proofs.Common.{length, sym, subst, ap, ◌∙◌}
-use Rattle.node_world.proofs.Words.{HostSite, Link, SiteIs, StandsAt, frames_to, link_is}
+use Rattle.std.proofs.Common.{length, sym, ap, ◌∙◌}
+use Rattle.node_world.proofs.Words.{Link, StandsAt, frames_to, link_is}
 use Rattle.node_world.proofs.HostsInWorlds.{reads, site_stands}
 use Rattle.node_world.proofs.looking.on_the_way.Goals as goal
 
 pub returns-in-Some : goal.returns-in-Some
 returns-in-Some c w all may =
     let a : StandsAt c.in-Some.place c.args.to.link w.sites = c.in-Some.ensures.place w.sites all in
-    let S : HostSite → Type 0 = λ k. SiteIs k a.site in
-    let is = subst S c.index-sites-place.is (reads c.args.sites.now w c.in-Some.place c.args.to.link a c.index-sites-place.result all c.index-sites-place.is) in
+    let is = rw c.index-sites-place.is at (reads c.args.sites.now w c.in-Some.place c.args.to.link a c.index-sites-place.result all c.index-sites-place.is) in
     let found = site_stands w c.in-Some.place c.args.to.link a may.orderly in
     c.standing.ensures a.site.link is.wires ∙ ap (λ (l : Link). length (frames_to l c.args.to)) (sym (link_is w.sites c.args.to.link a.site found))

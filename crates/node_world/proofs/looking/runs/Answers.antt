@@ -1,7 +1,7 @@
-use Rattle.std.proofs.Common.{rules, ◌≡◌, ◌==◌, false, get_or, sym, subst, ap, ◌∙◌}
+use Rattle.std.proofs.Common.{rules, ◌≡◌, ◌==◌, false, get_or, sym, ap, ◌∙◌}
 use Rattle.std.specs.Prelude.{is_some}
 use Rattle.std.proofs.lemmas.Bool.{ne_eqb}
-use Rattle.node_world.proofs.Words.{HostSite, SiteIs, StandsAt}
+use Rattle.node_world.proofs.Words.{StandsAt}
 use Rattle.node_sites.specs.Powers.{is_on}
 use Rattle.node_world.proofs.HostsInWorlds.{reads, runs_alike, site_stands, node_there}
 use Rattle.node_world.proofs.looking.runs.Goals as goal
@@ -9,8 +9,7 @@ use Rattle.node_world.proofs.looking.runs.Goals as goal
 pub returns-in-Some : goal.returns-in-Some
 returns-in-Some c w world may =
     let a : StandsAt c.in-Some.place c.args.node w.sites = c.in-Some.ensures.place w.sites world.sites in
-    let S : HostSite → Type 0 = λ k. SiteIs k a.site in
-    let is = subst S c.index-sites-place.is (reads c.args.sites.now w c.in-Some.place
+    let is = rw c.index-sites-place.is at (reads c.args.sites.now w c.in-Some.place
     c.args.node a c.index-sites-place.result world.sites c.index-sites-place.is) in
     let found = site_stands w c.in-Some.place c.args.node a may.orderly in
     let off : (c.args.node == 0) ≡ false = search (rules, ne_eqb) in

@@ -1,7 +1,7 @@
-use Rattle.std.proofs.Common.{◌≡◌, ℕ, ◌+◌, List, [], ◌∷◌, ◌++◌, get_or, map, take, ap, sym, subst, ◌∙◌}
+use Rattle.std.proofs.Common.{◌≡◌, ℕ, ◌+◌, List, [], ◌∷◌, ◌++◌, get_or, map, take, ap, ◌∙◌}
 use Rattle.std.specs.Prelude.{replicate}
 use Rattle.std.proofs.lemmas.List.{take_more, take_all, map-append}
-use Rattle.node_world.proofs.Words.{Site, SitesAre, new_site}
+use Rattle.node_world.proofs.Words.{Site, new_site}
 use Rattle.node_world.proofs.SitesKept.{together}
 use Rattle.node_world.proofs.making.make_sites.Goals as goal
 
@@ -19,12 +19,9 @@ loop-host-preserved c =
     let same : map made (take (i + 1) hosts) ≡ map made (take i hosts) ++ made host ∷ [] =
     ap (map made) all ∙ map-append made (take i hosts) (host ∷ []) in
     let longer = together before (map made (take i hosts)) (c.in_ok-site.site ∷ []) (made host ∷ []) c.loop-host.invariant (c.in_ok-site.ensures, tt) in
-    let S : List Site → Type 0 = λ sites. SitesAre (before ++ c.in_ok-site.site ∷ []) sites in
-    let K : List _ → Type 0 = λ ks. SitesAre ks (map made (take (i + 1) hosts)) in
-    subst K (sym grown) (subst S (sym same) longer)
+    rw grown (rw (← same) at longer)
 
 pub returns : goal.returns
 returns c =
     let hosts : List ℕ = c.args.hosts.now in
-    let S : List ℕ → Type 0 = λ hosts. SitesAre c.loop-host.sites.items (map made hosts) in
-    subst S (take_all c.loop-host.host-index hosts c.loop-host-test.false) c.loop-host.invariant
+    rw (← take_all c.loop-host.host-index hosts c.loop-host-test.false) c.loop-host.invariant

@@ -3,7 +3,7 @@ use Rattle.std.specs.Prelude.{None}
 use Rattle.std.specs.List.{each_same}
 use Rattle.std.proofs.lemmas.Bool.{ne_eqb}
 use Rattle.trace_model.specs.declared.line.Line.TheVariants as line
-use Rattle.node_world.proofs.Words.{Arms, Entry, HostSite, LinePlayed, Plan, Power, Site, SiteIs, StandsAt, WorldIs, line_step, link_to, memory_at, site_at}
+use Rattle.node_world.proofs.Words.{Arms, Entry, HostSite, LinePlayed, Plan, Power, Site, StandsAt, WorldIs, line_step, link_to, memory_at, site_at}
 use Rattle.node_world.proofs.Words.{with_site, world_step}
 use Rattle.arrayvec.specs.ArrayVec.{ArrayVec}
 use Rattle.node_machine.specs.world.World.{NodeWorld}
@@ -23,9 +23,8 @@ armed_so : (w : NodeWorld) (n nth : ℕ) (fill : ArrayVec ℕ) (copy : List ℕ)
     → copy ≡ fill.items → WorldIs k ks (world_step w (Arms n (record { nth = nth; fill = copy }))).0
     → LinePlayed k ks entries (line_step w (line.Arm n nth fill))
 armed_so w n nth fill copy k ks entries nothing same world =
-    let W : List ℕ → Type 0 = λ xs. WorldIs k ks (world_step w (Arms n (record { nth = nth; fill = xs }))).0 in
     line_goes w (line.Arm n nth fill) k ks entries entries nothing (Arms n (record { nth = nth; fill = fill.items })) refl refl
-    (record { world = subst W same world; noted = sym (append-nil entries) })
+    (record { world = rw same at world; noted = sym (append-nil entries) })
 
 long : (fill : List ℕ) (copy : List ℕ) → copy ≡ fill → 0 < length fill → 0 < length copy
 long fill copy same some = let Some : List ℕ → Type 0 = λ xs. 0 < length xs in subst Some (sym same) some
@@ -47,11 +46,9 @@ returns-then-node-eq0 c = record {
   stands = λ header w world may.
       let zero : c.args.node ≡ 0 = c.if-node-eq0.true in
       let plan : Plan = record { nth = c.args.nth; fill = c.in_ok-fill.fill.items } in
-      let W : ℕ → Type 0 = λ n. WorldIs c.arm.new.self c.args.sites.now (world_step w (Arms n plan)).0 in
       armed_so w c.args.node c.args.nth c.args.fill.now plan.fill c.arm.new.self c.args.sites.now c.args.noted.now.entries.items c.requires.nothing
       (each_same _ _ c.in_ok-fill.ensures.cases)
-      (subst W (sym zero)
-      (record { controller = c.arm.ensures w.memory w.controller (λ h. (link_to w.sites h).controller) world.controller; sites = world.sites }));
+      (rw zero (record { controller = c.arm.ensures w.memory w.controller (λ h. (link_to w.sites h).controller) world.controller; sites = world.sites }));
 }
 
 pub returns-in-Some : goal.returns-in-Some
@@ -62,8 +59,7 @@ returns-in-Some c = record {
       let plan : Plan = record { nth = c.args.nth; fill = c.in_ok-fill.fill.items } in
       let off : (n == 0) ≡ false = search (rules, ne_eqb) in
       let a : StandsAt c.in-Some.place n w.sites = c.in-Some.ensures.place w.sites world.sites in
-      let S : HostSite → Type 0 = λ k. SiteIs k a.site in
-      let is = subst S c.index-sites-place.is (reads c.args.sites.now w c.in-Some.place n a c.index-sites-place.result world.sites c.index-sites-place.is) in
+      let is = rw c.index-sites-place.is at (reads c.args.sites.now w c.in-Some.place n a c.index-sites-place.result world.sites c.index-sites-place.is) in
       armed_so w n c.args.nth c.args.fill.now plan.fill _ _ c.args.noted.now.entries.items c.requires.nothing (each_same _ _ c.in_ok-fill.ensures.cases)
       (found_becomes w c.in-Some.place n a o (record a.site { memory = armed plan a.site.memory }, []) (world_step w (Arms n plan))
       (armed_in_world w n a.site (site_stands w c.in-Some.place n a o) off plan) (record { host = refl; near = refl })
@@ -84,8 +80,7 @@ returns-in_default c = record {
       let n = c.args.node in
       let plan : Plan = record { nth = c.args.nth; fill = c.in_ok-fill.fill.items } in
       let off : (n == 0) ≡ false = search (rules, ne_eqb) in
-      let W : NodeWorld → Type 0 = λ v. WorldIs c.args.controller.now c.args.sites.now v in
       armed_so w n c.args.nth c.args.fill.now plan.fill c.args.controller.now c.args.sites.now c.args.noted.now.entries.items c.requires.nothing
       (each_same _ _ c.in_ok-fill.ensures.cases)
-      (subst W (sym (nothing_armed w n plan off (c.in_default.ensures.place w.sites world.sites))) world);
+      (rw (← nothing_armed w n plan off (c.in_default.ensures.place w.sites world.sites)) at world);
 }

@@ -1,11 +1,11 @@
 use Rattle.std.proofs.Common.{rules, ◌≡◌, ◌==◌, ℕ, Bool, true, false, List, length, refl, sym, subst, ◌∙◌}
-use Rattle.std.specs.Prelude.{Option, None}
+use Rattle.std.specs.Prelude.{None}
 use Rattle.std.proofs.lemmas.Bool.{ne_eqb}
 use Rattle.std.proofs.lemmas.Result.{on_ok_weaker}
 use Rattle.trace_model.specs.declared.entry.NoCause.TheVariants as no
 use Rattle.trace_model.specs.declared.line.Line.TheVariants as line
-use Rattle.node_world.proofs.Words.{Boots, Entry, HostSite, IfOff, IsSoundMemory, Running, Site, SiteIs, StandsAt, Uicc, WorldBecomes, after_planned}
-use Rattle.node_world.proofs.Words.{boot_writes, boots, fails_within, host_boots, host_cut, is_running, memory_at, new_link_end, new_uicc, node_at}
+use Rattle.node_world.proofs.Words.{Boots, Entry, IsSoundMemory, Site, StandsAt, WorldBecomes, after_planned}
+use Rattle.node_world.proofs.Words.{boot_writes, boots, fails_within, host_boots, host_cut, is_running, node_at}
 use Rattle.node_world.proofs.HostsInWorlds.{is_host, nowhere, reads, site_stands, boots_in_world, memory_there, node_there, LeavesNear, cut_leaves}
 use Rattle.node_world.proofs.HostsInWorlds.{found_becomes}
 use Rattle.node_world.proofs.HostsDo.{boot_goes, boot_stops}
@@ -29,9 +29,7 @@ boot_controller-requires c =
     let may = c.requires.state.3 in
     let zero : c.args.node ≡ 0 = c.if-node-eq0.true in
     let none = stands_not (node_at w c.args.node) (sym (c.runs.ensures w c.requires.state.2 may.goes_on) ∙ c.if-runs.false) in
-    let O : ℕ → Type 0 = λ n. node_at w n ≡ None in
-    let M : ℕ → Type 0 = λ n. IsSoundMemory (memory_at w n) in
-    record { state = (w, c.requires.state.2, subst O zero none, subst M zero (may.boots c.args.node may.is_line.may_follow.1 none)) }
+    record { state = (w, c.requires.state.2, rw zero at none, rw zero at (may.boots c.args.node may.is_line.may_follow.1 none)) }
 
 pub boot_host-requires : goal.boot_host-requires
 boot_host-requires c =
@@ -42,13 +40,12 @@ boot_host-requires c =
     let none = stands_not (node_at w n) (sym (c.runs.ensures w c.requires.state.2 may.goes_on) ∙ c.if-runs.false) in
     let off : (n == 0) ≡ false = search (rules, ne_eqb) in
     let a : StandsAt c.in-Some.place n w.sites = c.in-Some.ensures.place w.sites all in
-    let S : HostSite → Type 0 = λ k. SiteIs k a.site in
     let is = reads c.args.sites.now w c.in-Some.place n a c.index-sites-place.result all c.index-sites-place.is in
     let found = site_stands w c.in-Some.place n a may.goes_on.orderly in
     record {
       state = (
         a.site,
-        subst S c.index-sites-place.is is,
+        rw c.index-sites-place.is at is,
         is_host w c.in-Some.place n a may.goes_on,
         sym (node_there w n off a.site found) ∙ none,
         subst IsSoundMemory (memory_there w n off a.site found) (may.boots n may.is_line.may_follow.1 none),
@@ -83,19 +80,17 @@ returns-in-Some-clause-stands c header w world may mask_is =
     let o = may.goes_on.orderly in
     let off : (n == 0) ≡ false = search (rules, ne_eqb) in
     let a : StandsAt c.in-Some.place n w.sites = c.in-Some.ensures.place w.sites world.sites in
-    let S : HostSite → Type 0 = λ k. SiteIs k a.site in
     let is = reads c.args.sites.now w c.in-Some.place n a c.index-sites-place.result world.sites c.index-sites-place.is in
     let found = site_stands w c.in-Some.place n a o in
     let none = sym (node_there w n off a.site found) ∙ stands_not (node_at w n) e in
-    let N : Option Running → Type 0 = λ x. IfOff x (new_link_end (Uicc new_uicc)) a.site.link.host.side in
     let before : List Entry = c.args.noted.now.entries.items in
     let now : List Entry = c.boot_host.new.noted.entries.items in
     on_ok_weaker c.boot_host.result
     (λ b. line_goes w (line.Boot n) _ _ before now c.requires.nothing (Boots n) refl (boots_free w n e)
     (found_becomes w c.in-Some.place n a o (host_boots a.site) (boots w n) (boots_in_world w n a.site found off) (boot_leaves a.site) c.args.controller.now
     c.args.sites.now c.boot_host.new.site before now world b))
-    (c.boot_host.ensures.stands a.site (subst S c.index-sites-place.is is) (is_host w c.in-Some.place n a may.goes_on) none
-    (subst N none (may.timely n a.site found).host))
+    (c.boot_host.ensures.stands a.site (rw c.index-sites-place.is at is) (is_host w c.in-Some.place n a may.goes_on) none
+    (rw none at (may.timely n a.site found).host))
 
 pub returns-in-None-clause-stands : goal.returns-in-None-clause-stands
 returns-in-None-clause-stands c header w world may mask_is =

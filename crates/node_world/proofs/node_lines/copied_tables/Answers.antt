@@ -1,9 +1,9 @@
-use Rattle.std.proofs.Common.{rules, ◌≡◌, ◌==◌, ℕ, false, get_or, sym, subst}
-use Rattle.std.specs.Prelude.{Option, IfOk}
+use Rattle.std.proofs.Common.{rules, ◌≡◌, ◌==◌, ℕ, false, get_or}
+use Rattle.std.specs.Prelude.{Option}
 use Rattle.std.specs.Option.{option_map}
 use Rattle.std.proofs.lemmas.Bool.{ne_eqb}
 use Rattle.hci_tables.specs.Tables.{HciTables}
-use Rattle.node_world.proofs.Words.{HostSite, Running, SiteIs, StandsAt, node_at}
+use Rattle.node_world.proofs.Words.{Running, StandsAt}
 use Rattle.node_world.proofs.HostsInWorlds.{reads, site_stands, node_there}
 use Rattle.node_world.proofs.node_lines.copied_tables.Goals as goal
 
@@ -13,17 +13,14 @@ tables_at o = option_map (λ (r : Running). r.core.tables) o
 pub returns-then-node-eq0 : goal.returns-then-node-eq0
 returns-then-node-eq0 c w world may =
     let zero : c.args.node ≡ 0 = c.if-node-eq0.true in
-    let T : ℕ → Type 0 = λ n. IfOk c.tables_of.result (λ tables. tables ≡ tables_at (node_at w n)) in
-    subst T (sym zero) (c.tables_of.ensures _ _ _ world.controller)
+    rw zero (c.tables_of.ensures _ _ _ world.controller)
 
 pub returns : goal.returns
 returns c w world may =
     let i : ℕ = c.in-Some.place in
     let a : StandsAt i c.args.node w.sites = c.in-Some.ensures.place w.sites world.sites in
     let k = get_or c.args.sites.now i c.index-sites-place.result in
-    let S : HostSite → Type 0 = λ x. SiteIs x a.site in
-    let is = subst S c.index-sites-place.is (reads c.args.sites.now w i c.args.node a c.index-sites-place.result world.sites c.index-sites-place.is) in
+    let is = rw c.index-sites-place.is at (reads c.args.sites.now w i c.args.node a c.index-sites-place.result world.sites c.index-sites-place.is) in
     let off : (c.args.node == 0) ≡ false = search (rules, ne_eqb) in
     let node = node_there w c.args.node off a.site (site_stands w i c.args.node a may.orderly) in
-    let T : Option Running → Type 0 = λ o. IfOk c.tables_of-2.result (λ tables. tables ≡ tables_at o) in
-    subst T (sym node) (c.tables_of-2.ensures _ _ _ is.place)
+    rw node (c.tables_of-2.ensures _ _ _ is.place)

@@ -5,7 +5,7 @@ use Rattle.std.proofs.lemmas.Result.{on_ok_weaker}
 use Rattle.trace_model.specs.declared.entry.Entry.TheVariants as note
 use Rattle.trace_model.specs.declared.entry.NoCause.TheVariants as no
 use Rattle.trace_model.specs.declared.line.Line.TheVariants as line
-use Rattle.node_world.proofs.Words.{Entry, HostSite, IsCut, SiteIs, StandsAt, WorldBecomes, host_cut, is_running, node_at, world_step}
+use Rattle.node_world.proofs.Words.{Entry, IsCut, StandsAt, WorldBecomes, host_cut, is_running, node_at, world_step}
 use Rattle.node_world.proofs.HostsInWorlds.{reads, site_stands, cut_in_world, node_nowhere, runs_so, cut_leaves, found_becomes}
 use Rattle.node_world.proofs.ControllersHear.{was_cut}
 use Rattle.node_world.proofs.HostsDo.{was_cut_off}
@@ -45,8 +45,7 @@ returns-in-Some-clause-stands c header w world may =
     let before : List Entry = c.args.noted.now.entries.items in
     let now : List Entry = c.note_last-in-Some.new.noted.entries.items in
     let a : StandsAt c.in-Some.place n w.sites = c.in-Some.ensures.place w.sites world.sites in
-    let S : HostSite → Type 0 = λ k. SiteIs k a.site in
-    let is = subst S c.index-sites-place.is (reads c.args.sites.now w c.in-Some.place n a c.index-sites-place.result world.sites c.index-sites-place.is) in
+    let is = rw c.index-sites-place.is at (reads c.args.sites.now w c.in-Some.place n a c.index-sites-place.result world.sites c.index-sites-place.is) in
     let gone = was_cut_off _ c.lose_power.new.site a.site is c.lose_power.ensures.host c.lose_power.ensures.off
     (c.lose_power.ensures.wires a.site.link is.wires) in
     on_ok_weaker c.note_last-in-Some.result

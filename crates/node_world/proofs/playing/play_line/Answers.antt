@@ -1,9 +1,8 @@
-use Rattle.std.proofs.Common.{rules, ◌≡◌, ℕ, ◌≤◌, List, length, ap, sym, subst, ◌∙◌}
+use Rattle.std.proofs.Common.{rules, ◌≡◌, ℕ, List, ap, sym, subst, ◌∙◌}
 use Rattle.std.proofs.lemmas.Bool.{true≢false}
 use Rattle.std.proofs.lemmas.Result.{on_ok_weaker}
 use Rattle.std.specs.Prelude.{OnOk}
 use Rattle.node_world.proofs.Words.{line_step}
-use Rattle.hcp_packet.specs.Packets.{IsSendable}
 use Rattle.trace_model.specs.declared.line.Line.TheVariants as line
 use Rattle.node_world.specs.Whole.{HostsPlayed, is_damaging}
 use Rattle.node_world.proofs.LinesGo.{is_there, within}
@@ -27,8 +26,7 @@ host_line-requires-clause-may c =
     let s = c.requires.state in
     let may = rw c.in-Send.is at s.3 in
     let e : c.as_slice.result.now ≡ c.in-Send.message = search rules in
-    let M : List ℕ → Type 0 = λ m. IsSendable (c.in-Send.pid, m) in
-    subst M (sym e) (may.is_line.may_follow.pipe, may.is_line.may_follow.some)
+    rw e (may.is_line.may_follow.pipe, may.is_line.may_follow.some)
 
 pub returns-in-Send-clause-stands : goal.returns-in-Send-clause-stands
 returns-in-Send-clause-stands c header w world may mask_is =
@@ -57,18 +55,15 @@ host_line-requires-in-Init-clause-may c =
     let s = c.requires.state in
     let may = rw c.in-Init.is at s.3 in
     let e : c.as_slice-in-Init.result.now ≡ c.in-Init.pipes.items = search rules in
-    let M : List (List ℕ) → Type 0 = λ ps. length ps ≤ 8 in
-    subst M (sym e) may.is_line.may_follow.1.few
+    rw e may.is_line.may_follow.1.few
 
 pub returns-in-Init-clause-stands : goal.returns-in-Init-clause-stands
 returns-in-Init-clause-stands c header w world may mask_is =
     let now = rw c.in-Init.is at may in
     let e : c.as_slice-in-Init.result.now ≡ c.in-Init.pipes.items = search rules in
-    let H : List (List ℕ) → Type 0 = λ ps. OnOk c.host_line-in-Init.result (HostsPlayed c.host_line-in-Init.new.sites
-    c.host_line-in-Init.new.noted.entries.items (line_step w (line.Init c.in-Init.at c.in-Init.identity (record { items = ps })))) in
     on_ok_weaker c.host_line-in-Init.result (init_played c.args.controller.now c.args.sites.now c.host_line-in-Init.new.sites
     c.host_line-in-Init.new.noted.entries.items header w world c.args.line.now c.in-Init.at c.in-Init.identity c.in-Init.pipes c.in-Init.is may)
-    (subst H e (c.host_line-in-Init.ensures.stands w world.sites (within now) (is_there c.in-Init.at.link now now.is_line.may_follow.1.known)))
+    (rw e at (c.host_line-in-Init.ensures.stands w world.sites (within now) (is_there c.in-Init.at.link now now.is_line.may_follow.1.known)))
 
 pub deliver_line-requires-clause-state : goal.deliver_line-requires-clause-state
 deliver_line-requires-clause-state c =

@@ -1,6 +1,5 @@
-use Rattle.std.proofs.Common.{◌≡◌, ℕ, ◌<◌, ◌≤◌, true, false, ap, sym, subst, ◌∙◌, arith, length}
-use Rattle.std.specs.Prelude.{replicate}
-use Rattle.node_world.proofs.Words.{NextFrame, Takes, WorldHasGone, all_happen, frames_at, is_running, node_of}
+use Rattle.std.proofs.Common.{◌≡◌, ℕ, ◌<◌, ◌≤◌, true, false, ap, sym, ◌∙◌, arith, length}
+use Rattle.node_world.proofs.Words.{NextFrame, Takes, frames_at, is_running, node_of}
 use Rattle.node_world.proofs.HostsHear.{unrefused}
 use Rattle.node_world.proofs.RoundsGo.{few_on_way, again_begins, again_ends, again_goes, again_next, again_stops, bounds_again, hosts_come, there_still}
 use Rattle.node_world.proofs.rounds.take_all.Goals as goal
@@ -58,8 +57,6 @@ returns-clause-stands c w world may =
     let many : c.on_the_way-times.result ≡ length (frames_at w c.args.at) = c.on_the_way-times.ensures w world.sites may.goes_on in
     let last : c.loop.counter ≡ c.on_the_way-times.result = omega (arith, c.loop-test.false, c.loop.auto.counter-end) in
     let a = c.loop.invariant.goes w world may in
-    let G : ℕ → Type 0 = λ n. WorldHasGone c.loop.controller c.loop.sites
-    c.args.noted.now.entries.items c.loop.noted.entries.items (all_happen w (replicate n (Takes c.args.at))) in
-    subst G (last ∙ many) (again_goes w
+    rw (← last ∙ many) (again_goes w
     (Takes c.args.at) 290000000 c.loop.controller c.loop.sites c.args.noted.now.entries.items c.loop.noted.entries.items c.loop.counter c.loop.counter a
     (again_ends w (Takes c.args.at) 290000000 c.loop.controller c.loop.sites c.args.noted.now.entries.items c.loop.noted.entries.items c.loop.counter a))

@@ -30,12 +30,12 @@ near_comes {old} at new what before now o near comes l wires =
 near_refused : (at : End) (w : NodeWorld) (comes : Comes) (why : Option ResetRefused) → at.at_host ≡ false
     → why ≡ refusal_coming w.controller (link_to w.sites at.link).controller.side comes → why ≡ refusal_coming (node_at w (node_of at)) (machine_in w at) comes
 near_refused at w comes why near is =
-    let R : End → Type 0 = λ e. why ≡ refusal_coming (node_at w (node_of e)) (machine_in w e) comes in subst R (controller_end_is at near) is
+    rw (← controller_end_is at near) is
 
 near_becomes : {k : Power} {ks : List HostSite} {before now : List Entry} (at : End) (w : NodeWorld) (comes : Comes) → at.at_host ≡ false
     → WorldBecomes k ks before now (comes_at w (end_c at.link) comes) → WorldBecomes k ks before now (comes_at w at comes)
 near_becomes {k} {ks} {before} {now} at w comes near b =
-    let W : End → Type 0 = λ e. WorldBecomes k ks before now (comes_at w e comes) in subst W (controller_end_is at near) b
+    rw (← controller_end_is at near) b
 
 pub returns-in_default-clause-refusal : goal.returns-in_default-clause-refusal
 returns-in_default-clause-refusal c w world ready there = nowhere w.sites c.args.at.link there (c.in_default.ensures.place w.sites world.sites)
@@ -110,9 +110,8 @@ pub returns-in_default-controller-clause-stands : goal.returns-in_default-contro
 returns-in_default-controller-clause-stands c w world ready there =
     let off = place_is_off c.args.controller.now w.memory w.controller (λ h. (link_to w.sites h).controller) c.in_default-controller.not-On world.controller in
     let before = c.args.noted.now.entries.items in
-    let B : NodeWorld × List Entry → Type 0 = λ x. WorldBecomes c.args.controller.now c.args.sites.now before before x in
     near_becomes c.args.at w (as_comes c.args.what) c.if-at.false
-    (subst B (sym (comes_off w c.args.at.link (as_comes c.args.what) off)) (record { world = world; noted = sym (append-nil before) }))
+    (rw (comes_off w c.args.at.link (as_comes c.args.what) off) (record { world = world; noted = sym (append-nil before) }))
 
 pub returns-in_default-2-clause-refusal : goal.returns-in_default-2-clause-refusal
 returns-in_default-2-clause-refusal c w world ready there =
@@ -134,14 +133,10 @@ returns-in_default-2-clause-stands c w world ready there =
     let read = ap (slice_index_or ks c.in-Some.place) c.index-sites-place-2.is in
     let none = as_none c.in_default-2.is (near_comes c.args.at c.comes.new.self c.args.what _ _ _ c.if-at.false c.in_ok-arrived.ensures (link_to w.sites h) (wires_there w h ready.goes_on there c.in-Some.place ks k st world.sites read)) in
     let before = c.args.noted.now.entries.items in
-    let P : Power → Type 0 = λ a. IsNodePlace a w.memory w.controller (λ n. (link_to w.sites n).controller) in
-    let B : NodeWorld × List Entry → Type 0 = λ x. WorldBecomes (On c.in-On.node) (slice_set ks c.in-Some.place (record k { wires = c.comes.new.self })) before
-    c.comes.new.entries.items x in
     near_becomes c.args.at w (as_comes c.args.what) c.if-at.false
-    (subst B (sym (comes_none w h (as_comes c.args.what) none.input))
-    (record {
+    (rw (comes_none w h (as_comes c.args.what) none.input) (record {
       world = record {
-        controller = subst P c.in-On.is world.controller;
+        controller = rw c.in-On.is at world.controller;
         sites = sites_still w h ready.goes_on there c.in-Some.place ks k st world.sites read c.comes.new.self none.wires;
       };
       noted = none.noted ∙ sym (append-nil before);

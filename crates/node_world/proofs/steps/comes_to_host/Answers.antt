@@ -1,8 +1,7 @@
-use Rattle.std.proofs.Common.{◌≡◌, true, ℕ, List, ◌++◌, map, refl, sym, ap, subst, ◌∙◌, arith}
+use Rattle.std.proofs.Common.{true, refl, sym, ap, ◌∙◌, arith}
 use Rattle.std.specs.Prelude.{Some, None, Ok, replicate}
-use Rattle.node_world.proofs.Words.{Entry, HasBecome, Host, HostSite, Link, LinkInput, On, Site, arrival, as_comes, entries_for, exchanged, session_at}
+use Rattle.node_world.proofs.Words.{HostSite, Link, LinkInput, On, as_comes, exchanged, session_at}
 use Rattle.node_ends.specs.Inputs.{input_of_end}
-use Rattle.node_sites.specs.Numbers.{with_session_number}
 use Rattle.node_world.proofs.HostsHear.{as_none, as_some, may_arrive, off_refuses_none, none_refused, wires_as_were, arrived_noted, is_on, is_off}
 use Rattle.node_world.proofs.HostsHear.{unchanged_as, hears_off, hears_none, begins_at_end, heard, is_done, refused_here, still_stands, may_start}
 use Rattle.node_world.proofs.ControllersHear.{come_resets}
@@ -40,13 +39,11 @@ finish_host-requires-clause-state c =
     let arrived = as_some c.in-Some.is (c.in_ok-arrived.ensures l q.1.wires) in
     let i : LinkInput = input_of_end c.as_input.result in
     let sessions = replicate 8 c.session-noted.result in
-    let N : ℕ → Type 0 = λ h. c.comes.new.entries.items
-    ≡ before ++ map (with_session_number (session_at sessions)) (entries_for h (arrival Host l (as_comes c.args.what))) in
     let d = heard c.args.site.now _ s c.in-On.node c.step.new.node c.in-Ok.live before _ c.step.new.noted sessions
     (ap (replicate 8) c.session-noted.ensures) q.1 q.2 c.in-On.is refl refl (as_comes c.args.what) i q.3
     (arrived.input ∙ ap Some (sym c.as_input.ensures.input))
     c.in-Ok.ensures.stepped (c.in-Ok.ensures.noted sessions before)
-    (record { are = λ long. (refl, subst N q.1.host (arrived_noted (session_at sessions) arrived)) }) arrived.wires in
+    (record { are = λ long. (refl, rw q.1.host at (arrived_noted (session_at sessions) arrived)) }) arrived.wires in
     (s, d.step, d.l, d.w, before, d.midway)
 
 pub finish_host-requires-clause-room : goal.finish_host-requires-clause-room
@@ -71,13 +68,11 @@ returns-in_ok-finish_host-in-Ok-clause-stands c s is host counts =
     let arrived = as_some c.in-Some.is (c.in_ok-arrived.ensures l is.wires) in
     let i : LinkInput = input_of_end c.as_input.result in
     let sessions = replicate 8 c.session-noted.result in
-    let N : ℕ → Type 0 = λ h. c.comes.new.entries.items
-    ≡ before ++ map (with_session_number (session_at sessions)) (entries_for h (arrival Host l (as_comes c.args.what))) in
     let d = heard c.args.site.now _ s c.in-On.node c.step.new.node c.in-Ok.live before _ c.step.new.noted sessions
     (ap (replicate 8) c.session-noted.ensures) is host c.in-On.is refl refl (as_comes c.args.what) i counts
     (arrived.input ∙ ap Some (sym c.as_input.ensures.input))
     c.in-Ok.ensures.stepped (c.in-Ok.ensures.noted sessions before)
-    (record { are = λ long. (refl, subst N is.host (arrived_noted (session_at sessions) arrived)) }) arrived.wires in
+    (record { are = λ long. (refl, rw is.host at (arrived_noted (session_at sessions) arrived)) }) arrived.wires in
     is_done (Ok c.in_ok-finish_host-in-Ok.field-0) c.finish_host.new.site c.finish_host.new.noted.entries.items d
     (c.in_ok-finish_host-in-Ok.ensures.stands s d.step d.l d.w before d.midway)
 
@@ -106,7 +101,5 @@ returns-in_default-2-clause-stands c s is host counts =
     let none = as_none c.in_default-2.is (c.in_ok-arrived.ensures (exchanged s.link) is.wires) in
     let before = c.args.noted.now.entries.items in
     let new : HostSite = record { host = c.args.site.now.host; wires = c.comes.new.self; power = On c.in-On.node } in
-    let B : Site × List Entry → Type 0 = λ x. HasBecome new before c.comes.new.entries.items x in
-    subst B (sym (hears_none s (as_comes c.args.what) none.input))
-    (still_stands c.args.site.now s c.in-On.node c.in-On.node c.comes.new.self is c.in-On.is none.wires (λ core ports r. r) refl before
+    rw (hears_none s (as_comes c.args.what) none.input) (still_stands c.args.site.now s c.in-On.node c.in-On.node c.comes.new.self is c.in-On.is none.wires (λ core ports r. r) refl before
     c.comes.new.entries.items none.noted)

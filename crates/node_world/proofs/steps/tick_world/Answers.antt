@@ -1,7 +1,7 @@
-use Rattle.std.proofs.Common.{◌≡◌, ℕ, ◌+◌, ◌<◌, ◌≤◌, ◌^◌, List, ◌++◌, ◌∷◌, length, map, ap, sym, subst, arith}
+use Rattle.std.proofs.Common.{◌≡◌, ℕ, ◌<◌, ◌≤◌, List, ◌++◌, ◌∷◌, length, map, ap, subst, arith}
 use Rattle.std.specs.Prelude.{slice_index_or}
-use Rattle.node_world.proofs.Words.{AreToTick, Entry, Site, near_ticks}
-use Rattle.node_world.specs.Whole.{IsToTick, SitesTick}
+use Rattle.node_world.proofs.Words.{AreToTick, Site, near_ticks}
+use Rattle.node_world.specs.Whole.{IsToTick}
 use Rattle.node_world.proofs.WorldsTick.{older, older_world, older_timely, older_goes_on, older_resets, older_few, older_is, then_ticks, all_tick}
 use Rattle.node_world.proofs.WorldsTick.{hosts_may_tick, tick_of, tick_told, ticks_are}
 use Rattle.node_world.proofs.ControllersHear.{room_kept}
@@ -69,8 +69,7 @@ tick_host-requires-clause-room c =
     let n = walk_next tick_of tick_told now (near_ticks q.0).0.sites c.tick_controller.new.noted.entries.items c.loop-i.noted.entries.items i
     (slice_index_or now i c.index-sites-i.result) done lt (ap (slice_index_or now i) c.index-sites-i.is) in
     let may = it_may (near_ticks q.0).0.sites done.done n.site n.back n.is to_tick in
-    let Fits : ℕ → Type 0 = λ m. m + 17 < 2 ^ 32 in
-    subst Fits (sym n.here.wires.count) may.room
+    rw n.here.wires.count may.room
 
 pub loop-i-preserved : goal.loop-i-preserved
 loop-i-preserved c =
@@ -101,6 +100,5 @@ returns-clause-stands c w world ready timely =
     let hosts = (near_ticks w).0.sites in
     let over : length now ≤ c.loop-i.i = omega (arith, c.loop-i-test.false, c.loop-i.auto.sites) in
     let e = walk_ends tick_of tick_told now hosts mid c.loop-i.noted.entries.items c.loop-i.i (c.loop-i.invariant.goes hosts first.world.sites to_tick) over in
-    let S : List Site × List Entry → Type 0 = λ p. SitesTick now mid c.loop-i.noted.entries.items p in
     all_tick c.tick_controller.new.controller c.tick_controller.new.sites now w c.args.noted.now.entries.items mid c.loop-i.noted.entries.items first
-    (subst S (sym (ticks_are hosts)) (record { sites = e.0; noted = e.1 }))
+    (rw (ticks_are hosts) (record { sites = e.0; noted = e.1 }))

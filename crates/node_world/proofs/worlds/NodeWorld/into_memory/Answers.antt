@@ -1,6 +1,6 @@
-use Rattle.std.proofs.Common.{List, sym, subst, ◌∙◌}
+use Rattle.std.proofs.Common.{◌∙◌}
 use Rattle.std.proofs.lemmas.Bool.{eq-eqb, ne_eqb}
-use Rattle.node_world.proofs.Words.{SitesAre, lines_played, nodes_behind}
+use Rattle.node_world.proofs.Words.{lines_played, nodes_behind}
 use Rattle.node_world.proofs.WorldsStepped.{found_behind, controller_kept, host_kept, host_is_there}
 use Rattle.node_world.proofs.worlds.NodeWorld.into_memory.Goals as goal
 
@@ -18,21 +18,18 @@ returns-then-node-eq0-clause-found c header plays s node =
 pub unreachable-requires : goal.unreachable-requires
 unreachable-requires c =
     let r = c.requires.state in
-    let S : List _ → Type 0 = λ ks. SitesAre ks (nodes_behind r.0 (lines_played r.0 r.1)).sites in
-    let none = c.in-None.ensures.place (nodes_behind r.0 (lines_played r.0 r.1)).sites (subst S (sym c.as_slice.ensures.value) r.2.stands.sites) in
+    let none = c.in-None.ensures.place (nodes_behind r.0 (lines_played r.0 r.1)).sites (rw (← c.as_slice.ensures.value) at r.2.stands.sites) in
     host_is_there c.args.self r.0 r.1 c.args.node r.2 r.3 (ne_eqb c.args.node 0 c.if-node-eq0.false) none
 
 pub returns-clause-memory : goal.returns-clause-memory
 returns-clause-memory c header plays s node =
-    let S : List _ → Type 0 = λ ks. SitesAre ks (nodes_behind header (lines_played header plays)).sites in
-    let a = c.in-Some.ensures.place (nodes_behind header (lines_played header plays)).sites (subst S (sym c.as_slice.ensures.value) s.stands.sites) in
+    let a = c.in-Some.ensures.place (nodes_behind header (lines_played header plays)).sites (rw (← c.as_slice.ensures.value) at s.stands.sites) in
     host_kept c.args.self header plays c.args.node c.in-Some.place s node (ne_eqb c.args.node 0 c.if-node-eq0.false) a c.remove.result
     c.remove.ensures.value c.into_nv-in-Some.result (c.into_nv-in-Some.ensures.nv ∙ c.into_memory-in-Some.ensures)
 
 pub returns-clause-found : goal.returns-clause-found
 returns-clause-found c header plays s node =
-    let S : List _ → Type 0 = λ ks. SitesAre ks (nodes_behind header (lines_played header plays)).sites in
-    let a = c.in-Some.ensures.place (nodes_behind header (lines_played header plays)).sites (subst S (sym c.as_slice.ensures.value) s.stands.sites) in
+    let a = c.in-Some.ensures.place (nodes_behind header (lines_played header plays)).sites (rw (← c.as_slice.ensures.value) at s.stands.sites) in
     found_behind c.args.self header plays c.args.node s node c.into_nv-in-Some.result
     (host_kept c.args.self header plays c.args.node c.in-Some.place s node (ne_eqb c.args.node 0 c.if-node-eq0.false) a c.remove.result
     c.remove.ensures.value c.into_nv-in-Some.result (c.into_nv-in-Some.ensures.nv ∙ c.into_memory-in-Some.ensures))

@@ -1,6 +1,5 @@
-use Rattle.std.proofs.Common.{List, ℕ, ◌==◌, refl, ap, subst, map, ◌∙◌}
-use Rattle.std.specs.Prelude.{replicate}
-use Rattle.node_world.proofs.Words.{Off, SitesAre, mask_of, new_site}
+use Rattle.std.proofs.Common.{List, ℕ, ◌==◌, refl, ap, ◌∙◌}
+use Rattle.node_world.proofs.Words.{Off, mask_of}
 use Rattle.std.specs.List.{list_any}
 use Rattle.gate_admin.specs.View.{hosts_where}
 use Rattle.node_world.proofs.WorldsStepped.{stands_at_first}
@@ -8,8 +7,7 @@ use Rattle.node_world.proofs.worlds.NodeWorld.new.Goals as goal
 
 pub returns-clause-stands : goal.returns-clause-stands
 returns-clause-stands c =
-    let S : List ℕ → Type 0 = λ hosts. SitesAre c.in_ok-make_sites.field-0.items (map (new_site (replicate 65536 255)) hosts) in
     let masked = c.mask_of.ensures
     ∙ ap (λ (hosts : List ℕ). mask_of (hosts_where (λ (host : ℕ). list_any (λ (k : ℕ). k == host) hosts))) c.as_slice-2.ensures.value in
     stands_at_first _ c.args.header.now c.requires (ap (λ m. Off m) c.in_ok-new.ensures)
-    (subst S c.as_slice.ensures.value c.in_ok-make_sites.ensures) masked refl refl refl
+    (rw c.as_slice.ensures.value at c.in_ok-make_sites.ensures) masked refl refl refl

@@ -1,5 +1,4 @@
-use Rattle.std.proofs.Common.{List, subst, sym}
-use Rattle.node_world.proofs.Words.{WorldIs, lines_played, nodes_behind}
+use Rattle.node_world.proofs.Words.{lines_played, nodes_behind}
 use Rattle.node_world.proofs.WorldsStepped.{in_order_behind, timely_so}
 use Rattle.node_world.proofs.worlds.NodeWorld.rests.Goals as goal
 
@@ -7,11 +6,10 @@ pub all_rest-requires : goal.all_rest-requires
 all_rest-requires c =
     let r = c.requires.state in
     let w = nodes_behind r.0 (lines_played r.0 r.1) in
-    let W : List _ → Type 0 = λ ks. WorldIs c.args.self.now.controller ks w in
     record {
       state = (
         w,
-        subst W (sym c.as_slice.ensures.value) r.2.stands,
+        rw (← c.as_slice.ensures.value) at r.2.stands,
         in_order_behind c.args.self.now r.0 r.1 r.2,
         timely_so c.args.self.now r.0 r.1 r.2,
       );
@@ -20,6 +18,5 @@ all_rest-requires c =
 pub returns : goal.returns
 returns c header plays s =
     let w = nodes_behind header (lines_played header plays) in
-    let W : List _ → Type 0 = λ ks. WorldIs c.args.self.now.controller ks w in
-    c.all_rest.ensures w (subst W (sym c.as_slice.ensures.value) s.stands) (in_order_behind c.args.self.now header plays s)
+    c.all_rest.ensures w (rw (← c.as_slice.ensures.value) at s.stands) (in_order_behind c.args.self.now header plays s)
     (timely_so c.args.self.now header plays s)

@@ -1,19 +1,16 @@
-use Rattle.std.proofs.Common.{◌≡◌, ◌+◌, List, length, arith, refl, sym, subst}
+use Rattle.std.proofs.Common.{◌≡◌, ◌+◌, length, arith, refl}
 use Rattle.std.proofs.lemmas.List.{with_items_is}
-use Rattle.std.specs.Prelude.{OnOk}
 use Rattle.std.specs.Vec.{with_items}
 use Rattle.node_world.specs.declared.worlds.NodeWorld.{NodeWorld}
-use Rattle.node_world.proofs.Words.{WorldHasGone, WorldIs, lines_played, nodes_behind, world_round}
+use Rattle.node_world.proofs.Words.{lines_played, nodes_behind}
 use Rattle.node_world.proofs.WorldsStepped.{may_be_gone, round_answered, round_told_so, rounds_few}
 use Rattle.node_world.proofs.worlds.NodeWorld.round.Goals as goal
 
 pub go_round-requires-clause-state : goal.go_round-requires-clause-state
 go_round-requires-clause-state c =
-    let r = c.requires.room in
-    let W : List _ → Type 0 = λ ks. WorldIs c.args.self.now.controller ks (nodes_behind
-    r.header (lines_played r.header r.plays)) in (
+    let r = c.requires.room in (
       nodes_behind r.header (lines_played r.header r.plays),
-      subst W (sym c.as_mut_slice.ensures.value) r.stands.stands,
+      rw (← c.as_mut_slice.ensures.value) at r.stands.stands,
       may_be_gone c.args.self.now r.header r.plays r.stands,
     )
 
@@ -27,12 +24,9 @@ returns-clause-stands c header plays s =
       noted = c.go_round.new.noted;
     } in
     let w = nodes_behind header (lines_played header plays) in
-    let W : List _ → Type 0 = λ ks. WorldIs old.controller ks w in
-    let world = subst W (sym c.as_mut_slice.ensures.value) s.stands in
+    let world = rw (← c.as_mut_slice.ensures.value) at s.stands in
     let many : length c.go_round.new.sites ≡ old.sites.len = omega (arith, c.go_round.auto.sites, c.as_mut_slice.ensures.len) in
-    let G : List _ → Type 0 = λ ks. OnOk c.go_round.result (WorldHasGone new.controller ks
-    c.forget.new.self.entries.items new.noted.entries.items (world_round w)) in
-    let gone = subst G (sym (with_items_is old.sites c.go_round.new.sites many)) (c.go_round.ensures.stands w world (may_be_gone old header plays s)) in
+    let gone = rw (← with_items_is old.sites c.go_round.new.sites many) at (c.go_round.ensures.stands w world (may_be_gone old header plays s)) in
     round_answered c.go_round.result old new header plays s c.forget.new.self.entries.items (rounds_few old c.requires.room header plays s) gone
     c.go_round.ensures.memory refl refl refl
 
@@ -46,10 +40,7 @@ returns-clause-entries c header plays s =
       noted = c.go_round.new.noted;
     } in
     let w = nodes_behind header (lines_played header plays) in
-    let W : List _ → Type 0 = λ ks. WorldIs old.controller ks w in
-    let world = subst W (sym c.as_mut_slice.ensures.value) s.stands in
+    let world = rw (← c.as_mut_slice.ensures.value) at s.stands in
     let many : length c.go_round.new.sites ≡ old.sites.len = omega (arith, c.go_round.auto.sites, c.as_mut_slice.ensures.len) in
-    let G : List _ → Type 0 = λ ks. OnOk c.go_round.result (WorldHasGone new.controller ks
-    c.forget.new.self.entries.items new.noted.entries.items (world_round w)) in
-    let gone = subst G (sym (with_items_is old.sites c.go_round.new.sites many)) (c.go_round.ensures.stands w world (may_be_gone old header plays s)) in
+    let gone = rw (← with_items_is old.sites c.go_round.new.sites many) at (c.go_round.ensures.stands w world (may_be_gone old header plays s)) in
     round_told_so c.go_round.result old new header plays s c.forget.new.self.entries.items c.forget.ensures.entries gone

@@ -1,5 +1,5 @@
-use Rattle.std.proofs.Common.{◌≡◌, ◌≤◌, List, length, subst, sym, arith}
-use Rattle.node_world.proofs.Words.{SitesAre, frames_at, lines_played, nodes_behind}
+use Rattle.std.proofs.Common.{◌≡◌, ◌≤◌, length, arith}
+use Rattle.node_world.proofs.Words.{frames_at, lines_played, nodes_behind}
 use Rattle.node_world.proofs.RoundsGo.{few_on_way}
 use Rattle.node_world.proofs.WorldsStepped.{in_order_behind}
 use Rattle.node_world.proofs.worlds.NodeWorld.standing.Goals as goal
@@ -8,9 +8,8 @@ pub overflow_cast-result : goal.overflow_cast-result
 overflow_cast-result c =
     let r = c.requires.state in
     let w = nodes_behind r.0 (lines_played r.0 r.1) in
-    let S : List _ → Type 0 = λ ks. SitesAre ks w.sites in
     let many : c.on_the_way.result ≡ length (frames_at w c.args.to) =
-    c.on_the_way.ensures w (subst S (sym c.as_slice.ensures.value) r.2.stands.sites) (in_order_behind c.args.self.now r.0 r.1 r.2) in
+    c.on_the_way.ensures w (rw (← c.as_slice.ensures.value) at r.2.stands.sites) (in_order_behind c.args.self.now r.0 r.1 r.2) in
     let few : length (frames_at w c.args.to) ≤ 64 =
     few_on_way c.args.to c.args.to.link c.args.self.now.sites.items w.sites r.2.stands.sites in
     omega (arith, many, few)
@@ -18,5 +17,4 @@ overflow_cast-result c =
 pub returns : goal.returns
 returns c header plays s =
     let w = nodes_behind header (lines_played header plays) in
-    let S : List _ → Type 0 = λ ks. SitesAre ks w.sites in
-    c.on_the_way.ensures w (subst S (sym c.as_slice.ensures.value) s.stands.sites) (in_order_behind c.args.self.now header plays s)
+    c.on_the_way.ensures w (rw (← c.as_slice.ensures.value) at s.stands.sites) (in_order_behind c.args.self.now header plays s)

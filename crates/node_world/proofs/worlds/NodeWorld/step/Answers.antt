@@ -1,6 +1,6 @@
 use Rattle.std.proofs.Common.{◌≡◌, ◌+◌, List, length, arith, refl, sym, subst}
 use Rattle.std.proofs.lemmas.List.{with_items_is}
-use Rattle.std.specs.Prelude.{Option, None, Result, Ok, IfOk, OnErr}
+use Rattle.std.specs.Prelude.{Option, None, Result, Ok, IfOk}
 use Rattle.std.specs.Vec.{with_items}
 use Rattle.swp_base.specs.declared.outside.NoMemory.{NoMemory}
 use Rattle.link_wires.specs.declared.finding.Misread.{Misread}
@@ -31,19 +31,17 @@ written : (old : NodeWorld) (said : Line) (w : Machine) (k : Power) (ks : List H
     → length ks ≡ old.sites.len → IfOk result (λ other. other ≡ None → LinePlayed k ks noted.entries.items (line_step w said))
     → IfOk result (λ other. other ≡ None → LinePlayed k (with_items old.sites ks).items noted.entries.items (line_step w said))
 written old said w k ks noted result many played =
-    let P : List HostSite → Type 0 = λ xs. IfOk result (λ other. other ≡ None → LinePlayed k xs noted.entries.items (line_step w said)) in
-    subst P (sym (with_items_is old.sites ks many)) played
+    rw (with_items_is old.sites ks many) played
 
 pub damage_line-requires-clause-state : goal.damage_line-requires-clause-state
 damage_line-requires-clause-state c =
     let r = c.requires.room in
     let old = c.args.self.now in
-    let w = behind r.header r.plays in
-    let L : Line → Type 0 = λ l. MayPlay r.header l w in (
+    let w = behind r.header r.plays in (
       r.header,
       w,
       as_slice old c.as_mut_slice-sites.result.now w c.as_mut_slice-sites.ensures.value r.stands.stands,
-      subst L c.in-Damage.is (may_be_said old c.args.line.now r.header r.plays r.stands r.may),
+      rw c.in-Damage.is at (may_be_said old c.args.line.now r.header r.plays r.stands r.may),
     )
 
 pub play_line-requires-clause-state : goal.play_line-requires-clause-state
@@ -95,8 +93,7 @@ pub returns-in-Damage-clause-misread : goal.returns-in-Damage-clause-misread
 returns-in-Damage-clause-misread c header plays s may =
     let old = c.args.self.now in
     let w = behind header plays in
-    let M : Line → Type 0 = λ l. IfOk c.damage_line.result (IsMisreadIn w l) in
-    subst M (sym c.in-Damage.is) (c.damage_line.ensures.misread w
+    rw c.in-Damage.is (c.damage_line.ensures.misread w
     (as_slice old c.as_mut_slice-sites.result.now w c.as_mut_slice-sites.ensures.value s.stands)
     (may_be_said old c.args.line.now header plays s may).goes_on)
 
@@ -104,8 +101,7 @@ pub returns-in-Damage-clause-told : goal.returns-in-Damage-clause-told
 returns-in-Damage-clause-told c header plays s may =
     let old = c.args.self.now in
     let w = behind header plays in
-    let M : Line → Type 0 = λ l. OnErr c.damage_line.result (misread_in w l ≡ None) in
-    subst M (sym c.in-Damage.is) (c.damage_line.ensures.told w
+    rw c.in-Damage.is (c.damage_line.ensures.told w
     (as_slice old c.as_mut_slice-sites.result.now w c.as_mut_slice-sites.ensures.value s.stands)
     (may_be_said old c.args.line.now header plays s may).goes_on)
 
