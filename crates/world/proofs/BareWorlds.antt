@@ -40,6 +40,7 @@ use Rattle.world.specs.Lines.{IsMisread, damaged_by, told_on}
 use Rattle.world.specs.BareWorlds.{HasBareRoom, HasBareRoomToSettle, bare_entries, with_steps}
 use Rattle.world.proofs.Given.{causes_of-events, sent_line}
 use Rattle.world.proofs.RoundLemmas.{seen_back, seen_here, sent_round}
+use Rattle.node_world.proofs.CountsStay.{ticks_within as few_ticks}
 
 -- few RSETs are as few as this
 pub fewer : (n k : ℕ) (l : Link) → n ≤ k → FewRsets n l → FewRsets k l
@@ -61,11 +62,6 @@ taken_few e k n l few =
 
 once : (n k : ℕ) (l : Link) (c : Cause) → rsets_by_bare c ≤ k → FewRsets n l → FewRsets (n + k) (link_after l c)
 once n k l c most few = fewer (n + rsets_by_bare c) (n + k) (link_after l c) (omega (arith, most)) (few_after n l c few)
-
--- a line that a bare world plays makes 200 at most
-few_ticks : (times : Option ℕ) → IfSome times (λ n. (1 ≤ n) × (n ≤ 100)) → unwrap_or times 1 ≤ 100
-few_ticks None may = omega arith
-few_ticks (Some n) may = may.1
 
 damaged_few : (e : End) (v : Option Verdict) (n : ℕ) (l : Link) → FewRsets n l → FewRsets (n + 200) (link_after_all l (damage_causes e v))
 damaged_few e None n l few = fewer n (n + 200) l (omega arith) few

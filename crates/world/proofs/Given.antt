@@ -28,6 +28,8 @@ use Rattle.history.specs.Damage.{Verdict}
 use Rattle.history.specs.Damage.Verdict.{Same, LostFor, Undetected}
 use Rattle.history.specs.Steps.{at}
 use Rattle.link_laws.proofs.messages.Project.{host_ended as ended_host}
+use Rattle.node_world.proofs.EndsGo.{all_far as all_host}
+pub use Rattle.lines_told.proofs.lines.Told.{again as causes_of-events}
 
 -- ## An end
 
@@ -94,18 +96,6 @@ few_given n e m h =
     few_unless (n + 1) (give_refusal e m) e (given e m) (omega (arith, h)) (let l = length-append e.sent (m ∷ []) in omega (arith, l, h))
 
 -- ## One side of a link
-
--- both ends of a link, of which the host's stays as it is
-put_host : (l : Link) (c : Control) → (put l c).host ≡ l.host
-put_host l c = by (is_rset c) refl
-  where
-    by : (b : Bool) → is_rset c ≡ b → (put l c).host ≡ l.host
-    by true q = rw q refl
-    by false q = rw q refl
-
-all_host : (l : Link) (cs : List Control) → (put_all l cs).host ≡ l.host
-all_host l [] = refl
-all_host l (c ∷ cs) = all_host (put l c) cs ∙ put_host l c
 
 -- the controller's end has become e, and all its frames went out
 few_becomes : (n k : ℕ) (l : Link) (e : LinkEnd) → AtMost n e → length l.host.side.sent ≤ k
@@ -238,10 +228,6 @@ sent_caused n l (line.Arm node nth fill) h = weaker n l h
 sent_caused n l (line.Init e identity pipes) h = weaker n l h
 sent_caused n l (line.Tables node) h = weaker n l h
 sent_caused n l (line.Settle rounds) h = weaker n l h
-
-pub causes_of-events : (h : ℕ) (l : Link) (cs : List Cause) → causes_of (events_at h l cs) ≡ cs
-causes_of-events h l [] = refl
-causes_of-events h l (c ∷ cs) = ap (λ z. c ∷ z) (causes_of-events h (link_after l c) cs)
 
 pub sent_line : (n h : ℕ) (l : Link) (line : Line) → HaveSent l n → HaveSent (link_after_line l (outcome_of h l line)) (n + 1)
 sent_line n h l line sent = go (refusal l line)

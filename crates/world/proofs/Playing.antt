@@ -91,11 +91,6 @@ part_last plays parts part =
     mapped [] = refl
     mapped (x ∷ xs) = ap (λ (ps : List Play). Said x ∷ ps) (mapped xs)
 
--- all links are at rest behind plays that come to the same lines, or behind none of them
-pub rests_alike : (header : Header) (plays others : List Play) → lines_played header plays ≡ lines_played header others
-    → rests_behind header plays ≡ rests_behind header others
-rests_alike header plays others same = rw same refl
-
 either : {X : Type 0} (o : Option X) (b : Bool) → (if b then o else o) ≡ o
 either o true = refl
 either o false = refl
