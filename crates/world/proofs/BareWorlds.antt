@@ -1,7 +1,7 @@
 -- Lines and rounds have a link make few RSETs.
 use Rattle.std.proofs.Common.{◌≡◌, ℕ, zero, suc, ◌+◌, ◌*◌, ◌≤◌, true, false, List, [], ◌∷◌, ◌++◌, length, replicate, sym, subst, arith, ◌<◌, Bool, refl, ap}
 use Rattle.std.proofs.Common.{◌∙◌, true≢false, append-nil, append_assoc}
-use Rattle.std.specs.Prelude.{Option, Some, None, IfSome, unwrap_or, IsTrue}
+use Rattle.std.specs.Prelude.{Option, Some, None, unwrap_or, IsTrue}
 use Rattle.std.specs.List.{AllByRecursion, list_any, fold}
 use Rattle.std.proofs.lemmas.List.Concat.{flat_map-append}
 use Rattle.world.proofs.Words.{BareWorld, Caused, Controller, Does, DoesAll, End, Entry, FewRsets, Given, HaveSent, Header, History, Host, IsLineOf, IsPlayFor}

@@ -1,12 +1,12 @@
 -- How many messages the ends of a link were given in their sessions: no cause but a message given adds one.
-use Rattle.std.proofs.Common.{◌≡◌, ℕ, zero, suc, ◌+◌, ◌≤◌, Bool, true, false, cond, List, [], ◌∷◌, ◌++◌, length, replicate, refl, ap, sym, subst, ◌∙◌}
+use Rattle.std.proofs.Common.{◌≡◌, ℕ, zero, suc, ◌+◌, ◌≤◌, Bool, true, false, cond, List, [], ◌∷◌, ◌++◌, length, replicate, refl, ap}
 use Rattle.std.proofs.Common.{length-append, arith}
 use Rattle.std.specs.Prelude.{Option, Some, None, is_some, not, unwrap_or}
 use Rattle.world.proofs.Words.{Asked, Caused, Control, End, EndEvent, EndState, FetchMessage, Give, Given, GoesOut, HaveSent, Hold, Line, Link, LinkEnd}
 use Rattle.world.proofs.Words.{LinkInput, LinkState, Message, NoCause, OnDemand, OnWire, Outcome, Readied, Take, Taken, Ticked, Waiting, WasLost, WasReset}
 use Rattle.world.proofs.Words.{after_input, aged, becomes, causes_in, damage_causes, ended_by, events_at, exchanged, first_verdict, frames_out, frames_to}
-use Rattle.world.proofs.Words.{give_refusal, happens, happens_at_controller, if_up, is_open, link_after, link_after_all, link_after_line, outcome_of, put}
-use Rattle.world.proofs.Words.{put_all, refusal, reset_by, reset_refusal, taken_of, tick_answer, ticked, ticks_at_controller, turn, window_of, with_ended}
+use Rattle.world.proofs.Words.{give_refusal, happens, happens_at_controller, if_up, is_open, link_after, link_after_all, link_after_line, outcome_of}
+use Rattle.world.proofs.Words.{refusal, reset_by, reset_refusal, taken_of, tick_answer, ticked, ticks_at_controller, turn, window_of, with_ended}
 use Rattle.swp_base.specs.declared.control_frames.Control.TheVariants.{I, S, Rset, Ua, Act, Clt}
 use Rattle.swp_base.specs.declared.control_frames.Act.{Act as ActCode}
 use Rattle.swp_act.specs.declared.ActEvent.{ActEvent}
@@ -14,7 +14,7 @@ use Rattle.swp_act.specs.declared.ActEvent.TheVariants.{Take as ActTake, Tick as
 use Rattle.shdlc_core.specs.declared.answers.LinkState.TheVariants.{Down, Up}
 use Rattle.shdlc_core.specs.Machine.{taken, take_answer, reset_with}
 use Rattle.trace_model.specs.declared.line.Line.TheVariants as line
-use Rattle.link_laws.specs.sessions.Sessions.{is_rset, took_with}
+use Rattle.link_laws.specs.sessions.Sessions.{took_with}
 use Rattle.link_laws.specs.machine.Machine.{Refused, turned, moved, put_down, activated, with_act, act_answer}
 use Rattle.link_laws.specs.machine.Machine.{role_after, heard, took, is_faulty, news}
 use Rattle.link_laws.specs.machine.Machine.{given, unless}
@@ -22,7 +22,7 @@ use Rattle.link_laws.specs.machine.Machine.LinkInput.{Tick, Reset}
 use Rattle.link_laws.specs.messages.Links.{has_input, has_taken}
 use Rattle.link_laws.specs.messages.Links.Comes.{NextFrame, AsksReset, NoInput}
 use Rattle.link_laws.specs.messages.Links.EndEvent.{Step, Lose}
-use Rattle.history.specs.Histories.{Cause, causes_of}
+use Rattle.history.specs.Histories.{Cause}
 use Rattle.history.specs.Histories.Outcome.{Refused as LineRefused}
 use Rattle.history.specs.Damage.{Verdict}
 use Rattle.history.specs.Damage.Verdict.{Same, LostFor, Undetected}

@@ -8,7 +8,7 @@ use Rattle.world.proofs.Words.{Below, Header, IsFaultThere, IsPlayFor, Line, Pla
 use Rattle.trace_model.specs.declared.line.Line.TheVariants as saying
 use Rattle.trace_model.specs.Lines.{MayBegin, IsNodeOf}
 use Rattle.lines_told.specs.lines.Below.{misread_below, memory_behind}
-use Rattle.lines_told.specs.lines.Plays.{AreFewPlays, rests_behind, rounds_to_rest}
+use Rattle.lines_told.specs.lines.Plays.{AreFewPlays, rounds_to_rest}
 use Rattle.lines_told.proofs.lines.Told.{all-append, at_most, few_with_round, few_with_said, none_said, played-append, played_more, rounds_for, said-append}
 use Rattle.lines_told.proofs.lines.Told.{so_many_rounds}
 use Rattle.swp_base.specs.InMemory.{Memory}

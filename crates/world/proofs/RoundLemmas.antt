@@ -9,7 +9,7 @@ use Rattle.world.proofs.Words.{aged, causes_in, entries_for, events_at, exchange
 use Rattle.world.proofs.Words.{link_after, link_after_all, link_after_line, link_after_lines, more_noted, noted, other_end, outcome_of, refusal, round_on}
 use Rattle.world.proofs.Words.{seen_from, side_of, taken_of, taking_on, tick_entries, ticks_at_controller}
 use lib.Dec.{T, eqb→eq}
-use Rattle.link_laws.specs.entries.Entries.{event_entries, End as Which, Entry as Noted, aged_entries}
+use Rattle.link_laws.specs.entries.Entries.{event_entries, Entry as Noted, aged_entries}
 use Rattle.history.specs.Histories.{Cause, entries_of}
 use Rattle.history.specs.Histories.Outcome.{Refused}
 use Rattle.history.specs.Steps.{at as happens_at, event_of, event_at}

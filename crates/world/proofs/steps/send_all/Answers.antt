@@ -1,5 +1,5 @@
-use Rattle.std.proofs.Common.{◌≡◌, ℕ, suc, ◌+◌, ◌-◌, subst, arith}
-use Rattle.world.proofs.Sending.{Sending, fetched_there, sending_starts, sending_goes_on, sending_stops, sending_ends, put_is, goes_out}
+use Rattle.std.proofs.Common.{◌≡◌, suc, ◌+◌, ◌-◌, arith}
+use Rattle.world.proofs.Sending.{fetched_there, sending_starts, sending_goes_on, sending_stops, sending_ends, put_is, goes_out}
 use Rattle.world.proofs.steps.send_all.Goals as goal
 
 pub loop-init : goal.loop-init

@@ -1,6 +1,5 @@
-use Rattle.std.proofs.Common.{◌≡◌, ◌+◌, ◌-◌, List, sym, ap, subst, ◌∙◌}
-use Rattle.world.proofs.Words.{FewRsets, HaveSent, Line, Link, bare_link_behind, lines_lead, lines_played, lines_said, link_at, most_rsets}
-use Rattle.history.specs.Follows.{Follows}
+use Rattle.std.proofs.Common.{◌≡◌, ◌+◌, ◌-◌, sym, ap, ◌∙◌}
+use Rattle.world.proofs.Words.{bare_link_behind, lines_lead, lines_played, link_at}
 use Rattle.world.proofs.BareWorlds.{plays_low}
 use Rattle.world.proofs.bare_world.BareWorld.count_as_rounds.Goals as goal
 

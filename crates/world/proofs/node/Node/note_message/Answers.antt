@@ -1,7 +1,5 @@
-use Rattle.std.proofs.Common.{ap, subst}
-use Rattle.std.specs.Prelude.{option_map, Option}
-use Rattle.block_pool.specs.declared.chain.Chain.{Chain}
-use Rattle.link_end.specs.Ends.{Accounts}
+use Rattle.std.proofs.Common.{ap}
+use Rattle.std.specs.Prelude.{option_map}
 use Rattle.link_wires.proofs.Results.{none_is}
 use Rattle.world.proofs.Nodes.{HasFetched, fetches_none, fetches_one, fetched_live}
 use Rattle.world.proofs.node.Node.note_message.Goals as goal
