@@ -6,6 +6,7 @@ use Rattle.std.specs.Prelude.{Bool, false, Option, Some, None, IfSome, IfNone, i
 use Rattle.link_laws.specs.machine.Machine.{Message, is_held}
 use Rattle.block_pool.specs.Pool.{PoolState}
 use Rattle.node_machine.specs.Parts.{Port, Desk as DeskOf}
+use Rattle.node_machine.specs.Node.{is_over}
 use Rattle.node_ends.specs.declared.seat.Seat.{Seat}
 use Rattle.node_deeds.specs.declared.desks.Unanswered.{Unanswered}
 use Rattle.node_deeds.specs.Shown.{desk_shown, notice_shown}
@@ -42,13 +43,24 @@ notice_is : (o : Option Unanswered) → is_some o ≡ is_some (option_map notice
 notice_is None = refl
 notice_is (Some n) = refl
 
+-- whether it is so at some end
+any_is : (pool : PoolState) (f : Seat → Bool) (g : Port → Bool) → ((s : Seat) (p : Port) → SeatStandsFor pool s p → f s ≡ g p)
+    → (seats : List Seat) (ports : List Port) → SeatsStandFor pool seats ports → list_any f seats ≡ list_any g ports
+any_is pool f g same [] [] each = refl
+any_is pool f g same [] (p ∷ ports) each = absurd each
+any_is pool f g same (s ∷ seats) [] each = absurd each
+any_is pool f g same (s ∷ seats) (p ∷ ports) each = ap₂ (λ (a b : Bool). a || b) (same s p each.0) (any_is pool f g same seats ports each.1)
+
 pub notices_are : (pool : PoolState) (seats : List Seat) (ports : List Port) → SeatsStandFor pool seats ports
     → list_any (λ (s : Seat). is_some s.desk.notice) seats ≡ have_notices ports
-notices_are pool [] [] each = refl
-notices_are pool [] (p ∷ ports) each = absurd each
-notices_are pool (s ∷ seats) [] each = absurd each
-notices_are pool (s ∷ seats) (p ∷ ports) each =
-    ap₂ (λ (a b : Bool). a || b) (notice_is s.desk.notice ∙ ap (λ (d : DeskOf). is_some d.notice) each.0.desk) (notices_are pool seats ports each.1)
+notices_are pool =
+    any_is pool (λ (s : Seat). is_some s.desk.notice) (λ (p : Port). is_some p.desk.notice)
+    (λ s p g. notice_is s.desk.notice ∙ ap (λ (d : DeskOf). is_some d.notice) g.desk)
+
+pub ended_are : (pool : PoolState) (seats : List Seat) (ports : List Port) → SeatsStandFor pool seats ports
+    → list_any (λ (s : Seat). s.ended || s.late) seats ≡ list_any is_over ports
+ended_are pool =
+    any_is pool (λ (s : Seat). s.ended || s.late) is_over (λ s p g. ap₂ (λ (a b : Bool). a || b) g.ended g.late)
 
 -- nothing is left to do at an end of which this is kept
 pub idle_is : {pool : PoolState} {s : Seat} {p : Port} (answer : Bool) → SeatStandsFor pool s p

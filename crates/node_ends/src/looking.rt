@@ -2,8 +2,7 @@
 ghost use Rattle.std.specs.Prelude.{◌≡◌, ◌<◌, ◌≤◌, List, length, false};
 ghost use Rattle.node_machine.specs.Parts.{Port};
 ghost use Rattle.node_ends.specs.Ends.{AreEnds, are_idle, are_at_rest};
-ghost use Rattle.std.specs.Prelude.{if◌then◌else◌, map, is_some};
-ghost use Rattle.std.specs.List.{list_any};
+ghost use Rattle.std.specs.Prelude.{if◌then◌else◌, map};
 ghost use Rattle.node_ends.specs.declared.seat.Seat.{Seat as Kept};
 ghost use Rattle.std.specs.Prelude.{ℕ, get_or};
 ghost use Rattle.block_pool.specs.Pool.{PoolState};
@@ -38,7 +37,8 @@ impl Ends {
     ghost use Rattle.std.specs.Option.{option_map_or};
     ghost use Rattle.node_deeds.specs.Cores.{AreSoundDesks};
     ghost use Rattle.node_deeds.specs.Room.{AreSpares};
-    ghost use Rattle.std.specs.List.{AllByRecursion};
+    ghost use Rattle.std.specs.List.{AllByRecursion, list_any};
+    ghost use Rattle.node_machine.specs.Node.{is_over};
 
     /// Copies the message that waits at the end of the link with this host into the front of a buffer of 4,096 bytes. Its pipe, and
     /// how many bytes it has.
@@ -119,11 +119,24 @@ impl Ends {
         all_idle(self.seats.as_slice())
     }
 
+    /// Whether the session of some end has ended in this step.
+    pub fn have_ended(&self) -> bool
+        ensures { (ports : List Port) → EndsStandFor self.now ports → result ≡ list_any is_over ports }
+    {
+        self.seats
+            .as_slice()
+            .iter()
+            .any(|seat| seat.ended || seat.late)
+    }
+
     /// Whether a notice waits for its answer at some end.
     pub fn have_notices(&self) -> bool
         ensures { (ports : List Port) → EndsStandFor self.now ports → result ≡ have_notices ports }
     {
-        some_waits(self.seats.as_slice())
+        self.seats
+            .as_slice()
+            .iter()
+            .any(|seat| seat.desk.notice.is_some())
     }
 
     /// Whether the notice of the end at this place was late in this step; `false` behind the last end.
@@ -169,13 +182,6 @@ fn all_at_rest(seats: &[Seat]) -> bool
         }
     }
     true
-}
-
-// Whether a notice waits at one of these ends.
-fn some_waits(seats: &[Seat]) -> bool
-    ensures { result ≡ list_any (λ (s : Kept). is_some s.desk.notice) seats.now }
-{
-    seats.iter().any(|seat| seat.desk.notice.is_some())
 }
 
 // Whether nothing is left to do at any of these ends.

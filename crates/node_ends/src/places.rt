@@ -1,5 +1,5 @@
 //! Where the end of the link with a host is among the ends of a node.
-ghost use Rattle.std.specs.Prelude.{◌≡◌, ◌==◌, ◌<◌, position, length, IfSome};
+ghost use Rattle.std.specs.Prelude.{◌≡◌, ◌<◌, length, IfSome};
 ghost use Rattle.node_ends.specs.Ends.{place_in};
 
 use crate::seat::Seat;
@@ -8,12 +8,6 @@ use crate::seat::Seat;
 pub(crate) fn place_of(seats: &[Seat], host: u8) -> Option<usize>
     ensures place { result ≡ place_in host seats.now }
     ensures inside { IfSome result (λ i. i < length seats.now) }
-{
-    found(seats, host)
-}
-
-fn found(seats: &[Seat], host: u8) -> Option<usize>
-    ensures { result ≡ position (λ seat. seat.desk.host == host) seats.now }
 {
     seats.iter().position(|seat| seat.desk.host == host)
 }
