@@ -13,9 +13,9 @@ use crate::answering::{answered, dropped, link_answered, passed_on, refused_on};
 use crate::deeds::Deeds;
 use crate::desks::{Desk, desk_at};
 use crate::pipes::{goes_through, is_gate, own_gate, relayed_to};
-use crate::replies::{administered, replied};
-use crate::view::{ADMINISTRATION_PIPE, errors_at, is_asking, is_in, is_linked, view_for};
-use gate_admin::is_opened;
+use crate::replies::{put_decision, replied};
+use crate::view::{ADMINISTRATION_PIPE, errors_at, is_in, is_linked, view_for, waits_for};
+use gate_admin::{decide, is_opened};
 use gate_answers::{IDENTITY_GATE, LINK_MANAGEMENT_GATE, LOOPBACK_GATE, Response, instruction_of};
 use gate_loopback::posts_back;
 use hci_store::Store;
@@ -119,7 +119,7 @@ fn is_command(message: &[u8]) -> bool
 fn is_waiting(desks: &[Desk], host: u8, pipe: u8) -> bool
     ensures { result ≡ (pipe == 1 && list_any (row_waits_for host) desks.now) }
 {
-    pipe == ADMINISTRATION_PIPE && is_asking(desks, host)
+    pipe == ADMINISTRATION_PIPE && desks.iter().any(|desk| waits_for(desk, host))
 }
 
 // A command of a host: one of its gates serves it, or the administration gate decides.
@@ -149,7 +149,8 @@ fn commanded<N: Nv + Drop>(
         Some(gate) => served(deeds, errors_at(desks, host), host, pipe, gate, message),
         None => {
             let view = view_for(store.tables(), desks, up, host);
-            administered(deeds, store, &view, host, pipe, message)
+            let decision = decide(store.tables(), &view, host, pipe, message);
+            put_decision(deeds, store, host, pipe, decision)
         }
     }
 }

@@ -2,9 +2,8 @@
 ghost use Rattle.std.specs.Prelude.{◌≡◌, [], ℕ, ◌≤◌, ◌<◌, ◌++◌, true, false, map, option_map, length};
 ghost use Rattle.pipe_table.specs.declared.row.PipeRow.{PipeRow};
 ghost use Rattle.hci_tables.specs.Commands.{IsCommand};
-ghost use Rattle.gate_answers.specs.Answers.{IsCommandMessage, instruction_in, body_in};
 ghost use Rattle.gate_admin.specs.View.{has, hosts_where};
-ghost use Rattle.gate_admin.specs.Decide.{decided, IsRecordableDecision};
+ghost use Rattle.gate_admin.specs.Decide.{IsRecordableDecision};
 ghost use Rattle.node_machine.specs.Parts.Deed.{Tells};
 ghost use Rattle.node_machine.specs.Carrying.{own_view};
 ghost use Rattle.node_machine.specs.Controller.{decision_deeds, agreed, about_of, notice_deeds};
@@ -15,39 +14,15 @@ use crate::answering::{answered, committed, dropped, refused_on};
 use crate::deeds::{Deed, Deeds, ends_of};
 use crate::desks::{About, Desk};
 use crate::view::{ADMINISTRATION_PIPE, is_in};
-use gate_admin::{Decision, LinkView, decide};
+use gate_admin::Decision;
 use gate_answers::{Notice, Response, answer, refused};
 use hci_store::Store;
 use hci_tables::Command;
 use pipe_table::PipeRow;
 use swp_base::Nv;
 
-/// What the administration gate decides of a command is done.
-pub(crate) fn administered<N: Nv + Drop>(
-    deeds: &mut Deeds,
-    store: &mut Store<N>,
-    view: &LinkView,
-    host: u8,
-    pipe: u8,
-    message: &[u8],
-)
-    requires ready { IsReady store.old }
-    requires some { 1 ≤ host }
-    requires host { host ≤ 7 }
-    requires pipe { pipe < 112 }
-    requires command { IsCommandMessage message.now }
-    requires none { deeds.old.items ≡ [] }
-    ensures deeds { (a : Handling) → deeds_shown a deeds.new.items
-        ≡ decision_deeds (own_view (controller_core store.old.journal.state store.old.tables)) host pipe
-        (decided store.old.tables view.now host pipe (instruction_in message.now) (body_in message.now)) }
-    ensures doable { AreDoable deeds.new.items }
-    ensures unchanged { store.new ≡ store.old }
-{
-    let decision = decide(store.tables(), view, host, pipe, message);
-    done(deeds, store, host, pipe, decision)
-}
-
-fn done<N: Nv + Drop>(
+/// What the administration gate decided of a command is done.
+pub(crate) fn put_decision<N: Nv + Drop>(
     deeds: &mut Deeds,
     store: &mut Store<N>,
     host: u8,

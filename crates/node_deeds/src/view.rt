@@ -1,6 +1,6 @@
 //! What a controller knows of its links as it handles a message.
 ghost use Rattle.std.specs.Prelude.{◌≡◌, ◌≤◌, ◌<◌, ◌^◌, if◌then◌else◌, length};
-ghost use Rattle.std.specs.List.{filter_map, list_any};
+ghost use Rattle.std.specs.List.{filter_map};
 ghost use Rattle.gate_admin.specs.View.{has};
 ghost use Rattle.node_machine.specs.Controller.{has_link, view_for};
 ghost use Rattle.node_deeds.specs.Shown.{ports_shown, row_waits_for, awaited_pipe};
@@ -41,14 +41,8 @@ pub(crate) fn errors_at(desks: &[Desk], host: u8) -> u16
     }
 }
 
-/// Whether a creation that this host asked for waits.
-pub(crate) fn is_asking(desks: &[Desk], host: u8) -> bool
-    ensures { result ≡ list_any (row_waits_for host) desks.now }
-{
-    desks.iter().any(|desk| waits_for(desk, host))
-}
-
-fn waits_for(desk: &Desk, host: u8) -> bool
+/// Whether a creation that this host asked for waits for the host of this desk.
+pub(crate) fn waits_for(desk: &Desk, host: u8) -> bool
     ensures { result ≡ row_waits_for host desk.now }
 {
     match desk.awaited() {

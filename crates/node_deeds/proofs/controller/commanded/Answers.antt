@@ -1,10 +1,13 @@
-use Rattle.std.proofs.Common.{cond, sym, ap, ap₂, ◌∙◌}
+use Rattle.std.proofs.Common.{cond, sym, ap, ap₂, ◌∙◌, subst}
 use Rattle.std.specs.Prelude.{None}
 use Rattle.gate_answers.specs.Answers.{instruction_in, body_in}
-use Rattle.node_machine.specs.Controller.{goes_through, own_gate, view_for}
+use Rattle.gate_admin.specs.Decide.{decided}
+use Rattle.node_machine.specs.Carrying.{own_view}
+use Rattle.node_machine.specs.Controller.{decision_deeds, goes_through, own_gate, view_for}
 use Rattle.node_deeds.specs.Shown.{ports_shown}
-use Rattle.node_deeds.specs.Cores.{controller_core, handled}
+use Rattle.node_deeds.specs.Cores.{controller_core, handled, IsSoundDecision}
 use Rattle.node_deeds.proofs.Control.{gate_serves, gate_decides}
+use Rattle.node_deeds.proofs.Decisions.{decided_soundly}
 use Rattle.node_deeds.proofs.Views.{errors_shown}
 use Rattle.node_deeds.proofs.controller.commanded.Goals as goal
 
@@ -21,6 +24,13 @@ returns-in-Some-clause-deeds g c =
     ∙ gate_serves (controller_core s.journal.state s.tables) ports host (pipe, message) pipe (instruction_in message) c.in-Some.gate c.errors_at.result
     (body_in message) gate (c.errors_at.ensures ∙ errors_shown c.args.up c.args.desks.now host)
 
+pub put_decision-requires-clause-sound : goal.put_decision-requires-clause-sound
+put_decision-requires-clause-sound g c =
+    let message = c.args.message.now in
+    subst (IsSoundDecision c.args.host) (sym c.decide-decision.ensures.decided)
+    (decided_soundly c.tables-in-None-2.result.now c.view_for-view.result c.args.host c.args.pipe (instruction_in message) (body_in message)
+    c.requires.some c.requires.host)
+
 pub returns-in-None-clause-deeds : goal.returns-in-None-clause-deeds
 returns-in-None-clause-deeds g c =
     let s = c.args.store.now in
@@ -30,6 +40,10 @@ returns-in-None-clause-deeds g c =
     let ports = ports_shown c.args.up c.args.desks.now in
     let gate = ap₂ (λ t n. cond (goes_through t host pipe n) (own_gate t host pipe) None) (sym c.tables.ensures) (sym c.instruction_of.ensures)
     ∙ (sym c.gate_for.ensures ∙ c.in-None.is) in
-    c.administered.ensures.deeds (handled pipe message)
-    ∙ gate_decides (controller_core s.journal.state s.tables) ports host (pipe, message) pipe (instruction_in message) (body_in message)
-    c.view_for-view.result gate (c.view_for-view.ensures ∙ ap (λ t. view_for t ports host) c.tables-in-None.ensures)
+    let core = controller_core s.journal.state s.tables in
+    c.put_decision.ensures.deeds (handled pipe message)
+    ∙ (ap (decision_deeds (own_view core) host pipe)
+    (c.decide-decision.ensures.decided
+    ∙ ap (λ t. decided t c.view_for-view.result host pipe (instruction_in message) (body_in message)) c.tables-in-None-2.ensures)
+    ∙ gate_decides core ports host (pipe, message) pipe (instruction_in message) (body_in message)
+    c.view_for-view.result gate (c.view_for-view.ensures ∙ ap (λ t. view_for t ports host) c.tables-in-None.ensures))

@@ -5,7 +5,7 @@ use Rattle.node_machine.specs.Parts.Deed.{Tells}
 use Rattle.node_deeds.specs.Shown.{deeds_shown}
 use Rattle.node_deeds.specs.Cores.{controller_core}
 use Rattle.node_deeds.proofs.Control.{decision_commits}
-use Rattle.node_deeds.proofs.replies.done.Goals as goal
+use Rattle.node_deeds.proofs.replies.put_decision.Goals as goal
 
 pub returns-then-room-clause-deeds : goal.returns-then-room-clause-deeds
 returns-then-room-clause-deeds g c =
