@@ -33,7 +33,7 @@ def counted(program, lines, folder):
             stdin=source, stdout=subprocess.DEVNULL, stderr=subprocess.PIPE, text=True, check=True,
         )
     table = subprocess.run(["callgrind_annotate", "--inclusive=yes", profile], stdout=subprocess.PIPE, text=True, check=True).stdout
-    turns = re.search(r"^ *([\d,]+) .*settle_and_pass", table, re.M)
+    turns = re.search(r"^ *([\d,]+) .*Node::passes", table, re.M)
     return int(re.search(r"Collected : (\d+)", told.stderr)[1]), int(turns[1].replace(",", "")) if turns else 0
 
 

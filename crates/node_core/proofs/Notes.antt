@@ -1,10 +1,10 @@
 -- Entries that are noted one after another.
 use Rattle.std.proofs.Common.{◌≡◌, ℕ, zero, suc, Bool, true, false, not, List, [], ◌∷◌, ◌++◌, map, refl, sym, ap, ◌∙◌, subst, append_assoc, append-nil, arith}
-use Rattle.std.specs.Prelude.{Option, Some, None, is_none, is_some, ◌==◌, ◌&&◌, option_to_list, if◌then◌else◌}
+use Rattle.std.specs.Prelude.{Option, Some, None, is_none, is_some, ◌==◌, ◌&&◌, option_to_list}
 use Rattle.std.proofs.lemmas.Bool.{eqb-true, true≢false}
 use Rattle.std.proofs.lemmas.Grind.{flat_map-append}
 use Rattle.std.proofs.lemmas.List.{map-append}
-use Rattle.node_core.proofs.Words.{AreNotes, EndsStandFor, Entry, IsInStep, KeptEnds, LinkReport, Message, Node, Port, Work, end_of, entries_for, kept_number}
+use Rattle.node_core.proofs.Words.{AreNotes, EndsStandFor, Entry, IsInStep, KeptEnds, Message, Node, Port, Work, end_of, entries_for, kept_number}
 use Rattle.node_core.proofs.Words.{noting, report_told, told, unnumbered}
 use Rattle.link_laws.specs.entries.Entries.{Entry as Noted}
 use Rattle.history.specs.Steps.{entry_of}
@@ -25,6 +25,23 @@ pub one_note : {was short : Bool} {before now : List Entry} (e : Entry) → (was
     → AreNotes was short before now (e ∷ [])
 one_note e stays more = record { stays = stays; noted = more }
 
+pub notes_are : {a b : Bool} {x y es fs : List Entry} → AreNotes a b x y es → es ≡ fs → AreNotes a b x y fs
+notes_are {a} {b} {x} {y} n same = let P : List Entry → Type 0 = λ l. AreNotes a b x y l in subst P same n
+
+-- one more is noted by a watch, or none
+pub noted_by : {V : Type 0} (noted : V → List Entry) (short : V → Bool) {old new after : V} {e : Entry} {es : List Entry} → after ≡ new
+    → (short old ≡ true → short new ≡ true) → (short new ≡ false → noted new ≡ noted old ++ e ∷ []) → e ∷ [] ≡ es
+    → AreNotes (short old) (short after) (noted old) (noted after) es
+noted_by {V} noted short {old} {new} {after} {e} {es} is stays more same =
+    let P : V → Type 0 = λ v. AreNotes (short old) (short v) (noted old) (noted v) es in
+    subst P (sym is) (notes_are (one_note e stays more) same)
+
+pub unnoted_by : {V : Type 0} (noted : V → List Entry) (short : V → Bool) {old after : V} {es : List Entry} → after ≡ old → [] ≡ es
+    → AreNotes (short old) (short after) (noted old) (noted after) es
+unnoted_by {V} noted short {old} {after} {es} is same =
+    let P : V → Type 0 = λ v. AreNotes (short old) (short v) (noted old) (noted v) es in
+    subst P (sym is) (notes_are (no_notes (short old) (noted old)) same)
+
 still : (was short : Bool) → (was ≡ true → short ≡ true) → short ≡ false → was ≡ false
 still true short stays kept = absurd (true≢false (sym (stays refl) ∙ kept))
 still false short stays kept = refl
@@ -37,9 +54,6 @@ notes_then {a} {b} {c} {x} {y} {z} {es} {fs} first later = record {
       let before = first.noted (still b c later.stays kept) in
       later.noted kept ∙ (ap (λ l. l ++ fs) before ∙ append_assoc x es fs);
 }
-
-pub notes_are : {a b : Bool} {x y es fs : List Entry} → AreNotes a b x y es → es ≡ fs → AreNotes a b x y fs
-notes_are {a} {b} {x} {y} n same = let P : List Entry → Type 0 = λ l. AreNotes a b x y l in subst P same n
 
 -- what is noted of a link, one part after another
 pub parts : (h : ℕ) (xs ys : List Noted) → entries_for h (xs ++ ys) ≡ entries_for h xs ++ entries_for h ys
@@ -91,16 +105,6 @@ got_plain : (h : ℕ) (who : Side) (n : ℕ) (ms : List Message)
     → map unnumbered (entries_for h (map (Got who n) ms)) ≡ entries_for h (map (Got who 0) ms)
 got_plain h who n [] = refl
 got_plain h who n (m ∷ ms) = ap (λ l. entry.Got (end_of h who) 0 m.0 m.1 ∷ l) (got_plain h who n ms)
-
--- how many are acknowledged is told where there are more of them alone
-pub told_counted : (h : ℕ) (who : Side) (r : LinkReport) (m : ℕ)
-    → entries_for h (told who 0 (without_message r) (if nat_lt 0 r.acked then m else 0)) ≡ entries_for h (told who 0 (without_message r) m)
-told_counted h who r m = by (nat_lt 0 r.acked) refl
-  where
-    by : (b : Bool) → nat_lt 0 r.acked ≡ b
-        → entries_for h (told who 0 (without_message r) (if nat_lt 0 r.acked then m else 0)) ≡ entries_for h (told who 0 (without_message r) m)
-    by true q = rw q refl
-    by false q = rw q refl
 
 -- what is told of an input, and then the message that it brought
 pub told_plain : (h : ℕ) (who : Side) (n : ℕ) (x : Report) (acked : ℕ)

@@ -1,11 +1,9 @@
 -- What a host has under way, as its deeds change it.
-use Rattle.std.proofs.Common.{◌≡◌, ℕ, zero, suc, ◌+◌, ◌≤◌, Bool, true, false, not, ◌||◌, List, [], ◌∷◌, drop, length, add-one, refl, sym, ap, ap₂, ◌∙◌, subst}
-use Rattle.std.specs.Prelude.{Option, Some, None, option_map, slice_get}
+use Rattle.std.proofs.Common.{◌≡◌, ℕ, Bool, true, false, not, List, refl, sym, ap, ap₂, ◌∙◌, subst}
+use Rattle.std.specs.Prelude.{Option, Some, None, option_map}
 use Rattle.node_core.proofs.Words.{Core, Ends, Entry, Handling, Host, Init, IsDoableNow, IsInStep, IsSendable, Message, Node, Plan, Port, Sends, Tasks, Work}
 use Rattle.node_core.proofs.Words.{after_sessions, deed_of, deed_shown, done, end_of, end_shown, goes_on_with, handling, init_running, is_over}
 use Rattle.std.specs.List.{list_any}
-use Rattle.std.specs.Option.{option_map_or}
-use Rattle.std.proofs.lemmas.List.{drop_all}
 use Rattle.node_deeds.specs.declared.deeds.Deed.{Deed}
 use Rattle.node_deeds.specs.declared.deeds.Deed.TheVariants as kept
 use Rattle.node_deeds.specs.Shown.{ordered_by}
@@ -144,33 +142,3 @@ over core ports q = rw q refl
 
 pub not_over : (core : Core) (ports : List Port) → list_any is_over ports ≡ false → after_sessions core ports ≡ core
 not_over core ports q = rw q refl
-
--- ## Ends whose sessions ended
-
-over_next : (i : ℕ) (ports : List Port)
-    → list_any is_over (drop i ports) ≡ (option_map_or is_over (slice_get ports i) false || list_any is_over (drop (suc i) ports))
-over_next zero [] = refl
-over_next (suc i) [] = refl
-over_next zero (p ∷ ports) = refl
-over_next (suc i) (p ∷ ports) = over_next i ports
-
--- the next one ended
-pub here_over : (i : ℕ) (ports : List Port) → option_map_or is_over (slice_get ports i) false ≡ true → list_any is_over (drop i ports) ≡ true
-here_over i ports over = over_next i ports ∙ ap (λ b. b || list_any is_over (drop (suc i) ports)) over
-
--- it didn't
-pub next_over : (i : ℕ) (ports : List Port) → option_map_or is_over (slice_get ports i) false ≡ false
-    → list_any is_over (drop (i + 1) ports) ≡ list_any is_over (drop i ports)
-next_over i ports none =
-    ap (λ n. list_any is_over (drop n ports)) (add-one i)
-    ∙ sym (over_next i ports ∙ ap (λ b. b || list_any is_over (drop (suc i) ports)) none)
-
--- behind the last one none did
-pub none_over : (i : ℕ) (ports : List Port) → length ports ≤ i → list_any is_over (drop i ports) ≡ false
-none_over i ports past = ap (list_any is_over) (drop_all i ports past)
-
--- a session ended, with a late notice or otherwise
-pub over_parts : (o : Option Port)
-    → (option_map_or (λ (p : Port). p.ended) o false || option_map_or (λ (p : Port). p.late) o false) ≡ option_map_or is_over o false
-over_parts None = refl
-over_parts (Some p) = refl

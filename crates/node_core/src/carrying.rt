@@ -26,8 +26,8 @@ impl<N: Nv + Drop> Node<N> {
     ghost use Rattle.node_machine.specs.Carrying.{turn_at, commit, notified, done, all_done, port_at, has_room_for, end_of_node};
     ghost use Rattle.node_core.specs.Nodes.{IsUsable, Carries, CarriesOut, CarriesUnseen, IsInSomeStep};
     ghost use Rattle.node_core.specs.Faults.{CountsFaults};
-    ghost use Rattle.node_machine.specs.Turns.{handles, holds_back};
-    ghost use Rattle.node_core.specs.Handling.{has_turn, is_noted_held};
+    ghost use Rattle.node_machine.specs.Turns.{holds_back};
+    ghost use Rattle.node_core.specs.Handling.{is_noted_held};
     ghost use Rattle.history.specs.Steps.{end_of};
     ghost use Rattle.link_laws.specs.entries.Entries.End.{Host};
     ghost use Rattle.node_deeds.specs.Hosts.{init_running};
@@ -326,38 +326,6 @@ impl<N: Nv + Drop> Node<N> {
             }
         }
         Ran::Done
-    }
-
-    /// The message that waits at the end of the link with this host is handled: it is the node's from now on, and these deeds are done.
-    #[tactic(auto, using(crate::proofs::Faults::faults_stay, crate::proofs::Faults::faults_then))]
-    pub(crate) fn handle<W: Watch>(
-        &mut self,
-        host: u8,
-        deeds: &[Deed],
-        pipe: u8,
-        message: &[u8],
-        watch: &mut W,
-    ) -> Ran
-        requires usable { IsUsable self.old.store }
-        requires live { IsTrue self.old.store.journal.live }
-        requires doable { IsInSomeStep W.noted W.is_short (self.old, watch.old)
-            (λ w. AreDoableInTurn host (handling self.old (pipe, message.now)) deeds.now (has_turn host (pipe, message.now) w)) }
-        ensures carried { CarriesOut N.writes W.noted W.is_short (self.old, watch.old) (self.new, watch.new)
-            (handles host (pipe, message.now) (map (deed_of self.old (pipe, message.now)) deeds.now)) }
-        ensures ran { result ≡ ran_so self.new.store.journal.live }
-        ensures faults { CountsFaults N.faults self.old.store self.new.store }
-        ensures number { self.new.number ≡ self.old.number }
-        ensures usable { IsUsable self.new.store }
-    {
-        let turn = Entry::Turn {
-            at: self.end_at(host),
-            pid: pipe,
-            message: Octets::new(self.alloc),
-        };
-        note(watch, turn, message);
-        self.ends.give_back(host);
-        self.ends.set_holds(host, false);
-        self.carry_all(host, deeds, pipe, message, watch)
     }
 
     // That the first message that waits at an end is held is noted, unless it was.

@@ -1,35 +1,20 @@
 //! What comes to an end of a node, and notices there that aren't answered in time.
-ghost use Rattle.std.specs.Prelude.{◌≡◌, Some};
-ghost use Rattle.node_core.specs.Syncing.{sync_told};
-
-use crate::inputs::Came;
 use crate::node::{InBuffer, MESSAGE, Node};
-use crate::reporting::{note, note_report, tells_nothing};
-use link_end::{LinkReport, ResetRefused};
-use node_ends::LinkInput;
+use crate::reporting::note;
+use link_end::LinkReport;
 use swp_base::Nv;
 use trace_model::{Entry, Octets, Watch};
 
-// The identifier that came by what is told of the end of the link with this host, where one did.
-fn sync_told(host: u8, report: &LinkReport) -> Option<(u8, u16)>
-    ensures { result ≡ sync_told host (Some report.now) }
-{
-    match report.sync {
-        Some(id) => Some((host, id)),
-        None => None,
-    }
-}
-
 impl<N: Nv + Drop> Node<N> {
-    ghost use Rattle.std.specs.Prelude.{◌≡◌, if◌then◌else◌, List, map, Some, None, slice_get, ℕ, [], IfOk, OnErr, MatchResult};
+    ghost use Rattle.std.specs.Prelude.{◌≡◌, if◌then◌else◌, List, map, Some, None, slice_get, ℕ, []};
     ghost use Rattle.std.specs.List.{flat_map};
     ghost use Rattle.trace_model.specs.declared.entry.Entry.{Entry as Noted};
     ghost use Rattle.node_machine.specs.Parts.{Port, Work, Core};
     ghost use Rattle.node_machine.specs.Carrying.{noting, own_side, port_at};
     ghost use Rattle.node_machine.specs.Node.{with_older, reset_late, told_late, times_out, all_come};
     ghost use Rattle.node_machine.specs.Node.NodeInput.{TimePasses, AtEnd};
-    ghost use Rattle.node_ends.specs.Ends.{EndsStandFor, FewAreDue, at_place, IsHeldWhileOneWaits, got_at};
-    ghost use Rattle.node_core.specs.Nodes.{IsInStep, CarriesUnseen, IsInSomeStep, CarriesWhere, LiesInBuffer, Carries};
+    ghost use Rattle.node_ends.specs.Ends.{EndsStandFor, FewAreDue, at_place, got_at};
+    ghost use Rattle.node_core.specs.Nodes.{IsInStep, CarriesUnseen, IsInSomeStep, CarriesWhere, LiesInBuffer};
     ghost use Rattle.node_core.specs.Turning.{AreFewDue, AreYoung};
     ghost use Rattle.std.specs.Option.{option_map_or};
     ghost use Rattle.link_laws.specs.machine.Machine.{Report, whole_acked};
@@ -39,8 +24,6 @@ impl<N: Nv + Drop> Node<N> {
     ghost use Rattle.history.specs.Steps.{entries_for};
     ghost use Rattle.link_end.specs.Reports.{report_told};
     ghost use Rattle.node_ends.specs.Holding.{kept_number};
-    ghost use Rattle.node_ends.specs.Inputs.{input_of_end, refusal_at, MayComeAt};
-    ghost use Rattle.node_core.specs.Inputs.{IsWhatCame};
     ghost use Rattle.node_core.specs.Noting.{AreNotes, unnumbered};
 
     // The message that came to the end of the link with this host, where one did, is noted: it lies in the front of the buffer then.
@@ -76,18 +59,6 @@ impl<N: Nv + Drop> Node<N> {
         })
     }
 
-    // How many messages of the session of the end of the link with this host are acknowledged, where there are more of them; else 0, which
-    // isn't noted.
-    fn acked(&self, host: u8, more: bool) -> u32
-        ensures { (ports : List Port) → EndsStandFor self.now.ends ports
-            → result ≡ (if more then option_map_or (λ (p : Port). kept_number (whole_acked p.side)) (port_at ports host) 0 else 0) }
-    {
-        if !more {
-            return 0;
-        }
-        self.ends.acked(host)
-    }
-
     // What an input at the end of the link with this host did is noted, with the message that it brought. That message, where one came, lies
     // in the front of the buffer then.
     #[inline(never)]
@@ -106,7 +77,23 @@ impl<N: Nv + Drop> Node<N> {
             (map unnumbered (entries_for host (told (own_side core) n x acked))) }
     {
         let at = self.end_at(host);
-        note_report(watch, at, report, self.acked(host, report.acked > 0));
+        if let Some(cause) = report.ended {
+            note(watch, Entry::Down { at, cause }, &[]);
+        }
+        if report.began {
+            note(watch, Entry::Up { at, session: 0 }, &[]);
+        }
+        if report.became_active {
+            note(watch, Entry::Active { at }, &[]);
+        }
+        if let Some(tries) = report.gave_up {
+            note(watch, Entry::GaveUp { at, tries }, &[]);
+        }
+        if report.acked > 0 {
+            let session = 0;
+            let count = self.ends.acked(host);
+            note(watch, Entry::Acked { at, session, count }, &[]);
+        }
         self.note_message(host, report.got, buffer, watch)
     }
 
@@ -127,50 +114,16 @@ impl<N: Nv + Drop> Node<N> {
             → AreNotes (W.is_short watch.old) (W.is_short watch.new) (W.noted watch.old) (W.noted watch.new)
             (map unnumbered (entries_for host (told (own_side core) n x acked))) }
     {
-        if tells_nothing(report) {
+        if report.ended.is_none()
+            && !report.began
+            && !report.became_active
+            && report.gave_up.is_none()
+            && report.acked == 0
+            && !report.got
+        {
             return None;
         }
         self.note_news(host, report, buffer, watch)
-    }
-
-    /// What comes to the end of the link with this host, and what that did is noted. While a message waits there the end is held, and at most
-    /// six control frames wait there to be sent. The message that came, where one did, lies in the front of the buffer then.
-    ///
-    /// # Errors
-    ///
-    /// A reset is refused: nothing is noted.
-    #[inline(always)]
-    pub(crate) fn comes_at<W: Watch>(
-        &mut self,
-        host: u8,
-        what: LinkInput<'_>,
-        buffer: &mut [u8; MESSAGE],
-        watch: &mut W,
-    ) -> Result<Came, ResetRefused>
-        requires may { IsInSomeStep W.noted W.is_short (self.old, watch.old) (λ w.
-            FewAreDue (port_at w.ports host) × IsHeldWhileOneWaits (port_at w.ports host) × MayComeAt what (port_at w.ports host)) }
-        ensures carried { Carries W.noted W.is_short (self.old, watch.old) (self.new, watch.new) (all_come (AtEnd host (input_of_end what.entry))) }
-        ensures came { (start : List Noted) (w : Work) → IsInStep self.old (W.noted watch.old) (W.is_short watch.old) start w
-            → MatchResult result
-            (λ came. IsWhatCame (AtEnd host (input_of_end what.entry)) w.ports came × (refusal_at what.entry (port_at w.ports host) ≡ None))
-            (λ why. refusal_at what.entry (port_at w.ports host) ≡ Some why) }
-        ensures lies { IfOk result (λ came. LiesInBuffer self.new.ends buffer.new came.lies) }
-        ensures quiet { OnErr result (watch.new ≡ watch.old) }
-        ensures store { self.new.store ≡ self.old.store }
-        ensures number { self.new.number ≡ self.old.number }
-    {
-        let mut told = None;
-        if let Err(why) = self.ends.comes(host, what, &mut told) {
-            return Err(why);
-        }
-        let Some(report) = &told else {
-            return Ok(Came::nothing());
-        };
-        Ok(Came {
-            sync: sync_told(host, report),
-            lies: self.note_input(host, report, buffer, watch),
-            became_active: report.became_active,
-        })
     }
 
     // A tick comes to the end at this place, where there is one, and what it did is noted. At most six control frames wait there to be

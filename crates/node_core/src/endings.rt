@@ -11,9 +11,9 @@ use trace_model::Watch;
 impl<N: Nv + Drop> Node<N> {
     ghost use Rattle.std.specs.Prelude.{◌≡◌, ◌≤◌, ◌∷◌, false, List, [], map, slice_get, IfSome, IsTrue};
     ghost use Rattle.std.specs.Option.{option_map_or};
-    ghost use Rattle.std.specs.List.{list_any, flat_map, filter};
+    ghost use Rattle.std.specs.List.{flat_map, filter};
     ghost use Rattle.node_machine.specs.Parts.{Port};
-    ghost use Rattle.node_machine.specs.Node.{is_over, after_sessions, forgets, without_notice, forgotten, owed};
+    ghost use Rattle.node_machine.specs.Node.{after_sessions, forgets, without_notice, forgotten, owed};
     ghost use Rattle.node_ends.specs.Ends.{EndsStandFor};
     ghost use Rattle.node_core.specs.Nodes.{CarriesUnseen, IsUsable, CarriesOut, Carries};
     ghost use Rattle.node_core.specs.Running.{ran_so};
@@ -25,32 +25,13 @@ impl<N: Nv + Drop> Node<N> {
     ghost use Rattle.node_machine.specs.Controller.{asked_at};
     ghost use Rattle.node_core.specs.Owing.{freed_at, answers_owed, has_ended_so, owed_at};
 
-    // Whether the session of the end at this place has ended in this step.
-    fn is_over_at(&self, i: usize) -> bool
-        ensures { (ports : List Port) → EndsStandFor self.now.ends ports → result ≡ option_map_or is_over (slice_get ports i) false }
-    {
-        self.ends.has_ended(i) || self.ends.was_late(i)
-    }
-
-    // Whether the session of an end has ended in this step.
-    pub(crate) fn is_over(&self) -> bool
-        ensures { (ports : List Port) → EndsStandFor self.now.ends ports → result ≡ list_any is_over ports }
-    {
-        for i in 0..self.ends.count() {
-            if self.is_over_at(i) {
-                return true;
-            }
-        }
-        false
-    }
-
     // Where the session of an end has ended in this step, a host has nothing under way any more.
     fn drop_tasks(&mut self)
         ensures carried { CarriesUnseen self.old self.new (λ w. record w { core = after_sessions w.core w.ports }) }
         ensures store { self.new.store ≡ self.old.store }
         ensures number { self.new.number ≡ self.old.number }
     {
-        if self.is_over() {
+        if self.ends.have_ended() {
             self.tasks = Tasks {
                 command: None,
                 init: None,

@@ -21,7 +21,7 @@ fn relayed_to(deeds: &[Deed]) -> Option<u8>
 
 impl<N: Nv + Drop> Node<N> {
     ghost use Rattle.node_core.specs.Running.{ran_so};
-    ghost use Rattle.std.specs.Prelude.{◌≡◌, ◌≢◌, ◌≤◌, ◌∷◌, Bool, List, [], length, IsTrue, IfSome};
+    ghost use Rattle.std.specs.Prelude.{◌≡◌, ◌≢◌, ◌≤◌, ◌∷◌, Bool, List, [], IsTrue, IfSome};
     ghost use Rattle.trace_model.specs.declared.entry.Entry.{Entry as Noted};
     ghost use Rattle.node_machine.specs.Parts.{Port, Work};
     ghost use Rattle.node_machine.specs.Parts.Deed.{Sends};
@@ -112,37 +112,19 @@ impl<N: Nv + Drop> Node<N> {
             self.let_go(host, held);
             return Ran::Done;
         }
-        if !self.handle(host, deeds, pipe, message, watch).is_done() {
+        let turn = Entry::Turn {
+            at: self.end_at(host),
+            pid: pipe,
+            message: Octets::new(self.alloc),
+        };
+        note(watch, turn, message);
+        self.ends.give_back(host);
+        self.ends.set_holds(host, false);
+        if !self.carry_all(host, deeds, pipe, message, watch).is_done() {
             return Ran::Stopped;
         }
         self.let_go(host, held);
         Ran::Done
-    }
-
-    // What a controller does with this message, which waits at its end with this host, is put into a list, which is empty.
-    fn deeds_of_controller(&mut self, host: u8, pipe: u8, message: &[u8], deeds: &mut Deeds)
-        requires usable { IsUsable self.old.store }
-        requires live { IsTrue self.old.store.journal.live }
-        requires controller { self.old.number ≡ 0 }
-        requires some { 1 ≤ host }
-        requires host { host ≤ 7 }
-        requires sendable { IsSendable (pipe, message.now) }
-        requires none { deeds.old.items ≡ [] }
-        ensures deeds { (noted : List Noted) (full : Bool) (start : List Noted) (w : Work) → IsInStep self.old noted full start w → IsNodeInOrder w.core w.ports
-            → deeds_of w.core w.ports host (pipe, message.now) ≡ deeds_shown (handling self.old (pipe, message.now)) deeds.new.items }
-        ensures doable { AreDoable deeds.new.items }
-        ensures same { self.new ≡ self.old }
-    {
-        let seen = self.ends.seen();
-        put_controller_deeds(
-            deeds,
-            &mut self.store,
-            seen.desks.as_slice(),
-            seen.up,
-            host,
-            pipe,
-            message,
-        );
     }
 
     // What a node does with this message, which waits at its end with this host, is put into a list, which is empty. The link of a host
@@ -165,7 +147,16 @@ impl<N: Nv + Drop> Node<N> {
         ensures same { self.new ≡ self.old }
     {
         if self.number == 0 {
-            self.deeds_of_controller(host, pipe, message, deeds);
+            let seen = self.ends.seen();
+            put_controller_deeds(
+                deeds,
+                &mut self.store,
+                seen.desks.as_slice(),
+                seen.up,
+                host,
+                pipe,
+                message,
+            );
             return;
         }
         let Some(desk) = self.ends.desk(0) else {
@@ -181,44 +172,6 @@ impl<N: Nv + Drop> Node<N> {
             pipe,
             message,
         );
-    }
-
-    // This message, which waits at the end with this host, has its turn: what is done with it is decided, and done where there is room.
-    // The link of a host is the one with its own number.
-    #[inline(always)]
-    #[tactic(auto, using(crate::proofs::Faults::faults_stay, crate::proofs::Faults::faults_then))]
-    fn have_turn<W: Watch>(
-        &mut self,
-        host: u8,
-        held: bool,
-        pipe: u8,
-        message: &[u8],
-        watch: &mut W,
-    ) -> Ran
-        requires usable { IsUsable self.old.store }
-        requires live { IsTrue self.old.store.journal.live }
-        requires own { self.old.number ≢ 0 → host ≡ self.old.number }
-        requires some { 1 ≤ host }
-        requires host { host ≤ 7 }
-        requires sendable { IsSendable (pipe, message.now) }
-        requires short { length message.now ≤ 4096 }
-        requires may { IsInSomeStep W.noted W.is_short (self.old, watch.old) (λ w.
-            IsNodeInOrder w.core w.ports × FewAreDue (port_at w.ports host) × (held ≡ held_at w.ports host)
-            × (got_at w.ports host ≡ (pipe, message.now) ∷ [])) }
-        ensures carried { CarriesOutWhere N.writes (λ w. IsNodeInOrder w.core w.ports × FewAreDue (port_at w.ports host) × (held ≡ held_at w.ports host)
-            × (got_at w.ports host ≡ (pipe, message.now) ∷ [])) W.noted W.is_short (self.old, watch.old) (self.new, watch.new)
-            (have_turns host ((pipe, message.now) ∷ [])) }
-        ensures ran { result ≡ ran_so self.new.store.journal.live }
-        ensures faults { CountsFaults N.faults self.old.store self.new.store }
-        ensures number { self.new.number ≡ self.old.number }
-        ensures usable { IsUsable self.new.store }
-    {
-        // The list comes first: it is long, and cleared twice where anything stands before it.
-        let mut deeds = Deeds::new();
-        let spares = self.ends.spares();
-        self.deeds_for(host, pipe, message, &mut deeds);
-        let short = lack(deeds.as_slice(), host, message.len(), &spares);
-        self.turn_decided(host, deeds.as_slice(), short, held, pipe, message, watch)
     }
 
     // The message that waits at the end of the link with this host, with its pipe and how many bytes of the buffer it has. It is read, unless
@@ -271,17 +224,23 @@ impl<N: Nv + Drop> Node<N> {
         ensures number { self.new.number ≡ self.old.number }
         ensures usable { IsUsable self.new.store }
     {
+        // The list comes first: it is long, and cleared twice where anything stands before it.
+        let mut deeds = Deeds::new();
         let held = self.ends.is_held(host);
         let Some((pipe, len)) = self.waiting(host, lies, buffer) else {
             self.let_go(host, held);
             return Ran::Done;
         };
-        self.have_turn(host, held, pipe, &buffer[..len], watch)
+        let message = &buffer[..len];
+        let spares = self.ends.spares();
+        self.deeds_for(host, pipe, message, &mut deeds);
+        let short = lack(deeds.as_slice(), host, message.len(), &spares);
+        self.turn_decided(host, deeds.as_slice(), short, held, pipe, message, watch)
     }
 
     /// A node goes once through its ends, ascending, and the messages that wait there have their turns. It is in order, and at most six
     /// control frames wait at each end to be sent. A message that waits lies in the buffer already, or none does.
-    #[inline(always)]
+    #[inline(never)]
     #[tactic(auto, using(crate::proofs::Faults::faults_stay, crate::proofs::Faults::faults_then))]
     pub(crate) fn passes<W: Watch>(
         &mut self,

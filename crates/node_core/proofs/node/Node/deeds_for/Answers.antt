@@ -1,10 +1,28 @@
-use Rattle.std.proofs.Common.{◌≡◌, ℕ, sym, ap, ◌∙◌, subst}
+use Rattle.std.proofs.Common.{◌≡◌, ℕ, List, not, sym, ap, ◌∙◌, subst}
 use Rattle.std.specs.Prelude.{option_map}
-use Rattle.node_core.proofs.Words.{Desk, Handling, Message, Stored, deeds_of, deeds_shown, end_view, handling, host_deeds, init_running, own_view}
-use Rattle.node_deeds.specs.Shown.{desk_shown}
-use Rattle.node_core.proofs.HavingTurns.{no_some, at_host}
-use Rattle.node_core.proofs.Deciders.{looks_at, some_desk, own_number}
+use Rattle.node_core.proofs.Words.{Desk, Handling, Message, Stored, controller_deeds, deeds_of, deeds_shown, end_view, handling, host_deeds, init_running}
+use Rattle.node_core.proofs.Words.{own_view, view_of}
+use Rattle.node_deeds.specs.Shown.{AreSeen, desk_shown}
+use Rattle.node_core.proofs.HavingTurns.{no_some, at_controller, at_host}
+use Rattle.node_core.proofs.Deciders.{handled_idle, looks_at, some_desk, own_number}
 use Rattle.node_core.proofs.node.Node.deeds_for.Goals as goal
+
+pub returns-then-self-eq0-clause-deeds : goal.returns-then-self-eq0-clause-deeds
+returns-then-self-eq0-clause-deeds g c noted full start w u order =
+    let h = c.args.host in
+    let m : Message = (c.args.pipe, c.args.message.now) in
+    let t = c.put_controller_deeds in
+    let k = u.core (u.power ∙ ap not c.requires.live) in
+    let node = u.node ∙ c.if-self-eq0.true in
+    let S : List Desk → Type 0 = λ ds. AreSeen c.seen-seen.result.up ds w.ports in
+    let seen = subst S (sym c.as_slice.ensures.value) (c.seen-seen.ensures.seen w.ports u.ends order.hosts) in
+    let A : Handling → Type 0 = λ a. deeds_shown a t.new.deeds.items ≡ controller_deeds (view_of w.core w.ports) h m in
+    at_controller w.core w.ports h m node
+    ∙ sym (subst A (sym (handled_idle c.args.self.now m c.if-self-eq0.true (sym k.init ∙ order.task.1 node)))
+    (t.ensures.deeds w.core w.ports (record { journal = k.journal; tables = k.tables }) seen))
+
+pub returns-then-self-eq0-clause-same : goal.returns-then-self-eq0-clause-same
+returns-then-self-eq0-clause-same g c = ap (λ (s : Stored g.row.N.Denot). record c.args.self.now { store = s }) c.put_controller_deeds.ensures.unchanged
 
 pub returns-in_default-clause-deeds : goal.returns-in_default-clause-deeds
 returns-in_default-clause-deeds g c noted full start w u order =

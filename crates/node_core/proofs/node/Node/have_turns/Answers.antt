@@ -1,11 +1,13 @@
-use Rattle.std.proofs.Common.{◌≡◌, ℕ, List, [], ◌∷◌, take, sym, ap, ◌∙◌, subst}
-use Rattle.std.specs.Prelude.{Option}
+use Rattle.std.proofs.Common.{◌≡◌, ℕ, Bool, List, [], ◌∷◌, take, not, refl, sym, ap, ◌∙◌, subst}
+use Rattle.std.specs.Prelude.{Option, option_map}
 use Rattle.hcp_packet.specs.Packets.{AreSendable}
-use Rattle.node_core.proofs.Words.{Brings, IsInStep, Message, Work, got_at, have_turns, lets_go}
+use Rattle.node_core.proofs.Words.{Brings, Handling, IsInStep, Message, Node, Work, deeds_shown, got_at, handling, have_turns, lack, lack_shown, lets_go, needs}
+use Rattle.node_deeds.specs.declared.deeds.Deed.{Deed}
 use Rattle.node_ends.specs.Ends.{message_read}
+use Rattle.node_core.specs.Turning.{IsDecided}
 use Rattle.node_core.proofs.Steps.{plainly}
-use Rattle.node_core.proofs.HavingTurns.{no_some, let_cut, let_writes, let_anyway}
-use Rattle.node_core.proofs.Sendables.{got_at_sendable}
+use Rattle.node_core.proofs.HavingTurns.{no_some, let_cut, let_writes, let_anyway, decided}
+use Rattle.node_core.proofs.Sendables.{got_at_sendable, hosts_low}
 use Rattle.node_core.proofs.Deciders.{own_host}
 use Rattle.node_core.proofs.node.Node.have_turns.Goals as goal
 
@@ -20,8 +22,8 @@ returns-in_default-clause-carried g c start w u hosts few =
     (plainly g.N.Nv.writes {n2 = c.let_go.new.self} (lets_go h) u c.requires.live c.let_go.ensures.store
     (c.let_go.ensures.carried _ _ start w u (c.is_held-held.ensures w.ports u.ends)) (let_cut h w) (let_writes h w) (let_anyway h w))
 
-pub have_turn-requires-clause-sendable : goal.have_turn-requires-clause-sendable
-have_turn-requires-clause-sendable g c =
+pub deeds_for-requires-clause-sendable : goal.deeds_for-requires-clause-sendable
+deeds_for-requires-clause-sendable g c =
     let r = c.requires.may in
     let w : Work = r.1 in
     let u = r.2 in
@@ -29,19 +31,45 @@ have_turn-requires-clause-sendable g c =
     let sendable = subst AreSendable got (got_at_sendable c.args.self.now.ends.pool c.args.self.now.ends.seats w.ports c.args.host u.ends.each) in
     sendable.0
 
-pub have_turn-requires-clause-own : goal.have_turn-requires-clause-own
-have_turn-requires-clause-own g c =
+pub deeds_for-requires-clause-own : goal.deeds_for-requires-clause-own
+deeds_for-requires-clause-own g c =
     let r = c.requires.may in
     let w : Work = r.1 in
     let u = r.2 in
     let got = c.waiting.ensures.waits w.ports u.ends ∙ ap (λ (o : Option (ℕ × ℕ)). message_read o c.waiting.new.buffer) c.in-Some.is in
     λ some. own_host w c.args.host (λ none. some (sym u.node ∙ none)) r.3.0.own got ∙ u.node
 
-pub have_turn-requires-clause-may : goal.have_turn-requires-clause-may
-have_turn-requires-clause-may g c =
+pub deeds_for-requires-clause-may : goal.deeds_for-requires-clause-may
+deeds_for-requires-clause-may g c = let r = c.requires.may in (_, _, r.0, r.1, r.2, r.3.0)
+
+pub turn_decided-requires-clause-decided : goal.turn_decided-requires-clause-decided
+turn_decided-requires-clause-decided g c =
     let r = c.requires.may in
-    let got = c.waiting.ensures.waits r.1.ports r.2.ends ∙ ap (λ (o : Option (ℕ × ℕ)). message_read o c.waiting.new.buffer) c.in-Some.is in
-    (r.0, r.1, r.2, (r.3.0, r.3.1, c.is_held-held.ensures r.1.ports r.2.ends, got))
+    let start = r.0 in
+    let w : Work = r.1 in
+    let u = r.2 in
+    let h = c.args.host in
+    let m : Message = (c.in-Some.pipe, take c.in-Some.len c.waiting.new.buffer) in
+    let got : got_at w.ports h ≡ m ∷ [] =
+    c.waiting.ensures.waits w.ports u.ends ∙ ap (λ (o : Option (ℕ × ℕ)). message_read o c.waiting.new.buffer) c.in-Some.is in
+    let sendable = subst AreSendable got (got_at_sendable c.args.self.now.ends.pool c.args.self.now.ends.seats w.ports h u.ends.each) in
+    let a : Handling = handling c.args.self.now m in
+    let d = c.deeds_for in
+    let short = c.lack-short.result in
+    let held = c.is_held-held.ensures w.ports u.ends in
+    let k = u.core (u.power ∙ ap not c.requires.live) in
+    let L : List Deed → Type 0 = λ ds. option_map lack_shown short ≡ lack w.ports (needs h (deeds_shown a ds)) in
+    let spares = c.spares-spares.ensures w.ports u.ends (hosts_low w.ports r.3.0.hosts) in
+    let lacks : L d.new.deeds.items = subst L c.as_slice.ensures.value (c.lack-short.ensures a w.ports refl spares) in
+    let is = decided h a d.new.deeds.items short w (sym k.init) r.3.0.task r.3.1 sendable.0 (d.ensures.deeds _ _ start w u r.3.0)
+    d.ensures.doable lacks in
+    let H : Bool → Type 0 = λ b. IsDecided h a d.new.deeds.items short b w in
+    let D : List Deed → Type 0 = λ ds. IsDecided h a ds short c.is_held-held.result w in
+    let A : Node g.row.N.Denot → Type 0 = λ n. IsDecided h (handling n m) c.as_slice-2.result.now short c.is_held-held.result w in
+    let U : Node g.row.N.Denot → Type 0 = λ n. IsInStep n (g.W.Watch.noted c.args.watch.now) (g.W.Watch.is_short c.args.watch.now) start w in
+    let v = subst U (sym d.ensures.same) u in
+    let decided = subst A (sym d.ensures.same) (subst D (sym c.as_slice-2.ensures.value) (subst H (sym held) is)) in
+    (start, w, v, (decided, got))
 
 pub returns-clause-carried : goal.returns-clause-carried
 returns-clause-carried g c start w u order few =
@@ -49,7 +77,26 @@ returns-clause-carried g c start w u order few =
     let m : Message = (c.in-Some.pipe, take c.in-Some.len c.waiting.new.buffer) in
     let got : got_at w.ports h ≡ m ∷ [] =
     c.waiting.ensures.waits w.ports u.ends ∙ ap (λ (o : Option (ℕ × ℕ)). message_read o c.waiting.new.buffer) c.in-Some.is in
-    let t = c.have_turn in
+    let sendable = subst AreSendable got (got_at_sendable c.args.self.now.ends.pool c.args.self.now.ends.seats w.ports h u.ends.each) in
+    let a : Handling = handling c.args.self.now m in
+    let d = c.deeds_for in
+    let short = c.lack-short.result in
+    let held = c.is_held-held.ensures w.ports u.ends in
+    let k = u.core (u.power ∙ ap not c.requires.live) in
+    let L : List Deed → Type 0 = λ ds. option_map lack_shown short ≡ lack w.ports (needs h (deeds_shown a ds)) in
+    let spares = c.spares-spares.ensures w.ports u.ends (hosts_low w.ports order.hosts) in
+    let lacks : L d.new.deeds.items = subst L c.as_slice.ensures.value (c.lack-short.ensures a w.ports refl spares) in
+    let is = decided h a d.new.deeds.items short w (sym k.init) order.task few sendable.0 (d.ensures.deeds _ _ start w u order)
+    d.ensures.doable lacks in
+    let H : Bool → Type 0 = λ b. IsDecided h a d.new.deeds.items short b w in
+    let D : List Deed → Type 0 = λ ds. IsDecided h a ds short c.is_held-held.result w in
+    let A : Node g.row.N.Denot → Type 0 = λ n. IsDecided h (handling n m) c.as_slice-2.result.now short c.is_held-held.result w in
+    let U : Node g.row.N.Denot → Type 0 = λ n. IsInStep n (g.W.Watch.noted c.args.watch.now) (g.W.Watch.is_short c.args.watch.now) start w in
+    let v = subst U (sym d.ensures.same) u in
+    let decided = subst A (sym d.ensures.same) (subst D (sym c.as_slice-2.ensures.value) (subst H (sym held) is)) in
+    let t = c.turn_decided in
     let P : List Message → Type 0 = λ ms. Brings g.N.Nv.writes c.args.self.now.store.journal.nv t.new.self.store.journal.nv
     (IsInStep t.new.self (g.W.Watch.noted t.new.watch) (g.W.Watch.is_short t.new.watch) start) (have_turns h ms) w in
-    subst P (sym got) (t.ensures.carried start w u (order, few, c.is_held-held.ensures w.ports u.ends, got))
+    let Q : Node g.row.N.Denot → Type 0 = λ n. Brings g.N.Nv.writes n.store.journal.nv t.new.self.store.journal.nv
+    (IsInStep t.new.self (g.W.Watch.noted t.new.watch) (g.W.Watch.is_short t.new.watch) start) (have_turns h (m ∷ [])) w in
+    subst P (sym got) (subst Q d.ensures.same (t.ensures.carried start w v (decided, got)))

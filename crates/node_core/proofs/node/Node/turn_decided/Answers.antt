@@ -1,10 +1,10 @@
-use Rattle.std.proofs.Common.{◌≡◌, ℕ, true, not, List, [], ◌∷◌, sym, ap, ◌∙◌}
+use Rattle.std.proofs.Common.{◌≡◌, ℕ, true, not, List, [], ◌∷◌, refl, sym, ap, ◌∙◌}
 use Rattle.std.specs.Prelude.{option_map}
-use Rattle.node_core.proofs.Words.{Brings, Handling, IsInStep, Message, Sends, Stored, deeds_shown, handles, handling, holds_back, lack, lack_shown, lets_go}
-use Rattle.node_core.proofs.Words.{needs}
+use Rattle.node_core.proofs.Words.{Brings, Handling, IsInStep, Message, Sends, Stored, deeds_shown, handles, handling, has_turn, holds_back, lack, lack_shown}
+use Rattle.node_core.proofs.Words.{lets_go, needs}
 use Rattle.node_machine.specs.Parts.{Deed as DeedOf}
-use Rattle.node_core.proofs.Joining.{brings_then}
-use Rattle.node_core.proofs.Steps.{plainly}
+use Rattle.node_core.proofs.Joining.{brings_cut, brings_then}
+use Rattle.node_core.proofs.Steps.{plainly, brings_after, turn_begun}
 use Rattle.node_core.proofs.Quiet.{few_kept, held_kept}
 use Rattle.node_core.proofs.HavingTurns.{no_some, has_room, has_none, held_cut, held_writes, held_anyway, let_cut, let_writes, let_anyway}
 use Rattle.node_core.proofs.HavingTurns.{brings_same, quiet_after}
@@ -27,8 +27,14 @@ returns-in-Some-clause-carried g c start w u may =
 pub hold_back-requires : goal.hold_back-requires
 hold_back-requires g c = let r = c.requires.decided in record { few = (r.0, r.1, r.2, r.3.0.few) }
 
-pub handle-requires-clause-doable : goal.handle-requires-clause-doable
-handle-requires-clause-doable g c = let r = c.requires.decided in (r.0, r.1, r.2, r.3.0.doable)
+pub carry_all-requires-clause-doable : goal.carry_all-requires-clause-doable
+carry_all-requires-clause-doable g c =
+    let r = c.requires.decided in
+    let h = c.args.host in
+    let m : Message = (c.args.pipe, c.args.message.now) in
+    let begun = turn_begun {given = c.give_back.new.self} {ends = c.set_holds.new.self} h m.0 m.1 r.2 (c.end_at.ensures r.1.core r.2.node)
+    c.note.ensures.stays (λ kept. c.note.ensures.noted kept) c.give_back.ensures c.set_holds.ensures in
+    (r.0, has_turn h m r.1, begun, r.3.0.doable)
 
 pub relay-requires : goal.relay-requires
 relay-requires g c = let r = c.requires.decided in record { waits = (r.0, r.1, r.2, r.3.1) }
@@ -76,10 +82,13 @@ let_go-requires-2 g c =
     let r = c.requires.decided in
     let h = c.args.host in
     let m : Message = (c.args.pipe, c.args.message.now) in
-    let b : Brings g.N.Nv.writes c.args.self.now.store.journal.nv c.handle.new.self.store.journal.nv
-    (IsInStep c.handle.new.self (g.W.Watch.noted c.handle.new.watch) (g.W.Watch.is_short c.handle.new.watch) r.0)
-    (handles h m (deeds_shown (handling c.args.self.now m) c.args.deeds.now)) r.1 = c.handle.ensures.carried r.0 r.1 r.2 in
-    let on : c.handle.new.self.store.journal.live ≡ true = ran_is c.handle.ensures.ran c.is_done.ensures ∙ c.if-not-is_done.false in record {
+    let begun = turn_begun {given = c.give_back.new.self} {ends = c.set_holds.new.self} h m.0 m.1 r.2 (c.end_at.ensures r.1.core r.2.node)
+    c.note.ensures.stays (λ kept. c.note.ensures.noted kept) c.give_back.ensures c.set_holds.ensures in
+    let b : Brings g.N.Nv.writes c.args.self.now.store.journal.nv c.carry_all.new.self.store.journal.nv
+    (IsInStep c.carry_all.new.self (g.W.Watch.noted c.carry_all.new.watch) (g.W.Watch.is_short c.carry_all.new.watch) r.0)
+    (handles h m (deeds_shown (handling c.args.self.now m) c.args.deeds.now)) r.1 =
+    brings_after (has_turn h m) refl (λ plan. refl) refl (c.carry_all.ensures.carried r.0 (has_turn h m r.1) begun) in
+    let on : c.carry_all.new.self.store.journal.live ≡ true = ran_is c.carry_all.ensures.ran c.is_done.ensures ∙ c.if-not-is_done.false in record {
       few = (
         b.after.ports,
         b.stands.ends,
@@ -88,16 +97,33 @@ let_go-requires-2 g c =
       );
     }
 
+pub returns-then-not-is_done-clause-carried : goal.returns-then-not-is_done-clause-carried
+returns-then-not-is_done-clause-carried g c start w u may =
+    let d = may.0 in
+    let h = c.args.host in
+    let m : Message = (c.args.pipe, c.args.message.now) in
+    let deeds = deeds_shown (handling c.args.self.now m) c.args.deeds.now in
+    let begun = turn_begun {given = c.give_back.new.self} {ends = c.set_holds.new.self} h m.0 m.1 u (c.end_at.ensures w.core u.node)
+    c.note.ensures.stays (λ kept. c.note.ensures.noted kept) c.give_back.ensures c.set_holds.ensures in
+    let b : Brings g.N.Nv.writes c.args.self.now.store.journal.nv c.carry_all.new.self.store.journal.nv
+    (IsInStep c.carry_all.new.self (g.W.Watch.noted c.carry_all.new.watch) (g.W.Watch.is_short c.carry_all.new.watch) start)
+    (handles h m deeds) w = brings_after (has_turn h m) refl (λ plan. refl) refl (c.carry_all.ensures.carried start (has_turn h m w) begun) in
+    let dead = b.stands.power ∙ ap not (ran_is c.carry_all.ensures.ran c.is_done.ensures ∙ c.if-not-is_done.true) in
+    let room = d.lacks ∙ ap (option_map lack_shown) (no_some c.args.short c.in_default.not-Some) in
+    brings_same (brings_cut g.N.Nv.writes (lets_go h) b dead refl b.stands) (λ plan. has_room h m deeds w d.deeds_are room plan)
+
 pub returns-clause-carried : goal.returns-clause-carried
 returns-clause-carried g c start w u may =
     let d = may.0 in
     let h = c.args.host in
     let m : Message = (c.args.pipe, c.args.message.now) in
     let deeds = deeds_shown (handling c.args.self.now m) c.args.deeds.now in
-    let b : Brings g.N.Nv.writes c.args.self.now.store.journal.nv c.handle.new.self.store.journal.nv
-    (IsInStep c.handle.new.self (g.W.Watch.noted c.handle.new.watch) (g.W.Watch.is_short c.handle.new.watch) start)
-    (handles h m deeds) w = c.handle.ensures.carried start w u in
-    let on : c.handle.new.self.store.journal.live ≡ true = ran_is c.handle.ensures.ran c.is_done.ensures ∙ c.if-not-is_done.false in
+    let begun = turn_begun {given = c.give_back.new.self} {ends = c.set_holds.new.self} h m.0 m.1 u (c.end_at.ensures w.core u.node)
+    c.note.ensures.stays (λ kept. c.note.ensures.noted kept) c.give_back.ensures c.set_holds.ensures in
+    let b : Brings g.N.Nv.writes c.args.self.now.store.journal.nv c.carry_all.new.self.store.journal.nv
+    (IsInStep c.carry_all.new.self (g.W.Watch.noted c.carry_all.new.watch) (g.W.Watch.is_short c.carry_all.new.watch) start)
+    (handles h m deeds) w = brings_after (has_turn h m) refl (λ plan. refl) refl (c.carry_all.ensures.carried start (has_turn h m w) begun) in
+    let on : c.carry_all.new.self.store.journal.live ≡ true = ran_is c.carry_all.ensures.ran c.is_done.ensures ∙ c.if-not-is_done.false in
     let power = b.stands.power ∙ ap not on in
     let held = d.held_is ∙ sym (held_kept b.after.ports w.ports h (quiet_after h m deeds b power)) in
     let later = plainly g.N.Nv.writes {n2 = c.let_go-2.new.self} (lets_go h) b.stands on c.let_go-2.ensures.store
