@@ -1,7 +1,6 @@
 -- What is decided tells at most six hosts, and asks for pipes of the asker alone.
 use Rattle.std.proofs.Common.{◌≡◌, ℕ, zero, suc, ◌+◌, ◌*◌, ◌/◌, ◌%◌, ◌^◌, ◌≤◌, ◌<◌, Bool, true, false, cond, not, eqb, ◌&&◌, List, [], ◌∷◌, length}
-use Rattle.std.proofs.Common.{refl, ap, ◌∙◌}
-use Rattle.std.proofs.Common.{inl, inr, arith, leb, eq-eqb}
+use Rattle.std.proofs.Common.{refl, ap, ◌∙◌, inl, inr, arith, leb, eq-eqb}
 use Rattle.std.specs.Prelude.{◌⊎◌, Option, Some, None}
 use Rattle.std.specs.List.{filter, range_with_len}
 use Rattle.std.specs.Option.{option_map_or, option_and_then}

@@ -16,8 +16,7 @@ use Rattle.node_machine.specs.Parts.{Creation, Desk, Core, Port, Deed}
 use Rattle.node_machine.specs.Carrying.{port_at, own_view}
 use Rattle.node_machine.specs.Controller.{has_link, creation_in, is_asked_at, asks_for, pipe_of, waiting_pipes, mask_where, view_for}
 use Rattle.node_machine.specs.Controller.{own_gate, goes_through, served_at, notice_deeds, relayed_to, unrelayed, unless_asking, view_of, about_at, about_of}
-use Rattle.node_machine.specs.Controller.{if_notice, kind_deeds}
-use Rattle.node_machine.specs.Controller.{own_deeds, relay_deeds, deeds_by_relay, controller_deeds}
+use Rattle.node_machine.specs.Controller.{if_notice, kind_deeds, own_deeds, relay_deeds, deeds_by_relay, controller_deeds}
 use Rattle.node_machine.specs.Parts.Deed.{Drops}
 use Rattle.node_deeds.specs.Shown.{seen_at, port_with}
 

@@ -19,8 +19,7 @@ use Rattle.swp_lpdu.specs.declared.LpduFault.{LpduFault}
 use Rattle.swp_act.specs.declared.ActEvent.{ActEvent}
 use Rattle.swp_act.specs.declared.ActEvent.TheVariants.{Start as ActStart, Take as ActTake, Tick as ActTick, Stop as ActStop}
 use Rattle.link_laws.specs.machine.Machine.{LinkEnd as Machine, ActDue, Refused, is_open, is_faulty, moved, put_down, with_act, activated, act_answer, in_front}
-use Rattle.link_laws.specs.machine.Machine.{role_after, heard, took, after_input, lpdu_input, reset_refusal, window_of}
-use Rattle.link_laws.specs.machine.Machine.{if_up}
+use Rattle.link_laws.specs.machine.Machine.{role_after, heard, took, after_input, lpdu_input, reset_refusal, window_of, if_up}
 use Rattle.link_laws.specs.machine.Machine.LinkInput.{Tick, Reset, Start, Stop}
 
 -- the control frames that wait to be sent

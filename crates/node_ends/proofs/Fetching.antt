@@ -1,22 +1,20 @@
 -- A frame comes to an end, and the message that it brings is fetched.
 use Rattle.std.proofs.Common.{◌≡◌, ℕ, ◌≤◌, true, false, List, [], ◌∷◌, ◌++◌, length, drop, refl, sym, ap, ◌∙◌, subst}
-use Rattle.std.specs.Prelude.{Option, Some, None, option_map, option_to_list}
+use Rattle.std.specs.Prelude.{Option, Some, None, option_map, option_to_list, Result, Ok, Err, ◌-◌, is_some}
 use Rattle.std.specs.List.{AllByRecursion}
 use Rattle.block_pool.specs.declared.chain.Chain.{Chain}
 use Rattle.block_pool.specs.Pool.{PoolState, chain_bytes}
 use Rattle.hcp_chain.specs.declared.joiner.Open.{Open}
 use Rattle.hcp_chain.specs.Holding.{IsOwnOpen, messages_in as messages_of}
 use Rattle.hcp_chain.proofs.HoldingLemmas.{all_front}
-use Rattle.link_laws.specs.machine.Machine.{LinkEnd as Machine, Message, oldest, got_by, turn, lpdu_input}
+use Rattle.link_laws.specs.machine.Machine.{LinkEnd as Machine, Message, oldest, got_by, turn, lpdu_input, report, whole_acked}
 use Rattle.link_laws.specs.machine.Machine.Turn.{FetchMessage}
-use Rattle.link_laws.specs.machine.Machine.{report, whole_acked}
 use Rattle.link_laws.specs.machine.Machine.LinkInput.{Take}
 use Rattle.link_end.specs.Reports.{report_told}
 use Rattle.swp_base.specs.declared.control_frames.Control.{Control}
 use Rattle.swp_base.specs.declared.control_frames.Control.TheVariants.{I, S, Rset, Ua, Act as ActFrame, Clt}
 use Rattle.swp_lpdu.specs.Controls.{control_of}
 use Rattle.swp_lpdu.specs.declared.LpduFault.{LpduFault}
-use Rattle.std.specs.Prelude.{Result, Ok, Err, ◌-◌, is_some}
 use Rattle.std.proofs.lemmas.Bool.{true≢false}
 use Rattle.link_messages.specs.declared.inbox.Got.{Got}
 use Rattle.link_messages.specs.Incoming.{got_chains}

@@ -1,5 +1,5 @@
 -- What calls on one end leave of the ends beside it in the pool.
-use Rattle.std.proofs.Common.{◌≡◌, ◌≢◌, ℕ, List, [], ◌∷◌, refl, sym, ap, ◌∙◌, subst}
+use Rattle.std.proofs.Common.{◌≡◌, ◌≢◌, ℕ, List, [], ◌∷◌, refl, sym, ap, ◌∙◌, subst, ◌+◌, arith}
 use Rattle.std.specs.Prelude.{Option, Some, None, length, ◌≤◌, drop}
 use Rattle.std.specs.List.{AllByRecursion}
 use Rattle.block_pool.specs.declared.chain.Chain.{Chain}
@@ -11,7 +11,6 @@ use Rattle.hcp_chain.specs.Holding.{IsOwnOpen, IsApartFrom}
 use Rattle.link_laws.specs.machine.Machine.{LinkEnd as Machine, Message, ActDue as Due, turn}
 use Rattle.link_laws.specs.machine.Machine.Turn.{FetchMessage}
 use Rattle.shdlc_core.specs.declared.answers.Due.{Due as ShdlcDue}
-use Rattle.std.proofs.Common.{◌+◌, arith}
 use Rattle.std.proofs.lemmas.List.{length-map}
 use Rattle.link_messages.specs.declared.outbox.Queued.{Queued}
 use Rattle.link_messages.specs.Outgoing.{chain_in}

@@ -3,8 +3,7 @@ use Rattle.std.specs.Prelude.{Some, None, Ok}
 use Rattle.node_machine.specs.Controller.{relayed_to, deeds_by_relay, event_deeds, view_of}
 use Rattle.node_deeds.specs.Shown.{ports_shown, deeds_shown}
 use Rattle.node_deeds.specs.Cores.{controller_core, handled}
-use Rattle.node_deeds.proofs.Control.{desk_sound, kind_waits, kind_commands, kind_tells, kind_replies}
-use Rattle.node_deeds.proofs.Control.{deeds_of_core, not_relayed, own_done}
+use Rattle.node_deeds.proofs.Control.{desk_sound, kind_waits, kind_commands, kind_tells, kind_replies, deeds_of_core, not_relayed, own_done}
 use Rattle.node_deeds.proofs.Views.{link_found, asks_shown, about_found}
 use Rattle.node_deeds.proofs.controller.put_controller_deeds.Goals as goal
 

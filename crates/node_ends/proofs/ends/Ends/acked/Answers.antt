@@ -5,9 +5,8 @@ use Rattle.link_laws.specs.machine.Machine.{whole_acked}
 use Rattle.node_ends.specs.Holding.{kept_number}
 use Rattle.node_machine.specs.Parts.{Port}
 use Rattle.node_ends.specs.Ends.{place_in}
-use Rattle.node_ends.proofs.Changing.{nowhere}
+use Rattle.node_ends.proofs.Changing.{nowhere, lent_at}
 use Rattle.node_ends.proofs.Opening.{opened}
-use Rattle.node_ends.proofs.Changing.{lent_at}
 use Rattle.node_ends.proofs.ends.Ends.acked.Goals as goal
 
 pub returns-in_default : goal.returns-in_default

@@ -1,7 +1,6 @@
-use Rattle.std.proofs.Common.{arith}
+use Rattle.std.proofs.Common.{arith, ◌≡◌, ap, ap₂, sym, ◌∙◌, subst}
 use Rattle.node_ends.proofs.Opening.{opened}
 use Rattle.node_ends.proofs.Seated.{lent_here}
-use Rattle.std.proofs.Common.{◌≡◌, ap, ap₂, sym, ◌∙◌, subst}
 use Rattle.std.specs.Prelude.{Some}
 use Rattle.link_laws.specs.machine.Machine.{LinkEnd as Machine}
 use Rattle.link_end.specs.Idle.{IsIdle}

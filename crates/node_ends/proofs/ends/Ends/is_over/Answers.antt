@@ -1,14 +1,12 @@
 use Rattle.std.proofs.Common.{false, sym, ap, ◌∙◌}
-use Rattle.std.specs.Prelude.{Option}
+use Rattle.std.specs.Prelude.{Option, ◌||◌}
 use Rattle.std.specs.Option.{option_map_or}
 use Rattle.node_machine.specs.Parts.{Port}
 use Rattle.node_machine.specs.Node.{is_over}
 use Rattle.node_ends.specs.Ends.{place_in}
-use Rattle.node_ends.proofs.Changing.{nowhere}
+use Rattle.node_ends.proofs.Changing.{nowhere, lent_at}
 use Rattle.node_ends.proofs.Over.{over_is}
 use Rattle.node_ends.proofs.Opening.{opened}
-use Rattle.node_ends.proofs.Changing.{lent_at}
-use Rattle.std.specs.Prelude.{◌||◌}
 use Rattle.node_ends.proofs.ends.Ends.is_over.Goals as goal
 
 pub returns-in_default : goal.returns-in_default

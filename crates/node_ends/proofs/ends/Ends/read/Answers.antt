@@ -3,9 +3,8 @@ use Rattle.std.specs.Prelude.{Option}
 use Rattle.std.specs.Option.{option_map_or}
 use Rattle.node_machine.specs.Parts.{Port}
 use Rattle.node_ends.specs.Ends.{place_in}
-use Rattle.node_ends.proofs.Changing.{nowhere}
+use Rattle.node_ends.proofs.Changing.{nowhere, lent_at}
 use Rattle.node_ends.proofs.Opening.{opened}
-use Rattle.node_ends.proofs.Changing.{lent_at}
 use Rattle.node_ends.proofs.Reading.{read_is}
 use Rattle.node_ends.proofs.ends.Ends.read.Goals as goal
 
