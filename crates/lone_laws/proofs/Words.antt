@@ -6,9 +6,9 @@ pub use Rattle.gate_admin.specs.declared.decision.Decision.TheVariants.{Answer, 
 pub use Rattle.gate_admin.specs.declared.view.LinkView.{LinkView}
 pub use Rattle.gate_answers.specs.Answers.{answer_of, body_in}
 pub use Rattle.hci_store.proofs.Committed.{sound_has_no_fault}
-pub use Rattle.hci_store.proofs.Closing.{close-close}
+pub use Rattle.hci_store.proofs.Committed.{close-close}
 pub use Rattle.hci_store.proofs.Committed.{all_recordable, holds_more, holds_snapshot}
-pub use Rattle.hci_store.proofs.CutShort.{are_bodies, holds_still, is_body, room_count}
+pub use Rattle.hci_store.proofs.Committed.{are_bodies, holds_still, is_body, room_count}
 pub use Rattle.hci_store.proofs.Starting.{counted}
 pub use Rattle.hci_store.specs.Committing.{commit_writes, committed, record_fits, room_writes, snapshot_bodies, with_room}
 pub use Rattle.hci_store.specs.Image.{applied, are_commands, first_other, tables_of}
@@ -24,7 +24,7 @@ pub use Rattle.hcp_packet.specs.Packets.{AreSendable, IsSendable, fragments_of, 
 pub use Rattle.history.proofs.Filters.{same_end_itself}
 pub use Rattle.history.specs.Filters.{Saying, acked_after, acked_in, said_of, same_end, sent_by, sent_in}
 pub use Rattle.history.specs.Steps.{end_of, entries_for, entry_of, lost_as}
-pub use Rattle.journal_laws.proofs.Kept.{append_count, compact_count, same_count}
+pub use Rattle.journal_laws.proofs.Opening.{append_count, compact_count, same_count}
 pub use Rattle.journal_laws.specs.Banks.{current}
 pub use Rattle.journal_laws.specs.Journal.{IsSound, Journal, count, count_of, gate_at, journal, left, records, state_of}
 pub use Rattle.journal_laws.specs.Operations.{CanCompact, HasRoomForBody, append_writes, appended, compact_writes, compacted, format_writes, formatted}
