@@ -1,8 +1,7 @@
 -- What holds of a node holds where a broken frame is counted at one of its ends.
-use Rattle.std.proofs.Common.{◌≡◌, ℕ, ◌+◌, min, eqb, List, Option, Some, None, refl}
+use Rattle.std.proofs.Common.{arith, ◌≡◌, ℕ, ◌+◌, min, eqb, List, Option, Some}
 use Rattle.std.specs.List.{AllByRecursion}
 use Rattle.link_laws.specs.messages.Links.{Loss}
-use Rattle.link_laws.specs.messages.Links.Loss.{Broken}
 use Rattle.node_machine.specs.Parts.{Desk, Running}
 use Rattle.node_machine.specs.Node.{with_error}
 use Rattle.node_machine.specs.world.World.{counts}
@@ -15,6 +14,4 @@ errors_all P one h desks a =
 
 pub by_counts : (P : Option Running → Type 0) (why : Loss) (h : ℕ) (o : Option Running) → P o
     → ((r : Running) → o ≡ Some r → P (Some (record r { desks = with_error h r.desks }))) → P (counts why h o)
-by_counts P (Broken fault) h None same more = same
-by_counts P (Broken fault) h (Some r) same more = more r refl
-by_counts P _ h o same more = same
+by_counts P why h o same more = grind arith

@@ -1,5 +1,5 @@
 -- What is done unless a node has lost its power: what holds where it has, and where it hasn't, holds of both. What it is then.
-use Rattle.std.proofs.Common.{◌≡◌, Bool, true, false, map, Some, None, refl}
+use Rattle.std.proofs.Common.{arith, ◌≡◌, true, false, map, Some, None, refl}
 use Rattle.node_machine.specs.Parts.{Port, Running, Work}
 use Rattle.node_machine.specs.Carrying.{unless_cut}
 use Rattle.node_machine.specs.world.World.{runs_on}
@@ -11,15 +11,7 @@ pub unless_off : (f : Work → Work) (w : Work) → w.cut ≡ true → unless_cu
 unless_off f w e = rw e refl
 
 pub by_cut : (P : Work → Type 0) (f : Work → Work) (w : Work) → (w.cut ≡ true → P w) → (w.cut ≡ false → P (f w)) → P (unless_cut f w)
-by_cut P f w off on = go w.cut refl
-  where
-    by : Bool → Work
-    by true = w
-    by false = f w
-
-    go : (b : Bool) → w.cut ≡ b → P (by b)
-    go true q = off q
-    go false q = on q
+by_cut P f w off on = grind arith
 
 -- a node that still runs, as its work leaves it
 abbrev pub left_running : Work → Running

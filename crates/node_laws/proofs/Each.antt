@@ -1,5 +1,5 @@
 -- What holds of each element of a list, and what is read of an element, as elements are changed.
-use Rattle.std.proofs.Common.{◌≡◌, Bool, true, false, List, [], ◌∷◌, map, refl}
+use Rattle.std.proofs.Common.{arith, ◌≡◌, Bool, List, [], ◌∷◌, map}
 use Rattle.std.specs.List.{AllByRecursion}
 use Rattle.node_machine.specs.Carrying.{changed_if}
 
@@ -14,12 +14,10 @@ pub all_changed : {X : Type 0} (P : X → Type 0) (test : X → Bool) (f : X →
 all_changed {X} P test f one xs a = all_map P P (λ x. changed_if (test x) f x) (λ x b. by (test x) x b) xs a
   where
     by : (b : Bool) (x : X) → P x → P (changed_if b f x)
-    by true x p = one x p
-    by false x p = p
+    by b x p = grind arith
 
 pub changed_same : {X Y : Type 0} (g : X → Y) (b : Bool) (f : X → X) (x : X) → ((x : X) → g (f x) ≡ g x) → g (changed_if b f x) ≡ g x
-changed_same g true f x same = same x
-changed_same g false f x same = refl
+changed_same g b f x same = grind arith
 
 pub all_so : {X : Type 0} (P Q : X → Type 0) → ((x : X) → P x → Q x) → (xs : List X) → AllByRecursion P xs → AllByRecursion Q xs
 all_so P Q one [] a = tt

@@ -2,29 +2,27 @@
 use Rattle.node_laws.proofs.Words.{AcksAtMost, Activates, AllAllowed, AllAtController, AllAtHost, AllByRecursion, AreDifferent, AreHosts, ArePlayable}
 use Rattle.node_laws.proofs.Words.{AreSendableTurns, AreTakenInTurn, Arms, AsksReset, AtController, AtEnd, AtHost, Bool, Boots, CanCome, Comes, CutOff, Deed}
 use Rattle.node_laws.proofs.Words.{End, Ending, FollowsNodes, Gives, GoesOnLink, Good, Happening, Header, Inits, IsAckedWithin, IsCut, IsEvent, IsLine, Line}
-use Rattle.node_laws.proofs.Words.{Link, LinkEvent, List, Lose, Loses, Loss, Memory, NextFrame, NoInput, Node, NodeHistory, NodeWorld, None, NumberedEnd}
-use Rattle.node_laws.proofs.Words.{Occurrence, Option, Reached, Resets, Running, Site, Some, Start, Starts, Step, TakeNoFrames, Takes, TakesNoFrame}
-use Rattle.node_laws.proofs.Words.{TimePassing, Turn, Work, [], after_host, after_link_events, after_planned, all_aged, all_happen, ap, append_assoc, arith}
-use Rattle.node_laws.proofs.Words.{beginning, begins_with, boot_found, boot_writes, boot_written, boots, by_boot, by_coming, by_controller, by_host, by_loss}
-use Rattle.node_laws.proofs.Words.{by_memory, by_option, by_power, by_running, by_test, can_happen, changed_if, comes_at, comes_to, cond, controller_does}
-use Rattle.node_laws.proofs.Words.{controller_takes, controller_ticks, controller_work, core_of, counts, end_c, end_h, end_takes_all, ending_of, ends_events}
-use Rattle.node_laws.proofs.Words.{ends_in_order, ends_take_all, eqb-true, events_on, exchanged, false, frame_lost, frames_at, from_start, happenings, happens}
-use Rattle.node_laws.proofs.Words.{host_cut, host_does, host_work, hosts_in, input_of, is_waiting, length, link_after_controller, link_events_in, link_to}
-use Rattle.node_laws.proofs.Words.{loses_power_at, map, memory_at, near_end_in, new_line, new_site, new_world, not, occurrences_in, reached, refl, replicate}
-use Rattle.node_laws.proofs.Words.{round_events, rounds_of_world, sending, site_at, site_lost, site_takes, steps, subst, suc, sym, tick_so, ticks_on, true}
-use Rattle.node_laws.proofs.Words.{turns_at, with_memory, with_node, with_site, work_of, world_after_round, world_behind, world_step, zero, ℕ, ◌&&◌, ◌*◌, ◌++◌}
+use Rattle.node_laws.proofs.Words.{Link, LinkEvent, List, Lose, Loses, Loss, Memory, NextFrame, NoInput, NodeHistory, NodeWorld, None, NumberedEnd, Occurrence}
+use Rattle.node_laws.proofs.Words.{Reached, Resets, Running, Site, Some, Start, Starts, Step, TakeNoFrames, Takes, TakesNoFrame, TimePassing, Turn, Work, []}
+use Rattle.node_laws.proofs.Words.{after_host, after_link_events, after_planned, all_happen, ap, append_assoc, arith, beginning, begins_with, boot_found}
+use Rattle.node_laws.proofs.Words.{boot_writes, boot_written, boots, by_boot, by_coming, by_controller, by_host, by_loss, by_memory, by_option, by_power}
+use Rattle.node_laws.proofs.Words.{by_running, by_test, can_happen, changed_if, comes_at, comes_to, cond, controller_does, controller_takes, controller_work}
+use Rattle.node_laws.proofs.Words.{core_of, counts, end_c, end_h, end_takes_all, ending_of, ends_events, ends_in_order, ends_take_all, eqb-true, events_on}
+use Rattle.node_laws.proofs.Words.{exchanged, false, frame_lost, frames_at, from_start, happenings, happens, host_cut, host_does, host_work, hosts_in, length}
+use Rattle.node_laws.proofs.Words.{link_after_controller, link_events_in, link_to, loses_power_at, map, memory_at, near_end_in, new_line, new_site, new_world}
+use Rattle.node_laws.proofs.Words.{occurrences_in, reached, refl, replicate, round_events, rounds_of_world, sending, site_at, site_lost, steps, subst, suc, sym}
+use Rattle.node_laws.proofs.Words.{true, turns_at, with_memory, with_node, with_site, work_of, world_after_round, world_behind, world_step, zero, ℕ, ◌*◌, ◌++◌}
 use Rattle.node_laws.proofs.Words.{◌+◌, ◌==◌, ◌∙◌, ◌∷◌, ◌≡◌, ◌≤◌}
 use Rattle.node_laws.specs.acked.AckedRounds.{AllMayCome, AreAckedWithin, HostAcksAtMost, Leg, MayCome as LegMayCome, amid_round, frames_taken, rounds_gone}
 use Rattle.node_laws.specs.acked.AckedRounds.{taken_in, world_after_legs}
 use Rattle.node_laws.specs.acked.AckedRounds.Leg.{Comes as LegComes, Rounds}
 use Rattle.node_laws.specs.acked.InTurn.{CountsFit, CountsWithin}
-use Rattle.node_laws.specs.rounds.LinkEvents.{on_site}
 use Rattle.node_laws.proofs.acked.InTurn.{far_acks, front_acks, in_turn_acks, near_acks, none_acks, whole_few}
 use Rattle.node_laws.proofs.links.Works.{AreFine, IsFineWork, all_done_fine, steps_fine}
 use Rattle.node_laws.proofs.links.Worlds.{AreFineSites, AtHostOnly, CanReach, IsFineNode, IsFineSite, IsFineWorld, KeepsFine, MayHappen, fine_clean, may_here}
 use Rattle.node_laws.proofs.links.Worlds.{memory_fine, near_clean, near_end_clean, plain_reach, ports_fine, sending_fine, starts_fine, starts_then, step_fine}
 use Rattle.node_laws.proofs.links.Worlds.{turns_fine, world_fine}
-use Rattle.node_laws.proofs.links.Sites.{IsFineLink, MayCome, can_come, can_end, clf_line, uicc_line}
+use Rattle.node_laws.proofs.links.Sites.{IsFineLink, MayCome, can_end, uicc_line}
 use Rattle.node_laws.proofs.order.Lines.{history_so, step_kept}
 use Rattle.node_laws.proofs.rounds.Allowing.{AreOthers, ArePassing, Split, all_go, ends-append, ends_go, ends_of, events-append, fine_there, order_is}
 use Rattle.node_laws.proofs.rounds.Allowing.{round_allowed, round_goes, split, takes_allowed, takes_go, takes_pass, ticks_allowed, ticks_go}
@@ -38,28 +36,17 @@ use Rattle.trace_model.specs.declared.line.Line.TheVariants as line
 
 -- what the controller takes is at its end
 near_at : (h : ℕ) (w : NodeWorld) (k : ℕ) → AllAtController (controller_takes h w k)
-near_at h w k = by_option (input_of (link_to w.sites k) NextFrame)
-    (λ q. rw q tt)
-    (λ i q. rw q (by_option w.controller (λ z. rw z tt) (λ r z. rw z tt)))
+near_at h w k = grind arith
 
 -- at the end of another link it takes none on this one
 near_none : (h : ℕ) (w : NodeWorld) (k : ℕ) → (h == k) ≡ false → TakeNoFrames (controller_takes h w k)
-near_none h w k other = by_option (input_of (link_to w.sites k) NextFrame)
-    (λ q. rw q tt)
-    (λ i q. rw q (by_option w.controller (λ z. rw z tt) (λ r z. rw z (rw other (tt, tt)))))
-
-far_at : (s : Site) → AllAtHost (site_takes s)
-far_at s = by_option (input_of (exchanged s.link) NextFrame) (λ q. rw q tt) (λ i q. rw q (by_option s.node (λ z. rw z tt) (λ r z. rw z tt)))
+near_none h w k other = grind arith
 
 pub near_takes : (h k : ℕ) (w : NodeWorld) → AllAtController (link_events_in h w (Takes (end_c k)))
 near_takes h k w = by_option (site_at w.sites h) (λ q. rw q tt) (λ s q. rw q (near_at s.host w k))
 
 pub far_takes : (h k : ℕ) (w : NodeWorld) → AllAtHost (link_events_in h w (Takes (end_h k)))
-far_takes h k w = by_option (site_at w.sites h) (λ q. rw q tt) (λ s q. rw q (own (s.host == k) s))
-  where
-    own : (b : Bool) (s : Site) → AllAtHost (cond b (site_takes s) [])
-    own true s = far_at s
-    own false s = tt
+far_takes h k w = grind arith
 
 -- the end of another link
 other_near : (h k : ℕ) → (h == k) ≡ false → (w : NodeWorld) → TakeNoFrames (link_events_in h w (Takes (end_c k)))
@@ -137,16 +124,8 @@ others P joins h near (k ∷ ks) w a =
 
 -- ### A tick
 
-tick_none : (l : Link) (late : Bool) (c d : Node) → TakeNoFrames (tick_so l late c d ∷ [])
-tick_none l late c d = by_test (late && not (is_waiting l.controller.side.shdlc)) (λ q. rw q tt) (λ q. rw q tt)
-
 time_none : (h : ℕ) (w : NodeWorld) → TakeNoFrames (link_events_in h w TimePassing)
-time_none h w = go (site_at w.sites h) (site_at (controller_ticks (all_aged w).0).0.sites h)
-  where
-    go : (o p : Option Site) → TakeNoFrames (on_site o (λ s. on_site p (ticks_on s w)))
-    go None p = tt
-    go (Some s) None = tt
-    go (Some s) (Some t) = tick_none s.link _ _ _
+time_none h w = grind arith
 
 -- ### A round
 
@@ -229,8 +208,7 @@ good_of w h s a q = good_line s.link (fine_there w h s a.fine q).link
 
 pub of_goes : (more : ℕ) (v : NodeWorld) (h : ℕ) (s : Site) (es : List LinkEvent) → GoesOnLink v h s es
     → AcksAtMost more more s.link (after_link_events s.link es) → HostAcksAtMost more h s v
-of_goes more v h s es g a =
-    record { later = g.later; is = g.is; acks = (let P : Link → Type 0 = AcksAtMost more more s.link in subst P (sym g.link) a) }
+of_goes more v h s es g a = grind arith
 
 round_acks : (w : NodeWorld) (h : ℕ) (s : Site) → IsSound w → site_at w.sites h ≡ Some s → HostAcksAtMost 4 h s (world_after_round w)
 round_acks w h s a q =
@@ -383,10 +361,7 @@ counts_within w h s a q =
 -- ### Worlds that go through rounds
 
 may_come : (w : NodeWorld) (c : Happening) → LegMayCome w c → MayHappen w c
-may_come w (Gives e message) m = m
-may_come w (Resets e window) m = m
-may_come w (Activates h sync power) m = m
-may_come w _ m = tt
+may_come w c m = grind arith
 
 sound_legs : (legs : List Leg) (w : NodeWorld) → AllMayCome w legs → IsSound w → IsSound (world_after_legs w legs)
 sound_legs [] w m s = s
@@ -416,18 +391,10 @@ sound_of header lines t follows are p front back q =
 -- ### One thing that happens on a link
 
 within_after : (b : ℕ) (l m : Link) → AcksAtMost 0 0 l m → IsAckedWithin b l → IsAckedWithin b m
-within_after b l m k a =
-    let c1 = k.controller in
-    let h1 = k.host in
-    let c2 = a.controller in
-    let h2 = a.host in
-    record { controller = omega (arith, c1, c2); host = omega (arith, h1, h2) }
+within_after b l m k a = grind arith
 
 within_more : (b c : ℕ) (l : Link) → b ≤ c → IsAckedWithin b l → IsAckedWithin c l
-within_more b c l q a =
-    let near = a.controller in
-    let far = a.host in
-    record { controller = omega (arith, q, near); host = omega (arith, q, far) }
+within_more b c l q a = grind arith
 
 -- what begins a step is no frame
 abbrev IsNoFrame : Comes → Type 0
@@ -435,8 +402,7 @@ IsNoFrame NextFrame = ⊥
 IsNoFrame _ = Unit {0}
 
 takes_none : (comes : Comes) (ts : List Turn) (ending : Ending) → IsNoFrame comes → TakesNoFrame (Step comes ts ending)
-takes_none NextFrame ts ending n = n
-takes_none _ ts ending n = tt
+takes_none comes ts ending n = grind arith
 
 none_here : (h : ℕ) (comes : Comes) (k : ℕ) → IsNoFrame comes → IsNoFrame (comes_to h comes k)
 none_here h comes k n = by_test (k == h) (λ q. rw q n) (λ q. rw q tt)
@@ -445,8 +411,7 @@ near_quiet : (b : ℕ) (l : Link) (comes : Comes) (ts : List Turn) (ending : End
     → IsAckedWithin b l → IsAckedWithin b (happens l (AtController (Step comes ts ending)))
 near_quiet b l comes ts ending n may send fine a =
     let e : LinkEvent = AtController (Step comes ts ending) in
-    let can : IsEvent l e =
-    (can_come l comes may fine.line.clf, (send, can_end l.controller.side.role ending (clf_line l.controller.side.role fine.line.clf))) in
+    let can : IsEvent l e = grind arith in
     within_after b l (happens l e) (none_acks (e ∷ []) l (can, tt) (good_line l fine) (takes_none comes ts ending n, tt)) a
 
 far_quiet : (b : ℕ) (l : Link) (comes : Comes) (ts : List Turn) (ending : Ending) → IsNoFrame comes → CanCome (exchanged l) comes → AreSendableTurns ts
@@ -458,10 +423,7 @@ far_quiet b l comes ts ending n can send fine a =
 
 lost_quiet : (b : ℕ) (l : Link) (at_host : Bool) (why : Loss) → IsFineLink l → IsAckedWithin b l
     → IsAckedWithin b (happens l (cond at_host (AtHost (Lose why)) (AtController (Lose why))))
-lost_quiet b l true why fine a =
-    within_after b l (happens l (AtHost (Lose why))) (none_acks (AtHost (Lose why) ∷ []) l (tt, tt) (good_line l fine) (tt, tt)) a
-lost_quiet b l false why fine a =
-    within_after b l (happens l (AtController (Lose why))) (none_acks (AtController (Lose why) ∷ []) l (tt, tt) (good_line l fine) (tt, tt)) a
+lost_quiet b l at_host why fine a = grind arith
 
 -- ### Sites
 
@@ -480,11 +442,7 @@ module _ (b : ℕ) where
 
   changed : (P : Site → Type 0) (h : ℕ) (f : Site → Site) → Quiet P f → (s : Site) → AtHostOnly P h s → IsFineSite s → IsAckedWithin b s.link
       → IsAckedWithin b (changed_if (s.host == h) f s).link
-  changed P h f one s known fine a = go (s.host == h) known
-    where
-      go : (c : Bool) → (c ≡ true → P s) → IsAckedWithin b (changed_if c f s).link
-      go true k = one s (k refl) fine a
-      go false k = a
+  changed P h f one s known fine a = grind arith
 
   one_site : (P : Site → Type 0) (h : ℕ) (f : Site → Site) → Quiet P f → (sites : List Site) → AllByRecursion (AtHostOnly P h) sites
       → AreFineSites sites → AckedOn b sites → AckedOn b (with_site h f sites)
@@ -681,12 +639,7 @@ fit b w h s few sound a q =
     let far = within.host in
     let near_whole = whole.0 in
     let far_whole = whole.1 in
-    record {
-      fragments_at_controller = omega (arith, few, near);
-      fragments_at_host = omega (arith, few, far);
-      messages_at_controller = omega (arith, few, near, near_whole);
-      messages_at_host = omega (arith, few, far, far_whole);
-    }
+    grind arith
 
 pub legs_fit : (hosts : List ℕ) (legs : List Leg) → AreDifferent hosts → AllMayCome (new_world hosts) legs
     → frames_taken legs + rounds_gone legs ≤ 1000000000 → (h : ℕ) (s : Site) → site_at (world_after_legs (new_world hosts) legs).sites h ≡ Some s

@@ -1,29 +1,26 @@
 -- How many fragments count as acknowledged at the ends of a link: none more while no end takes a frame, a window where one end acts or both
 -- take turns.
 use Rattle.node_laws.proofs.Words.{AcksAtMost, Activate, Acts, AllAllowed, AllAtController, AllAtHost, AllShdlcAllowed, AreSendable, AreTakenInTurn, AreTurns}
-use Rattle.node_laws.proofs.Words.{AsksReset, AtController, AtHost, Bool, Control, CoreEndEvent, CoreLink, CutOff, Deliver, EndEvent, EndState, Ending, GoesOut}
-use Rattle.node_laws.proofs.Words.{Good, Ignore, Link, LinkEnd, LinkEvent, LinkState, List, Lose, Message, NextFrame, NoInput, None, NumberedEnd, NumberedShdlc}
-use Rattle.node_laws.proofs.Words.{OnWire, Option, Reached, Refused, SafeLink, Session, ShdlcEndEvent, ShdlcLink, ShdlcLinkEvent, ShdlcTurn, Some, Starts, Step}
-use Rattle.node_laws.proofs.Words.{Stops, TakeNoFrames, TakesNoFrame, TicksWithout, Turn, Turns, Up, Waiting, [], acked_at_controller, act_frame}
-use Rattle.node_laws.proofs.Words.{after_link_events, ap, append-nil, arith, by_test, core_event, core_here, core_of, core_tick_rest, ended_session, eqb-true}
-use Rattle.node_laws.proofs.Words.{exchanged, false, frames_of, happens, inl, inr, is_open, is_rset, is_some, is_up, is_waiting, leb-true, length, map}
-use Rattle.node_laws.proofs.Words.{most_frames, nat_le, nat_lt, new_end, no_session, packet_count, refl, reset_refusal, reset_with, runs_timer, safe_reached}
-use Rattle.node_laws.proofs.Words.{shdlc_after, shdlc_aged, shdlc_all_at_controller, shdlc_becomes, shdlc_exchanged, shdlc_happens, shdlc_happens_at_controller}
+use Rattle.node_laws.proofs.Words.{AtController, AtHost, Bool, Control, CoreEndEvent, CoreLink, Deliver, EndEvent, EndState, Ending, Good, Ignore, Link}
+use Rattle.node_laws.proofs.Words.{LinkEnd, LinkEvent, LinkState, List, Message, None, NumberedEnd, NumberedShdlc, OnWire, Option, Reached, SafeLink, Session}
+use Rattle.node_laws.proofs.Words.{ShdlcEndEvent, ShdlcLink, ShdlcLinkEvent, ShdlcTurn, Some, Starts, TakeNoFrames, TakesNoFrame, TicksWithout, Turn, Turns, Up}
+use Rattle.node_laws.proofs.Words.{Waiting, [], acked_at_controller, act_frame, after_link_events, ap, append-nil, arith, by_test, core_event, core_here}
+use Rattle.node_laws.proofs.Words.{core_of, core_tick_rest, ended_session, exchanged, false, frames_of, happens, inl, is_rset, is_some, is_up, is_waiting}
+use Rattle.node_laws.proofs.Words.{leb-true, length, map, most_frames, nat_le, new_end, no_session, packet_count, refl, reset_with, safe_reached, shdlc_after}
+use Rattle.node_laws.proofs.Words.{shdlc_aged, shdlc_all_at_controller, shdlc_becomes, shdlc_exchanged, shdlc_happens, shdlc_happens_at_controller}
 use Rattle.node_laws.proofs.Words.{shdlc_number_of, shdlc_put, shdlc_put_all, shdlc_session_of, shdlc_silent, shdlc_ticks_at_controller, shdlc_turned}
 use Rattle.node_laws.proofs.Words.{steps_at_controller, stopped, subst, sym, take_answer, taken, tick_answer, ticked, ticks_if_waiting, ticks_or_cut, took_with}
-use Rattle.node_laws.proofs.Words.{true, whole_acked, whole_among, window_of, with_shdlc_ended, ℕ, ◌++◌, ◌+◌, ◌-◌, ◌==◌, ◌∙◌, ◌∷◌, ◌≡◌, ◌≤◌, ◌⊎◌}
+use Rattle.node_laws.proofs.Words.{true, whole_acked, whole_among, with_shdlc_ended, ℕ, ◌++◌, ◌+◌, ◌-◌, ◌==◌, ◌∙◌, ◌∷◌, ◌≡◌, ◌≤◌, ◌⊎◌}
 use Rattle.link_laws.proofs.entries.Stepping.{fetched_acked}
 use Rattle.link_laws.proofs.messages.Project.{Tells}
 use Rattle.link_laws.proofs.messages.Runs.{run, sendable}
-use Rattle.link_laws.proofs.places.Joined.{ready_cases}
-use Rattle.link_laws.proofs.sessions.Data.{Base, Below, none_ended, of_up}
+use Rattle.link_laws.proofs.sessions.Data.{Below, none_ended}
 use Rattle.link_laws.proofs.sessions.Steps.{safe_event, safe_exchanged}
 use Rattle.link_laws.specs.messages.Links.LinkEvent.{Ticks}
-use Rattle.link_laws.specs.messages.Projection.{core_ending, core_events, core_reset, core_step, is_lost_tick}
+use Rattle.link_laws.specs.messages.Projection.{core_events, core_step}
 use Rattle.link_laws.specs.sessions.Sessions.{IsTurn, ShdlcLinkEvent as CoreLinkEvent, shdlc_after as core_after, shdlc_turn}
 use Rattle.link_laws.specs.sessions.Sessions.ShdlcEndEvent.{Cut, Lose as CoreLose, Reset, Stop}
 use Rattle.link_laws.specs.sessions.Sessions.ShdlcLinkEvent.{AtController as CoreAtController, AtHost as CoreAtHost, Tick, TickWithout}
-use Rattle.link_laws.specs.sessions.Sessions.ShdlcTurn.{Offer, SetReady}
 use Rattle.shdlc_core.specs.declared.answers.LinkState.TheVariants.{Down}
 use Rattle.node_laws.specs.acked.InTurn.{acked_at_host}
 use Rattle.node_laws.proofs.telling.Events.{after-append}
@@ -45,11 +42,7 @@ stays l = record { host = refl; past = inl refl }
 
 -- the same with another end, and with other wires
 beside : (l m k : ShdlcLink) → k.host ≡ m.host → k.controller.past ≡ m.controller.past → ActsAlone l m → ActsAlone l k
-beside l m k host past a = record { host = host ∙ a.host; past = go a.past }
-  where
-    go : AreKept l.controller.past m.controller.past → AreKept l.controller.past k.controller.past
-    go (inl q) = inl (past ∙ q)
-    go (inr (x, q)) = inr (x, past ∙ q)
+beside l m k host past a = grind arith
 
 put_beside : (l : ShdlcLink) (c : Control) → ((shdlc_put l c).host ≡ l.host) × ((shdlc_put l c).controller.past ≡ l.controller.past)
 put_beside l c = by_test (is_rset c) (λ q. rw q (refl, refl)) (λ q. rw q (refl, refl))
@@ -68,17 +61,10 @@ becomes_alone l m e a =
     beside l m (shdlc_becomes m e) p.0 p.1 a
 
 ended_alone : (l : ShdlcLink) (b : Bool) → ActsAlone l (with_shdlc_ended l b)
-ended_alone l false = stays l
-ended_alone l true = record { host = refl; past = inr ((shdlc_number_of l.controller, l.controller.side.session), refl) }
+ended_alone l b = grind arith
 
 silent_alone : (l : ShdlcLink) (e : EndState) → ActsAlone l (shdlc_silent l e)
-silent_alone l e = go l.controller.side.phase refl
-  where
-    go : (p : LinkState) → l.controller.side.phase ≡ p → ActsAlone l (shdlc_silent l e)
-    go Up q =
-        record { host = rw q refl; past = inr ((shdlc_number_of l.controller, l.controller.side.session), rw q refl) }
-    go Waiting q = record { host = rw q refl; past = inl (rw q refl) }
-    go Down q = record { host = rw q refl; past = inl (rw q refl) }
+silent_alone l e = grind arith
 
 happens_alone : (l : ShdlcLink) (e : ShdlcEndEvent) → ActsAlone l (shdlc_happens_at_controller l e)
 happens_alone l (Turns ts) = becomes_alone l l (shdlc_turned l.controller.side ts) (stays l)
@@ -138,35 +124,15 @@ acked_here l = l.controller.side.session.acked
 
 -- a window at most was sent and isn't acknowledged, and no more is accepted
 room_first : (kn kf : ℕ) (l : ShdlcLink) → SafeLink kn kf l → HasRoom (acked_here l + 4) l
-room_first kn kf l h up =
-    let n : ℕ = shdlc_number_of l.controller in
-    let r : Session = shdlc_session_of l.host n in
-    let mine : Base l.controller.side.session r =
-    (let P : Session → Type 0 = λ s. Base s r in subst P (of_up l.controller up) (h.n_base n)) in
-    omega (arith, mine.fits, mine.within, mine.most)
+room_first kn kf l h up = grind arith
 
 -- what is acknowledged was accepted
 room_holds : (kn kf b : ℕ) (l : ShdlcLink) → SafeLink kn kf l → HasRoom b l → acked_here l ≤ b
-room_holds kn kf b l h room = go l.controller.side.phase refl
-  where
-    none : (l.controller.side.phase ≡ Up → ⊥) → acked_here l ≤ b
-    none down = let z = ap (λ (s : Session). s.acked) (h.n_none down) in omega (arith, z)
-
-    go : (p : LinkState) → l.controller.side.phase ≡ p → acked_here l ≤ b
-    go Up up =
-        let n : ℕ = shdlc_number_of l.controller in
-        let r : Session = shdlc_session_of l.host n in
-        let mine : Base l.controller.side.session r =
-        (let P : Session → Type 0 = λ s. Base s r in subst P (of_up l.controller up) (h.n_base n)) in
-        let within = room up in
-        omega (arith, mine.acked, within)
-    go Waiting q = none (λ u. let z = sym q ∙ u in cc)
-    go Down q = none (λ u. let z = sym q ∙ u in cc)
+room_holds kn kf b l h room = grind arith
 
 -- the sessions that ended before have lower numbers, too
 below_before : (b : ℕ) (past later : List (ℕ × Session)) → AreKept past later → Below b later → Below b past
-below_before b past later (inl q) h = subst (Below b) q h
-below_before b past later (inr (x, q)) h = let z : Below b (x ∷ past) = subst (Below b) q h in z.1
+below_before b past later a h = grind arith
 
 -- in a session that begins the other end has accepted nothing
 room_then : (kn kf jn jf b : ℕ) (l m : ShdlcLink) → SafeLink kn kf l → SafeLink jn jf m → ActsAlone l m → HasRoom b l → HasRoom b m
@@ -191,11 +157,7 @@ room_then kn kf jn jf b l m h k a room up = go l.controller.side.phase (n == shd
         omega (arith, fits, size, nothing)
 
     go : (p : LinkState) (c : Bool) → l.controller.side.phase ≡ p → (n == shdlc_number_of l.controller) ≡ c → length (shdlc_session_of m.host n).acc ≤ b
-    go Up true p c =
-        let same : n ≡ shdlc_number_of l.controller = eqb-true n (shdlc_number_of l.controller) c in
-        let within = room p in
-        let size = ap (λ (s : Session). length s.acc) (there ∙ ap (λ j. shdlc_session_of l.host j) same) in
-        omega (arith, within, size)
+    go Up true p c = grind arith
     go Up false p c = began (rw (p, c) refl)
     go Waiting c p q = began (rw p refl)
     go Down c p q = began (rw p refl)
@@ -252,12 +214,7 @@ far_alone es l a far h =
 -- ### What an end becomes
 
 turn_acked : (e : EndState) (t : ShdlcTurn) → (shdlc_turn e t).session.acked ≡ e.session.acked
-turn_acked e (SetReady r) = ready_cases (λ f. f.session.acked ≡ e.session.acked) e r refl refl refl
-turn_acked e (Offer fragments) = go e.phase refl
-  where
-    go : (p : LinkState) → e.phase ≡ p → (shdlc_turn e (Offer fragments)).session.acked ≡ e.session.acked
-    go Up q = rw q refl
-    go _ q = rw q refl
+turn_acked e t = grind arith
 
 turned_acked : (ts : List ShdlcTurn) (e : EndState) → (shdlc_turned e ts).session.acked ≡ e.session.acked
 turned_acked [] e = refl
@@ -267,28 +224,13 @@ becomes_acked : (l : ShdlcLink) (ts : List ShdlcTurn) (e : EndState) → acked_h
 becomes_acked l ts e = fetched_acked most_frames (shdlc_turned e ts) ∙ turned_acked ts e
 
 ticked_acked : (e : EndState) → (ticked e).session.acked ≤ e.session.acked
-ticked_acked e = go e.phase (runs_timer e.session) (nat_lt (e.timer + 1) 10) (nat_lt e.tries 5) refl refl refl refl
-  where
-    go : (p : LinkState) (r a b : Bool) → e.phase ≡ p → runs_timer e.session ≡ r → nat_lt (e.timer + 1) 10 ≡ a → nat_lt e.tries 5 ≡ b
-        → (ticked e).session.acked ≤ e.session.acked
-    go Down r a b p t u v = rw p (omega arith)
-    go Waiting r true b p t u v = rw (p, u) (omega arith)
-    go Waiting r false true p t u v = rw (p, u, v) (omega arith)
-    go Waiting r false false p t u v = rw (p, u, v) (omega arith)
-    go Up false a b p t u v = rw (p, t) (omega arith)
-    go Up true true b p t u v = rw (p, t, u) (omega arith)
-    go Up true false true p t u v = rw (p, t, u, v) (omega arith)
-    go Up true false false p t u v = rw (p, t, u, v) (omega arith)
+ticked_acked e = grind arith
 
 reset_acked : (e : EndState) (w : ℕ) → (reset_with e w).session.acked ≤ e.session.acked
 reset_acked e w = by_test (is_waiting e) (λ q. rw q (omega arith)) (λ q. rw q (omega arith))
 
 silent_acked : (l : ShdlcLink) (e : EndState) → e.session.acked ≡ 0 → acked_here (shdlc_silent l e) ≡ 0
-silent_acked l e none = go l.controller.side.phase refl
-  where
-    go : (p : LinkState) → l.controller.side.phase ≡ p → acked_here (shdlc_silent l e) ≡ 0
-    go Up q = rw q none
-    go _ q = rw q none
+silent_acked l e none = grind arith
 
 -- ### What happens at the controller's end
 
@@ -337,8 +279,7 @@ adds_here : (l : ShdlcLink) (e : ShdlcEndEvent) → DeliversNone e → AddsNone 
 adds_here l e d = record { acked = none_here l e d; host = (happens_alone l e).host }
 
 is_turn : (e : ShdlcEndEvent) → IsTurn e → DeliversNone e
-is_turn (Deliver ts) t = t
-is_turn _ t = tt
+is_turn e t = grind arith
 
 turns_add : (es : List ShdlcEndEvent) (l : ShdlcLink) → AreTurns es → AddsNone l (shdlc_all_at_controller l es)
 turns_add [] l a = record { acked = omega arith; host = refl }
@@ -359,8 +300,7 @@ tick_adds l ts =
 
 tick_or_cut_adds : (b : Option (List ShdlcTurn)) (l : ShdlcLink) → AddsNone l (ticks_or_cut b l)
 tick_or_cut_adds (Some ts) l = tick_adds l ts
-tick_or_cut_adds None l =
-    let z = silent_acked l (new_end 4) refl in record { acked = omega (arith, z); host = (silent_alone l (new_end 4)).host }
+tick_or_cut_adds None l = grind arith
 
 tick_if_waiting_adds : (l : ShdlcLink) → AddsNone l (ticks_if_waiting l)
 tick_if_waiting_adds l = by_test (is_waiting l.controller.side) (λ q. rw q (tick_adds l [])) (λ q. rw q (record { acked = omega arith; host = refl }))
@@ -380,10 +320,7 @@ record NoneAdded (l m : ShdlcLink) : Type 0 where
 
 -- first the controller's end does something, then the host's
 both_add : (l m k : ShdlcLink) → AddsNone l m → AddsNone (shdlc_exchanged m) k → NoneAdded l (shdlc_exchanged k)
-both_add l m k a b =
-    let near : acked_here (shdlc_exchanged k) ≡ acked_here m = ap (λ g. g.side.session.acked) b.host in
-    let far : acked_here (shdlc_exchanged m) ≡ acked_here (shdlc_exchanged l) = ap (λ g. g.side.session.acked) a.host in
-    record { near = omega (arith, near, a.acked); far = omega (arith, far, b.acked) }
+both_add l m k a b = grind arith
 
 nothing_added : (l : ShdlcLink) → AddsNone l l
 nothing_added l = record { acked = omega arith; host = refl }
@@ -461,31 +398,11 @@ abbrev DeliverNone : List CoreEndEvent → Type 0
 DeliverNone [] = Unit {0}
 DeliverNone (e ∷ es) = DeliversNone e × DeliverNone es
 
-ending_none : (ending : Ending) → DeliverNone (core_ending ending)
-ending_none GoesOut = tt
-ending_none CutOff = (tt, tt)
-
-reset_none : (o : Option Refused) (e : LinkEnd) (w : ℕ) (ts : List Turn) (ending : Ending) → DeliverNone (core_reset o e w ts ending)
-reset_none None e w ts GoesOut = (tt, tt)
-reset_none None e w ts CutOff = (tt, tt)
-reset_none (Some why) e w ts ending = (tt, ending_none ending)
-
 here_none : (l : Link) (e : EndEvent) → TakesNoFrame e → DeliverNone (core_here l e)
-here_none l (Step NextFrame ts ending) t = absurd t
-here_none l (Step (AsksReset window) ts ending) t =
-    reset_none (reset_refusal l.controller.side) l.controller.side (window_of l.controller.side window) ts ending
-here_none l (Step (Starts value) ts ending) t = (tt, (tt, ending_none ending))
-here_none l (Step Stops ts ending) t = (tt, (tt, ending_none ending))
-here_none l (Step NoInput ts ending) t = (tt, ending_none ending)
-here_none l (Lose why) t = (tt, tt)
+here_none l e t = grind arith
 
 rest_none : (e : LinkEnd) (ts : List Turn) (ending : Ending) → DeliverNone (core_tick_rest e ts ending)
-rest_none e ts ending = go (is_lost_tick e ending) (is_open e.role) refl refl
-  where
-    go : (a b : Bool) → is_lost_tick e ending ≡ a → is_open e.role ≡ b → DeliverNone (core_tick_rest e ts ending)
-    go true b p q = rw p tt
-    go false true p q = rw (p, q) (ending_none ending)
-    go false false p q = rw (p, q) (tt, ending_none ending)
+rest_none e ts ending = grind arith
 
 none_near : (es : List CoreEndEvent) → DeliverNone es → NoneDelivered (map CoreAtController es)
 none_near [] d = tt
@@ -520,18 +437,14 @@ none_core (Activate power c id h ∷ es) l t =
     let near : List CoreEndEvent = core_step l (Starts power) c.turns c.ending in
     let far : List CoreEndEvent = core_step m (Starts id) h.turns h.ending in
     none-append (map CoreAtController near ++ map CoreAtHost far) (core_events (happens l (Activate power c id h)) es)
-    (none-append (map CoreAtController near) (map CoreAtHost far) (none_near near (here_none l (Step (Starts power) c.turns c.ending) tt))
-    (none_far far (here_none m (Step (Starts id) h.turns h.ending) tt)))
+    (grind arith)
     (none_core es (happens l (Activate power c id h)) t)
 
 -- ### How many more are acknowledged
 
 so_of : (near far : ℕ) (l m : Link) (c : CoreLink) → core_of m ≡ c
     → c.controller.side.session.acked ≤ acked_at_controller l + near → c.host.side.session.acked ≤ acked_at_host l + far → AcksAtMost near far l m
-so_of near far l m c is a b =
-    let P : CoreLink → Type 0 = λ d. (d.controller.side.session.acked ≤ acked_at_controller l + near) × (d.host.side.session.acked ≤ acked_at_host l + far) in
-    let both : P (core_of m) = subst P (sym is) (a, b) in
-    record { controller = both.0; host = both.1 }
+so_of near far l m c is a b = grind arith
 
 pub near_acks : (es : List LinkEvent) (l : Link) → AllAllowed l es → Good l × Reached (core_of l) → AllAtController es
     → AcksAtMost 4 0 l (after_link_events l es)

@@ -1,17 +1,15 @@
 -- Whether a history is answered is found by walks over it, fact by fact.
-use Rattle.std.proofs.lemmas.Bool.Decides.{nat_tests}
 use Rattle.std.specs.List.{flat_map}
 use Rattle.node_laws.proofs.Words.{AllByRecursion, Answered, AreDifferent, AreDone, AreDue, AreInTurn, AreLeftShort, AreReset, AtEachEntry, AtEachOccurrence}
 use Rattle.node_laws.proofs.Words.{Bool, End, Entry, FollowsNodes, Header, IsAscending, IsHeldFor, IsReplied, Line, List, Message, Moment, NodeHistory}
 use Rattle.node_laws.proofs.Words.{NodeWorld, NodesHearFirst, None, Occurrence, Option, Some, TurnsAscend, [], and_parts, answerer, ap, append-nil}
-use Rattle.node_laws.proofs.Words.{append_assoc, arith, before_turn, by_test, cons_option, down_in, drop, due, ends_in, entries_in, eqb-true, false, filter}
+use Rattle.node_laws.proofs.Words.{append_assoc, arith, before_turn, by_test, cons_option, down_in, due, ends_in, entries_in, eqb-true, false, filter}
 use Rattle.node_laws.proofs.Words.{filter_map, fold-append, hears, holds_in, if◌then◌else◌, is_answer_of, is_cut_of, is_done, is_left_short, is_none}
 use Rattle.node_laws.proofs.Words.{is_reset_down, is_reset_due, lack_at, lack_of, line_step, list_any, map, nat_lt, new_world, node_entries, node_of, not}
-use Rattle.node_laws.proofs.Words.{not-true, noted_of_deeds, occurrences_in, oldest, option_map_or, refl, reply, same_end, steps_from, subst, sym, through}
-use Rattle.node_laws.proofs.Words.{to_command, true, true≢false, turn_link, unhandled_after, unhandled_in, until, ℕ, ◌&&◌, ◌++◌, ◌==◌, ◌∙◌, ◌∷◌, ◌≡◌, ◌≤◌}
+use Rattle.node_laws.proofs.Words.{not-true, noted_of_deeds, occurrences_in, oldest, option_map_or, refl, reply, steps_from, subst, sym, through, to_command}
+use Rattle.node_laws.proofs.Words.{true, true≢false, turn_link, unhandled_after, unhandled_in, until, ℕ, ◌&&◌, ◌++◌, ◌==◌, ◌∙◌, ◌∷◌, ◌≡◌, ◌≤◌}
 use Rattle.node_machine.specs.world.Lines.{misread_in}
 use Rattle.node_machine.specs.world.NodeHistories.{NoneIsMisread}
-use Rattle.node_laws.proofs.schedules.Ranges.{ends_same}
 use Rattle.node_laws.proofs.turns.Worlds.{in_turn}
 use Rattle.node_laws.proofs.turns.Passing.{Becomes, Front, Goes, all_left, doing, front_goes}
 use Rattle.node_laws.proofs.worlds.Late.{hear_first}
@@ -39,9 +37,6 @@ abbrev pub turns_rise : List Entry → Bool
 turns_rise [] = true
 turns_rise (x ∷ entries) = option_map_or (λ e. none_earlier e entries) (turn_end x) true && turns_rise entries
 
-not_below : (a b : ℕ) → not (nat_lt b a) ≡ true → a ≤ b
-not_below a b q = grind (arith, nat_tests)
-
 low : (n : ℕ) (e : End) (entries : List Entry) → node_of e ≡ n → none_earlier e entries ≡ true
     → AllByRecursion (λ k. e.link ≤ k) (filter_map (turn_link n) entries)
 low n e [] is none = tt
@@ -51,8 +46,7 @@ low n e (x ∷ entries) is none =
       at : (f : End) → not (is_earlier e f) ≡ true → AllByRecursion (λ k. e.link ≤ k) (filter_map (turn_link n) entries)
           → AllByRecursion (λ k. e.link ≤ k) (cons_option (if node_of f == n then Some f.link else None) (filter_map (turn_link n) entries))
       at f p later = by_test (node_of f == n)
-          (λ q. let same : (node_of f == node_of e) ≡ true = subst (λ k. (node_of f == k) ≡ true) (sym is) q in
-          rw q (not_below e.link f.link (subst (λ b. not (b && nat_lt f.link e.link) ≡ true) same p), later))
+          (λ q. grind arith)
           (λ q. rw q later)
 
       one : (x : Entry) → not (option_map_or (is_earlier e) (turn_end x) false) ≡ true
@@ -226,8 +220,7 @@ finds_none w [] = true
 finds_none w (l ∷ lines) = is_none (misread_in w l) && finds_none (line_step w l).0 lines
 
 none_is : {X : Type 0} (o : Option X) → is_none o ≡ true → o ≡ None
-none_is None is = refl
-none_is (Some x) is = absurd (true≢false (sym is))
+none_is o is = grind arith
 
 surely : (lines : List Line) (w : NodeWorld) → finds_none w lines ≡ true → NoneIsMisread w lines
 surely [] w found = tt
@@ -275,10 +268,6 @@ abbrev pub first_wanted : List Entry → Entry → List Entry → Option (Option
 first_wanted t (entry.Turn e pid message) behind = Some (Some (pid, message))
 first_wanted t _ behind = None
 
-first_dropped : (ms : List Message) (m : Message) → oldest ms ≡ Some m → ms ≡ m ∷ drop 1 ms
-first_dropped [] m q = absurd (cc q)
-first_dropped (k ∷ ms) m q = let same : k ≡ m = cc in ap (λ z. z ∷ ms) same
-
 pub some_is : {X : Type 0} (x y : X) → Some x ≡ Some y → x ≡ y
 some_is x y q = cc
 
@@ -294,13 +283,7 @@ AreFirst before t = (front back : List Entry) (x : Entry) → t ≡ front ++ (x 
 module _ (e : End) where
   becomes : (before : List Entry) (x : Entry) → IsFirstThere before x
       → Becomes (doing e x) (unhandled_in before e) (unhandled_after e (unhandled_in before e) x)
-  becomes before (entry.Got f n pid message) first = by_test (same_end f e) (λ q. rw q refl) (λ q. rw q refl)
-  becomes before (entry.Turn f pid message) first = by_test (same_end f e)
-      (λ z. rw z (first_dropped (unhandled_in before e) (pid, message)
-      (subst (λ g. oldest (unhandled_in before g) ≡ Some (pid, message)) (ends_same f e z) first)))
-      (λ z. rw z refl)
-  becomes before (entry.Booted node k) first = by_test (node == node_of e) (λ q. rw q refl) (λ q. rw q refl)
-  becomes before x first = refl
+  becomes before x first = grind arith
 
   goes_on : (t before : List Entry) → AreFirst before t → Goes e (unhandled_in before e) t (unhandled_in (before ++ t) e)
   goes_on [] before each = ap (λ l. unhandled_in l e) (sym (append-nil before))
@@ -322,8 +305,7 @@ firsts_in_turn t each front back e at =
     (f.left, all_left e front [] [] f.left refl f.goes)
 
 pub first_so : (t : List Entry) (x : Entry) (behind : List Entry) → first_found t x behind ≡ first_wanted t x behind → IsFirstThere t x
-first_so t (entry.Turn e pid message) behind same = some_is (oldest (unhandled_in t e)) (Some (pid, message)) same
-first_so t _ behind same = tt
+first_so t x behind same = grind arith
 
 abbrev AreFoundInTurn : List Entry → Type 0
 AreFoundInTurn t = at_each itself first_found [] t ≡ at_each itself first_wanted [] t
@@ -405,22 +387,8 @@ module _ (Holds : Fact → Type 0) where
   OnlyFails f = (Holds f → ⊥) × ((g : Fact) → is_fact f g ≡ false → Holds g)
 
   module _ (Found : Fact → Type 0) (found_holds : (g : Fact) → Found g → Holds g) where
-    one_holds : (f g : Fact) → One Found f g → is_fact f g ≡ false → Holds g
-    one_holds f g one other = by (is_fact f g) other one where
-      by : (b : Bool) → b ≡ false → Unless b (Found g) → Holds g
-      by true q x = absurd (true≢false q)
-      by false q x = found_holds g x
-
     pub all_others_hold : (f : Fact) → AllOthers Found f → (g : Fact) → is_fact f g ≡ false → Holds g
-    all_others_hold f all InTurn q = one_holds f InTurn all.0 q
-    all_others_hold f all Replied q = one_holds f Replied all.1 q
-    all_others_hold f all Held q = one_holds f Held all.2 q
-    all_others_hold f all Done q = one_holds f Done all.3 q
-    all_others_hold f all Short q = one_holds f Short all.4 q
-    all_others_hold f all Due q = one_holds f Due all.5 q
-    all_others_hold f all Reset q = one_holds f Reset all.6 q
-    all_others_hold f all Ascending q = one_holds f Ascending all.7 q
-    all_others_hold f all Heard q = one_holds f Heard all.8 q
+    all_others_hold f all g q = grind arith
 
 -- ### Of a history of nodes
 
@@ -444,12 +412,10 @@ module _ (t : NodeHistory) where
       (agree_here (at_entries f) (at_entries g) same past back o at) inside
 
   turn_so : (m : Moment) (x : Entry) (behind : List Entry) → turn_found hosts m x behind ≡ turn_wanted hosts m x behind → IsReplied hosts m x behind
-  turn_so m (entry.Turn e pid message) behind same = both_are _ _ same
-  turn_so m _ behind same = tt
+  turn_so m x behind same = grind arith
 
   held_so : (m : Moment) (x : Entry) (behind : List Entry) → held_found hosts m x behind ≡ held_wanted hosts m x behind → IsHeldFor hosts m x behind
-  held_so m (entry.Held e need spare) behind same = both_are _ _ same
-  held_so m _ behind same = tt
+  held_so m x behind same = grind arith
 
   abbrev pub FactOf : Fact → Type 0
   FactOf InTurn = AreInTurn (node_entries t)

@@ -1,18 +1,16 @@
 -- What holds of each answer of a node, row by row, and of the messages that have had no turn.
-use Rattle.node_laws.proofs.Words.{AllByRecursion, Answer, AreInTurn, Ask, AsksAsAllowed, Bool, Clear, Command, Commit, Commits, Create, Creation, Decision}
-use Rattle.node_laws.proofs.Words.{Deed, Delete, End, EndView, Ends, Entry, Hears, Init, InitFailed, InitMade, InitSame, IsFrontOf, List, Message, NodeView}
-use Rattle.node_laws.proofs.Words.{None, Option, OwnView, Sends, Set, SetOpened, Some, Tells, [], accepts, administration, agreed, and_parts, answer_of}
-use Rattle.node_laws.proofs.Words.{answers, ap, append-nil, append_assoc, append_cancel_left, ap₂, body_in, by_option, by_test, carried_out, closing}
-use Rattle.node_laws.proofs.Words.{commit_deeds, commits, cond, cond_both, controller_rows, decided_as_allowed, decides, deeds_far, deeds_for, deeds_near, drop}
-use Rattle.node_laws.proofs.Words.{end_of_number, eqb, false, far_end, far_host, filter_map, filter_map-append, first_of, first_row, fold-append, got_entry}
-use Rattle.node_laws.proofs.Words.{has, host_rows, hosts_where, if◌then◌else◌, init_agreed, init_deeds, inl, inr, instruction_in, is_command}
-use Rattle.node_laws.proofs.Words.{is_command_message, is_none, is_opened, is_order, is_relayed, is_same, learned, learns, length, link_deeds, link_served, map}
-use Rattle.node_laws.proofs.Words.{node_of, not, oldest, opening, option_map_or, orders_of, others_opened, param_in, pipe_named_in, refl, same_end}
-use Rattle.node_laws.proofs.Words.{same_end_itself, since_boot, slice_get, subst, sym, tests_of_pipe, true, true≢false, turn_entry_at, unhandled_after}
-use Rattle.node_laws.proofs.Words.{unhandled_in, unless_refused, ℕ, ◌&&◌, ◌++◌, ◌+◌, ◌==◌, ◌||◌, ◌∙◌, ◌∷◌, ◌≡◌}
+use Rattle.node_laws.proofs.Words.{AllByRecursion, Answer, AreInTurn, Ask, AsksAsAllowed, Bool, Clear, Command, Commit, Create, Decision, Deed, Delete, End}
+use Rattle.node_laws.proofs.Words.{EndView, Entry, Hears, Init, IsFrontOf, List, Message, NodeView, None, Option, OwnView, Sends, SetOpened, Some, Tells, []}
+use Rattle.node_laws.proofs.Words.{accepts, administration, and_parts, answer_of, answers, ap, append-nil, append_assoc, append_cancel_left, arith, body_in}
+use Rattle.node_laws.proofs.Words.{by_option, by_test, closing, commit_deeds, commits, cond, cond_both, controller_rows, decided_as_allowed, decides, deeds_far}
+use Rattle.node_laws.proofs.Words.{deeds_for, deeds_near, drop, eqb, false, far_end, far_host, filter_map, filter_map-append, first_row, fold-append, got_entry}
+use Rattle.node_laws.proofs.Words.{has, host_rows, hosts_where, if◌then◌else◌, init_deeds, inl, instruction_in, is_command_message, is_none, is_opened}
+use Rattle.node_laws.proofs.Words.{is_order, is_relayed, learned, link_deeds, link_served, map, node_of, not, oldest, opening, option_map_or, others_opened}
+use Rattle.node_laws.proofs.Words.{param_in, pipe_named_in, refl, same_end, same_end_itself, since_boot, subst, sym, true, turn_entry_at, unhandled_after}
+use Rattle.node_laws.proofs.Words.{unhandled_in, ℕ, ◌&&◌, ◌++◌, ◌==◌, ◌||◌, ◌∙◌, ◌∷◌, ◌≡◌}
 use Rattle.node_machine.specs.HostReplies.{created_by, deleted_by}
-use Rattle.node_laws.specs.answers.Rows.{leads_to_gate, waiting_for}
-use Rattle.node_laws.specs.answers.Rules.{IsAskedAsAllowed, IsForAsker, IsSentAsAllowed, commits_first}
+use Rattle.node_laws.specs.answers.Rows.{leads_to_gate}
+use Rattle.node_laws.specs.answers.Rules.{IsAskedAsAllowed, IsSentAsAllowed, commits_first}
 use Rattle.node_laws.specs.turns.Turns.{AreLeft}
 use Rattle.node_laws.proofs.answers.Rows.{controller_by_rows, host_by_rows}
 use Rattle.gate_answers.specs.declared.response.Response.TheVariants as response
@@ -58,21 +56,8 @@ module _ (v : NodeView) (h : ℕ) (m : Message) where
   counted_fine : (answer : List ℕ × Option ℕ) → Fine (link_deeds h m.0 answer)
   counted_fine answer = by_option answer.1 (λ q. rw q (inl refl, tt)) (λ errors q. rw q (tt, (inl refl, tt)))
 
-  agreed_fine : (o : Option Creation) → waiting_for v h ≡ o
-      → Fine (option_map_or (λ c. agreed (eqb (instruction_in m.1) 0 && v.own.has_room c.command) c) o [])
-  agreed_fine None is = tt
-  agreed_fine (Some c) is = by_test (eqb (instruction_in m.1) 0 && v.own.has_room c.command)
-      (λ q. rw q (tt, (tt, (tt, (inr (inr asker), (tt, tt))))))
-      (λ q. rw q (tt, (tt, (inr (inr asker), tt)))) where
-        asker : IsForAsker v h c.asker
-        asker = record { creation = c; waits = is; asker = refl }
-
   relayed_fine : is_relayed v h m ≡ true → Fine (Sends (far_host v h m) m ∷ [])
-  relayed_fine on =
-      let last = and_parts ((is_opened v.own.tables h m.0 && not (is_order 3 m || is_order 4 m)) && not (eqb (far_host v h m) 0)) (v.up (far_host v h m)) on in
-      let later = and_parts (is_opened v.own.tables h m.0 && not (is_order 3 m || is_order 4 m)) (not (eqb (far_host v h m) 0)) last.0 in
-      let first = and_parts (is_opened v.own.tables h m.0) (not (is_order 3 m || is_order 4 m)) later.0 in
-      (inr (inl (record { same = refl; opened = first.0; far = refl; up = last.1 })), tt)
+  relayed_fine on = grind arith
 
   sent_as_allowed : HoldsInRows Fine (controller_rows v h m)
   sent_as_allowed = (
@@ -101,13 +86,7 @@ module _ (v : NodeView) (h : ℕ) (m : Message) where
                           λ _. decided_fine (administration v.own.tables (v.links h) h (instruction_in m.1) (body_in m.1)),
                           λ _. (
                             λ _. counted_fine (link_served (v.links h).errors (instruction_in m.1) (body_in m.1)),
-                            λ _. (
-                              λ _. (inl refl, tt),
-                              λ _. (
-                                λ _. decided_fine (answers response.CommandNotSupported []),
-                                λ _. (λ _. agreed_fine (waiting_for v h) refl, λ _. (λ _. (tt, tt), λ _. (λ _. (inl refl, tt), λ _. (λ _. (tt, tt), λ _. tt)))),
-                              ),
-                            ),
+                            λ _. (grind arith),
                           ),
                         ),
                       ),
@@ -141,26 +120,12 @@ module _ (v : NodeView) (h : ℕ) (m : Message) where
       (λ q. rw q (tt, tt))
   decided_asked (Ask dest notice c answer) allowed = ((refl, allowed), tt)
 
-  counted_asked : (answer : List ℕ × Option ℕ) → Asked (link_deeds h m.0 answer)
-  counted_asked answer = by_option answer.1 (λ q. rw q (tt, tt)) (λ errors q. rw q (tt, (tt, tt)))
-
-  agreed_asked : (o : Option Creation) → Asked (option_map_or (λ c. agreed (eqb (instruction_in m.1) 0 && v.own.has_room c.command) c) o [])
-  agreed_asked None = tt
-  agreed_asked (Some c) = by_test (eqb (instruction_in m.1) 0 && v.own.has_room c.command)
-      (λ q. rw q (tt, (tt, (tt, (tt, (tt, tt))))))
-      (λ q. rw q (tt, (tt, (tt, tt))))
-
   -- a command that administration decides is on an opened pipe of the host, and neither opens nor closes it
   administered : is_command_message m.1 ≡ true → (is_command_message m.1 && is_none (far_end v.own.tables h m.0)) ≡ false
       → ((is_command_message m.1 && not (is_opened v.own.tables h m.0)) && not (is_order 3 m)) ≡ false → is_order 3 m ≡ false → is_order 4 m ≡ false
       → AsksAsAllowed v.own.tables (v.links h) h (administration v.own.tables (v.links h) h (instruction_in m.1) (body_in m.1))
   administered command own opened unopening unclosing =
-      subst (AsksAsAllowed v.own.tables (v.links h) h) (by_option (far_end v.own.tables h m.0)
-      (λ f. let z = rw (command, f) at own in absurd (true≢false z))
-      (λ end f. ap (λ o. unless_refused o (carried_out v.own.tables (v.links h) h m.0 (instruction_in m.1) (body_in m.1)))
-      (let z : first_of (tests_of_pipe v.own.tables h m.0 (instruction_in m.1)) ≡ None = rw (f, (rw command at opened)) refl in z)
-      ∙ ap₂ (λ p q. cond p (opening v.own.tables h m.0 (body_in m.1)) (cond q (closing h m.0 (body_in m.1))
-      (administration v.own.tables (v.links h) h (instruction_in m.1) (body_in m.1)))) (rw command at unopening) (rw command at unclosing)))
+      subst (AsksAsAllowed v.own.tables (v.links h) h) (grind arith)
       (decided_as_allowed v.own.tables (v.links h) h m.0 (instruction_in m.1) (body_in m.1))
 
   asked_as_allowed : HoldsInRows Asked (controller_rows v h m)
@@ -189,16 +154,7 @@ module _ (v : NodeView) (h : ℕ) (m : Message) where
                         λ _. (
                           λ on. decided_asked (administration v.own.tables (v.links h) h (instruction_in m.1) (body_in m.1))
                               (administered (and_parts (is_command_message m.1) (leads_to_gate v h m 0) on).0 own opened opening closing),
-                          λ _. (
-                            λ _. counted_asked (link_served (v.links h).errors (instruction_in m.1) (body_in m.1)),
-                            λ _. (
-                              λ _. (tt, tt),
-                              λ _. (
-                                λ _. (tt, tt),
-                                λ _. (λ _. agreed_asked (waiting_for v h), λ _. (λ _. (tt, tt), λ _. (λ _. (tt, tt), λ _. (λ _. (tt, tt), λ _. tt)))),
-                              ),
-                            ),
-                          ),
+                          λ _. (grind arith),
                         ),
                       ),
                     ),
@@ -238,10 +194,6 @@ module _ (v : NodeView) (h : ℕ) (m : Message) where
   decided_in_order (Commit c answer tell notice) = committed_in_order (v.own.has_room c) h m.0 c answer.items notice.items (hosts_where (has tell))
   decided_in_order (Ask dest notice c answer) = refl
 
-  agreed_in_order : (o : Option Creation) → InOrder (option_map_or (λ c. agreed (eqb (instruction_in m.1) 0 && v.own.has_room c.command) c) o [])
-  agreed_in_order None = refl
-  agreed_in_order (Some c) = by_test (eqb (instruction_in m.1) 0 && v.own.has_room c.command) (λ q. rw q refl) (λ q. rw q refl)
-
   near_in_order : HoldsInRows InOrder (controller_rows v h m)
   near_in_order = (
     λ _. refl,
@@ -267,16 +219,7 @@ module _ (v : NodeView) (h : ℕ) (m : Message) where
                         λ _. refl,
                         λ _. (
                           λ _. decided_in_order (administration v.own.tables (v.links h) h (instruction_in m.1) (body_in m.1)),
-                          λ _. (
-                            λ _. counted_in_order h m.0 (link_served (v.links h).errors (instruction_in m.1) (body_in m.1)),
-                            λ _. (
-                              λ _. refl,
-                              λ _. (
-                                λ _. refl,
-                                λ _. (λ _. agreed_in_order (waiting_for v h), λ _. (λ _. refl, λ _. (λ _. refl, λ _. (λ _. refl, λ _. refl)))),
-                              ),
-                            ),
-                          ),
+                          λ _. (grind arith),
                         ),
                       ),
                     ),
@@ -298,37 +241,19 @@ module _ (own : OwnView) where
   accepted_in_order : (c : Command) → InOrder (accepts own c)
   accepted_in_order c = committed_in_order (own.has_room c) own.node 1 c (answer_of response.Ok []) [] []
 
-  learns_then : (deeds : List Deed) → IsUnsent deeds → (c : Command) → IsUnsent (learns own c ++ deeds)
-  learns_then deeds rest c begun =
-      cond_both (is_command c && own.has_room c) (Commits c ∷ []) [] (λ xs. commits_first begun false (xs ++ deeds) ≡ true) (λ _. rest true) (λ _. rest begun)
-
   learned_then : (deeds : List Deed) → IsUnsent deeds → (order value : List ℕ) → IsUnsent (learned own order value ++ deeds)
   learned_then deeds rest order value begun =
-      cond_both (eqb (instruction_in order) 16) (created_by own value) _ P (λ _. by_option (pipe_named_in value)
-      (λ q. rw q (rest begun))
-      (λ row q. rw q (learns_then deeds rest (Create row) begun)))
-      (λ _. cond_both (eqb (instruction_in order) 17) (deleted_by own (body_in order)) _ P (λ _. by_body (body_in order))
-      (λ _. cond_both (eqb (instruction_in order) 20) (learns own (Clear own.node)) [] P (λ _. learns_then deeds rest (Clear own.node) begun)
-      (λ _. rest begun)))
+      cond_both (eqb (instruction_in order) 16) (created_by own value) _ P (λ _. grind arith)
+      (λ _. grind arith)
     where
       P : List Deed → Type 0
       P xs = commits_first begun false (xs ++ deeds) ≡ true
 
       by_body : (body : List ℕ) → P (deleted_by own body)
-      by_body [] = rest begun
-      by_body (pid ∷ []) = learns_then deeds rest (Delete pid) begun
-      by_body (pid ∷ x ∷ more) = rest begun
+      by_body body = grind arith
 
   init_last : (code : ℕ) (value : List ℕ) (o : Option Init) → IsUnsent (init_deeds own code value o)
-  init_last code value None begun = refl
-  init_last code value (Some i) begun =
-      cond_both (eqb code 0) (init_agreed own i value) (Ends (InitFailed (end_of_number own.node own.node) code) ∷ [])
-      (λ xs. commits_first begun false xs ≡ true)
-      (λ _. cond_both (is_same own i value) (Ends (InitSame (end_of_number own.node own.node)) ∷ []) _ (λ xs. commits_first begun false xs ≡ true) (λ _. refl)
-      (λ _. by_option (slice_get (orders_of i) (i.answered + 1))
-      (λ is. rw is (learns_then (Ends (InitMade (end_of_number own.node own.node) (length i.pipes)) ∷ []) (λ _. refl)
-      (Set own.node 0 1 (record { items = i.identity })) begun))
-      (λ order is. rw is refl))) (λ _. refl)
+  init_last code value o begun = grind arith
 
   heard_in_order : (code : ℕ) (value : List ℕ) (o : Option (List ℕ))
       → InOrder (Hears ∷ option_map_or (λ order. cond (eqb code 0) (learned own order value) []) o [] ++ init_deeds own code value own.init)
@@ -397,8 +322,7 @@ since_with n (entry.Booted node k ∷ t) since x = go (node == n) (λ before. si
     go : (b : Bool) → ((before : List Entry) → since_boot n before (t ++ x ∷ []) ≡ with_entry n (since_boot n before t) x)
         → (if b then since_boot n [] (t ++ x ∷ []) else since_boot n (since ++ entry.Booted node k ∷ []) (t ++ x ∷ []))
         ≡ with_entry n (if b then since_boot n [] t else since_boot n (since ++ entry.Booted node k ∷ []) t) x
-    go true later = later []
-    go false later = later (since ++ entry.Booted node k ∷ [])
+    go b later = grind arith
 since_with n (y ∷ t) since x = since_with n t (since ++ y ∷ []) x
 
 module _ (e : End) where

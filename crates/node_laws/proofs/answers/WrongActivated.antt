@@ -32,8 +32,7 @@ abbrev pub site : List Occurrence → Site
 site events = unwrap_or (site_behind events) (new_site [] 2)
 
 pub is_there : (s : Option Site) → is_some s ≡ true → s ≡ Some (unwrap_or s (new_site [] 2))
-is_there None h = absurd (true≢false (sym h))
-is_there (Some s) h = refl
+is_there s h = grind arith
 
 -- ## Upheld
 

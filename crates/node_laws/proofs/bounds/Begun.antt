@@ -1,20 +1,18 @@
 -- In the turns of a pass, in whatever order, no more commands are noted than are paid for, nor than came of causes.
 use Rattle.std.proofs.lemmas.List.Elements.{filter-append}
-use Rattle.node_laws.proofs.Words.{Acked, Active, AllByRecursion-append, AreCausedSo, AreDifferent, AreHosts, AreInTurn, AsksReset, AtEnd, Bool, Comes, ComesTo}
-use Rattle.node_laws.proofs.Words.{Controller, Core, Down, End, Entry, GaveUp, Gets, Got, Happening, HasEnds, Host, IfItRuns, IsFrontOf, LinkInput, List}
-use Rattle.node_laws.proofs.Words.{Message, NextFrame, NoInput, NodeInput, NodeWorld, None, Noted, NumberedEnd, Occurrence, Option, Port, Report, Reset}
-use Rattle.node_laws.proofs.Words.{Running, Saying, Site, Some, Start, Starts, Stop, Stops, Takes, TimePasses, Work, [], after_input, aged, aged_entries}
-use Rattle.node_laws.proofs.Words.{all_aged, all_come, ap, append-nil, append_assoc, arith, arrival, as_it_ticks, at_end, by_option, by_test, comes_to}
-use Rattle.node_laws.proofs.Words.{comes_to_pass, commands_by_events, commands_noted, cond, cond_both, cons_option, controller_begins, controller_work}
-use Rattle.node_laws.proofs.Words.{deeds_of, end_c, end_of_node, entries_for, entries_in, eqb, false, filter_map-append, flat_map, flat_map-append, forgets}
-use Rattle.node_laws.proofs.Words.{frames_noted, goes_through_ends, good_of, got_in, got_in_session, handles, has_come_so, has_freed, has_synced, have_turns}
-use Rattle.node_laws.proofs.Words.{holds_back, hosts_in, hosts_of_ends, if_so, if◌then◌else◌, input_at, input_of, is_good, is_late, lack, length, length-map}
-use Rattle.node_laws.proofs.Words.{lets_go, link_to, map, nat_lt, near_end_in, needs, new_world, noted_by_deeds, option_map_or, option_to_list, other_end}
-use Rattle.node_laws.proofs.Words.{owed_in_step, own_side, passes, port_at, refl, report, said, said_of, same_end, sent_by, sent_in, site_at, steps, subst, sym}
-use Rattle.node_laws.proofs.Words.{syncs_in, takes_up, told, told_at, told_late, told_of_coming, told_of_late, true, true≢false, unless_cut, whole_acked}
-use Rattle.node_laws.proofs.Words.{wires_for, with_older, world_behind, world_step, ℕ, ◌++◌, ◌+◌, ◌∙◌, ◌∷◌, ◌≡◌, ◌≤◌}
+use Rattle.node_laws.proofs.Words.{AreCausedSo, AreDifferent, AreHosts, AreInTurn, AsksReset, AtEnd, Bool, Comes, ComesTo, Controller, Core, End, Entry, Gets}
+use Rattle.node_laws.proofs.Words.{Got, Happening, HasEnds, Host, IfItRuns, IsFrontOf, LinkInput, List, Message, NextFrame, NoInput, NodeInput, NodeWorld, None}
+use Rattle.node_laws.proofs.Words.{Noted, NumberedEnd, Occurrence, Option, Port, Report, Reset, Running, Saying, Site, Some, Start, Starts, Stop, Stops, Takes}
+use Rattle.node_laws.proofs.Words.{TimePasses, Work, [], after_input, aged, aged_entries, all_aged, all_come, ap, append-nil, append_assoc, arith, arrival}
+use Rattle.node_laws.proofs.Words.{as_it_ticks, at_end, by_option, by_test, comes_to, comes_to_pass, commands_by_events, commands_noted, cond, cons_option}
+use Rattle.node_laws.proofs.Words.{controller_begins, controller_work, deeds_of, end_c, end_of_node, entries_for, entries_in, eqb, false, filter_map-append}
+use Rattle.node_laws.proofs.Words.{flat_map, flat_map-append, forgets, frames_noted, goes_through_ends, good_of, got_in, got_in_session, handles, has_come_so}
+use Rattle.node_laws.proofs.Words.{has_freed, has_synced, have_turns, holds_back, hosts_in, hosts_of_ends, input_at, input_of, is_good, lack, length}
+use Rattle.node_laws.proofs.Words.{length-map, lets_go, link_to, map, near_end_in, needs, new_world, noted_by_deeds, option_map_or, other_end, owed_in_step}
+use Rattle.node_laws.proofs.Words.{own_side, passes, port_at, refl, report, said, said_of, same_end, sent_by, sent_in, site_at, steps, subst, sym, syncs_in}
+use Rattle.node_laws.proofs.Words.{takes_up, told, told_at, told_late, told_of_coming, told_of_late, true, true≢false, unless_cut, whole_acked, wires_for}
+use Rattle.node_laws.proofs.Words.{with_older, world_behind, world_step, ℕ, ◌++◌, ◌+◌, ◌∙◌, ◌∷◌, ◌≡◌, ◌≤◌}
 use Rattle.link_laws.specs.entries.Entries.{End as Side}
-use Rattle.link_laws.specs.entries.Entries.Entry.{Up}
 use Rattle.node_laws.proofs.bounds.Paying.{AreFronts, PaidSo, few_committed, other_twice, paid_so}
 use Rattle.node_laws.proofs.bounds.Turns.{IsNoSent, Owes, costs, costs-append, less, node_holds, noted, notes_free, pays, pays-append}
 use Rattle.node_laws.proofs.bounds.SessionsNoted.{begun_owes, handled, held, marked, syncs_told}
@@ -31,7 +29,7 @@ use Rattle.node_laws.proofs.telling.Ticks.{wires_all}
 use Rattle.node_laws.proofs.telling.Lasting.{occurs}
 use Rattle.node_laws.proofs.telling.Accounts.{all_owed_mute, all_synced_mute, deeds_mute}
 use Rattle.node_laws.proofs.telling.Events.{hosts_same_of_nodes as hosts_same}
-use Rattle.node_laws.proofs.turns.Passing.{AreNoGots, AreStill, Goes, IsNoGot, ended_none, goes-append, notes_still, so_none, tries_none}
+use Rattle.node_laws.proofs.turns.Passing.{AreNoGots, AreStill, Goes, goes-append, notes_still}
 use Rattle.node_laws.proofs.turns.Worlds.{AllWait}
 use Rattle.node_laws.proofs.turns.Passing.Doing.{Adds, Nothing}
 use Rattle.node_laws.proofs.turns.Nodes.{Leaves, aged_none, arrival_still, flat_leaves, sites_is, still_leaves}
@@ -70,14 +68,8 @@ abbrev SaysNoGet : Option (End × Saying) → Type 0
 SaysNoGet None = Unit {0}
 SaysNoGet (Some (f, saying)) = IsNoGet saying
 
-said_none : (b : Bool) (n : ℕ) (saying : Saying) → IsNoGet saying → got_in_session n (if b then Some saying else None) ≡ None
-said_none false n saying none = refl
-said_none true n (Gets k m) none = absurd none
-said_none true n _ none = refl
-
 ungot : (n : ℕ) (f : End) (o : Option (End × Saying)) → SaysNoGet o → got_in_session n (at_end f o) ≡ None
-ungot n f None none = refl
-ungot n f (Some (g, saying)) none = said_none (same_end g f) n saying none
+ungot n f o none = grind arith
 
 -- what leaves the messages that wait at an end brings none there
 still_gets : (e : End) (es : List Entry) (n : ℕ) → AreStill e es → got_in es e n ≡ []
@@ -158,14 +150,7 @@ notes_get : (h : ℕ) (notes : List Noted) → AreNoGots notes → NoGets (entri
 notes_get h notes none e n = still_gets e (entries_for h notes) n (notes_still e h notes none)
 
 told_gets : (h : ℕ) (who : Side) (n : ℕ) (r : Report) (acked : ℕ) → r.got ≡ [] → NoGets (entries_for h (told who n r acked))
-told_gets h who n r acked none =
-    notes_get h (told who n r acked)
-    (AllByRecursion-append IsNoGot (map (Down who) (option_to_list r.ended)) _ (ended_none who r.ended)
-    (AllByRecursion-append IsNoGot (if_so r.began (Up who n)) _ (so_none r.began (Up who n) tt)
-    (AllByRecursion-append IsNoGot (if_so r.became_active (Active who)) _ (so_none r.became_active (Active who) tt)
-    (AllByRecursion-append IsNoGot (map (GaveUp who) (option_to_list r.gave_up)) _ (tries_none who r.gave_up)
-    (AllByRecursion-append IsNoGot (if_so (nat_lt 0 r.acked) (Acked who n acked)) _ (so_none (nat_lt 0 r.acked) (Acked who n acked) tt)
-    (subst (λ (ms : List Message). AreNoGots (map (Got who n) ms)) (sym none) tt))))))
+told_gets h who n r acked none = grind arith
 
 flat_gets : {X : Type 0} (f : X → List Entry) → ((x : X) → NoGets (f x)) → (xs : List X) → NoGets (flat_map f xs)
 flat_gets f one [] = λ e n. refl
@@ -176,8 +161,7 @@ abbrev BringsNone : NodeInput → Type 0
 BringsNone input = (p : Port) → option_map_or (λ i. (report p.side i).got) (input_at input p) [] ≡ []
 
 brings : (b : Bool) (i : LinkInput) (p : Port) → (report p.side i).got ≡ [] → option_map_or (λ j. (report p.side j).got) (cond b (Some i) None) [] ≡ []
-brings true i p none = none
-brings false i p none = refl
+brings b i p none = grind arith
 
 module _ (input : NodeInput) (w : Work) (none : BringsNone input) where
   told_none : (core : Core) (p : Port) → NoGets (told_at core p (input_at input p))
@@ -186,10 +170,7 @@ module _ (input : NodeInput) (w : Work) (none : BringsNone input) where
       (λ i q. rw q (told_gets p.desk.host (own_side core) p.session (report p.side i) (whole_acked (after_input p.side i)) (rw q at (none p))))
 
   late_none : (core : Core) (p : Port) → NoGets (told_late core p)
-  late_none core p =
-      cond_both (is_late p) (told_at core p (Some (Reset None))) [] NoGets
-      (λ _. told_gets p.desk.host (own_side core) p.session (report p.side (Reset None)) (whole_acked (after_input p.side (Reset None))) refl)
-      (λ _ e n. refl)
+  late_none core p = grind arith
 
   lates_none : (input : NodeInput) → NoGets (told_of_late input (all_come input w))
   lates_none (AtEnd h i) = λ e n. refl

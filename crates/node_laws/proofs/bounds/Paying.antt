@@ -1,15 +1,15 @@
 -- What messages pay was paid for by the ends that sent them, and so in the end by causes: a history notes as many commands as its lines ask
 -- for.
-use Rattle.node_laws.proofs.Words.{Activates, AreCausedSo, AreHosts, AreInTurn, AreNodeLinesOf, ArePlayable, Bool, Boots, End, Entry, FollowsNodes, Gives}
-use Rattle.node_laws.proofs.Words.{Happening, Header, IsFrontOf, IsNodeHeader, IsNodeLineOf, IsPlayable, Line, List, MayBeCaused, MayBoot, Message, NoCause}
-use Rattle.node_laws.proofs.Words.{NodeHistory, NodeWorld, None, Occurrence, Option, Resets, Running, Same, Saying, Site, Some, Takes, Ticks, Verdict, []}
-use Rattle.node_laws.proofs.Words.{all_happen, ap, append-nil, append_assoc, arith, at_end, by_option, by_test, can_happen, commands_by, commands_by_all}
-use Rattle.node_laws.proofs.Words.{commands_by_events, commands_noted, cond, cons_option, entries_in, eqb-false, eqb-true, false, filter_map, filter_map-append}
-use Rattle.node_laws.proofs.Words.{first_cause, first_verdict, flat_map-append, frames_at, goes_on, good_of, got_entry, got_in, got_in_session, happenings}
-use Rattle.node_laws.proofs.Words.{happens_by, if_off, if◌then◌else◌, is_good, is_some, length, length-map, line_step, lines_asking, ne_eqb, new_world, node_at}
-use Rattle.node_laws.proofs.Words.{node_number, not, occurrences_in, occurrences_of, other_end, refl, refusal_in, replicate, said, said_of, same_end}
-use Rattle.node_laws.proofs.Words.{same_end_itself, sent_by, sent_in, since_boot, steps_from, subst, suc, sym, tables_told, taken_of, true, true≢false}
-use Rattle.node_laws.proofs.Words.{turn_entry_at, unwrap_or, world_behind, world_step, zero, ℕ, ◌*◌, ◌++◌, ◌+◌, ◌<◌, ◌==◌, ◌∙◌, ◌∷◌, ◌≡◌, ◌≤◌}
+use Rattle.node_laws.proofs.Words.{AreCausedSo, AreHosts, AreInTurn, AreNodeLinesOf, ArePlayable, Bool, End, Entry, FollowsNodes, Happening, Header, IsFrontOf}
+use Rattle.node_laws.proofs.Words.{IsNodeHeader, IsNodeLineOf, IsPlayable, Line, List, MayBeCaused, MayBoot, Message, NoCause, NodeHistory, NodeWorld, None}
+use Rattle.node_laws.proofs.Words.{Occurrence, Option, Running, Saying, Site, Some, Takes, Ticks, Verdict, [], all_happen, ap, append-nil, append_assoc, arith}
+use Rattle.node_laws.proofs.Words.{at_end, by_option, by_test, can_happen, commands_by, commands_by_all, commands_by_events, commands_noted, cond, cons_option}
+use Rattle.node_laws.proofs.Words.{entries_in, eqb-false, eqb-true, false, filter_map, filter_map-append, first_cause, first_verdict, flat_map-append}
+use Rattle.node_laws.proofs.Words.{frames_at, goes_on, good_of, got_entry, got_in, got_in_session, happenings, happens_by, if_off, is_good, is_some, length}
+use Rattle.node_laws.proofs.Words.{length-map, line_step, lines_asking, ne_eqb, new_world, node_at, node_number, not, occurrences_in, occurrences_of, other_end}
+use Rattle.node_laws.proofs.Words.{refl, refusal_in, replicate, said, said_of, same_end, same_end_itself, sent_by, sent_in, since_boot, steps_from, subst, suc}
+use Rattle.node_laws.proofs.Words.{sym, tables_told, taken_of, true, true≢false, turn_entry_at, unwrap_or, world_behind, world_step, zero, ℕ, ◌*◌, ◌++◌, ◌+◌}
+use Rattle.node_laws.proofs.Words.{◌<◌, ◌==◌, ◌∙◌, ◌∷◌, ◌≡◌, ◌≤◌}
 use Rattle.history.specs.Filters.Saying.{Sends}
 use Rattle.node_laws.specs.bounds.Commands.{AllCome}
 use Rattle.node_laws.specs.schedules.Ranges.{asking}
@@ -120,8 +120,7 @@ worth_if b None = 0
 worth_if b (Some m) = message_cost (not b) m.0 m.1
 
 cons_worth : (b : Bool) (o : Option Message) (ms : List Message) → worth_of b (cons_option o ms) ≡ worth_if b o + worth_of b ms
-cons_worth b None ms = omega arith
-cons_worth b (Some m) ms = refl
+cons_worth b o ms = grind arith
 
 -- so much at one number below this one
 abbrev hits : ℕ → ℕ → ℕ → ℕ
@@ -162,16 +161,14 @@ module _ (e : End) where
 
   sent_more : (x : Entry) (t : List Entry) (n : ℕ) → sent_below e (x ∷ t) n ≡ sent_of x n + sent_below e t n
   sent_more x t zero = refl
-  sent_more x t (suc n) =
-      omega (arith, cons_worth e.at_host (sent_by n (said_of (other_end e) x)) (sent_in t (other_end e) n), sent_more x t n)
+  sent_more x t (suc n) = omega (arith, cons_worth e.at_host (sent_by n (said_of (other_end e) x)) (sent_in t (other_end e) n), sent_more x t n)
 
   -- a message that came is told in its session
   hit_got : (f : End) (k pid : ℕ) (m : List ℕ) (n : ℕ) → same_end f e ≡ true
       → got_by (entry.Got f k pid m) n ≡ hits k (message_cost (not e.at_host) pid m) n
   hit_got f k pid m zero on = refl
   hit_got f k pid m (suc n) on =
-      let one : worth_if e.at_host (got_in_session n (said_of e (entry.Got f k pid m))) ≡ worth (message_cost (not e.at_host) pid m) (k == n) =
-      rw on (by_test (k == n) (λ q. rw q refl) (λ q. rw q refl)) in
+      let one : worth_if e.at_host (got_in_session n (said_of e (entry.Got f k pid m))) ≡ worth (message_cost (not e.at_host) pid m) (k == n) = grind arith in
       omega (arith, one, hit_got f k pid m n on)
 
   -- the greatest number of a session in which a message came, and one more
@@ -263,14 +260,8 @@ abbrev SaysNoSend : Option (End × Saying) → Type 0
 SaysNoSend None = Unit {0}
 SaysNoSend (Some (f, saying)) = IsNoSend saying
 
-said_none : (b : Bool) (n : ℕ) (saying : Saying) → IsNoSend saying → sent_by n (if b then Some saying else None) ≡ None
-said_none false n saying none = refl
-said_none true n (Sends k m) none = absurd none
-said_none true n _ none = refl
-
 unsent : (n : ℕ) (f : End) (o : Option (End × Saying)) → SaysNoSend o → sent_by n (at_end f o) ≡ None
-unsent n f None none = refl
-unsent n f (Some (g, saying)) none = said_none (same_end g f) n saying none
+unsent n f o none = grind arith
 
 pub other_twice : (e : End) → other_end (other_end e) ≡ e
 other_twice e = by_test e.at_host (λ q. rw q refl) (λ q. rw q refl)
@@ -278,15 +269,14 @@ other_twice e = by_test e.at_host (λ q. rw q refl) (λ q. rw q refl)
 module _ (e : End) where
   none_sent : (x : Entry) → SaysNoSend (said x) → (n : ℕ) → sent_of e x n ≡ 0
   none_sent x none zero = refl
-  none_sent x none (suc n) =
-      omega (arith, ap (worth_if e.at_host) (unsent n (other_end e) (said x) none), none_sent x none n)
+  none_sent x none (suc n) = omega (arith, ap (worth_if e.at_host) (unsent n (other_end e) (said x) none), none_sent x none n)
 
   hit_sent : (f : End) (k pid : ℕ) (m : List ℕ) (n : ℕ) → same_end f (other_end e) ≡ true
       → sent_of e (entry.Sent f k pid m) n ≡ hits k (message_cost (not e.at_host) pid m) n
   hit_sent f k pid m zero on = refl
   hit_sent f k pid m (suc n) on =
-      let one : worth_if e.at_host (sent_by n (said_of (other_end e) (entry.Sent f k pid m))) ≡ worth (message_cost (not e.at_host) pid m) (k == n) =
-      rw on (by_test (k == n) (λ q. rw q refl) (λ q. rw q refl)) in
+      let one : worth_if e.at_host (sent_by n (said_of (other_end e) (entry.Sent f k pid m))) ≡ worth (message_cost (not e.at_host) pid m)
+      (k == n) = grind arith in
       omega (arith, one, hit_sent f k pid m n on)
 
   miss_sent : (f : End) (k pid : ℕ) (m : List ℕ) (n : ℕ) → same_end f (other_end e) ≡ false → sent_of e (entry.Sent f k pid m) n ≡ 0
@@ -337,14 +327,10 @@ few_committed all t turned fronts paid =
 
 -- what may come may happen
 may_happen : (w : NodeWorld) (c : Happening) → MayBeCaused w c → MayHappen w c
-may_happen w (Gives e m) may = may
-may_happen w (Resets e window) may = may
-may_happen w (Activates h sync power) may = may
-may_happen w _ may = tt
+may_happen w c may = grind arith
 
 may_boot : (w : NodeWorld) (c : Happening) → MayBeCaused w c → MayBoot w c
-may_boot w (Boots n) may = may
-may_boot w _ may = tt
+may_boot w c may = grind arith
 
 -- A world and what happened until then: its links are told, what waits at its ends is read, and all was paid for, but for what came of
 -- the causes.
@@ -469,8 +455,7 @@ paid_so hosts events are most caused = paid_behind hosts most events 0 [] (new_w
 -- ### What lines cause may come
 
 both_on : (b : Bool) (why : Option NoCause) → first_cause (cond b None (Some no.Off)) why ≡ None → b ≡ true
-both_on true why q = refl
-both_on false why q = absurd (cc q)
+both_on b why q = grind arith
 
 line_may : (w : NodeWorld) (l : Line) → IsPlayable l → refusal_in w l ≡ None → AllMay MayBeCaused w (happenings w l)
 line_may w (line.Send e pid message) p q = (p, tt)
@@ -487,8 +472,7 @@ line_may w (line.Settle n) p q = tt
 line_may w _ p q = (tt, tt)
 
 caused_so : (events : List Occurrence) (w : NodeWorld) → AreCaused MayBeCaused w events → AreCausedSo w events
-caused_so [] w are = tt
-caused_so (o ∷ events) w are = (are.0, are.1, caused_so events (world_step w o.cause).0 are.2)
+caused_so events w are = grind arith
 
 front_caused : (front back : List Occurrence) (w : NodeWorld) → AreCausedSo w (front ++ back) → AreCausedSo w front
 front_caused [] back w are = tt
@@ -505,18 +489,14 @@ pub asking_few : (lines : List Line) → lines_asking lines ≤ length lines
 asking_few [] = omega arith
 asking_few (l ∷ lines) = let one = once l in let rest = asking_few lines in omega (arith, one, rest) where
   once : (l : Line) → asking l ≤ 1
-  once (line.Deliver e count) = omega arith
-  once (line.Tick times) = omega arith
-  once _ = omega arith
+  once l = grind arith
 
 none_by : (n : ℕ) (c : Happening) → commands_by c ≡ 0 → commands_by_all (replicate n c) ≡ 0
 none_by zero c none = refl
 none_by (suc n) c none = let rest = none_by n c none in omega (arith, none, rest)
 
 damaged_by : (e : End) (o : Option Verdict) → commands_by_all (happens_by e o) ≡ 0
-damaged_by e None = refl
-damaged_by e (Some Same) = refl
-damaged_by e (Some _) = refl
+damaged_by e o = grind arith
 
 line_most : (header : Header) (w : NodeWorld) (l : Line) → IsNodeLineOf header l → commands_by_all (happenings w l) ≤ 234 * asking l
 line_most header w (line.Deliver e count) is = let none = none_by (taken_of count (frames_at w e)) (Takes e) refl in omega (arith, none)
@@ -535,8 +515,7 @@ happened_most [] w = omega arith
 happened_most (c ∷ causes) w = by_test (can_happen w c) (λ q. rw q (omega (arith, happened_most causes (world_step w c).0))) (λ q. rw q (omega arith))
 
 told_none : (n : ℕ) (o : Option Running) → commands_by_events (occurrences_of (tables_told n o)) ≡ 0
-told_none n None = refl
-told_none n (Some r) = refl
+told_none n o = grind arith
 
 goes_most : (w : NodeWorld) (l : Line) → commands_by_events (occurrences_of (goes_on w l).1) ≤ commands_by_all (happenings w l)
 goes_most w (line.Tables n) = let none = told_none n (node_at w n) in omega (arith, none)

@@ -1,34 +1,30 @@
 -- What a node notes in a step is paid for, and the numbers of sessions that are noted are no greater than how many RSETs were made.
-use Rattle.node_laws.proofs.Words.{Acked, Activate, AllByRecursion, AreHosts, ArePlayable, AsksReset, AtController, AtEnd, AtHost, Bool, Comes, Commits}
-use Rattle.node_laws.proofs.Words.{Control, Controller, Core, Creation, Cut, CutOff, Deed, EndEvent, Ending, Entry, FetchMessage, FollowsNodes, Give, GoesOut}
-use Rattle.node_laws.proofs.Words.{Got, HasTick, Header, Hold, Host, IsLine, IsLinkTold, IsStart, Line, Link, LinkEnd, LinkEvent, LinkInput, List, Lose, Loss}
-use Rattle.node_laws.proofs.Words.{Message, NextFrame, NoInput, Node, NodeHistory, NodeInput, None, NumberedEnd, Occurrence, OnWire, Option, Port, Releases}
-use Rattle.node_laws.proofs.Words.{Report, Reset, Response, Restarted, Sent, Site, Some, Start, Starts, Step, Stop, Stops, Sync, Take, TicksWithout, TimePasses}
-use Rattle.node_laws.proofs.Words.{TooMany, Turn, Work, [], after_input, after_link_events, after_sessions, after_turn, aged, aged_entries, all_at_controller}
-use Rattle.node_laws.proofs.Words.{all_come, all_done, all_owed, ap, arith, asked_at, begins_with, by_list, by_option, by_test, comes_to_pass, cond, cond_both}
-use Rattle.node_laws.proofs.Words.{controller_deeds, deactivated, deeds_of, end_of, end_of_node, end_view, ended_by, ending_entries, entries, entries_for}
-use Rattle.node_laws.proofs.Words.{entries_in, entries_of_events, entry_of, eqb, event_entries, event_of, exchanged, false, far, filter, filter_map, finds_room}
-use Rattle.node_laws.proofs.Words.{finished, first_lost, flat_map, forgets, forgotten, frames_out, give_refusal, goes_through_ends, handles, happens}
-use Rattle.node_laws.proofs.Words.{happens_at_controller, has_come, has_input, has_restarted, has_taken, have_turns, here_entries, host_deeds, input_at}
-use Rattle.node_laws.proofs.Words.{input_entries, is_forgotten, is_kept_sync, is_late, is_over, is_over_at, is_rset, is_some, is_up, lack, left_after, length}
-use Rattle.node_laws.proofs.Words.{length-map, link_after_all, list_any, map, nat_lt, needs, new_line, new_link_end, new_world, not, noting, number_of}
+use Rattle.node_laws.proofs.Words.{Activate, AllByRecursion, AreHosts, ArePlayable, AsksReset, AtController, AtEnd, AtHost, Bool, Comes, Control, Controller}
+use Rattle.node_laws.proofs.Words.{Core, Creation, CutOff, Deed, EndEvent, Ending, Entry, FetchMessage, FollowsNodes, GoesOut, HasTick, Header, Hold, Host}
+use Rattle.node_laws.proofs.Words.{IsLine, IsLinkTold, IsStart, Line, Link, LinkEnd, LinkEvent, LinkInput, List, Lose, Loss, Message, NextFrame, NoInput, Node}
+use Rattle.node_laws.proofs.Words.{NodeHistory, NodeInput, None, NumberedEnd, Occurrence, OnWire, Option, Port, Releases, Report, Reset, Response, Site, Some}
+use Rattle.node_laws.proofs.Words.{Start, Starts, Step, Stop, Stops, Take, TicksWithout, TimePasses, TooMany, Turn, Work, [], after_input, after_link_events}
+use Rattle.node_laws.proofs.Words.{after_sessions, after_turn, aged, aged_entries, all_at_controller, all_come, all_done, all_owed, ap, arith, asked_at}
+use Rattle.node_laws.proofs.Words.{begins_with, by_list, by_option, by_test, comes_to_pass, cond, cond_both, controller_deeds, deactivated, deeds_of}
+use Rattle.node_laws.proofs.Words.{end_of_node, end_view, ended_by, ending_entries, entries, entries_for, entries_in, entries_of_events, entry_of, eqb}
+use Rattle.node_laws.proofs.Words.{event_entries, event_of, exchanged, false, far, filter, filter_map, finished, first_lost, flat_map, forgets, forgotten}
+use Rattle.node_laws.proofs.Words.{frames_out, goes_through_ends, handles, happens, happens_at_controller, has_come, has_input, has_restarted, has_taken}
+use Rattle.node_laws.proofs.Words.{have_turns, here_entries, host_deeds, input_at, input_entries, is_late, is_over, is_over_at, is_rset, is_some, is_up, lack}
+use Rattle.node_laws.proofs.Words.{left_after, length, length-map, link_after_all, map, nat_lt, needs, new_line, new_world, not, noting, number_of}
 use Rattle.node_laws.proofs.Words.{occurrences_in, of_link, option_map, option_map_or, owed, own_side, own_view, passes, port_at, pushed_out, put, put_all}
-use Rattle.node_laws.proofs.Words.{put_entries, puts_entries, refl, renewed, report, reset_late, rest_entries, restart_entries, sent_all, silent, site_at}
-use Rattle.node_laws.proofs.Words.{started, step_entries, steps, steps_at_controller, subst, sym, synced, taken_entries, tick_entries, ticks_at_controller}
-use Rattle.node_laws.proofs.Words.{times_out, told, told_at, told_late, told_of, took_with, true, turn, turn_at, turn_entries, turn_entry, turned, unless_cut}
-use Rattle.node_laws.proofs.Words.{view_of, whole_acked, wire_with, with_desk, with_ended, with_older, without_notice, world_behind, ℕ, ◌&&◌, ◌++◌, ◌+◌, ◌==◌}
-use Rattle.node_laws.proofs.Words.{◌∙◌, ◌∷◌, ◌≡◌, ◌≤◌}
+use Rattle.node_laws.proofs.Words.{put_entries, puts_entries, refl, report, reset_late, rest_entries, restart_entries, silent, site_at, started, step_entries}
+use Rattle.node_laws.proofs.Words.{steps, steps_at_controller, subst, sym, synced, taken_entries, tick_entries, ticks_at_controller, times_out, told, told_at}
+use Rattle.node_laws.proofs.Words.{told_late, told_of, took_with, true, turn, turn_at, turn_entries, turn_entry, turned, unless_cut, view_of, whole_acked}
+use Rattle.node_laws.proofs.Words.{wire_with, with_desk, with_ended, with_older, without_notice, world_behind, ℕ, ◌++◌, ◌+◌, ◌==◌, ◌∙◌, ◌∷◌, ◌≡◌, ◌≤◌}
 use Rattle.history.proofs.RsetsInBareWorlds.{numbers_in_bare}
 use Rattle.history.proofs.legal.Sessions.{IsRun, is_run, link_events, run_entries}
 use Rattle.history.specs.BareRsets.{rsets_by_all_bare}
 use Rattle.history.specs.Follows.{Follows, host_of}
 use Rattle.history.specs.Histories.{Cause, History, all_entries, all_events, causes_of}
 use Rattle.history.specs.Steps.{bare_link, link_after}
-use Rattle.link_laws.proofs.messages.RsetNumbers.{aged_numbered, all_numbered, event_numbered, exchanged_numbered, here_numbered, number_low, silent_numbered}
-use Rattle.link_laws.proofs.messages.RsetNumbers.{start_numbered, steps_numbered, tick_numbered, took_low}
+use Rattle.link_laws.proofs.messages.RsetNumbers.{aged_numbered, all_numbered, event_numbered, exchanged_numbered, here_numbered, number_low, start_numbered}
+use Rattle.link_laws.proofs.messages.RsetNumbers.{steps_numbered, tick_numbered}
 use Rattle.link_laws.specs.entries.Entries.{End, End as Side, Entry as LinkEntry, trace}
-use Rattle.link_laws.specs.entries.Entries.Entry.{Tick, Up}
-use Rattle.link_laws.specs.messages.Links.{with_controller}
 use Rattle.link_laws.specs.messages.Links.IsStart.{IsBare}
 use Rattle.link_laws.specs.messages.Links.LinkEvent.{Ticks}
 use Rattle.link_laws.specs.messages.Rsets.{HasLowNumbers, NumbersWithin}
@@ -36,9 +32,9 @@ use Rattle.registry.proofs.ValueLemmas.{AllByRecursion-append as each_append, Al
 use Rattle.trace_model.specs.Lines.{IsLineOf}
 use Rattle.node_laws.specs.bounds.Resets.{AreNotedWithin, AreSessionsWithin, NotedWithin, SessionWithin}
 use Rattle.node_laws.specs.rsets.Causes.{NumbersWithinOnEach, happened_in, rsets_by_all}
-use Rattle.node_laws.proofs.bounds.Turns.{Owes, all_owe, answer_free, controller_pays, core_holds, costs, costs-append, ended, holds_at, host_pays}
-use Rattle.node_laws.proofs.bounds.Turns.{is_host_side, kept, less, map_less, message_cost, noted, notice_holds, ported, stays_at, told_free}
-use Rattle.node_laws.proofs.bounds.Turns.{turned as turned_of_deeds, weights, weights-append, with_less}
+use Rattle.node_laws.proofs.bounds.Turns.{Owes, all_owe, controller_pays, core_holds, costs, costs-append, ended, holds_at, host_pays, is_host_side, kept, less}
+use Rattle.node_laws.proofs.bounds.Turns.{map_less, message_cost, noted, notice_holds, ported, stays_at, told_free, turned as turned_of_deeds, weights}
+use Rattle.node_laws.proofs.bounds.Turns.{weights-append, with_less}
 use Rattle.node_laws.proofs.bounds.Syncs.{sync_told}
 use Rattle.node_laws.proofs.order.Lines.{history_so}
 use Rattle.node_laws.proofs.rsets.InWorlds.{numbers_behind}
@@ -55,10 +51,6 @@ module _ (side : Side) (all : ℕ) where
   -- what a message pays at an end of this side
   abbrev turn_pay : Message → ℕ
   turn_pay m = message_cost (not (is_host_side side)) m.0 m.1
-
-  pay_is : (h : ℕ) (m : Message) (s : Side) → message_cost (not (end_of h s).at_host) m.0 m.1 ≡ message_cost (not (is_host_side s)) m.0 m.1
-  pay_is h m Controller = refl
-  pay_is h m Host = refl
 
   pub marked : (left h : ℕ) (flag : Bool) (w : Work) → Owes side left all w → Owes side left all (with_desk h (λ d. record d { holds = flag }) w)
   marked left h flag w a =
@@ -90,8 +82,7 @@ module _ (side : Side) (all : ℕ) where
   pub handled : (h : ℕ) (m : Message) (w : Work) → Owes side 0 all w → Owes side 0 all (handles h m (deeds_of w.core w.ports h m) w)
   handled h m w a =
       let es : List Entry = entry.Turn (end_of_node w.core h) m.0 m.1 ∷ [] in
-      let pays_it : message_cost (not (end_of_node w.core h).at_host) m.0 m.1 ≡ turn_pay side all m =
-      pay_is side all h m (own_side w.core) ∙ ap (λ s. turn_pay s all m) a.side_is in
+      let pays_it : message_cost (not (end_of_node w.core h).at_host) m.0 m.1 ≡ turn_pay side all m = grind arith in
       let told : Owes side (turn_pay side all m) all (noting es w) = noted side all (turn_pay side all m) 0 es w (omega (arith, pays_it)) a in
       let fetched : Work = turn_at h FetchMessage (noting es w) in
       let f : Port → Port = λ p. record p { desk = record p.desk { holds = false } } in
@@ -123,13 +114,11 @@ forgotten_weigh : (side : Side) (ports : List Port) → weights side (forgotten 
 forgotten_weigh side ports = releases_weigh side (filter (λ (c : Creation). is_over_at ports c.asker) (filter_map asked_at ports))
 
 owed_weigh : (side : Side) (r : Response) (o : Option Creation) → weights side (owed r o) ≡ 0
-owed_weigh side r None = refl
-owed_weigh side r (Some c) = let none = answer_free (is_host_side side) 1 r [] in omega (arith, none)
+owed_weigh side r o = grind arith
 
 flat_weigh : {X : Type 0} (side : Side) (f : X → List Deed) → ((x : X) → weights side (f x) ≡ 0) → (xs : List X) → weights side (flat_map f xs) ≡ 0
 flat_weigh side f one [] = refl
-flat_weigh side f one (x ∷ xs) =
-    omega (arith, weights-append side (f x) (flat_map f xs), one x, flat_weigh side f one xs)
+flat_weigh side f one (x ∷ xs) = omega (arith, weights-append side (f x) (flat_map f xs), one x, flat_weigh side f one xs)
 
 all_owed_weigh : (side : Side) (ports : List Port) → weights side (all_owed ports) ≡ 0
 all_owed_weigh side ports =
@@ -149,13 +138,7 @@ syncs_told input (p ∷ ports) = option_map_or (λ i. sync_told (report p.side i
 -- each costs one command at most
 synced_weighs : (side : Side) (core : Core) (input : NodeInput) (p : Port)
     → weights side (synced core input p) ≤ option_map_or (λ i. sync_told (report p.side i).sync) (input_at input p) 0
-synced_weighs side core input p = by_option (input_at input p)
-    (λ q. rw q (omega arith))
-    (λ i q. rw q (by_option (report p.side i).sync
-    (λ q. rw q (omega arith))
-    (λ id q. rw q (cond_both (not (is_kept_sync core.tables.syncs p.desk.host id) && finds_room core (Sync p.desk.host id))
-    (Commits (Sync p.desk.host id) ∷ []) []
-    (λ deeds. weights side deeds ≤ 1) (λ _. omega arith) (λ _. omega arith)))))
+synced_weighs side core input p = grind arith
 
 all_synced : (side : Side) (core : Core) (input : NodeInput) (ports : List Port) → weights side (flat_map (synced core input) ports) ≤ syncs_told input ports
 all_synced side core input [] = omega arith
@@ -178,27 +161,22 @@ flat_costs f one (x ∷ xs) =
     let both = costs-append (f x) (flat_map f xs) in let first = one x in let rest = flat_costs f one xs in omega (arith, both, first, rest)
 
 come_desk : (p : Port) (o : Option LinkInput) → notice_holds (has_come p o).desk.notice ≤ notice_holds p.desk.notice
-come_desk p None = omega arith
-come_desk p (Some i) = omega arith
+come_desk p o = grind arith
 
 older_desk : (p : Port) → notice_holds (with_older p).desk.notice ≤ notice_holds p.desk.notice
 older_desk p = by_option p.desk.notice (λ q. rw q (omega arith)) (λ n q. rw q (omega arith))
 
 late_desk : (p : Port) → notice_holds (reset_late p).desk.notice ≤ notice_holds p.desk.notice
-late_desk p =
-    cond_both (is_late p) _ p (λ (q : Port). notice_holds q.desk.notice ≤ notice_holds p.desk.notice) (λ _. omega arith) (λ _. omega arith)
+late_desk p = grind arith
 
 forgets_desk : (ports : List Port) (p : Port) → notice_holds (forgets ports p).desk.notice ≤ notice_holds p.desk.notice
-forgets_desk ports p =
-    cond_both (is_forgotten ports (asked_at p)) _ p (λ (q : Port). notice_holds q.desk.notice ≤ notice_holds p.desk.notice)
-    (λ _. by_option p.desk.notice (λ q. rw q (omega arith)) (λ n q. rw q (omega arith))) (λ _. omega arith)
+forgets_desk ports p = grind arith
 
 without_desk : (p : Port) → notice_holds (without_notice p).desk.notice ≤ notice_holds p.desk.notice
 without_desk p = cond_both (is_over p) _ p (λ (q : Port). notice_holds q.desk.notice ≤ notice_holds p.desk.notice) (λ _. omega arith) (λ _. omega arith)
 
 sessions_hold : (core : Core) (ports : List Port) → core_holds (after_sessions core ports) ≤ core_holds core
-sessions_hold core ports =
-    cond_both (list_any is_over ports) _ core (λ (c : Core). core_holds c ≤ core_holds core) (λ _. omega arith) (λ _. omega arith)
+sessions_hold core ports = grind arith
 
 -- ### Steps
 
@@ -261,11 +239,7 @@ module _ (side : Side) (all : ℕ) where
 -- ### Lists
 
 within_more : (m n : ℕ) → m ≤ n → (x : LinkEntry) → NotedWithin m x → NotedWithin n x
-within_more m n q (Up who k) a = omega (arith, q, a)
-within_more m n q (Acked who k count) a = omega (arith, q, a)
-within_more m n q (Got who k message) a = omega (arith, q, a)
-within_more m n q (Sent who k message) a = omega (arith, q, a)
-within_more m n q _ a = tt
+within_more m n q x a = grind arith
 
 more : (m n : ℕ) (t : List LinkEntry) → m ≤ n → AreNotedWithin m t → AreNotedWithin n t
 more m n [] q a = tt
@@ -280,8 +254,7 @@ input_told : (n : ℕ) (who : End) (h : NumberedEnd) (i : LinkInput) → number_
 input_told n who h i q = told_within n who (number_of h) (report h.side i) (whole_acked (after_input h.side i)) q
 
 turn_within : (n : ℕ) (who : End) (k : ℕ) (e : LinkEnd) (t : Turn) → k ≤ n → AreNotedWithin n (turn_entry who k e t)
-turn_within n who k e (Give m) q = by_option (give_refusal e m) (λ is. rw is (q, tt)) (λ why is. rw is tt)
-turn_within n who k e _ q = tt
+turn_within n who k e t q = grind arith
 
 turns_within : (n : ℕ) (who : End) (k : ℕ) (ts : List Turn) (e : LinkEnd) → k ≤ n → AreNotedWithin n (turn_entries who k e ts)
 turns_within n who k [] e q = tt
@@ -291,8 +264,7 @@ turns_within n who k (t ∷ ts) e q =
 -- ### Frames
 
 lost_within : (n : ℕ) (who : End) (why : Loss) (wire : List OnWire) → AreNotedWithin n (first_lost who why wire)
-lost_within n who why [] = tt
-lost_within n who why (x ∷ wire) = (tt, tt)
+lost_within n who why wire = grind arith
 
 pushed_within : (n : ℕ) (who : End) (wire : List OnWire) → AreNotedWithin n (pushed_out who wire)
 pushed_within n who wire = by_test (nat_lt 64 (length wire)) (λ q. rw q (lost_within n who TooMany wire)) (λ q. rw q tt)
@@ -320,8 +292,7 @@ rest_within n who l e ts ending q =
     (turns_within n who (number_of l.controller) ts e q) (ending_within n who l (turned e ts) ending)
 
 ended_number : (l : Link) (b : Bool) → number_of (with_ended l b).controller ≡ number_of l.controller
-ended_number l true = refl
-ended_number l false = refl
+ended_number l b = grind arith
 
 input_within : (who : End) (l : Link) (i : LinkInput) (ts : List Turn) (ending : Ending) → HasLowNumbers l
     → AreNotedWithin l.resets (input_entries who l i ts ending)
@@ -348,8 +319,7 @@ taken_within who l x xs ts ending q a =
     wire = rw q at a.to_controller
 
     heard : number_of (record l.controller { took = took_with l.controller.took x }) ≤ l.resets
-    heard =
-        let t = took_low l.resets l.controller.took x a.controller.took wire.0 in let e = a.controller.emitted in omega (arith, t, e)
+    heard = grind arith
 
 silent_resets : (l : Link) (e : LinkEnd) → (silent l e).resets ≡ l.resets
 silent_resets l e = by_test (is_up l.controller.side.shdlc.phase) (λ q. rw q refl) (λ q. rw q refl)
@@ -365,8 +335,7 @@ restart_within who l i ts ending a =
     )
   where
     silent_low : (e : LinkEnd) → number_of (silent l e).controller ≤ l.resets
-    silent_low e =
-        omega (arith, number_low (silent l e).resets (silent l e).controller (silent_numbered l e a).controller, silent_resets l e)
+    silent_low e = grind arith
 
 step_within : (who : End) (l : Link) (comes : Comes) (ts : List Turn) (ending : Ending) → HasLowNumbers l
     → AreNotedWithin l.resets (step_entries who l comes ts ending)
@@ -391,13 +360,11 @@ puts_grow [] l = omega arith
 puts_grow (c ∷ cs) l = let z = puts_grow cs (put l c) in let o = put_grows l c in omega (arith, z, o)
 
 ended_resets : (l : Link) (b : Bool) → (with_ended l b).resets ≡ l.resets
-ended_resets l true = refl
-ended_resets l false = refl
+ended_resets l b = grind arith
 
 finished_grows : (l : Link) (e : LinkEnd) (ending : Ending) → l.resets ≤ (finished l e ending).resets
 finished_grows l e GoesOut = puts_grow (frames_out e) l
-finished_grows l e CutOff =
-    omega (arith, silent_resets (with_controller l (sent_all e)) (new_link_end (renewed e.role)))
+finished_grows l e CutOff = grind arith
 
 input_grows : (l : Link) (i : LinkInput) (ts : List Turn) (ending : Ending) → l.resets ≤ (has_input l i ts ending).resets
 input_grows l i ts ending =
@@ -520,14 +487,7 @@ run_within l start events = events_within events l (start_numbered l start)
 -- ### As entries of a transcript
 
 one_entry : (h n : ℕ) (x : LinkEntry) → NotedWithin n x → AreSessionsWithin n (entry_of h x)
-one_entry h n (Up who k) a = (a, tt)
-one_entry h n (Acked who k count) a = (a, tt)
-one_entry h n (Got who k m) a = (a, tt)
-one_entry h n (Sent who k m) a = (a, tt)
-one_entry h n Tick a = tt
-one_entry h n (Restarted who) a = tt
-one_entry h n (Cut who) a = tt
-one_entry h n _ a = (tt, tt)
+one_entry h n x a = grind arith
 
 entries_within : (h n : ℕ) (t : List LinkEntry) → AreNotedWithin n t → AreSessionsWithin n (entries_for h t)
 entries_within h n [] a = tt
@@ -540,9 +500,7 @@ entries_within h n (x ∷ t) a = each_append (SessionWithin n) (entry_of h x) (e
 found : (n h : ℕ) (s : Site) (sites : List Site) → NumbersWithinOnEach n sites → site_at sites h ≡ Some s → NumbersWithin n s.link
 found n h s [] a q = cc
 found n h s (x ∷ sites) a q = by_test (x.host == h)
-    (λ r. let is : Some x ≡ Some s = rw r at q in
-    let one : x ≡ s = cc in
-    subst (λ (y : Site). NumbersWithin n y.link) one a.0)
+    (λ r. grind arith)
     (λ r. found n h s sites a.1 (rw r at q))
 
 -- what is told of a link on which few RSETs were put

@@ -1,25 +1,22 @@
 -- Identifiers of UICCs: those that an end may still send, those on a link, and that hosts between events have none to send again.
 use Rattle.node_laws.proofs.Words.{ActDue, ActEvent, ActFrame, ActOut, ActStart, ActStop, ActTake, ActTick, AllAllowed, AllByRecursion, Asked, AsksReset}
-use Rattle.node_laws.proofs.Words.{AtController, AtHost, Awaiting, Bare, Bool, Clf, Clt, Comes, Control, CutOff, EndState, Ending, Fetch, FromNode, Give}
-use Rattle.node_laws.proofs.Words.{GoesOut, Good, I, Inactive, IsClf, IsLine, IsRun, IsUicc, Link, LinkEnd, LinkEvent, LinkInput, LinkState, List, Lose, Loss}
-use Rattle.node_laws.proofs.Words.{NextFrame, NoInput, None, NumberedEnd, OnWire, Option, Phase, PowerMode, Reached, Ready, Reset, Role, Rset, S, SetAside}
-use Rattle.node_laws.proofs.Words.{Site, Some, Start, Starts, Step, Stop, Stops, SyncId, Take, TakeBroken, TakeUnknown, Tick, Turn, Ua, Uicc, UiccAct, Up}
-use Rattle.node_laws.proofs.Words.{Waiting, [], act_answer, act_event, act_out, activated, after_input, after_link_events, aged, aged_wire, all_so, ap, arith}
-use Rattle.node_laws.proofs.Words.{aside_refusal, by_list, by_option, by_test, clf_step, cond, cond_both, core_event, core_of, deactivated, drop, ended_by}
-use Rattle.node_laws.proofs.Words.{event_step, exchanged, false, finished, fits, frames_out, give_refusal, happens, happens_at_controller, has_input, heard}
-use Rattle.node_laws.proofs.Words.{if_up, in_front, is_faulty, is_open, is_rset, is_some, is_waiting, leb-false, left_after, length, map, most_frames, moved}
-use Rattle.node_laws.proofs.Words.{nat_le, nat_lt, new_line, no_act_out, not, out_ticked, put, put_all, put_down, reached_more, refl, renewed, report}
+use Rattle.node_laws.proofs.Words.{AtController, AtHost, Awaiting, Bare, Bool, Clf, Clt, Comes, Control, CutOff, EndState, Ending, Fetch, FromNode, GoesOut}
+use Rattle.node_laws.proofs.Words.{Good, I, Inactive, IsLine, IsRun, IsUicc, Link, LinkEnd, LinkEvent, LinkInput, LinkState, List, Lose, Loss, NextFrame}
+use Rattle.node_laws.proofs.Words.{NoInput, None, NumberedEnd, OnWire, Option, Phase, Reached, Reset, Role, Rset, S, Site, Some, Start, Starts, Step, Stop}
+use Rattle.node_laws.proofs.Words.{Stops, SyncId, Take, TakeBroken, TakeUnknown, Tick, Turn, Ua, Uicc, UiccAct, Up, Waiting, [], act_answer, activated}
+use Rattle.node_laws.proofs.Words.{after_input, after_link_events, aged, aged_wire, all_so, ap, arith, by_list, by_option, by_test, cond, cond_both, core_event}
+use Rattle.node_laws.proofs.Words.{core_of, deactivated, drop, ended_by, event_step, exchanged, false, finished, fits, frames_out, happens}
+use Rattle.node_laws.proofs.Words.{happens_at_controller, has_input, heard, if_up, in_front, is_faulty, is_open, is_rset, is_some, is_waiting, left_after}
+use Rattle.node_laws.proofs.Words.{length, map, most_frames, moved, nat_lt, new_line, not, put, put_all, put_down, reached_more, refl, renewed, report}
 use Rattle.node_laws.proofs.Words.{reset_refusal, reset_with, role_after, silent, start_good, start_reached, started, steps_at_controller, stopped, subst, suc}
 use Rattle.node_laws.proofs.Words.{sym, take, take_answer, taken, tick_answer, ticked, ticked_so, ticks_at_controller, took, true, turn, turned, uicc_step}
-use Rattle.node_laws.proofs.Words.{window_of, with_act, with_ended, zero, ℕ, ◌&&◌, ◌++◌, ◌+◌, ◌-◌, ◌<◌, ◌∙◌, ◌∷◌, ◌≡◌, ◌≤◌}
-use Rattle.link_laws.proofs.messages.ActsInOrder.{ActsInOrder, NoActs, Without, is_again, no_acts}
+use Rattle.node_laws.proofs.Words.{window_of, with_act, with_ended, zero, ℕ, ◌&&◌, ◌++◌, ◌+◌, ◌-◌, ◌∙◌, ◌∷◌, ◌≡◌, ◌≤◌}
+use Rattle.link_laws.proofs.messages.ActsInOrder.{NoActs, no_acts}
 use Rattle.link_laws.proofs.messages.Project.{beside-put_all}
 use Rattle.link_laws.specs.machine.Machine.{among}
 use Rattle.link_laws.specs.sessions.Losses.{is_act}
 use Rattle.shdlc_core.specs.declared.answers.LinkState.TheVariants.{Down}
-use Rattle.swp_act.specs.Activation.{clf_readied, clf_synced, phase_ticked, uicc_powered}
 use Rattle.swp_act.specs.declared.Phase.TheVariants.{Active}
-use Rattle.swp_act.specs.declared.clf.ClfAct.{ClfAct}
 use Rattle.swp_base.specs.declared.control_frames.Act.{Act}
 use Rattle.node_laws.proofs.links.Sites.{here_host}
 use Rattle.node_laws.proofs.links.Worlds.{IsFineSite}
@@ -81,42 +78,9 @@ abbrev IsOnce : ActEvent → Type 0
 IsOnce (ActTake act again) = again ≡ false
 IsOnce _ = Unit {0}
 
-one_most : (o : Option Act) → sync_act o ≤ 1
-one_most None = omega arith
-one_most (Some Ready) = omega arith
-one_most (Some _) = omega arith
-
 uicc_sends : (s : UiccAct) (event : ActEvent) → IsOnce event
     → sync_act (uicc_step s event).1.send + tries_left (uicc_step s event).0.phase ≤ tries_left s.phase + start_event event
-uicc_sends s (ActStart value) once = omega arith
-uicc_sends s (ActTake act true) once = absurd (cc once)
-uicc_sends s (ActTake Ready false) once = omega arith
-uicc_sends s (ActTake (SyncId id) false) once = omega arith
-uicc_sends s (ActTake (PowerMode code) false) once =
-    cond_both (nat_le code 1) (uicc_powered s.phase s) (s, no_act_out)
-    (λ (r : UiccAct × ActOut). sync_act r.1.send + tries_left r.0.phase ≤ tries_left s.phase + 0) (λ _. powered s.phase) (λ _. omega arith)
-  where
-    powered : (p : Phase) → sync_act (uicc_powered p s).1.send + tries_left (uicc_powered p s).0.phase ≤ tries_left s.phase + 0
-    powered Inactive = omega arith
-    powered _ = omega arith
-uicc_sends s ActTick once = ticks s.phase where
-  ticks : (p : Phase) → sync_act (out_ticked p s.last).send + tries_left (phase_ticked p) ≤ tries_left p + 0
-  ticks Inactive = omega arith
-  ticks (Awaiting tries t) = tenth (nat_le 10 (t + 1)) (nat_le 3 tries) refl where
-    again : ActOut
-    again = record { send = s.last; became_active = false; ended_link = false; sync = None; gave_up = None }
-
-    gives_up : ActOut
-    gives_up = record { send = None; became_active = false; ended_link = false; sync = None; gave_up = Some 3 }
-
-    tenth : (b c : Bool) → nat_le 3 tries ≡ c
-        → (sync_act (cond b (cond c gives_up again) no_act_out).send + tries_left
-        (cond b (cond c Inactive (Awaiting (tries + 1) 0)) (Awaiting tries (t + 1))) ≤ tries_left (Awaiting tries t) + 0)
-    tenth false c q = omega arith
-    tenth true true q = omega arith
-    tenth true false q = let most = one_most s.last in let few : tries < 3 = leb-false 3 tries q in omega (arith, most, few)
-  ticks Active = omega arith
-uicc_sends s ActStop once = omega arith
+uicc_sends s event once = grind arith
 
 -- ### Ends
 
@@ -125,8 +89,7 @@ with_due None e = omega arith
 with_due (Some act) e = let both = due-append e.acts (record { frame = act; behind = length e.shdlc.due } ∷ []) in omega (arith, both)
 
 with_role : (o : Option Act) (e : LinkEnd) → (with_act o e).role ≡ e.role
-with_role None e = refl
-with_role (Some act) e = refl
+with_role o e = grind arith
 
 moved_sends : (e : LinkEnd) (b : Bool) (s : EndState) → may_send (moved e b s) ≡ may_send e
 moved_sends e true s = ap (λ n. n + tries_of e.role) (due_front e.acts)
@@ -145,16 +108,7 @@ down_due true e = by e.shdlc.phase where
   by _ = due_front e.acts
 
 down_role : (b : Bool) (e : LinkEnd) → (put_down b e).role ≡ e.role
-down_role false e = refl
-down_role true e = by e.shdlc.phase where
-  by_phase : LinkState → LinkEnd
-  by_phase Up = moved e true (stopped e.shdlc)
-  by_phase Waiting = moved e true (stopped e.shdlc)
-  by_phase Down = record e { shdlc = record e.shdlc { due = [] }; acts = map in_front e.acts }
-
-  by : (p : LinkState) → (by_phase p).role ≡ e.role
-  by Up = refl
-  by _ = refl
+down_role b e = grind arith
 
 activated_sends : (e : LinkEnd) (event : ActEvent) → IsUicc e.role → IsOnce event → may_send (activated e event) ≤ may_send e + start_event event
 activated_sends e event is once = by e.role refl is where
@@ -209,8 +163,7 @@ took_sends e Ua is once = open_sends e Ua
 
 restarted_sends : (e : LinkEnd) (event : ActEvent) → IsUicc e.role → IsOnce event
     → may_send (activated (moved e true (stopped e.shdlc)) event) ≤ may_send e + start_event event
-restarted_sends e event is once =
-    omega (arith, activated_sends (moved e true (stopped e.shdlc)) event is once, moved_sends e true (stopped e.shdlc))
+restarted_sends e event is once = omega (arith, activated_sends (moved e true (stopped e.shdlc)) event is once, moved_sends e true (stopped e.shdlc))
 
 input_sends : (e : LinkEnd) (i : LinkInput) → IsUicc e.role → ComesOnce i → may_send (after_input e i) ≤ may_send e + start_of i
 input_sends e (Take c) is once = took_sends e c is once
@@ -230,9 +183,7 @@ input_sends e (FromNode t) is once = absurd once
 input_sends e Fetch is once = absurd once
 
 turn_sends : (e : LinkEnd) (t : Turn) → may_send (turn e t) ≡ may_send e
-turn_sends e (Give m) = by_option (give_refusal e m) (λ q. rw q refl) (λ why q. rw q refl)
-turn_sends e SetAside = by_option (aside_refusal e) (λ q. rw q refl) (λ why q. rw q refl)
-turn_sends e _ = refl
+turn_sends e t = grind arith
 
 turned_sends : (e : LinkEnd) (ts : List Turn) → may_send (turned e ts) ≡ may_send e
 turned_sends e [] = refl
@@ -249,71 +200,13 @@ abbrev pub input_sync : LinkInput → ℕ
 input_sync (Take c) = sync_frame c
 input_sync _ = 0
 
-abbrev event_sync : ActEvent → ℕ
-event_sync (ActTake (SyncId id) again) = 1
-event_sync _ = 0
-
-tick_none : (p : Phase) (last : Option Act) → sync_told (out_ticked p last).sync ≡ 0
-tick_none Inactive last = refl
-tick_none (Awaiting tries ticks) last =
-    cond_both (nat_le 10 (ticks + 1)) _ no_act_out (λ (out : ActOut). sync_told out.sync ≡ 0)
-    (λ _. cond_both (nat_le 3 tries) _ _ (λ (out : ActOut). sync_told out.sync ≡ 0) (λ _. refl) (λ _. refl)) (λ _. refl)
-tick_none Active last = refl
-
-uicc_none : (s : UiccAct) (event : ActEvent) → sync_told (uicc_step s event).1.sync ≡ 0
-uicc_none s (ActStart value) = refl
-uicc_none s (ActTake act true) = refl
-uicc_none s (ActTake Ready false) = refl
-uicc_none s (ActTake (SyncId id) false) = refl
-uicc_none s (ActTake (PowerMode code) false) =
-    cond_both (nat_le code 1) (uicc_powered s.phase s) (s, no_act_out) (λ (r : UiccAct × ActOut). sync_told r.1.sync ≡ 0) (λ _. powered s.phase) (λ _. refl)
-  where
-    powered : (p : Phase) → sync_told (uicc_powered p s).1.sync ≡ 0
-    powered Inactive = refl
-    powered _ = refl
-uicc_none s ActTick = tick_none s.phase s.last
-uicc_none s ActStop = refl
-
-clf_tells : (s : ClfAct) (event : ActEvent) → sync_told (clf_step s event).1.sync ≤ event_sync event
-clf_tells s (ActStart value) = omega arith
-clf_tells s (ActTake Ready true) = omega arith
-clf_tells s (ActTake _ true) = omega arith
-clf_tells s (ActTake Ready false) = by s.phase where
-  by : (p : Phase) → sync_told (clf_readied p s).1.sync ≤ 0
-  by Inactive = omega arith
-  by _ = omega arith
-clf_tells s (ActTake (SyncId id) false) = by s.phase where
-  by : (p : Phase) → sync_told (clf_synced p s id).1.sync ≤ 1
-  by Inactive = omega arith
-  by _ = omega arith
-clf_tells s (ActTake (PowerMode code) false) = omega arith
-clf_tells s ActTick = let none = tick_none s.phase s.last in omega (arith, none)
-clf_tells s ActStop = omega arith
-
-role_tells : (r : Role) (event : ActEvent) → sync_told (act_answer r event).sync ≤ event_sync event
-role_tells Bare event = omega arith
-role_tells (Clf s) event = clf_tells s event
-role_tells (Uicc s) event = let none = uicc_none s event in omega (arith, none)
-
 -- an end tells of an identifier only as a frame with one comes
 pub near_tells : (e : LinkEnd) (i : LinkInput) → sync_told (report e i).sync ≤ input_sync i
-near_tells e (Take (ActFrame Ready again)) = role_tells e.role (ActTake Ready again)
-near_tells e (Take (ActFrame (SyncId id) again)) = role_tells e.role (ActTake (SyncId id) again)
-near_tells e (Take (ActFrame (PowerMode code) again)) = role_tells e.role (ActTake (PowerMode code) again)
-near_tells e (Take _) = omega arith
-near_tells e Tick = by_test (is_open e.role) (λ q. rw q (omega arith)) (λ q. rw q (role_tells e.role ActTick))
-near_tells e (Start value) = role_tells e.role (ActStart value)
-near_tells e Stop = role_tells e.role ActStop
-near_tells e _ = omega arith
+near_tells e i = grind arith
 
 -- that of a host never does
 pub far_tells : (e : LinkEnd) (i : LinkInput) → IsUicc e.role → sync_told (report e i).sync ≡ 0
-far_tells e i is = by e.role (act_event e i) is where
-  by : (r : Role) (o : Option ActEvent) → IsUicc r → sync_told (act_out r o).sync ≡ 0
-  by r None is = refl
-  by Bare (Some event) is = absurd is
-  by (Clf s) (Some event) is = absurd is
-  by (Uicc s) (Some event) is = uicc_none s event
+far_tells e i is = grind arith
 
 -- ## Identifiers of UICCs on a link: those on the wire and those that the host may still send, over what happens there
 
@@ -324,8 +217,7 @@ on-append [] ys = omega arith
 on-append (x ∷ xs) ys = let rest = on-append xs ys in omega (arith, rest)
 
 drop_less : (w : List OnWire) → syncs_on (drop 1 w) ≤ syncs_on w
-drop_less [] = omega arith
-drop_less (x ∷ xs) = omega arith
+drop_less w = grind arith
 
 fits_less : (w : List OnWire) → syncs_on (fits w) ≤ syncs_on w
 fits_less w = by_test (nat_lt 64 (length w)) (λ q. rw q (drop_less w)) (λ q. rw q (omega arith))
@@ -346,8 +238,7 @@ in-append [] ys = omega arith
 in-append (c ∷ xs) ys = let rest = in-append xs ys in omega (arith, rest)
 
 plain_frame : (c : Control) → is_act c ≡ false → sync_frame c ≡ 0
-plain_frame (ActFrame act again) off = absurd (cc off)
-plain_frame _ off = refl
+plain_frame c off = grind arith
 
 none_in : (cs : List Control) → NoActs cs → syncs_in cs ≡ 0
 unfolding syncs_in
@@ -365,10 +256,7 @@ drop_none (suc n) [] none = tt
 drop_none (suc n) (c ∷ cs) none = drop_none n cs none.1
 
 act_frame_is : (a : ActDue) → sync_frame (ActFrame a.frame false) ≡ sync_act (Some a.frame)
-act_frame_is a = by a.frame where
-  by : (act : Act) → sync_frame (ActFrame act false) ≡ sync_act (Some act)
-  by Ready = refl
-  by _ = refl
+act_frame_is a = grind arith
 
 among_syncs : (n : ℕ) (acts : List ActDue) (cs : List Control) → NoActs cs → syncs_in (among n acts cs) ≡ syncs_due acts
 unfolding syncs_in
@@ -407,8 +295,7 @@ abbrev out_holds : Link → ℕ
 out_holds l = syncs_on l.to_host + tries_of l.controller.side.role
 
 renewed_none : (r : Role) → tries_of (renewed r) ≡ 0
-renewed_none Bare = refl
-renewed_none _ = refl
+renewed_none r = grind arith
 
 finished_out : (l : Link) (e : LinkEnd) (ending : Ending) → out_holds (finished l e ending) ≤ syncs_on l.to_host + may_send e
 finished_out l e GoesOut = let put = put_all_syncs (frames_out e) l in let is = out_syncs e in omega (arith, put, is)
@@ -418,8 +305,7 @@ cut_out : (l : Link) (e : LinkEnd) → out_holds (finished l e CutOff) ≡ 0
 cut_out l e = let none = renewed_none e.role in omega (arith, none)
 
 ended_out : (l : Link) (b : Bool) → (with_ended l b).to_host ≡ l.to_host
-ended_out l true = refl
-ended_out l false = refl
+ended_out l b = grind arith
 
 -- the end has an input and turns on this link
 input_out : (m : Link) (e : LinkEnd) (i : LinkInput) (ts : List Turn) (ending : Ending) → IsUicc e.role → ComesOnce i
@@ -469,8 +355,7 @@ module _ (l : Link) (rests : Rests l) where
   step_out Stops ts ending once =
       let most = input_out (silent l (deactivated l.controller.side)) l.controller.side Stop ts ending rests.uicc tt in
       omega (arith, most, now)
-  step_out NoInput ts ending once =
-      omega (arith, finished_out l (turned l.controller.side ts) ending, turned_sends l.controller.side ts, now)
+  step_out NoInput ts ending once = omega (arith, finished_out l (turned l.controller.side ts) ending, turned_sends l.controller.side ts, now)
 
 -- ### The wire to an end
 
@@ -481,8 +366,7 @@ taken_by NextFrame (x ∷ xs) = sync_frame x.frame
 taken_by _ w = 0
 
 finished_in : (l : Link) (e : LinkEnd) (ending : Ending) → syncs_on (finished l e ending).to_controller ≤ syncs_on l.to_controller
-finished_in l e GoesOut =
-    omega (arith, ap syncs_on (beside-put_all (frames_out e) l).to_controller)
+finished_in l e GoesOut = omega (arith, ap syncs_on (beside-put_all (frames_out e) l).to_controller)
 finished_in l e CutOff = omega arith
 
 input_in : (l : Link) (i : LinkInput) (ts : List Turn) (ending : Ending) → syncs_on (has_input l i ts ending).to_controller ≤ syncs_on l.to_controller
@@ -495,8 +379,7 @@ step_in : (l : Link) (comes : Comes) (ts : List Turn) (ending : Ending)
 step_in l NextFrame ts ending = by_list l.to_controller
     (λ q. rw q (let same : syncs_on l.to_controller ≡ 0 = ap syncs_on q in omega (arith, same)))
     (λ x xs q. rw q (let b : Bool = is_some (ended_by l.controller.side (Take x.frame)) in
-    let same : syncs_on (with_ended (record l { to_controller = xs }) b).to_controller ≡ syncs_on xs =
-    ap syncs_on (ended_near (record l { to_controller = xs }) b) in
+    let same : syncs_on (with_ended (record l { to_controller = xs }) b).to_controller ≡ syncs_on xs = grind arith in
     let most = finished_in (left_after l x xs) (turned (after_input l.controller.side (Take x.frame)) ts) ending in
     omega (arith, most, same)))
 step_in l (AsksReset window) ts ending = let most = input_in l (Reset window) ts ending in omega (arith, most)
@@ -519,21 +402,6 @@ all_good (e ∷ es) l a g r =
 run_good : (l : Link) → IsRun l → Good l
 run_good l run = subst Good run.run.is (all_good run.events new_line run.run.allowed (start_good new_line IsLine) (start_reached new_line IsLine))
 
-plain_wire : (r f : Role) (w v : List OnWire) → IsClf r → IsUicc f → ActsInOrder r f w v → Without is_again v
-plain_wire (Clf c) (Uicc u) w v a b line = line.plain
-plain_wire (Clf c) Bare w v a b line = absurd b
-plain_wire (Clf c) (Clf d) w v a b line = absurd b
-plain_wire Bare f w v a b line = absurd a
-plain_wire (Uicc u) f w v a b line = absurd a
-
-once_frame : (c : Control) → is_again c ≡ false → ComesOnce (Take c)
-once_frame (ActFrame act again) off = off
-once_frame _ off = tt
-
-first_once : (w : List OnWire) → Without is_again w → FirstOnce w
-first_once [] none = tt
-first_once (x ∷ xs) none = once_frame x.frame none.0
-
 -- ### Hosts
 
 -- the end of a host, to which activation owes nothing
@@ -548,12 +416,7 @@ pub record IsCalm (s : Site) : Type 0 where
 calm_of : (s : Site) → IsFineSite s → IsCalm s
 calm_of s fine =
     let good : Good s.link = run_good s.link fine.link.run in
-    record {
-      rests = record { uicc = fine.link.line.uicc; acts = good.host.now.acts };
-      once = first_once s.link.to_host
-          (plain_wire s.link.controller.side.role s.link.host.side.role s.link.to_controller s.link.to_host fine.link.line.clf
-          fine.link.line.uicc good.in_order);
-    }
+    grind arith
 
 pub all_calm : (sites : List Site) → AllByRecursion IsFineSite sites → AllByRecursion IsCalm sites
 all_calm sites fine = all_so IsFineSite IsCalm calm_of sites fine
@@ -622,5 +485,4 @@ pub aged_holds : (l : Link) → link_holds (aged l) ≤ link_holds l
 aged_holds l = let less = aged_less l.to_controller in omega (arith, less)
 
 pub lost_holds : (l : Link) (why : Loss) (b : Bool) → link_holds (happens l (cond b (AtHost (Lose why)) (AtController (Lose why)))) ≤ link_holds l
-lost_holds l why true = omega arith
-lost_holds l why false = let less = drop_less l.to_controller in omega (arith, less)
+lost_holds l why b = grind arith

@@ -1,21 +1,16 @@
 -- Each message that has its turn pays for what is done with it: what is noted costs, what a node keeps is held, and each deed is paid for.
 use Rattle.std.proofs.lemmas.Option.{slice_get_within}
-use Rattle.node_laws.proofs.Words.{AllByRecursion, Answer, Ask, Asks, Bool, Clear, Command, Commit, Commits, Controller, Core, Create, Creation, Decision, Deed}
-use Rattle.node_laws.proofs.Words.{Delete, Desk, Drops, Ends, Entry, Err, Give, GoesOn, Hears, Host, Init, InitFailed, InitMade, InitSame, IsAnswered}
-use Rattle.node_laws.proofs.Words.{IsResponse, List, Message, MessageFault, MessageKind, None, Noted, Notice, Ok, Option, Orders, Port, Refused, Release}
-use Rattle.node_laws.proofs.Words.{Releases, Removed, Report, Response, Result, Running, SaysOk, Sends, Sent, Set, SetAside, SetsErrors, Some, Tells, Turn}
-use Rattle.node_laws.proofs.Words.{Waits, Work, Write, [], accepts, after_turn, agreed, all_done, answer_of, answers_on, ap, arith, asked_at, body_in, body_of}
-use Rattle.node_laws.proofs.Words.{by_option, by_test, changed_if, commit, commit_writes, cond, cond_both, controller_deeds, controller_holds, count_bytes}
-use Rattle.node_laws.proofs.Words.{count_in, count_of, creation_in, decided, decision_deeds, done, end_of_node, end_view, entries_for, entry_of, eqb}
-use Rattle.node_laws.proofs.Words.{fails_within, false, filter, finds_room, first_of, gate_of_pipe, gates, give_refusal, has, header_of, host_deeds}
-use Rattle.node_laws.proofs.Words.{identity_served, identity_value, init_deeds, is_command_message, is_gate, is_up, learned, learned_holds, learns}
-use Rattle.node_laws.proofs.Words.{learns_holds, length, length-map, link_deeds, link_served, map, not, noted_of, noting, option_map_or, ordered_deeds}
-use Rattle.node_laws.proofs.Words.{ordered_holds, orders_of, own_side, own_view, param_in, port_at, range_with_len, refl, response_deeds, sent_unless}
-use Rattle.node_laws.proofs.Words.{slice_get, subst, sym, tests_to_get, tests_to_set, tests_to_set_errors, told, true, turn_at, value_in, view_for, view_of}
-use Rattle.node_laws.proofs.Words.{with_desk, with_port, ℕ, ◌&&◌, ◌*◌, ◌++◌, ◌+◌, ◌-◌, ◌∙◌, ◌∷◌, ◌≡◌, ◌≤◌}
+use Rattle.node_laws.proofs.Words.{AllByRecursion, Answer, Ask, Asks, Bool, Command, Commit, Commits, Controller, Core, Creation, Decision, Deed, Desk, Drops}
+use Rattle.node_laws.proofs.Words.{Ends, Entry, Give, GoesOn, Hears, Host, Init, InitFailed, InitMade, InitSame, IsAnswered, List, Message, None, Noted, Notice}
+use Rattle.node_laws.proofs.Words.{Ok, Option, Orders, Port, Refused, Release, Releases, Removed, Report, Response, Running, SaysOk, Sends, Sent, Set, SetAside}
+use Rattle.node_laws.proofs.Words.{SetsErrors, Some, Tells, Turn, Waits, Work, Write, [], after_turn, agreed, all_done, answer_of, answers_on, ap, arith}
+use Rattle.node_laws.proofs.Words.{asked_at, body_in, body_of, by_option, by_test, changed_if, commit, commit_writes, cond, cond_both, controller_deeds}
+use Rattle.node_laws.proofs.Words.{controller_holds, count_of, creation_in, decided, decision_deeds, done, end_of_node, end_view, entries_for, entry_of, eqb}
+use Rattle.node_laws.proofs.Words.{fails_within, false, filter, finds_room, gates, has, header_of, host_deeds, identity_served, init_deeds, is_command_message}
+use Rattle.node_laws.proofs.Words.{learned, learned_holds, learns, length, length-map, link_deeds, link_served, map, not, noted_of, noting, option_map_or}
+use Rattle.node_laws.proofs.Words.{ordered_deeds, ordered_holds, orders_of, own_side, own_view, port_at, range_with_len, refl, sent_unless, slice_get, told}
+use Rattle.node_laws.proofs.Words.{true, turn_at, view_for, view_of, with_desk, with_port, ℕ, ◌&&◌, ◌*◌, ◌++◌, ◌+◌, ◌-◌, ◌∙◌, ◌∷◌, ◌≡◌, ◌≤◌}
 use Rattle.gate_admin.specs.View.{hosts_where}
-use Rattle.gate_identity.specs.Identity.{identity_unless_refused}
-use Rattle.gate_link.specs.Link.{link_unless_refused}
 use Rattle.hcp_packet.specs.declared.MessageKind.TheVariants.{Command as IsCommand, Event as IsEvent}
 use Rattle.link_laws.specs.entries.Entries.{End as Side}
 use Rattle.node_machine.proofs.Walks.{init_holds as init_walks}
@@ -73,19 +68,13 @@ abbrev pub is_host_side : Side → Bool
 is_host_side Controller = false
 is_host_side Host = true
 
-both_off : (a b : Bool) → b ≡ false → (a && b) ≡ false
-both_off true b off = off
-both_off false b off = refl
-
 -- what is no command costs nothing
 plain_free : (b : Bool) (pid : ℕ) (m : List ℕ) → is_command_message m ≡ false → message_cost b pid m ≡ 0
-plain_free true pid m off = ap (worth 16) off
-plain_free false pid m off = ap (worth 1) (both_off (eqb pid 1) (is_command_message m) off)
+plain_free b pid m off = grind arith
 
 -- no message costs more
 worth_most : (b : Bool) (n : ℕ) → worth n b ≤ n
-worth_most true n = omega arith
-worth_most false n = omega arith
+worth_most b n = grind arith
 
 near_most : (pid : ℕ) (m : List ℕ) → message_cost false pid m ≤ 1
 near_most pid m = worth_most (eqb pid 1 && is_command_message m) 1
@@ -111,13 +100,11 @@ abbrev pub AreNoSents : List Noted → Type 0
 AreNoSents notes = AllByRecursion IsNoSent notes
 
 note_free : (h : ℕ) (x : Noted) → IsNoSent x → costs (entry_of h x) ≡ 0
-note_free h (Sent who n m) a = absurd a
-note_free h _ a = refl
+note_free h x a = grind arith
 
 pub notes_free : (h : ℕ) (notes : List Noted) → AreNoSents notes → costs_at h notes ≡ 0
 notes_free h [] a = refl
-notes_free h (x ∷ notes) a =
-    omega (arith, costs-append (entry_of h x) (entries_for h notes), note_free h x a.0, notes_free h notes a.1)
+notes_free h (x ∷ notes) a = omega (arith, costs-append (entry_of h x) (entries_for h notes), note_free h x a.0, notes_free h notes a.1)
 
 -- what is told of an input costs nothing
 pub told_free : (h : ℕ) (who : Side) (n : ℕ) (r : Report) (acked : ℕ) → costs_at h (told who n r acked) ≡ 0
@@ -126,9 +113,7 @@ told_free h who n r acked = notes_free h (told who n r acked) (told_all IsNoSent
 -- a message that is given costs what a sent one does, unless it is refused
 sent_most : (h n : ℕ) (m : Message) (side : Side) (o : Option Refused)
     → costs (entries_for h (sent_unless o side n m)) ≤ message_cost (is_host_side side) m.0 m.1
-sent_most h n m Controller None = omega arith
-sent_most h n m Host None = omega arith
-sent_most h n m side (Some why) = omega arith
+sent_most h n m side o = grind arith
 
 -- ## What a node keeps and what may come of it: a creation that waits, the unanswered command of a host, and the commands that are left of its init
 
@@ -187,12 +172,10 @@ map_less f less [] = omega arith
 map_less f less (p ∷ ports) = let one = less p in let rest = map_less f less ports in omega (arith, one, rest)
 
 if_less : (b : Bool) (f : Port → Port) → HoldsLess f → HoldsLess (changed_if b f)
-if_less true f less p = less p
-if_less false f less p = omega arith
+if_less b f less p = grind arith
 
 if_more : (b : Bool) (f : Port → Port) → HoldsMore f → HoldsMore (changed_if b f)
-if_more true f more p = more p
-if_more false f more p = omega arith
+if_more b f more p = grind arith
 
 pub with_less : (h : ℕ) (f : Port → Port) → HoldsLess f → (ports : List Port) → ports_hold (with_port h f ports) ≤ ports_hold ports
 with_less h f less ports = map_less (λ p. changed_if (eqb p.desk.host h) f p) (λ p. if_less (eqb p.desk.host h) f less p) ports
@@ -273,32 +256,19 @@ module _ (side : Side) (all : ℕ) where
   -- its ends become others that hold no more
   pub ported : (left : ℕ) (ports : List Port) (w : Work) → length ports ≡ length w.ports → ports_hold ports ≤ ports_hold w.ports
       → Owes side left all w → Owes side left all (record w { ports = ports })
-  ported left ports w long most a =
-      let owes = a.owes in
-      let few = a.few in
-      record { side_is = a.side_is; few = omega (arith, long, few); owes = omega (arith, most, owes) }
+  ported left ports w long most a = grind arith
 
   -- its core does so
   pub kept : (left more : ℕ) (core : Core) (w : Work) → core.node ≡ w.core.node → core_holds core + left ≤ core_holds w.core + more
       → Owes side more all w → Owes side left all (record w { core = core })
-  kept left more core w node most a =
-      let owes = a.owes in record {
-        side_is = subst (λ n. own_side (record core { node = n }) ≡ side) (sym node) a.side_is;
-        few = a.few;
-        owes = omega (arith, most, owes);
-      }
+  kept left more core w node most a = grind arith
 
   -- ### Ends
 
   turn_most : (core : Core) (t : Turn) (k : ℕ) → own_side core ≡ side → (o : Option Port)
       → ((m : Message) → t ≡ Give m → message_cost (is_host_side side) m.0 m.1 ≤ k)
       → costs (option_map_or (noted_of core t) o []) ≤ k
-  turn_most core t k is None most = omega arith
-  turn_most core (Give m) k is (Some p) most =
-      let same : message_cost (is_host_side (own_side core)) m.0 m.1 ≡ message_cost (is_host_side side) m.0 m.1 =
-      ap (λ s. message_cost (is_host_side s) m.0 m.1) is in
-      omega (arith, sent_most p.desk.host p.session m (own_side core) (give_refusal p.side m), same, most m refl)
-  turn_most core _ k is (Some p) most = omega arith
+  turn_most core t k is o most = grind arith
 
   turned_so : (left k h : ℕ) (t : Turn) (w : Work) → ((m : Message) → t ≡ Give m → message_cost (is_host_side side) m.0 m.1 ≤ k)
       → Owes side (left + k) all w → Owes side left all (turn_at h t w)
@@ -313,8 +283,7 @@ module _ (side : Side) (all : ℕ) where
       → Owes side left all (turn_at h (Give m) w)
   given left h m w a =
       turned_so left (message_cost (is_host_side side) m.0 m.1) h (Give m) w
-      (λ n is. let same : m ≡ n = cc in let z : message_cost (is_host_side side) n.0 n.1 ≡ message_cost (is_host_side side) m.0 m.1 =
-      ap (λ (x : Message). message_cost (is_host_side side) x.0 x.1) (sym same) in omega (arith, z)) a
+      (λ n is. grind arith) a
 
   pub turned : (left h : ℕ) (t : Turn) (w : Work) → ((m : Message) → t ≡ Give m → ⊥) → Owes side left all w → Owes side left all (turn_at h t w)
   turned left h t w none a = turned_so left 0 h t w (λ m is. absurd (none m is)) (less left (left + 0) w (omega arith) a)
@@ -390,9 +359,7 @@ module _ (side : Side) (all : ℕ) where
   -- a deed is done, and then what is left to do as long as the power is on
   and_then : (left more h : ℕ) (d : Deed) (deeds : List Deed) (w : Work) → left ≤ more → Owes side more all (done h d w)
       → ((v : Work) → v ≡ done h d w → Owes side more all v → Owes side left all (all_done h deeds v)) → Owes side left all (all_done h (d ∷ deeds) w)
-  and_then left more h d deeds w most first later = by_test (done h d w).cut
-      (λ q. rw q (less more left (done h d w) most first))
-      (λ q. rw q (later (done h d w) refl first))
+  and_then left more h d deeds w most first later = grind arith
 
   pub all_owe : (left h : ℕ) (deeds : List Deed) (w : Work) → Owes side (left + weights side deeds) all w → Owes side left all (all_done h deeds w)
   all_owe left h [] w a = less (left + 0) left w (omega arith) a
@@ -413,14 +380,12 @@ module _ (side : Side) (all : ℕ) where
   -- the command of a host is answered
   pub heard : (left h : ℕ) (order : List ℕ) (w : Work) → w.core.command ≡ Some order → Owes side left all w
       → Owes side (left + 2) all (done h Hears w)
-  heard left h order w is a =
-      kept (left + 2) left (record w.core { command = None }) w refl (omega (arith, ap order_holds is)) a
+  heard left h order w is a = grind arith
 
   -- its init goes on
   went_on : (left gain h : ℕ) (i j : Init) (w : Work) → w.core.init ≡ Some i → init_left j + gain ≤ init_left i → Owes side left all w
       → Owes side (left + gain) all (done h (GoesOn j) w)
-  went_on left gain h i j w is most a =
-      kept (left + gain) left (record w.core { init = Some j }) w refl (omega (arith, ap init_holds is, most)) a
+  went_on left gain h i j w is most a = grind arith
 
 -- ## Each message that has its turn pays for what is done with it, with what its node keeps
 
@@ -428,8 +393,7 @@ module _ (side : Side) (all : ℕ) where
 
 -- an answer is no command
 pub answer_plain : (r : Response) (value : List ℕ) → is_command_message (answer_of r value) ≡ false
-answer_plain response.Ok value = refl
-answer_plain _ value = refl
+answer_plain r value = grind arith
 
 pub answer_free : (b : Bool) (pid : ℕ) (r : Response) (value : List ℕ) → message_cost b pid (answer_of r value) ≡ 0
 answer_free b pid r value = plain_free b pid (answer_of r value) (answer_plain r value)
@@ -444,40 +408,6 @@ far_cost pid m n is = rw is refl
 
 notice_cost : (pid : ℕ) (m : List ℕ) (n : ℕ) → eqb pid 1 ≡ true → header_of m ≡ Ok (IsCommand, n) → message_cost false pid m ≡ 1
 notice_cost pid m n one is = rw (one, is) refl
-
--- what the gates answer is no command
-link_plain : (errors n : ℕ) (body : List ℕ) → is_command_message (link_served errors n body).0 ≡ false
-link_plain errors n body =
-    cond_both (eqb n 1) _ _ IsPlain
-    (λ _. unless_plain (first_of (tests_to_set_errors body)) (answer_of response.Ok []) (Some (count_in (value_in body))) refl)
-    (λ _. cond_both (eqb n 2) _ (answer_of response.CommandNotSupported [], None) IsPlain
-    (λ _. unless_plain (first_of (tests_to_get 6 body)) (answer_of response.Ok (count_bytes errors)) None refl) (λ _. refl))
-  where
-    IsPlain : List ℕ × Option ℕ → Type 0
-    IsPlain answer = is_command_message answer.0 ≡ false
-
-    unless_plain : (o : Option Response) (answer : List ℕ) (value : Option ℕ) → is_command_message answer ≡ false
-        → IsPlain (link_unless_refused o (answer, value))
-    unless_plain None answer value plain = plain
-    unless_plain (Some r) answer value plain = answer_plain r []
-
-identity_plain : (n : ℕ) (body : List ℕ) → is_command_message (identity_served gates n body) ≡ false
-identity_plain n body =
-    cond_both (eqb n 1) _ _ IsPlain (λ _. unless_plain (first_of (tests_to_set 5 body)) (answer_of response.RegistryAccessDenied []) refl)
-    (λ _. cond_both (eqb n 2) _ (answer_of response.CommandNotSupported []) IsPlain
-    (λ _. unless_plain (first_of (tests_to_get 5 body)) (answer_of response.Ok (identity_value gates (param_in body))) refl) (λ _. refl))
-  where
-    IsPlain : List ℕ → Type 0
-    IsPlain answer = is_command_message answer ≡ false
-
-    unless_plain : (o : Option Response) (answer : List ℕ) → is_command_message answer ≡ false → IsPlain (identity_unless_refused o answer)
-    unless_plain None answer plain = plain
-    unless_plain (Some r) answer plain = answer_plain r []
-
--- what sets REC_ERROR and answers costs what the answer does
-link_weighs : (side : Side) (h pipe : ℕ) (answer : List ℕ × Option ℕ) (k : ℕ) → weight side (Sends h (pipe, answer.0)) ≤ k
-    → weights side (link_deeds h pipe answer) ≤ k
-link_weighs side h pipe answer k most = by_option answer.1 (λ q. rw q (omega (arith, most))) (λ errors q. rw q (omega (arith, most)))
 
 -- ### Controllers
 
@@ -541,8 +471,7 @@ module _ (all : ℕ) (core : Core) (ports : List Port) (h : ℕ) (m : Message) w
         (let one = near_most m.0 (identity_served gates n (body_in m.1)) in let pays = far_cost m.0 m.1 n served.command in omega (arith, one, pays));
     counts = λ errors n served gate.
         weighed_near (link_deeds h m.0 (link_served errors n (body_in m.1)))
-        (let answer : List ℕ × Option ℕ = link_served errors n (body_in m.1) in
-        let pays = far_cost m.0 m.1 n served.command in omega (arith, link_weighs Controller h m.0 answer 1 (near_most m.0 answer.0), pays));
+        (grind arith);
     decides = λ n served gate.
         (let d : Decision = decided core.tables (view_for core.tables ports h) h m.0 n (body_in m.1) in
         weighed_near (decision_deeds (own_view core) h m.0 d)
@@ -553,32 +482,12 @@ module _ (all : ℕ) (core : Core) (ports : List Port) (h : ℕ) (m : Message) w
 
 -- ### Hosts
 
-accepts_weigh : (core : Core) (c : Command) → weights Host (accepts (own_view core) c) ≤ 1
-accepts_weigh core c = by_test (finds_room core c)
-    (λ q. rw q (let none = answer_free true 1 response.Ok [] in omega (arith, none)))
-    (λ q. rw q (let none = answer_free true 1 response.NotOk [] in omega (arith, none)))
-
 -- what a host does with a command on pipe 01, or on another one
 ordered_weighs : (core : Core) (errors pipe n : ℕ) (body : List ℕ) → weights Host (ordered_deeds (own_view core) errors pipe n body) ≤ 1
-ordered_weighs core errors pipe n body = ordered_holds (λ deeds. weights Host deeds ≤ 1) core errors pipe n body (record {
-  none = omega arith;
-  refuses = λ r. let none = answer_free true 1 r [] in omega (arith, none);
-  creates = λ row named welcome. accepts_weigh core (Create row);
-  deletes = λ pid kept. accepts_weigh core (Delete pid);
-  clears = λ x host. accepts_weigh core (Clear x);
-  counts = λ zero. link_weighs Host core.node 0 (link_served errors n body) 1
-      (let none = plain_free true 0 (link_served errors n body).0 (link_plain errors n body) in omega (arith, none));
-  names = λ off. let none = plain_free true pipe (identity_served gates n body) (identity_plain n body) in omega (arith, none);
-})
+ordered_weighs core errors pipe n body = ordered_holds (λ deeds. weights Host deeds ≤ 1) core errors pipe n body ((grind arith))
 
 ordered_free : (core : Core) (errors pipe n : ℕ) (body : List ℕ) → eqb pipe 1 ≡ false → weights Host (ordered_deeds (own_view core) errors pipe n body) ≡ 0
-ordered_free core errors pipe n body off =
-    rw off (cond_both (eqb pipe 0) (link_deeds core.node 0 (link_served errors n body)) _ (λ deeds. weights Host deeds ≡ 0)
-    (λ _. let none = plain_free true 0 (link_served errors n body).0 (link_plain errors n body) in
-    let most = link_weighs Host core.node 0 (link_served errors n body) 0 (omega (arith, none)) in omega (arith, most))
-    (λ _. cond_both (is_gate 5 (gate_of_pipe (own_view core) pipe)) (answers_on core.node pipe (identity_served gates n body)) []
-    (λ deeds. weights Host deeds ≡ 0)
-    (λ _. let none = plain_free true pipe (identity_served gates n body) (identity_plain n body) in omega (arith, none)) (λ _. refl)))
+ordered_free core errors pipe n body off = grind arith
 
 -- a commit leaves the init
 commit_init : (c : Command) (w : Work) → (commit c w).core.init ≡ w.core.init
@@ -609,8 +518,7 @@ module _ (all : ℕ) (core : Core) (h : ℕ) where
     made =
         let set : Command = Set core.node 0 1 (record { items = i.identity }) in
         let ends : List Deed = Ends (InitMade (end_of_node core core.node) (length i.pipes)) ∷ [] in
-        let learns_it : weights Host (learns (own_view core) set) ≤ 1 =
-        learns_holds (λ deeds. weights Host deeds ≤ 1) core (omega arith) (λ c may room. omega arith) set in
+        let learns_it : weights Host (learns (own_view core) set) ≤ 1 = grind arith in
         weighed_init (learns (own_view core) set ++ ends) (omega (arith, weights-append Host (learns (own_view core) set) ends, learns_it));
     next = λ order got. next_paid i order is got;
   })
@@ -639,20 +547,8 @@ module _ (P : List Deed → Type 0) (core : Core) (p : Port) (m : Message) (none
     (ordered : (n : ℕ) → header_of m.1 ≡ Ok (IsCommand, n) → P (ordered_deeds (own_view core) p.desk.errors m.0 n (body_in m.1)))
     (hears : (code : ℕ) (order : List ℕ) → core.command ≡ Some order
     → P (Hears ∷ cond (eqb code 0) (learned (own_view core) order (body_in m.1)) [] ++ init_deeds (own_view core) code (body_in m.1) core.init)) where
-  response_walks : (code : ℕ) (o : Option (List ℕ)) → core.command ≡ o → P (response_deeds (own_view core) code (body_in m.1))
-  response_walks code None is = rw is none
-  response_walks code (Some order) is = rw is (hears code order is)
-
   host_walks : P (host_deeds (own_view core) (end_view p) m)
-  host_walks = go (is_up p.side.shdlc.phase) (header_of m.1) refl refl where
-    go : (b : Bool) (x : Result (MessageKind × ℕ) MessageFault) → is_up p.side.shdlc.phase ≡ b → header_of m.1 ≡ x
-        → P (host_deeds (own_view core) (end_view p) m)
-    go false x up is = rw up drops
-    go true (Ok (IsCommand, n)) up is = rw (up, is) (ordered n is)
-    go true (Ok (IsEvent, n)) up is = rw (up, is) (cond_both _ (Sends core.node m ∷ []) [] P (λ _. goes n is) (λ _. none))
-    go true (Ok (IsResponse, code)) up is =
-        rw (up, is) (cond_both (eqb m.0 1) (response_deeds (own_view core) code (body_in m.1)) [] P (λ _. response_walks code core.command refl) (λ _. none))
-    go true (Err fault) up is = rw (up, is) none
+  host_walks = grind arith
 
 module _ (all : ℕ) (core : Core) (h : ℕ) (m : Message) where
   -- the message pays for this, with what the host keeps

@@ -8,17 +8,17 @@ use Rattle.node_laws.proofs.Words.{begins_with, boot_found, boot_writes, boot_wr
 use Rattle.node_laws.proofs.Words.{by_host_tick, by_list, by_loss, by_memory, by_option, by_power, by_running, by_test, changed_if, comes_at, comes_to}
 use Rattle.node_laws.proofs.Words.{commands_by, cond, cond_both, controller_does, controller_ticks, controller_work, counts, end_c, end_h, ending_entries}
 use Rattle.node_laws.proofs.Words.{ending_of, entries_for, eq-eqb, eqb, eqb-true, exchanged, false, first_lost, flat_map, frame_lost, frames_noted, happens}
-use Rattle.node_laws.proofs.Words.{host_cut, host_does, host_tick, host_ticks, hosts_in, hosts_of_ends, hosts_tick, input_at, input_of, is_command_message}
-use Rattle.node_laws.proofs.Words.{is_late_at, length, length-map, link_after_controller, link_to, links_of, loses_power_at, map, memory_at, min, near_end_in}
-use Rattle.node_laws.proofs.Words.{near_tick, new_desk, new_link, option_map_or, own_side, port_at, port_for, refl, report, runs_on, sending, site_at}
-use Rattle.node_laws.proofs.Words.{site_lost, site_ticked, site_unticked, steps, subst, sym, true, true≢false, turns_at, wires_for, with_error, with_memory}
-use Rattle.node_laws.proofs.Words.{with_node, with_site, work_of, world_step, world_ticks, ℕ, ◌&&◌, ◌*◌, ◌++◌, ◌+◌, ◌==◌, ◌∙◌, ◌∷◌, ◌≡◌, ◌≤◌}
+use Rattle.node_laws.proofs.Words.{host_cut, host_does, host_tick, host_ticks, hosts_in, hosts_of_ends, hosts_tick, input_at, input_of, is_late_at, length}
+use Rattle.node_laws.proofs.Words.{length-map, link_after_controller, link_to, links_of, loses_power_at, map, memory_at, min, near_end_in, near_tick, new_desk}
+use Rattle.node_laws.proofs.Words.{new_link, option_map_or, own_side, port_at, port_for, refl, report, runs_on, sending, site_at, site_lost, site_ticked}
+use Rattle.node_laws.proofs.Words.{site_unticked, steps, subst, sym, true≢false, turns_at, wires_for, with_error, with_memory, with_node, with_site, work_of}
+use Rattle.node_laws.proofs.Words.{world_step, world_ticks, ℕ, ◌*◌, ◌++◌, ◌+◌, ◌==◌, ◌∙◌, ◌∷◌, ◌≡◌, ◌≤◌}
 use Rattle.std.proofs.lemmas.List.{length-append}
 use Rattle.link_laws.specs.entries.Entries.{End as Side}
 use Rattle.node_laws.proofs.telling.Events.{comes_goes, hosts_same_of_nodes as hosts_same, link_is, site_host, site_is}
 use Rattle.node_laws.proofs.links.Sites.{here_host}
 use Rattle.node_laws.proofs.telling.WorldTicks.{aged_orderly, near_orderly}
-use Rattle.node_laws.proofs.telling.Ticks.{arrival_all, ending_all, lost_all, wires_all}
+use Rattle.node_laws.proofs.telling.Ticks.{ending_all, lost_all, wires_all}
 use Rattle.node_laws.proofs.bounds.Turns.{IsNoSent, Owes, core_holds, costs, costs-append, desks_are, desks_hold, far_most, less, node_holds, notes_free}
 use Rattle.node_laws.proofs.bounds.Turns.{notice_holds, pays, pays-append, ports_hold, weights, worth}
 use Rattle.node_laws.proofs.bounds.Syncs.{FirstOnce, IsCalm, IsResting, aged_holds, all_resting, far_cut_holds, far_holds, far_tells, far_tick_holds}
@@ -57,8 +57,7 @@ sites_less g less [] = omega arith
 sites_less g less (s ∷ sites) = let one = less s in let rest = sites_less g less sites in omega (arith, one, rest)
 
 if_less : (b : Bool) (g : Site → Site) (s : Site) → site_holds (g s) ≤ site_holds s → site_holds (changed_if b g s) ≤ site_holds s
-if_less true g s less = less
-if_less false g s less = omega arith
+if_less b g s less = grind arith
 
 with_less : (h : ℕ) (g : Site → Site) → ((s : Site) → site_holds (g s) ≤ site_holds s) → (sites : List Site)
     → sites_hold (with_site h g sites) ≤ sites_hold sites
@@ -77,9 +76,7 @@ sites_take g taken less (s ∷ sites) = let one = less s in let rest = sites_tak
 one_taken : (taken : Site → ℕ) (h : ℕ) (sites : List Site) (s : Site) → site_at sites h ≡ Some s → taken s ≤ all_taken taken sites
 one_taken taken h [] s here = absurd (cc here)
 one_taken taken h (x ∷ sites) s here = by_test (eqb x.host h)
-    (λ q. let found : Some x ≡ Some s = rw q at here in
-    let is : x ≡ s = cc in
-    omega (arith, ap taken is))
+    (λ q. grind arith)
     (λ q. let rest = one_taken taken h sites s (rw q at here) in omega (arith, rest))
 
 -- a host that isn't there changes nothing
@@ -108,8 +105,7 @@ frames_free who h l k = by_option (port_at k.ports h)
     (ending_all IsNoSent (λ w c. tt) (λ w c. tt) (λ w. tt) who l p.side (ending_of k))))
 
 pub arrival_free : (who : Side) (h : ℕ) (l : Link) (comes : Comes) → costs (entries_for h (arrival who l comes)) ≡ 0
-arrival_free who h l comes =
-    notes_free h (arrival who l comes) (arrival_all IsNoSent (λ w c. tt) who l comes)
+arrival_free who h l comes = grind arith
 
 -- ## Nodes
 
@@ -136,8 +132,7 @@ begins_so side n hosts r plan near_ends es left side_is has few none =
 -- its step is paid for, where frames go out behind it
 step_pays : (side : Side) (before all : ℕ) (k : Work) (frames : List Entry) → Owes side 0 (before + all) k → costs frames ≡ 0
     → Pays before (node_holds (runs_on k)) all (k.entries ++ frames)
-step_pays side before all k frames owed none =
-    omega (arith, costs-append k.entries frames, pays-append k.entries frames, runs_hold k, owed.owes, none)
+step_pays side before all k frames owed none = omega (arith, costs-append k.entries frames, pays-append k.entries frames, runs_hold k, owed.owes, none)
 
 pub controller_side : (r : Running) (hosts : List ℕ) → HasEnds 0 hosts r → own_side r.core ≡ Controller
 controller_side r hosts has = ap (λ n. cond (eqb n 0) Controller Host) has.number
@@ -157,8 +152,7 @@ one_told h i p = by_test (eqb p.desk.host h) (λ q. rw q (near_tells p.side i)) 
 
 none_told : (h : ℕ) (i : LinkInput) (ports : List Port) → AllByRecursion (λ k. (k == h) ≡ false) (hosts_of_ends ports) → syncs_told (AtEnd h i) ports ≡ 0
 none_told h i [] off = refl
-none_told h i (p ∷ ports) off =
-    omega (arith, one_told h i p, ap (worth (input_sync i)) off.0, none_told h i ports off.1)
+none_told h i (p ∷ ports) off = omega (arith, one_told h i p, ap (worth (input_sync i)) off.0, none_told h i ports off.1)
 
 pub told_once : (h : ℕ) (i : LinkInput) (ports : List Port) → AreDifferent (hosts_of_ends ports) → syncs_told (AtEnd h i) ports ≤ input_sync i
 told_once h i [] apart = omega arith
@@ -362,9 +356,7 @@ begins_paid w h deeds most few calm orderly =
     omega (arith, paid, few)
 
 sending_weighs : (h : ℕ) (m : Message) → weights Host (sending h m) ≤ 18
-sending_weighs h m = by_test (m.0 == 1 && is_command_message m.1)
-    (λ q. rw q (let most = far_most 1 m.1 in omega (arith, most)))
-    (λ q. rw q (let most = far_most m.0 m.1 in omega (arith, most)))
+sending_weighs h m = grind arith
 
 beginning_weighs : (identity : List ℕ) (pipes : List (List ℕ)) → weights Host (beginning identity pipes) ≤ 18 * (5 + length pipes)
 beginning_weighs identity pipes =
@@ -483,8 +475,7 @@ errors_hold h (d ∷ desks) =
   where
     if_same : (b : Bool) (d : Desk)
         → notice_holds (changed_if b (λ (d : Desk). record d { errors = min 65535 (d.errors + 1) }) d).notice ≡ notice_holds d.notice
-    if_same true d = refl
-    if_same false d = refl
+    if_same b d = grind arith
 
 counts_hold : (why : Loss) (h : ℕ) (o : Option Running) → node_holds (counts why h o) ≡ node_holds o
 counts_hold (Broken fault) h None = refl

@@ -1,28 +1,24 @@
 -- What comes to the ends of a controller, and its whole step: the creation that a host asked for stays the one that is read.
-use Rattle.node_laws.proofs.Words.{ActEvent, ActFrame, ActStart, ActStop, ActTake, ActTick, AllByRecursion, AreDifferent, AreProper, AtEnd, Bool, Clt, Commits}
-use Rattle.node_laws.proofs.Words.{Control, Controller, Core, Creation, Deed, Entry, HciTables, I, IfAwaited, IsAwaited, IsComing, IsFresh, IsHost, IsOutside}
-use Rattle.node_laws.proofs.Words.{IsPlain, IsProperBook, IsProperCommand, IsReadSo, IsShut, LinkEnd, LinkInput, LinkState, List, NodeInput, None, Notice}
-use Rattle.node_laws.proofs.Words.{Option, Port, Release, Releases, Reset, Response, Rset, S, Sends, Some, Start, Stop, Sync, Take, Tick, TimePasses, Ua, Up}
-use Rattle.node_laws.proofs.Words.{Work, [], act_answer, activated, after_input, after_sessions, all_come, all_done, all_owed, answer_of, answers_and_passes}
-use Rattle.node_laws.proofs.Words.{ap, append-nil, append_assoc, arith, asked_at, book_in, by_list, by_option, by_test, cases_Bool, commit, cond, ended_by, eqb}
-use Rattle.node_laws.proofs.Words.{eqb-false, eqb-true, false, filter, filter_map, finds_room, flat_map, forgets, forgotten, had_tick, has_come, heard, inl}
-use Rattle.node_laws.proofs.Words.{input_at, inr, is_faulty, is_forgotten, is_kept_sync, is_late, is_open, is_over, is_over_at, is_response, is_some, length}
-use Rattle.node_laws.proofs.Words.{map, moved, nat_le, ne_eqb, not, option_map, option_map_or, or-false, or-true, owed, own_side, passes, port_at, put_down}
-use Rattle.node_laws.proofs.Words.{refl, report, reset_late, reset_refusal, role_after, steps, stopped, subst, sym, synced, take_answer, taken, tick_answer}
-use Rattle.node_laws.proofs.Words.{ticked, times_out, told, told_at, told_late, took, true, true≢false, turn_at, unless_cut, whole_acked, with_act, with_older}
-use Rattle.node_laws.proofs.Words.{without_notice, ℕ, ◌&&◌, ◌++◌, ◌+◌, ◌-◌, ◌||◌, ◌∙◌, ◌∷◌, ◌≡◌, ◌⊎◌}
+use Rattle.node_laws.proofs.Words.{AllByRecursion, AreDifferent, AreProper, AtEnd, Bool, Commits, Controller, Core, Creation, Deed, Entry, HciTables, IfAwaited}
+use Rattle.node_laws.proofs.Words.{IsAwaited, IsComing, IsFresh, IsHost, IsOutside, IsPlain, IsProperBook, IsProperCommand, IsReadSo, IsShut, LinkEnd}
+use Rattle.node_laws.proofs.Words.{LinkInput, List, NodeInput, None, Option, Port, Release, Releases, Reset, Response, Sends, Some, Tick, TimePasses, Up, Work}
+use Rattle.node_laws.proofs.Words.{[], after_input, after_sessions, all_come, all_done, all_owed, answer_of, answers_and_passes, ap, append-nil, append_assoc}
+use Rattle.node_laws.proofs.Words.{arith, asked_at, book_in, by_list, by_option, by_test, commit, cond, ended_by, eqb, eqb-false, eqb-true, false, filter}
+use Rattle.node_laws.proofs.Words.{filter_map, flat_map, forgets, forgotten, has_come, inl, input_at, inr, is_forgotten, is_late, is_over, is_over_at}
+use Rattle.node_laws.proofs.Words.{is_response, is_some, length, map, ne_eqb, option_map, option_map_or, or-false, owed, own_side, passes, port_at, refl}
+use Rattle.node_laws.proofs.Words.{report, reset_late, steps, subst, sym, synced, times_out, told, told_at, told_late, true, true≢false, turn_at, unless_cut}
+use Rattle.node_laws.proofs.Words.{whole_acked, with_older, without_notice, ℕ, ◌++◌, ◌+◌, ◌-◌, ◌||◌, ◌∙◌, ◌∷◌, ◌≡◌, ◌⊎◌}
 use Rattle.registry.proofs.ValueLemmas.{AllByRecursion-append as all_joined}
-use Rattle.swp_base.specs.declared.control_frames.Act.{Act}
 use Rattle.node_laws.proofs.creations.Outcomes.{Asked, Parts, asked_map, asked_of, ended_of, forgot, late_of, owed_parts, owes, owes-append, stays, waits}
 use Rattle.node_laws.proofs.creations.Doing.{EndAt, EndHas, Fine, Good, IsOff, IsOn, ask_more, commits, flat_same, many, on_is, pays_then, reading, released}
 use Rattle.node_laws.proofs.creations.Doing.{then, then_fine, told_same}
 use Rattle.node_laws.proofs.creations.Turning.{passes_good}
 use Rattle.node_laws.proofs.kept.Doing.{book_more, hosts_map, plain_entries, plain_flat, plain_fold}
-use Rattle.node_laws.proofs.links.Blocks.{IsWithin, input_within, moved_aside}
+use Rattle.node_laws.proofs.links.Blocks.{IsWithin, input_within}
 use Rattle.node_laws.proofs.links.Noticing.{UpAt, at_all, at_host, outside as from_outside, stays_up}
 use Rattle.node_laws.proofs.notices.Turning.{controller_side, reads}
 use Rattle.node_laws.proofs.notices.Near.{asks}
-use Rattle.node_laws.proofs.notices.Steps.{flat_reads, input_shut, late_elsewhere, reset_ends, sessions_tables, told_elsewhere, told_here}
+use Rattle.node_laws.proofs.notices.Steps.{flat_reads, input_shut, late_elsewhere, sessions_tables, told_elsewhere, told_here}
 use Rattle.node_laws.proofs.readings.Noticed.{up_is}
 use Rattle.node_laws.proofs.steps.StepWalks.{at_port, come_host, forgets_host, late_host, sessions_node, without_host}
 use Rattle.node_laws.proofs.telling.Steps.{forgets_same, without_same}
@@ -30,51 +26,8 @@ use Rattle.gate_answers.specs.declared.response.Response.TheVariants as response
 
 -- ## What comes to an end leaves the blocks that are set aside there
 
-down_aside : (b : Bool) (e : LinkEnd) → (put_down b e).aside ≡ e.aside
-down_aside false e = refl
-down_aside true e = go e.shdlc.phase refl where
-  go : (p : LinkState) → e.shdlc.phase ≡ p → (put_down true e).aside ≡ e.aside
-  go Up q = rw q refl
-  go _ q = rw q refl
-
-act_aside : (o : Option Act) (e : LinkEnd) → (with_act o e).aside ≡ e.aside
-act_aside None e = refl
-act_aside (Some act) e = refl
-
-activated_aside : (e : LinkEnd) (event : ActEvent) → (activated e event).aside ≡ e.aside
-activated_aside e event =
-    act_aside (act_answer e.role event).send (record (put_down (act_answer e.role event).ended_link e) { role = role_after e.role event })
-    ∙ down_aside (act_answer e.role event).ended_link e
-
-heard_aside : (e : LinkEnd) (c : Control) (b : Bool) → (cond b (heard e c) e).aside ≡ e.aside
-heard_aside e c false = refl
-heard_aside e c true = by_test (is_faulty (taken e.shdlc c).session)
-    (λ q. rw q (down_aside true e))
-    (λ q. rw q (moved_aside e (is_some (take_answer e.shdlc c).ended) (taken e.shdlc c)))
-
-took_aside : (e : LinkEnd) (c : Control) → (took e c).aside ≡ e.aside
-took_aside e (ActFrame act again) = activated_aside e (ActTake act again)
-took_aside e Clt = refl
-took_aside e (I ns nr info) = heard_aside e (I ns nr info) (is_open e.role)
-took_aside e (S kind nr) = heard_aside e (S kind nr) (is_open e.role)
-took_aside e (Rset w caps) = heard_aside e (Rset w caps) (is_open e.role)
-took_aside e Ua = heard_aside e Ua (is_open e.role)
-
-tick_aside : (e : LinkEnd) → (had_tick e).aside ≡ e.aside
-tick_aside e = by_test (is_open e.role)
-    (λ o. rw o (moved_aside e (is_some (tick_answer e.shdlc).ended) (ticked e.shdlc)))
-    (λ o. rw o (activated_aside e ActTick))
-
-reset_aside : (e : LinkEnd) (window : Option ℕ) → (after_input e (Reset window)).aside ≡ e.aside
-reset_aside e window = by_option (reset_refusal e) (λ q. rw q (moved_aside e _ _)) (λ why q. rw q refl)
-
 pub input_aside : (e : LinkEnd) (i : LinkInput) → IsComing i → (after_input e i).aside ≡ e.aside
-input_aside e (Take c) is = took_aside e c
-input_aside e Tick is = tick_aside e
-input_aside e (Reset window) is = reset_aside e window
-input_aside e (Start value) is = activated_aside (moved e true (stopped e.shdlc)) (ActStart value)
-input_aside e Stop is = activated_aside (moved e true (stopped e.shdlc)) ActStop
-input_aside e _ is = absurd is
+input_aside e i is = grind arith
 
 -- ## What comes to the ends of a controller: with the session of its asker a creation is neither read nor kept any more
 
@@ -132,58 +85,16 @@ reset_asked : (p : Port) → asked_at (reset_late p) ≡ asked_at p
 reset_asked p = by_test (is_late p) (λ e. rw e refl) (λ e. rw e refl)
 
 come_asked : (p : Port) (o : Option LinkInput) → asked_at (has_come p o) ≡ asked_at p
-come_asked p None = refl
-come_asked p (Some i) = refl
+come_asked p o = grind arith
 
 -- where a notice is late its end was up until then
 late_is : (n : ℕ) (l : List Creation) (q : Port) (r s : Option (List ℕ)) → q.late ≡ false
     → (q.ended ≡ false → is_some q.desk.notice ≡ true → q.side.shdlc.phase ≡ Up) → IsShut q.side → IsCome n l r s (Some q)
     → IsCome n l r (cond (is_late q) (cond (is_some (ended_by q.side (Reset None))) None s) s) (Some (reset_late q))
-late_is n l q r s fresh up shut a = go (is_late q) refl where
-  both : (c d : Bool) → (c && d) ≡ true → (c ≡ true) × (d ≡ true)
-  both true d e = (refl, e)
-  both false d e = absurd (true≢false (sym e))
-
-  some_of : (o : Option Notice) → option_map_or (λ (n : Notice). nat_le 100 n.age) o false ≡ true → is_some o ≡ true
-  some_of None e = e
-  some_of (Some n) e = refl
-
-  not_of : (b : Bool) → not b ≡ true → b ≡ false
-  not_of true e = sym e
-  not_of false e = refl
-
-  go : (b : Bool) → is_late q ≡ b → IsCome n l r (cond (is_late q) (cond (is_some (ended_by q.side (Reset None))) None s) s) (Some (reset_late q))
-  go false e = rw e a
-  go true e =
-      let parts = both (option_map_or (λ (n : Notice). nat_le 100 n.age) q.desk.notice false) (not q.ended) e in
-      let ends : is_some (ended_by q.side (Reset None)) ≡ true =
-      reset_ends q.side shut (up (not_of q.ended parts.1) (some_of q.desk.notice parts.0)) in
-      let reset : Port = record q { side = after_input q.side (Reset None); late = true } in
-      let is : reset_late q ≡ reset = rw e refl in
-      let over : is_over reset ≡ true = or-true q.ended in
-      let gone : cond (is_late q) (cond (is_some (ended_by q.side (Reset None))) None s) s ≡ None =
-      ap (λ b. cond b (cond (is_some (ended_by q.side (Reset None))) None s) s) e ∙ ap (λ b. cond b None s) ends in
-      let here : IsCome n l r None (Some reset) = (
-        record {
-          within = input_within q.side (Reset None) a.0.within;
-          aside = input_aside q.side (Reset None) tt ∙ a.0.aside;
-          up = λ off. absurd (true≢false (sym over ∙ off));
-        },
-        ap (λ b. cond b None r) (sym over),
-      ) in
-      subst (λ z. IsCome n l r z (Some (reset_late q))) (sym gone) (subst (λ z. IsCome n l r None (Some z)) (sym is) here)
+late_is n l q r s fresh up shut a = grind arith
 
 late_flag : (q : Port) → q.late ≡ false → (reset_late q).late ≡ true → (reset_late q).ended ≡ false
-late_flag q fresh = by_test (is_late q)
-    (λ e. rw e (λ z. not_of q.ended (second (option_map_or (λ (n : Notice). nat_le 100 n.age) q.desk.notice false) (not q.ended) e)))
-    (λ e. rw e (λ z. absurd (true≢false (sym z ∙ fresh)))) where
-      second : (c d : Bool) → (c && d) ≡ true → d ≡ true
-      second true d e = e
-      second false d e = absurd (true≢false (sym e))
-
-      not_of : (b : Bool) → not b ≡ true → b ≡ false
-      not_of true e = sym e
-      not_of false e = refl
+late_flag q fresh = grind arith
 
 abbrev pub AreFlagged : List Port → Type 0
 AreFlagged ports = AllByRecursion (λ (p : Port). p.late ≡ true → p.ended ≡ false) ports
@@ -327,9 +238,7 @@ module _ (x : ℕ) (before : List Entry) (hosts : List ℕ) (asked : Asked) (n :
         let f : IsFresh p = at_port IsFresh w.ports x p fresh e in
         subst (λ s. IsCome n list r s (Some (reset_late (with_older q)))) (sym (read_late (with_older q) (at_host w.ports x p e)))
         (late_is n list (with_older q) r first f.1
-        (λ going some. stays_up p.side Tick tt (up_is p.side.shdlc.phase (u (by_option p.desk.notice
-        (λ q. rw q (rw q at some))
-        (λ k q. rw q refl)))) going)
+        (λ going some. stays_up p.side Tick tt (up_is p.side.shdlc.phase (u (grind arith))) going)
         (input_shut p.side Tick (at_port (λ (z : Port). IsShut z.side) w.ports x p shut e))
         (b.0, b.1)))))))
       where
@@ -357,8 +266,7 @@ module _ (x : ℕ) (before : List Entry) (hosts : List ℕ) (asked : Asked) (n :
 -- ## A whole step of a controller: the creation that a host asked for stays the one that is read
 
 pub answer_response : (r : Response) → is_response (answer_of r []) ≡ true
-answer_response response.Ok = refl
-answer_response _ = refl
+answer_response r = grind arith
 
 -- ### What is due
 
@@ -389,11 +297,7 @@ owed_due test [] a = tt
 owed_due test (p ∷ ports) a = by_test (test p) refl (owed_due test ports a.1) where
   by_test : (b : Bool) → test p ≡ b → AllByRecursion IsAwaited (filter_map asked_at (filter test ports))
       → AllByRecursion IsAwaited (filter_map asked_at (filter test (p ∷ ports)))
-  by_test false e later = rw e later
-  by_test true e later = by_creation (asked_at p) refl a.0 where
-    by_creation : (o : Option Creation) → asked_at p ≡ o → IfAwaited o → AllByRecursion IsAwaited (filter_map asked_at (filter test (p ∷ ports)))
-    by_creation None q due = rw (e, q) later
-    by_creation (Some c) q due = rw (e, q) (due, later)
+  by_test b e later = grind arith
 
 -- ### What stays of an end
 
@@ -420,17 +324,7 @@ freed_are x all (p ∷ ports) = by_creation (asked_at p) refl (freed_are x all p
       ≡ cond (is_over_at all x) (waits x (asked_of (p ∷ ports))) []
 
   by_creation : (o : Option Creation) → asked_at p ≡ o → owes x l ≡ cond (is_over_at all x) w [] → Goal
-  by_creation None q later = rw q later
-  by_creation (Some c) q later = by_asker (cases_Bool (eqb c.asker x)) (cases_Bool (is_over_at all c.asker)) where
-    by_asker : (eqb c.asker x ≡ true) ⊎ (eqb c.asker x ≡ false) → (is_over_at all c.asker ≡ true) ⊎ (is_over_at all c.asker ≡ false) → Goal
-    by_asker (inl is) (inl over) =
-        let here : is_over_at all x ≡ true = ap (is_over_at all) (sym (eqb-true c.asker x is)) ∙ over in
-        rw (q, over, is, here) (ap (λ k. c ∷ k) (later ∙ ap (λ b. cond b w []) here))
-    by_asker (inl is) (inr off) =
-        let here : is_over_at all x ≡ false = ap (is_over_at all) (sym (eqb-true c.asker x is)) ∙ off in
-        rw (q, off, here) (later ∙ ap (λ b. cond b w []) here)
-    by_asker (inr else) (inl over) = rw (q, over, else) later
-    by_asker (inr else) (inr off) = rw (q, off, else) later
+  by_creation o q later = grind arith
 
 module _ (x : ℕ) (before : List Entry) (hosts : List ℕ) where
   -- blocks are freed, one after another
@@ -455,13 +349,7 @@ module _ (x : ℕ) (before : List Entry) (hosts : List ℕ) where
   kept_append ds es a b = all_joined IsKept ds es a b
 
   synced_kept : (core : Core) (input : NodeInput) (p : Port) → AllByRecursion IsKept (synced core input p)
-  synced_kept core input p = by_option (input_at input p)
-      (λ q. rw q tt)
-      (λ i q. by_option (report p.side i).sync
-      (λ e. rw (q, e) tt)
-      (λ id e. rw (q, e) (by_test (not (is_kept_sync core.tables.syncs p.desk.host id) && finds_room core (Sync p.desk.host id))
-      (λ q. rw q ((tt, tt)))
-      (λ q. rw q tt))))
+  synced_kept core input p = grind arith
 
   pub all_kept : (core : Core) (input : NodeInput) (ports : List Port) → AllByRecursion IsKept (flat_map (synced core input) ports)
   all_kept core input [] = tt
@@ -491,9 +379,7 @@ module _ (x : ℕ) (before : List Entry) (hosts : List ℕ) where
 
     by_creation : ((v : Work) → Good x before hosts asked (filter_map asked_at ports ++ owing) v → Fine x before hosts (all_done 0 later v))
         → (o : Option Creation) → asked_at p ≡ o → Fine x before hosts (all_done 0 (flat_map (λ p. owed r (asked_at p)) (p ∷ ports) ++ rest) w)
-    by_creation more None q =
-        let same : flat_map (λ p. owed r (asked_at p)) (p ∷ ports) ++ rest ≡ later = rw q refl in
-        subst (λ d. Fine x before hosts (all_done 0 d w)) (sym same) (more w (rw q at a))
+    by_creation more None q = grind arith
     by_creation more (Some c) q =
         let same : flat_map (λ p. owed r (asked_at p)) (p ∷ ports) ++ rest ≡ Releases c.asker ∷ Sends c.asker (1, answer_of r []) ∷ later = rw q refl in
         subst (λ d. Fine x before hosts (all_done 0 d w)) (sym same)
@@ -542,8 +428,7 @@ module _ (x : ℕ) (before : List Entry) (hosts : List ℕ) where
           (due_ports v.ports (subst (AllByRecursion (λ (e : ℕ × Option Creation). IfAwaited e.1)) (sym c.asked_are) a.due))
 
       read_left : IsReadSo (reading x before hosts v) (waits x (asked_of left))
-      read_left = subst (λ l. IsReadSo (reading x before hosts v) l) (sym left_are) (subst (λ r. IsReadSo r (cond over [] (waits x asked))) (sym c.read)
-          (by_test over (λ q. rw q tt) (λ q. rw q (subst (IsReadSo (reading x before hosts w)) (append-nil (waits x asked)) a.read))))
+      read_left = subst (λ l. IsReadSo (reading x before hosts v) l) (sym left_are) (grind arith)
 
       same_length : length (waits x now ++ owes x owing) ≡ length (cond over [] (waits x asked))
       same_length = ap length in_parts ∙ (parts.many ∙ ap length left_are)

@@ -1,21 +1,20 @@
 -- A controller does the deeds of a message: the creation that a host asked for stays the one that is read.
-use Rattle.node_laws.proofs.Words.{AllByRecursion, AreProper, Asks, Book, Bool, Command, Commits, Controller, Core, Creation, Deed, Desk, Drops, Entry}
-use Rattle.node_laws.proofs.Words.{FetchMessage, Give, Hold, IfAwaited, IsAnswered, IsAwaited, IsNoticeOf, IsProperBook, IsProperCommand, IsReadSo, LinkEnd}
-use Rattle.node_laws.proofs.Words.{LinkInput, List, Message, None, Noted, Option, PipeRow, Port, Refused, Release, Releases, Removed, SaysOk, Sends, SetAside}
-use Rattle.node_laws.proofs.Words.{SetsErrors, Some, Tells, Turn, Up, Waits, Work, [], after_input, after_turn, agreed, all_done, and-false, answer_of, ap}
-use Rattle.node_laws.proofs.Words.{append-nil, append_assoc, ap₂, arith, asked_at, asking_after, asking_in, body_of, book_after, book_in, by_option, by_test}
-use Rattle.node_laws.proofs.Words.{cases_Bool, changed_if, commit, commit_writes, cond, count_of, creation_in, done, drop, end_c, end_of, end_of_node, ended_by}
-use Rattle.node_laws.proofs.Words.{ends_of, entries_for, eq-eqb, eqb, eqb-true, fails_within, false, flat_map, fold, fold-append, give_refusal, in_use, inl}
-use Rattle.node_laws.proofs.Words.{inr, is_response, is_some, le-ltb, length, list_any, map, nat_lt, need, noted_of, notified, noting, option_map}
-use Rattle.node_laws.proofs.Words.{option_map_or, or-false, own_side, port_at, refl, report, same_end, sent_unless, spare, subst, sym, take, told_at, true}
-use Rattle.node_laws.proofs.Words.{true≢false, turn, turn_at, turn_entry, unless_cut, whole_acked, with_desk, with_port, ℕ, ◌&&◌, ◌++◌, ◌+◌, ◌-◌, ◌/◌, ◌∙◌, ◌∷◌}
-use Rattle.node_laws.proofs.Words.{◌≡◌, ◌≤◌, ◌⊎◌}
+use Rattle.node_laws.proofs.Words.{AllByRecursion, AreProper, Asks, Book, Bool, Command, Commits, Controller, Core, Creation, Deed, Desk, Drops, Entry, Give}
+use Rattle.node_laws.proofs.Words.{IfAwaited, IsAnswered, IsAwaited, IsNoticeOf, IsProperBook, IsProperCommand, IsReadSo, LinkEnd, LinkInput, List, Message}
+use Rattle.node_laws.proofs.Words.{None, Noted, Option, PipeRow, Port, Refused, Release, Releases, Removed, SaysOk, Sends, SetAside, SetsErrors, Some, Tells}
+use Rattle.node_laws.proofs.Words.{Turn, Up, Waits, Work, [], after_input, after_turn, agreed, all_done, and-false, answer_of, ap, append-nil, append_assoc}
+use Rattle.node_laws.proofs.Words.{ap₂, arith, asked_at, asking_after, asking_in, body_of, book_after, book_in, by_option, by_test, cases_Bool, changed_if}
+use Rattle.node_laws.proofs.Words.{commit, commit_writes, cond, count_of, creation_in, done, end_c, end_of, end_of_node, ended_by, ends_of, entries_for, eq-eqb}
+use Rattle.node_laws.proofs.Words.{eqb, eqb-true, fails_within, false, flat_map, fold, fold-append, give_refusal, in_use, inl, inr, is_response, is_some}
+use Rattle.node_laws.proofs.Words.{length, map, nat_lt, noted_of, notified, noting, option_map, option_map_or, own_side, port_at, refl, report, same_end}
+use Rattle.node_laws.proofs.Words.{sent_unless, spare, subst, sym, told_at, true, true≢false, turn, turn_at, unless_cut, whole_acked, with_desk, with_port, ℕ}
+use Rattle.node_laws.proofs.Words.{◌&&◌, ◌++◌, ◌+◌, ◌-◌, ◌∙◌, ◌∷◌, ◌≡◌, ◌≤◌, ◌⊎◌}
 use Rattle.node_laws.proofs.creations.Outcomes.{Asked, LeavesAsked, Split, asked_else, asked_here, asked_of, asked_set, asked_with, both_empty, left_same}
 use Rattle.node_laws.proofs.creations.Outcomes.{none_read, one_of, owed_length, owed_read, owes, proper_apply, proper_command, read_none, set_asked, waits}
-use Rattle.node_laws.proofs.kept.Doing.{book_command, book_more, plain_entries, plain_fold}
+use Rattle.node_laws.proofs.kept.Doing.{book_command, book_more}
 use Rattle.node_laws.proofs.links.Blocks.{IsWithin, turn_within}
 use Rattle.node_laws.proofs.links.Noticing.{at_all, at_host, turn-phase}
-use Rattle.node_laws.proofs.notices.Turning.{controller_side, else_same, reads, reads_append, same_near, told_reads}
+use Rattle.node_laws.proofs.notices.Turning.{controller_side, else_same, reads, reads_append, told_reads}
 use Rattle.node_laws.proofs.notices.Near.{asking_more, asks, far_asks, quiet_far}
 use Rattle.node_laws.proofs.readings.Turning.{rest_quiet, told_rest}
 use Rattle.node_laws.proofs.steps.StepWalks.{changed_host}
@@ -65,11 +64,7 @@ module _ (x : ℕ) where
   -- no response to this host on pipe 01, or nothing is read
   sent_asks : (k n : ℕ) (m : Message) (o : Option Refused) (r : Option (List ℕ)) → ((eqb k x && eqb m.0 1 && is_response m.1) ≡ true → r ≡ None)
       → asks x (entries_for k (sent_unless o Controller n m)) r ≡ r
-  sent_asks k n m (Some why) r none = refl
-  sent_asks k n m None r none =
-      ap (λ b. cond (b && eqb m.0 1 && is_response m.1) None r) (same_near k x) ∙ by_test (eqb k x && eqb m.0 1 && is_response m.1)
-      (λ q. rw q (sym ((rw q at none) refl)))
-      (λ q. rw q refl)
+  sent_asks k n m o r none = grind arith
 
   -- the answer
   answer_asks : (k n : ℕ) (message : List ℕ) (r : Option (List ℕ)) → eqb k x ≡ true → is_response message ≡ true
@@ -79,9 +74,7 @@ module _ (x : ℕ) where
   -- a host is asked for a creation of this one, or of another one
   asked_reads : (to : ℕ) (message : List ℕ) (c : Creation) (r : Option (List ℕ)) → IsNoticeOf c message
       → asks x (entry.Ask to message ∷ []) r ≡ cond (eqb c.asker x) (Some message) r
-  asked_reads to message c r is =
-      ap (λ b. cond b (Some message) r) (ap (λ (m : List ℕ). list_any (λ y. eqb y x) (take 1 (drop 1 m))) is.message_is
-      ∙ (or-false (eqb is.row.creator x) ∙ ap (λ n. eqb n x) is.asker))
+  asked_reads to message c r is = grind arith
 
 -- ## A controller does the deeds of a message: the creation that a host asked for stays the one that is read
 
@@ -107,11 +100,7 @@ IsPlainTurn Release = ⊥
 IsPlainTurn _ = Unit {0}
 
 plain_aside : (e : LinkEnd) (t : Turn) → IsPlainTurn t → (turn e t).aside ≡ e.aside
-plain_aside e (Give m) is = give_aside e m
-plain_aside e (Hold held) is = refl
-plain_aside e FetchMessage is = refl
-plain_aside e SetAside is = absurd is
-plain_aside e Release is = absurd is
+plain_aside e t is = grind arith
 
 plain_has : (n : ℕ) (l : List Creation) (e : LinkEnd) (t : Turn) → IsPlainTurn t → EndHas n l e → EndHas n l (turn e t)
 plain_has n l e t is a = record {
@@ -125,9 +114,7 @@ module _ (x : ℕ) where
       → ((p : Port) → EndHas n l p.side → EndHas n l (g p).side) → EndAt n l (port_at ports x) → EndAt n l (port_at (with_port k g ports) x)
   end_map n l k g ports host one a =
       subst (EndAt n l) (sym (at_all ports x (λ p. changed_if (eqb p.desk.host k) g p) (λ p. changed_host (eqb p.desk.host k) g p host)))
-      (by_option (port_at ports x)
-      (λ q. rw q (rw q at a))
-      (λ p q. rw q (let z = rw q at a in by_test (eqb p.desk.host k) (λ q. rw q (one p z)) (λ q. rw q z))))
+      (grind arith)
 
   -- what is done at the end of this host
   pub at_here : (k : ℕ) (g : Port → Port) (ports : List Port) (p : Port) → ((p : Port) → (g p).desk.host ≡ p.desk.host) → eqb k x ≡ true
@@ -148,10 +135,7 @@ due_set k o [] may a = tt
 due_set k o (e ∷ asked) may a = (by_test (eqb e.0 k) (λ q. rw q may) (λ q. rw q a.0), due_set k o asked may a.1)
 
 plain_of : (core : Core) (t : Turn) (o : Option Port) (b : Book) → fold (book_after 0) b (option_map_or (noted_of core t) o []) ≡ b
-plain_of core t None b = refl
-plain_of core t (Some p) b =
-    plain_fold 0 b (entries_for p.desk.host (turn_entry (own_side core) p.session p.side t)) (plain_entries p.desk.host (turn_entry (own_side core) p.session
-    p.side t))
+plain_of core t o b = grind arith
 
 long_empty : (l m : List Creation) → length l ≡ length m → l ≡ [] → m ≡ []
 long_empty l [] same e = refl
@@ -172,11 +156,7 @@ alone (Some m) (d ∷ e ∷ a) b c k = absurd k
 
 -- an end that is up, with a block to spare, takes a message of one block
 pub takes_short : (e : LinkEnd) (answer : List ℕ) → e.shdlc.phase ≡ Up → length answer ≤ 32 → in_use e + e.aside ≤ 127 → give_refusal e (1, answer) ≡ None
-takes_short e answer up short room =
-    rw (up, le-ltb 4096 (length answer) (omega (arith, short)), le-ltb (spare e) (need answer) (omega (arith, one_block (length answer) short, room))) refl
-  where
-    one_block : (n : ℕ) → n ≤ 32 → (n + 31) / 32 ≤ 1
-    one_block n q = omega (arith, q)
+takes_short e answer up short room = grind arith
 
 -- ### A step
 
@@ -349,25 +329,11 @@ module _ (x : ℕ) (before : List Entry) (hosts : List ℕ) where
 
     else_so : eqb c.asker x ≡ false → Good asked owed (turn_at c.asker (Give (1, answer)) v)
     else_so off =
-        let same : waits x asked ++ owes x (c ∷ owed) ≡ waits x asked ++ owes x owed =
-        ap (λ b. waits x asked ++ (cond b (c ∷ []) [] ++ owes x owed)) off in
+        let same : waits x asked ++ owes x (c ∷ owed) ≡ waits x asked ++ owes x owed = grind arith in
         let second : IsOn asked (c ∷ owed) n v = subst (λ b. IsOn asked (c ∷ owed) (cond b (n - 1) n) v) off first in
-        let third : IsOn asked owed n v = record {
-          on = second.on;
-          node = second.node;
-          asked_are = second.asked_are;
-          hosts_are = second.hosts_are;
-          due = second.due;
-          owed_due = second.owed_due.1;
-          rows = second.rows;
-          book = second.book;
-          read = subst (IsReadSo (reading v)) same second.read;
-          end = subst (λ l. EndAt n l (port_at v.ports x)) same second.end;
-        } in
+        let third : IsOn asked owed n v = grind arith in
         gives asked owed (many asked owed) c.asker (1, answer) v
-        (λ z. absurd (true≢false (sym (by_test (eqb c.asker x)
-        (λ q. rw q refl)
-        (λ q. rw q (absurd (true≢false (sym (rw q at z)))))) ∙ off)))
+        (λ z. absurd (true≢false (sym (grind arith) ∙ off)))
         (subst (λ j. IsOn asked owed j v) (ap length same) third)
 
     here_so : eqb c.asker x ≡ true → Good asked owed (turn_at c.asker (Give (1, answer)) v)
@@ -525,9 +491,6 @@ abbrev pub HasBlock : Option Port → Type 0
 HasBlock None = ⊥
 HasBlock (Some p) = (p.side.shdlc.phase ≡ Up) × (nat_lt 0 (spare p.side) ≡ true)
 
-aside_more : (e : LinkEnd) → nat_lt 0 (spare e) ≡ true → turn e SetAside ≡ record e { aside = e.aside + 1 }
-aside_more e q = rw q refl
-
 is_answer : (row : PipeRow) → is_response (answer_of response.Ok (ends_of row)) ≡ true
 is_answer row = refl
 
@@ -546,12 +509,10 @@ module _ (x : ℕ) (before : List Entry) (hosts : List ℕ) where
   pub then : (R : Work → Type 0) (asked : Asked) (owed : List Creation) (n : ℕ) (f : Work → Work) (w : Work)
       → IsOn x before hosts asked owed n w ⊎ IsOff x before hosts w → (IsOff x before hosts w → R w) → (IsOn x before hosts asked owed n w → R (f w))
       → R (unless_cut f w)
-  then R asked owed n f w (inl a) lost next = subst R (sym (on_is x before hosts f w a.on)) (next a)
-  then R asked owed n f w (inr a) lost next = subst R (sym (off_is x before hosts f w a.off)) (lost a)
+  then R asked owed n f w a lost next = grind arith
 
   pub then_fine : (f : Work → Work) (w : Work) → Fine w → ((asked : Asked) → Good x before hosts asked [] w → Fine (f w)) → Fine (unless_cut f w)
-  then_fine f w (inl a) next = subst Fine (sym (on_is x before hosts f w a.good.on)) (next a.asked a.good)
-  then_fine f w (inr a) next = subst Fine (sym (off_is x before hosts f w a.off)) (inr a)
+  then_fine f w a next = grind arith
 
   -- ### Deeds that leave the creations
 
@@ -662,11 +623,7 @@ module _ (x : ℕ) (before : List Entry) (hosts : List ℕ) where
     set_here l e None q z b = absurd z
     set_here l e (Some p) q z b =
         let one : m ≡ n + 1 = ap length (here_is e) ∙ ap (λ k. length (k ++ []) + 1) (sym (free e)) in
-        subst (EndAt m l) (sym (at_here x c.asker (after_turn SetAside) w.ports p (λ j. refl) e q)) (record {
-          within = turn_within p.side SetAside b.within;
-          aside = ap (λ (k : LinkEnd). k.aside) (aside_more p.side z.1) ∙ (ap (λ k. k + 1) b.aside ∙ sym one);
-          up = λ some. turn-phase p.side SetAside ∙ z.0;
-        })
+        subst (EndAt m l) (sym (at_here x c.asker (after_turn SetAside) w.ports p (λ j. refl) e q)) ((grind arith))
 
     set_end : (l : List Creation) → (eqb c.asker x ≡ false → l ≡ waits x asked ++ []) → EndAt m l (port_at (with_port c.asker (after_turn SetAside) w.ports) x)
     set_end l same = by_test (eqb c.asker x)
@@ -676,8 +633,7 @@ module _ (x : ℕ) (before : List Entry) (hosts : List ℕ) where
         (subst (EndAt n (waits x asked ++ [])) (sym (else_same c.asker x (after_turn SetAside) w.ports (λ j. refl) e)) a.end)))
 
     silent : (o : Option Port) (r : Option (List ℕ)) → asks x (option_map_or (noted_of w.core SetAside) o []) r ≡ r
-    silent None r = refl
-    silent (Some p) r = refl
+    silent o r = grind arith
 
     first : IsOn x before hosts asked [] m u
     first =
@@ -710,10 +666,7 @@ module _ (x : ℕ) (before : List Entry) (hosts : List ℕ) where
 
     -- the notice is no response
     no_answer : (eqb to x && true && is_response notice) ≡ true → last ≡ []
-    no_answer z = absurd (true≢false (sym (third (eqb to x) (is_response notice) z) ∙ ap is_response is_notice_of.message_is)) where
-      third : (a b : Bool) → (a && true && b) ≡ true → b ≡ true
-      third true b e = e
-      third false b e = absurd (true≢false (sym e))
+    no_answer z = grind arith
 
     pub asks_one : (k : ℕ) → Split asked to None → Fine (all_done k (Asks to notice c ∷ []) w)
     asks_one k s =

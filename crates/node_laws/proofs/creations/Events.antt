@@ -1,23 +1,23 @@
 -- What is read of creations over whatever happens in a world, and over the events of a schedule.
 use Rattle.node_laws.proofs.Words.{Activates, AllByRecursion, AllKeep, AreAwaited, AreHosts, AreProper, Arms, AsksReset, AtController, AtEnd, Bare, Bool, Boots}
 use Rattle.node_laws.proofs.Words.{Broken, Clf, Comes, Controller, CutOff, Deed, Desk, End, Ending, Entry, FollowsNodes, Gives, GoesOut, Happening, HasEnds}
-use Rattle.node_laws.proofs.Words.{HasSetAside, HciTables, Header, Host, IfAwaited, IfHostNode, IfItRuns, IfNoticedUp, IfRuns, Inits, IsCut, IsFew, IsHost}
-use Rattle.node_laws.proofs.Words.{IsProperBook, IsReadSo, IsSentByHost, IsShut, KeepsCreations, KeepsNotices, Line, LineStep, Link, LinkEnd, LinkInput, List}
-use Rattle.node_laws.proofs.Words.{Loses, Loss, MayBoot, MayHappen, Memory, NextFrame, NoInput, NodeHistory, NodeWorld, None, NumberedEnd, Occurrence, Option}
-use Rattle.node_laws.proofs.Words.{Port, Reset, Resets, Role, Running, RunsSo, Site, Some, Starts, Step, Stops, Take, Takes, Tick, Ticks, TimePasses, Turn}
-use Rattle.node_laws.proofs.Words.{Work, [], activates, after_controller, after_host, after_input, after_planned, aged, aged_entries, all_aged, ap, append-nil}
-use Rattle.node_laws.proofs.Words.{append_assoc, arrival, asking_in, beginning, begins_with, book_in, boot_found, boot_writes, boot_written, boots, by_boot}
-use Rattle.node_laws.proofs.Words.{by_coming, by_controller, by_counts, by_host, by_list, by_loss, by_memory, by_option, by_power, by_running, by_test}
-use Rattle.node_laws.proofs.Words.{comes_at, comes_to, commands_in, cond, cond_both, cons_option, controller_cut, controller_does, controller_ticks}
-use Rattle.node_laws.proofs.Words.{controller_work, count_of, counts, creation_in, creations_at, creations_of, deactivated, end_c, end_h, ending_of}
-use Rattle.node_laws.proofs.Words.{entries_for, entries_in, eqb, eqb-true, errors_all, exchanged, false, filter_map, find, first_lost, flat_map}
-use Rattle.node_laws.proofs.Words.{flat_map-append, found, frame_lost, frames_noted, happenings, happens, has_come, has_input, has_taken, host_cut, host_does}
-use Rattle.node_laws.proofs.Words.{host_work, hosts_in, hosts_tick, input_at, input_of, is_late_at, is_waiting, length, link_after_controller, link_to}
-use Rattle.node_laws.proofs.Words.{links_of, loses_power_at, map, memory_at, near_end_in, new_clf, new_desk, new_link_end, new_site, new_world, node_at}
-use Rattle.node_laws.proofs.Words.{node_entries, not, occurrences_in, occurrences_of, option_map_or, port_at, port_for, refl, refusal_in, renewed, replicate}
-use Rattle.node_laws.proofs.Words.{runs_on, seen_from, sending, sent_all, site_at, site_lost, started, steps, steps_at_controller, subst, sym, ticked_so}
-use Rattle.node_laws.proofs.Words.{ticks_at_controller, true, true≢false, turned, turns_at, wires_for, with_error, with_memory, with_node, with_site, work_of}
-use Rattle.node_laws.proofs.Words.{world_after, world_behind, world_step, world_ticks, written_off, ℕ, ◌&&◌, ◌++◌, ◌-◌, ◌^◌, ◌∙◌, ◌∷◌, ◌≡◌, ◌≤◌}
+use Rattle.node_laws.proofs.Words.{HasSetAside, Header, Host, IfAwaited, IfHostNode, IfItRuns, IfNoticedUp, Inits, IsCut, IsFew, IsHost, IsProperBook, IsReadSo}
+use Rattle.node_laws.proofs.Words.{IsSentByHost, IsShut, KeepsCreations, KeepsNotices, Line, LineStep, Link, LinkEnd, LinkInput, List, Loses, Loss, MayBoot}
+use Rattle.node_laws.proofs.Words.{MayHappen, Memory, NextFrame, NoInput, NodeHistory, NodeWorld, None, NumberedEnd, Occurrence, Option, Port, Reset, Resets}
+use Rattle.node_laws.proofs.Words.{Role, Running, Site, Some, Starts, Step, Stops, Takes, Tick, Ticks, TimePasses, Turn, Work, [], activates, after_controller}
+use Rattle.node_laws.proofs.Words.{after_host, after_input, after_planned, aged, aged_entries, all_aged, ap, append-nil, append_assoc, arith, arrival}
+use Rattle.node_laws.proofs.Words.{asking_in, beginning, begins_with, book_in, boot_found, boot_writes, boot_written, boots, by_boot, by_coming, by_controller}
+use Rattle.node_laws.proofs.Words.{by_counts, by_host, by_list, by_loss, by_memory, by_option, by_power, by_running, by_test, comes_at, comes_to, commands_in}
+use Rattle.node_laws.proofs.Words.{cond, cond_both, cons_option, controller_cut, controller_does, controller_ticks, controller_work, count_of, counts}
+use Rattle.node_laws.proofs.Words.{creation_in, creations_at, creations_of, deactivated, end_c, end_h, ending_of, entries_for, entries_in, eqb, eqb-true}
+use Rattle.node_laws.proofs.Words.{errors_all, exchanged, false, filter_map, find, first_lost, flat_map, flat_map-append, found, frame_lost, frames_noted}
+use Rattle.node_laws.proofs.Words.{happenings, happens, has_input, has_taken, host_cut, host_does, host_work, hosts_in, hosts_tick, input_of, is_late_at}
+use Rattle.node_laws.proofs.Words.{is_waiting, length, link_after_controller, link_to, links_of, loses_power_at, map, memory_at, near_end_in, new_clf, new_desk}
+use Rattle.node_laws.proofs.Words.{new_link_end, new_site, new_world, node_at, node_entries, not, occurrences_in, occurrences_of, option_map_or, port_at}
+use Rattle.node_laws.proofs.Words.{port_for, refl, refusal_in, renewed, replicate, runs_on, seen_from, sending, sent_all, site_at, site_lost, started, steps}
+use Rattle.node_laws.proofs.Words.{steps_at_controller, subst, sym, ticked_so, ticks_at_controller, true, true≢false, turned, turns_at, wires_for, with_error}
+use Rattle.node_laws.proofs.Words.{with_memory, with_node, with_site, work_of, world_after, world_behind, world_step, world_ticks, written_off, ℕ, ◌&&◌, ◌++◌}
+use Rattle.node_laws.proofs.Words.{◌-◌, ◌^◌, ◌∙◌, ◌∷◌, ◌≡◌, ◌≤◌}
 use Rattle.node_laws.specs.creations.Creations.{of_asker}
 use Rattle.node_laws.proofs.creations.Coming.{input_aside}
 use Rattle.node_laws.proofs.creations.HostSides.{event_none, new_none}
@@ -58,9 +58,7 @@ beside_reads t w v es a b = record {
   due = b.due a.due;
   read = λ x. subst (λ m. IsReadSo m (creations_of v.controller x)) (sym (far_reading x t es b.far))
       (subst (IsReadSo (asking_in t x)) (sym (b.creations x)) (a.read x));
-  ends = λ x. subst (HasSetAside (creations_of v.controller x)) (sym (b.sides x))
-      (subst (λ l. HasSetAside l (link_to w.sites x).controller.side) (sym (b.creations x))
-      (a.ends x));
+  ends = grind arith;
 }
 
 abbrev pub BesideBy : NodeWorld → NodeWorld × List Entry → Type 0
@@ -131,8 +129,7 @@ lost_beside w e why =
     (quiet_far e.link (first_lost Host why (link_to w.sites e.link).to_host) (lost_quiet Host why (link_to w.sites e.link).to_host)) (λ s. refl)
     (λ s. lost_side e why s.link))
     (λ b. record {
-      far = quiet_far e.link (first_lost Controller why (link_to w.sites e.link).to_controller)
-          (lost_quiet Controller why (link_to w.sites e.link).to_controller);
+      far = grind arith;
       creations = λ x. counted_creations why e.link w.controller x;
       due = counted_due why e.link w.controller;
       sides = λ n. side_with e.link (site_lost e why) (λ s. refl) (λ s. lost_side e why s.link) w.sites n;
@@ -226,9 +223,7 @@ module _ (hosts : List ℕ) (are : AreHosts hosts) (t : List Entry) (w : NodeWor
   shut_at n = link_shut w.sites n notices.sites
 
   rows_of : (r : Running) → w.controller ≡ Some r → AreProper r.core.tables.rows
-  rows_of r e =
-      let runs : RunsSo 0 hosts w.memory.content t r = subst (IfRuns 0 hosts w.memory.content t) e kept.controller.runs in
-      subst (λ (z : HciTables). AreProper z.rows) (sym runs.tables_are) a.book.tables
+  rows_of r e = grind arith
 
   -- a desk for each site
   has_desk : (r : Running) → HasEnds 0 (hosts_in w.sites) r → (x : ℕ) (s : Site) → site_at w.sites x ≡ Some s
@@ -260,10 +255,7 @@ module _ (hosts : List ℕ) (are : AreHosts hosts) (t : List Entry) (w : NodeWor
       → (role : Role) × ((steps_at_controller l comes ts CutOff).controller.side ≡ new_link_end (renewed role))
   step_new l NextFrame ts i e = by_list l.to_controller
       (λ q. let z : None ≡ Some i = rw q at e in absurd (cc z))
-      (λ y ys q. let is : steps_at_controller l NextFrame ts CutOff ≡ has_taken l y ys ts CutOff = rw q refl in (
-        (sent_all (turned (after_input l.controller.side (Take y.frame)) ts)).role,
-        ap (λ (k : Link). k.controller.side) is,
-      ))
+      (λ y ys q. let is : steps_at_controller l NextFrame ts CutOff ≡ has_taken l y ys ts CutOff = rw q refl in (grind arith))
   step_new l (AsksReset window) ts i e =
       ((sent_all (turned (after_input l.controller.side (Reset window)) ts)).role, refl)
   step_new l (Starts value) ts i e = ((sent_all (turned (started l.controller.side value) ts)).role, refl)
@@ -339,9 +331,7 @@ module _ (hosts : List ℕ) (are : AreHosts hosts) (t : List Entry) (w : NodeWor
               there x s q
                   ∙ (ap (λ z. (steps_at_controller s.link (cond (eqb x h) comes NoInput) (turns_at k x) z).controller.side) (ending_is k e)
                   ∙ (near_side s.link h x comes i (turns_at k x) p b.host side (λ is. input_at_site x s q is)
-                  ∙ (ap (λ ts. sent_all (turned (has_come p (input_at (AtEnd h i) p)).side ts))
-                  (turns_of k x made.port made.here)
-                  ∙ ap sent_all (sym made.is)))),
+                  ∙ (grind arith))),
             )
 
     near_tick : (es : List Entry) → Reads (t ++ es) w → Reads ((t ++ es) ++ (controller_ticks (all_aged w).0).1) (controller_ticks (all_aged w).0).0

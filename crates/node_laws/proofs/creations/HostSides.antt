@@ -5,18 +5,17 @@ use Rattle.node_laws.proofs.Words.{Hears, Hold, Host, IfHostNode, Inits, IsAnswe
 use Rattle.node_laws.proofs.Words.{Loss, Memory, Message, NextFrame, NoInput, NodeInput, NodeWorld, None, NumberedEnd, Option, Orders, Port, Release, Releases}
 use Rattle.node_laws.proofs.Words.{Removed, Reset, Resets, SaysOk, Sends, SetAside, SetsErrors, Site, Some, Start, Starts, Step, Stop, Stops, Take, Takes}
 use Rattle.node_laws.proofs.Words.{Tells, Tick, Ticks, TimePasses, Turn, Work, [], after_host, after_input, after_planned, after_sessions, after_turn, aged}
-use Rattle.node_laws.proofs.Words.{all_aged, all_append, all_changed, all_come, all_done, all_map, all_owed, anyone, ap, arrival, beginning, begins_with}
-use Rattle.node_laws.proofs.Words.{body_of, boot_found, boot_writes, boot_written, boots, by_boot, by_coming, by_controller, by_controller_tick, by_host}
-use Rattle.node_laws.proofs.Words.{by_host_tick, by_list, by_loss, by_memory, by_option, by_power, by_running, by_test, changed_if, comes_at, comes_to, commit}
-use Rattle.node_laws.proofs.Words.{commit_writes, cond_both, controller_ticks, controller_work, counts, done, end_c, end_h, ending_of, entries_for, eqb}
-use Rattle.node_laws.proofs.Words.{exchanged, fails_within, false, finished, flat_map, forgets, forgotten, frame_lost, happens, has_come, has_input, has_taken}
-use Rattle.node_laws.proofs.Words.{host_cut, host_does, host_tick, host_ticks, host_work, hosts_tick, input_at, is_late, is_late_at, is_waiting, length}
-use Rattle.node_laws.proofs.Words.{link_after_controller, loses_power_at, map, memory_at, near_end_in, near_tick, new_site, not, notified, noting}
-use Rattle.node_laws.proofs.Words.{option_map_or, port_at, port_for, refl, reset_late, sending, site_lost, site_ticked, site_unticked, steps}
-use Rattle.node_laws.proofs.Words.{steps_at_controller, subst, sym, synced, tick_host, ticked_so, ticks_at_controller, times_out, turn, turn_at, turned}
-use Rattle.node_laws.proofs.Words.{turns_at, with_desk, with_memory, with_older, with_site, without_notice, work_of, world_step, ℕ, ◌&&◌, ◌-◌, ◌∙◌, ◌∷◌, ◌≡◌}
+use Rattle.node_laws.proofs.Words.{all_aged, all_append, all_changed, all_come, all_done, all_map, all_owed, anyone, ap, arith, arrival, beginning, begins_with}
+use Rattle.node_laws.proofs.Words.{boot_found, boot_writes, boot_written, boots, by_boot, by_coming, by_controller, by_controller_tick, by_host, by_host_tick}
+use Rattle.node_laws.proofs.Words.{by_list, by_loss, by_memory, by_option, by_power, by_running, by_test, changed_if, comes_at, comes_to, commit, cond_both}
+use Rattle.node_laws.proofs.Words.{controller_ticks, controller_work, counts, done, end_c, end_h, ending_of, entries_for, eqb, exchanged, false, finished}
+use Rattle.node_laws.proofs.Words.{flat_map, forgets, forgotten, frame_lost, happens, has_come, has_input, has_taken, host_cut, host_does, host_tick}
+use Rattle.node_laws.proofs.Words.{host_ticks, host_work, hosts_tick, input_at, is_late, is_late_at, is_waiting, link_after_controller, loses_power_at, map}
+use Rattle.node_laws.proofs.Words.{memory_at, near_end_in, near_tick, new_site, not, notified, noting, option_map_or, port_at, port_for, refl, reset_late}
+use Rattle.node_laws.proofs.Words.{sending, site_lost, site_ticked, site_unticked, steps, steps_at_controller, subst, sym, synced, tick_host, ticked_so}
+use Rattle.node_laws.proofs.Words.{ticks_at_controller, times_out, turn, turn_at, turned, turns_at, with_desk, with_memory, with_older, with_site}
+use Rattle.node_laws.proofs.Words.{without_notice, work_of, world_step, ℕ, ◌&&◌, ◌∙◌, ◌∷◌, ◌≡◌}
 use Rattle.node_laws.proofs.creations.Coming.{input_aside}
-use Rattle.node_laws.proofs.creations.Doing.{give_aside}
 use Rattle.node_laws.proofs.links.Sites.{here_host}
 use Rattle.node_laws.proofs.notices.Near.{AreGood, AreOwn, IsOwn, all_owed_own, all_synced_own, beginning_own, comes_reads as notices_come, deeds_own}
 use Rattle.node_laws.proofs.notices.Near.{forgotten_own, good_at, sending_own}
@@ -36,19 +35,14 @@ abbrev SetNone : List Turn → Type 0
 SetNone ts = AllByRecursion SetsNone ts
 
 pub turn_none : (e : LinkEnd) (t : Turn) → SetsNone t → e.aside ≡ 0 → (turn e t).aside ≡ 0
-turn_none e (Give m) is a = give_aside e m ∙ a
-turn_none e (Hold held) is a = a
-turn_none e FetchMessage is a = a
-turn_none e SetAside is a = absurd is
-turn_none e Release is a = ap (λ n. n - 1) a
+turn_none e t is a = grind arith
 
 turns_none : (e : LinkEnd) (ts : List Turn) → SetNone ts → e.aside ≡ 0 → (turned e ts).aside ≡ 0
 turns_none e [] is a = a
 turns_none e (t ∷ ts) is a = turns_none (turn e t) ts is.1 (turn_none e t is.0 a)
 
 finished_none : (l : Link) (e : LinkEnd) (ending : Ending) → e.aside ≡ 0 → (finished l e ending).controller.side.aside ≡ 0
-finished_none l e GoesOut a = a
-finished_none l e CutOff a = refl
+finished_none l e ending a = grind arith
 
 step_none : (l : Link) (comes : Comes) (ts : List Turn) (ending : Ending) → SetNone ts → l.controller.side.aside ≡ 0
     → (steps_at_controller l comes ts ending).controller.side.aside ≡ 0
@@ -105,9 +99,7 @@ module _ (P : Port → Type 0) (turn_has : (t : Turn) (p : Port) → SetsNone t 
       desks h (λ d. record d { notice = Some (record { about = about; age = 0 }) }) (turn_at h (Give (1, message)) w) (turns h (Give (1, message)) w tt a)
 
   commits : (c : Command) (w : Work) → Has w → Has (commit c w)
-  commits c w a = by_test (fails_within (length (commit_writes w.core.journal w.core.tables (body_of c))) w.plan)
-      (λ q. rw q (record { number = a.number; ends = a.ends }))
-      (λ q. rw q (record { number = a.number; ends = a.ends }))
+  commits c w a = grind arith
 
   same : (w v : Work) → v.core.node ≡ w.core.node → v.ports ≡ w.ports → Has w → Has v
   same w v node ports a = record { number = ap (λ n. eqb n 0) node ∙ a.number; ends = subst (AllByRecursion P) (sym ports) a.ends }
@@ -156,8 +148,7 @@ all_do h deeds w q a = all_last SetsNoneAside IsOwn Any none_lasts h deeds w q a
 -- ### Steps
 
 come_turns : (p : Port) (o : Option LinkInput) → SetNone p.turns → SetNone (has_come p o).turns
-come_turns p None b = b
-come_turns p (Some i) b = b
+come_turns p o b = grind arith
 
 reset_turns : (p : Port) → SetNone p.turns → SetNone (reset_late p).turns
 reset_turns p b = by_test (is_late p) (λ z. rw z b) (λ z. rw z b)
@@ -206,9 +197,7 @@ none_map f one (s ∷ sites) a = (one s a.0, none_map f one sites a.1)
 
 none_with : (h : ℕ) (f : Site → Site) → ((s : Site) → HasNoneAside s → HasNoneAside (f s)) → (sites : List Site) → HaveNoneAside sites
     → HaveNoneAside (with_site h f sites)
-none_with h f one sites a = none_map (λ (s : Site). changed_if (eqb s.host h) f s) (λ s b. by_test (eqb s.host h)
-    (λ q. rw q (one s b))
-    (λ q. rw q b)) sites a
+none_with h f one sites a = none_map (λ (s : Site). changed_if (eqb s.host h) f s) (λ s b. grind arith) sites a
 
 -- what happens at the controller's end leaves the host's
 near_same : (l : Link) (x : EndEvent) → l.host.side.aside ≡ 0 → (happens l (AtController x)).host.side.aside ≡ 0

@@ -1,14 +1,14 @@
 -- What a controller knows of the creations that wait, and the blocks that it sets aside for them, are what is read.
-use Rattle.node_laws.proofs.Words.{AllByRecursion, AreAwaited, AreDifferent, AreProper, AsidesAreRead, Bare, Book, Bool, Command, Creation, Desk, Entry}
-use Rattle.node_laws.proofs.Words.{HasEnds, HasNoneAside, HasSetAside, IfAwaited, IfKnowsAsRead, IfNoticedUp, IsFresh, IsHost, IsNoticedUp, IsOutside}
-use Rattle.node_laws.proofs.Words.{IsProperBook, IsReadSo, IsShut, KeepsCreations, KnowsAsRead, LinkEnd, List, NodeInput, NodeWorld, None, NumberedEnd, OnFirst}
-use Rattle.node_laws.proofs.Words.{Option, PipeRow, Plan, Port, Release, Role, Running, Site, Some, Work, [], ap, append-nil, append_assoc, arith, aside_in}
-use Rattle.node_laws.proofs.Words.{asked_at, asked_pipes, asking_in, asks_for, book_after, book_in, by_list, by_option, by_test, cases_Bool, cond, creation_in}
-use Rattle.node_laws.proofs.Words.{creations_at, creations_of, end_c, ends_between, eq-eqb, eqb, eqb-true, false, find, fold, give_refusal, hosts_in, inl, inr}
+use Rattle.node_laws.proofs.Words.{AllByRecursion, AreAwaited, AreDifferent, AreProper, AsidesAreRead, Bare, Book, Bool, Creation, Desk, Entry, HasEnds}
+use Rattle.node_laws.proofs.Words.{HasNoneAside, HasSetAside, IfAwaited, IfKnowsAsRead, IfNoticedUp, IsFresh, IsHost, IsNoticedUp, IsOutside, IsProperBook}
+use Rattle.node_laws.proofs.Words.{IsReadSo, IsShut, KeepsCreations, KnowsAsRead, LinkEnd, List, NodeInput, NodeWorld, None, NumberedEnd, OnFirst, Option}
+use Rattle.node_laws.proofs.Words.{PipeRow, Plan, Port, Release, Role, Running, Site, Some, Work, [], ap, append-nil, append_assoc, arith, aside_in, asked_at}
+use Rattle.node_laws.proofs.Words.{asked_pipes, asking_in, asks_for, book_after, book_in, by_list, by_option, by_test, cases_Bool, cond, creation_in}
+use Rattle.node_laws.proofs.Words.{creations_at, creations_of, end_c, ends_between, eqb, eqb-true, false, find, fold, give_refusal, hosts_in, inl, inr}
 use Rattle.node_laws.proofs.Words.{is_asked_pipe, is_none, is_some, is_up, left_running, length, link_to, list_any, map, new_link, new_link_end, not}
-use Rattle.node_laws.proofs.Words.{option_map, option_map_or, or-false, pipe_at, port_at, port_for, range_with_len, refl, renewed, runs_left, runs_none}
-use Rattle.node_laws.proofs.Words.{runs_on, sent_all, site_at, slice_index, steps, subst, sym, true, true≢false, turn, waiting_pipes, work_of, ℕ, ◌&&◌, ◌++◌}
-use Rattle.node_laws.proofs.Words.{◌||◌, ◌∙◌, ◌∷◌, ◌≡◌, ◌≤◌, ◌⊎◌}
+use Rattle.node_laws.proofs.Words.{option_map, option_map_or, pipe_at, port_at, port_for, range_with_len, refl, renewed, runs_left, runs_none, runs_on}
+use Rattle.node_laws.proofs.Words.{sent_all, site_at, slice_index, steps, subst, sym, true, true≢false, turn, waiting_pipes, work_of, ℕ, ◌&&◌, ◌++◌, ◌||◌, ◌∙◌}
+use Rattle.node_laws.proofs.Words.{◌∷◌, ◌≡◌, ◌≤◌, ◌⊎◌}
 use Rattle.node_machine.specs.Controller.{pipe_of}
 use Rattle.pipe_table.specs.PipeRows.{is_free, lowest_free}
 use Rattle.node_laws.proofs.creations.Outcomes.{Asked, asked_of, desks_wait, one_of, waits}
@@ -27,9 +27,7 @@ use Rattle.trace_model.specs.declared.entry.Entry.TheVariants as entry
 -- ### Entries of hosts
 
 far_one : (b : Book) (e : Entry) → IsFar e → book_after 0 b e ≡ b
-far_one b (entry.Command n c) a = rw a refl
-far_one b (entry.Booted n k) a = rw a refl
-far_one b _ a = refl
+far_one b e a = grind arith
 
 pub far_fold : (b : Book) (es : List Entry) → AreFar es → fold (book_after 0) b es ≡ b
 far_fold b [] a = refl
@@ -53,8 +51,7 @@ pub has_is : (n : ℕ) (l : List Creation) (e : LinkEnd) → n ≡ length l → 
 has_is n l e same a = record { within = record { room = a.room; forgot = a.forgot }; aside = a.aside ∙ sym same; up = a.up }
 
 pub new_ready : (r : Role) → HasSetAside [] (new_link_end (renewed r))
-new_ready Bare = record { room = omega arith; forgot = λ n. refl; aside = refl; up = λ some. absurd (some refl) }
-new_ready _ = record { room = omega arith; forgot = λ n. refl; aside = refl; up = λ some. absurd (some refl) }
+new_ready r = grind arith
 
 bare_ready : (l : List Creation) → l ≡ [] → HasSetAside l (new_link Bare Bare).controller.side
 bare_ready l e = subst (λ k. HasSetAside k (new_link Bare Bare).controller.side) (sym e) (new_ready Bare)
@@ -252,9 +249,7 @@ module _ (t : List Entry) (w : NodeWorld) (r : Running) (runs : w.controller ≡
             let a : IsOff x t (hosts_in w.sites) after_it = off e x in
             let gone : asking_in now x ≡ None = reading_now x ∙ (ap (λ l. asking_in l x) a.ends ∙ asking_more x a.front (entry.Cut 0 ∷ [])) in
             subst (λ m. IsReadSo m (creations_of v.controller x)) (sym gone) (subst (λ o. IsReadSo None (creations_of o x)) (sym (off_is e)) tt);
-        ends = λ x. subst (λ o. HasSetAside (creations_of o x) (link_to v.sites x).controller.side) (sym (off_is e)) (by_option (site_at w.sites x)
-            (λ q. subst (HasSetAside []) (sym (nowhere x q)) (new_ready Bare))
-            (λ s q. let l = lost x s q e in subst (HasSetAside []) (sym l.1) (new_ready l.0)));
+        ends = λ x. subst (λ o. HasSetAside (creations_of o x) (link_to v.sites x).controller.side) (sym (off_is e)) (grind arith);
       }
 
       -- it runs on
@@ -293,11 +288,7 @@ some_wait (c ∷ l) = true
 
 pub read_some : (r : Option (List ℕ)) (l : List Creation) → IsReadSo r l → is_some r ≡ some_wait l
 unfolding some_wait
-read_some None [] k = refl
-read_some (Some m) (c ∷ []) k = refl
-read_some None (c ∷ l) k = absurd k
-read_some (Some m) [] k = absurd k
-read_some (Some m) (c ∷ d ∷ l) k = absurd k
+read_some r l k = grind arith
 
 pub asks_some : (x : ℕ) (ports : List Port) → asks_for ports x ≡ some_wait (waits x (asked_of ports))
 unfolding some_wait
@@ -309,9 +300,7 @@ asks_some x (p ∷ ports) = go (asked_at p) refl (asks_some x ports) where
   go (Some c) q later = by_test (eqb c.asker x) (λ e. rw (q, e) refl) (λ e. rw (q, e) later)
 
 pub two_ways : (a b : Bool) → (a ≡ true → b ≡ true) → (b ≡ true → a ≡ true) → a ≡ b
-two_ways true b f g = sym (f refl)
-two_ways false true f g = g refl
-two_ways false false f g = refl
+two_ways a b f g = grind arith
 
 -- a creation of this pipe
 abbrev pub is_of_pipe : ℕ → Creation → Bool
@@ -322,8 +311,7 @@ any_behind test [] ys e = e
 any_behind test (x ∷ xs) ys e = by_test (test x) (λ q. rw q refl) (λ q. rw q (any_behind test xs ys e))
 
 either_true : (a b : Bool) → (a || b) ≡ true → (a ≡ true) ⊎ (b ≡ true)
-either_true true b e = inl refl
-either_true false b e = inr e
+either_true a b e = grind arith
 
 module _ (pid : ℕ) where
   abbrev is_it : ℕ → Bool
@@ -333,10 +321,6 @@ module _ (pid : ℕ) where
   pub record HasAsker (ports : List Port) : Type 0 where
     pub asker : ℕ
     pub waits_there : list_any (is_of_pipe pid) (waits asker (asked_of ports)) ≡ true
-
-  first_here : (c : Creation) (l : List Creation) → is_of_pipe pid c ≡ true → list_any (is_of_pipe pid) (one_of c.asker (Some c) ++ l) ≡ true
-  first_here c l e =
-      ap (λ b. list_any (is_of_pipe pid) (cond b (c ∷ []) [] ++ l)) (eq-eqb c.asker c.asker refl) ∙ ap (λ b. b || list_any (is_of_pipe pid) l) e
 
   pub asker_of : (ports : List Port) → list_any is_it (waiting_pipes ports) ≡ true → HasAsker ports
   asker_of [] e = absurd (true≢false (sym e))
@@ -355,8 +339,7 @@ module _ (pid : ℕ) where
         by (inl is) =
             record {
               asker = c.asker;
-              waits_there = ap (λ o. list_any (is_of_pipe pid) (one_of c.asker o ++ waits c.asker (asked_of ports))) q
-                  ∙ first_here c (waits c.asker (asked_of ports)) (ap (λ o. option_map_or (λ (n : ℕ). eqb n pid) o false) z ∙ is);
+              waits_there = grind arith;
             }
         by (inr tail) = behind (later tail)
 
@@ -375,8 +358,7 @@ module _ (pid : ℕ) where
       here : is_of_pipe pid c ≡ true → list_any is_it (waiting_pipes (p ∷ ports)) ≡ true
       here first = by_option (pipe_of c.command)
           (λ z. absurd (true≢false (sym first ∙ ap (λ o. option_map_or (λ (n : ℕ). eqb n pid) o false) z)))
-          (λ n z. let is : eqb n pid ≡ true = sym (ap (λ o. option_map_or (λ (n : ℕ). eqb n pid) o false) z) ∙ first in
-          rw (q, z) (ap (λ b. b || list_any is_it (waiting_pipes ports)) is))
+          (λ n z. grind arith)
 
       by : (eqb c.asker x ≡ true) ⊎ (eqb c.asker x ≡ false) → list_any is_it (waiting_pipes (p ∷ ports)) ≡ true
       by (inr off) = skip (later (rw (q, off) at e))
@@ -389,13 +371,7 @@ module _ (pid : ℕ) where
   -- what is read of one asker
   pub read_pipe : (r : Option (List ℕ)) (l : List Creation) → IsReadSo r l
       → list_any (is_of_pipe pid) l ≡ option_map_or (λ (m : List ℕ). eqb (slice_index m 5) pid) r false
-  read_pipe None [] k = refl
-  read_pipe (Some m) (c ∷ []) k =
-      ap (λ (d : Command). option_map_or (λ (n : ℕ). eqb n pid) (pipe_of d) false || false) k.command
-      ∙ (or-false (eqb k.row.pid pid) ∙ ap (λ (z : List ℕ). eqb (slice_index z 5) pid) (sym k.message_is))
-  read_pipe None (c ∷ l) k = absurd k
-  read_pipe (Some m) [] k = absurd k
-  read_pipe (Some m) (c ∷ d ∷ l) k = absurd k
+  read_pipe r l k = grind arith
 
   any_site : (test : ℕ → Bool) (sites : List Site) (x : ℕ) (s : Site) → site_at sites x ≡ Some s → test x ≡ true → list_any test (hosts_in sites) ≡ true
   any_site test [] x s q e = absurd (cc q)
@@ -430,9 +406,7 @@ any_asked t pid (h ∷ hosts) = by_option (asking_in t h)
     (λ m e. rw e (ap (λ b. eqb (slice_index m 5) pid || b) (any_asked t pid hosts)))
 
 find_same : (f g : ℕ → Bool) → ((n : ℕ) → f n ≡ g n) → (ns : List ℕ) → find f ns ≡ find g ns
-find_same f g same [] = refl
-find_same f g same (n ∷ ns) =
-    ap (λ b. cond b (Some n) (find f ns)) (same n) ∙ ap (λ o. cond (g n) (Some n) o) (find_same f g same ns)
+find_same f g same ns = grind arith
 
 -- two lists that keep the same pipes leave the same one
 pub given_same : (rows : List PipeRow) (kept other : List ℕ) → ((pid : ℕ) → list_any (λ p. eqb p pid) kept ≡ list_any (λ p. eqb p pid) other)
@@ -492,11 +466,7 @@ aside_is : (hosts : List ℕ) (t : List Entry) (w : NodeWorld) → KeepsCreation
     → aside_in t (end_c h) ≡ (link_to w.sites h).controller.side.aside
 aside_is hosts t w a h = go (asking_in t h) (creations_of w.controller h) (a.read h) ∙ sym (a.ends h).aside where
   go : (r : Option (List ℕ)) (l : List Creation) → IsReadSo r l → cond (is_some r) 1 0 ≡ length l
-  go None [] k = refl
-  go (Some m) (c ∷ []) k = refl
-  go None (c ∷ l) k = absurd k
-  go (Some m) [] k = absurd k
-  go (Some m) (c ∷ d ∷ l) k = absurd k
+  go r l k = grind arith
 
 none_aside : (sites : List Site) (h : ℕ) → AllByRecursion HasNoneAside sites → (link_to sites h).host.side.aside ≡ 0
 none_aside [] h a = refl
@@ -524,10 +494,7 @@ finds_room hosts t w a h message answer e short =
     read = subst (λ r. IsReadSo r l) e (a.read h)
 
     some : (l : List Creation) → IsReadSo (Some message) l → l ≡ [] → ⊥
-    some [] k z = k
-    some (c ∷ l) k z = cc z
+    some l k z = grind arith
 
     one : (l : List Creation) → IsReadSo (Some message) l → length l ≡ 1
-    one [] k = absurd k
-    one (c ∷ []) k = refl
-    one (c ∷ d ∷ l) k = absurd k
+    one l k = grind arith

@@ -5,13 +5,12 @@ use Rattle.node_laws.proofs.Words.{IsProperCommand, IsReadSo, LinkView, List, Me
 use Rattle.node_laws.proofs.Words.{SetsErrors, Some, Sync, Tells, [], after_commands, agreed, all_append, all_false, answer_of, ap, append-nil, append_assoc}
 use Rattle.node_laws.proofs.Words.{apply, ap₂, arith, asked_at, asks_for, body_in, by_option, by_test, carried_out, cases_Bool, changed_if, closing}
 use Rattle.node_laws.proofs.Words.{commit_deeds, commits_and_tells, cond, cond_both, controller_deeds, controller_holds, creation_in, creations_at, decided}
-use Rattle.node_laws.proofs.Words.{decided_holds, decision_deeds, dest_in, ends_of, eqb, eqb-false, eqb-true, false, far_end, far_end_of, filter, filter_map}
-use Rattle.node_laws.proofs.Words.{finds_room, first_of, forgets, gates, goes_through, has, has_link, has_notice, header_of, hosts_where, identity_served, inl}
-use Rattle.node_laws.proofs.Words.{inr, is_none, is_opened, is_over_at, is_response, is_some, length, length-append, link_deeds, link_served, ltb, map, ne_eqb}
-use Rattle.node_laws.proofs.Words.{new_book, new_row, no_tables, not, not-false, opening, option_and_then, or_parts, own_gate, own_view, param_in, pid_of}
-use Rattle.node_laws.proofs.Words.{pipe_at, port_at, refl, relayed_to, subst, sym, take, tests_of_pipe, tests_to_create, told_of_clearing, told_of_deletion}
-use Rattle.node_laws.proofs.Words.{true, true≢false, view_for, view_of, with_command, with_found, with_port, without_notice, ℕ, ◌&&◌, ◌++◌, ◌||◌, ◌∙◌, ◌∷◌, ◌≡◌}
-use Rattle.node_laws.proofs.Words.{◌⊎◌}
+use Rattle.node_laws.proofs.Words.{decided_holds, decision_deeds, dest_in, ends_of, eqb, eqb-true, false, far_end, far_end_of, filter, filter_map, finds_room}
+use Rattle.node_laws.proofs.Words.{first_of, forgets, gates, goes_through, has, has_link, has_notice, header_of, hosts_where, identity_served, inl, inr}
+use Rattle.node_laws.proofs.Words.{is_none, is_opened, is_over_at, is_response, is_some, length, length-append, link_deeds, link_served, ltb, map, new_book}
+use Rattle.node_laws.proofs.Words.{new_row, no_tables, not, opening, option_and_then, or_parts, own_gate, own_view, param_in, pid_of, pipe_at, port_at, refl}
+use Rattle.node_laws.proofs.Words.{relayed_to, subst, sym, take, tests_of_pipe, tests_to_create, told_of_clearing, told_of_deletion, true, true≢false, view_for}
+use Rattle.node_laws.proofs.Words.{view_of, with_command, with_found, with_port, without_notice, ℕ, ◌&&◌, ◌++◌, ◌||◌, ◌∙◌, ◌∷◌, ◌≡◌, ◌⊎◌}
 use Rattle.gate_admin.proofs.CreationLemmas.{AllFalse}
 use Rattle.gate_admin.specs.Decide.{created, dest_gate_in, tests_to_open}
 use Rattle.hci_tables.specs.Tables.{with_static}
@@ -31,9 +30,6 @@ Asked = List (ℕ × Option Creation)
 
 abbrev pub asked_of : List Port → Asked
 asked_of ports = map (λ (p : Port). (p.desk.host, asked_at p)) ports
-
-abbrev one_asked : ℕ → Option Creation → ℕ × Option Creation
-one_asked h o = (h, o)
 
 -- those of one asker
 abbrev pub one_of : ℕ → Option Creation → List Creation
@@ -55,13 +51,10 @@ set_asked k o asked = map (λ (e : ℕ × Option Creation). cond (eqb e.0 k) (e.
 -- ### One creation is read
 
 pub read_none : (r : Option (List ℕ)) (l : List Creation) → l ≡ [] → IsReadSo r l → r ≡ None
-read_none None l e k = refl
-read_none (Some m) [] e k = absurd k
-read_none (Some m) (c ∷ l) e k = absurd (cc e)
+read_none r l e k = grind arith
 
 pub none_read : (l : List Creation) → l ≡ [] → IsReadSo None l
-none_read [] e = tt
-none_read (c ∷ l) e = absurd (cc e)
+none_read l e = grind arith
 
 empty_length : {X : Type 0} (l : List X) → length l ≡ 0 → l ≡ []
 empty_length [] e = refl
@@ -92,8 +85,7 @@ moves (Some m) (a ∷ []) (b ∷ bs) [] k = absurd k
 moves (Some m) (a ∷ z ∷ more) b c k = absurd k
 
 moved_length : (a b c : List Creation) → length ((a ++ b) ++ c) ≡ length (a ++ (c ++ b))
-moved_length a b c =
-    omega (arith, length-append (a ++ b) c, length-append a b, length-append a (c ++ b), length-append c b)
+moved_length a b c = omega (arith, length-append (a ++ b) c, length-append a b, length-append a (c ++ b), length-append c b)
 
 -- ### Lists
 
@@ -107,9 +99,6 @@ owes-append x (c ∷ ls) bs = ap (λ l. one_of x (Some c) ++ l) (owes-append x l
 
 one_else : (x : ℕ) (c : Creation) → eqb c.asker x ≡ false → one_of x (Some c) ≡ []
 one_else x c e = rw e refl
-
-one_here : (x : ℕ) (c : Creation) → eqb c.asker x ≡ true → one_of x (Some c) ≡ c ∷ []
-one_here x c e = rw e refl
 
 -- what a desk keeps and what is read of it
 pub desks_wait : (x : ℕ) (ports : List Port) → creations_at (map (λ (p : Port). p.desk) ports) x ≡ waits x (asked_of ports)
@@ -128,16 +117,13 @@ asked_map f host same (p ∷ ports) =
 
 pub asked_with : (k : ℕ) (g : Port → Port) → ((p : Port) → (g p).desk.host ≡ p.desk.host) → ((p : Port) → asked_at (g p) ≡ asked_at p) → (ports : List Port)
     → asked_of (with_port k g ports) ≡ asked_of ports
-asked_with k g host same ports = asked_map (λ p. changed_if (eqb p.desk.host k) g p) (λ p. by_test (eqb p.desk.host k)
-    (λ q. rw q (host p))
-    (λ q. rw q refl)) (λ p. by_test (eqb p.desk.host k) (λ q. rw q (same p)) (λ q. rw q refl)) ports
+asked_with k g host same ports = asked_map (λ p. changed_if (eqb p.desk.host k) g p) (λ p. grind arith)
+    (λ p. by_test (eqb p.desk.host k) (λ q. rw q (same p)) (λ q. rw q refl)) ports
 
 pub asked_set : (k : ℕ) (g : Port → Port) (o : Option Creation) → ((p : Port) → (g p).desk.host ≡ p.desk.host) → ((p : Port) → asked_at (g p) ≡ o)
     → (ports : List Port) → asked_of (with_port k g ports) ≡ set_asked k o (asked_of ports)
 asked_set k g o host new [] = refl
-asked_set k g o host new (p ∷ ports) = ap₂ (λ e l. e ∷ l) (by_test (eqb p.desk.host k)
-    (λ q. rw q (ap₂ one_asked (host p) (new p)))
-    (λ q. rw q refl)) (asked_set k g o host new ports)
+asked_set k g o host new (p ∷ ports) = ap₂ (λ e l. e ∷ l) (grind arith) (asked_set k g o host new ports)
 
 hosts_asked : (ports : List Port) → map (λ (e : ℕ × Option Creation). e.0) (asked_of ports) ≡ map (λ (p : Port). p.desk.host) ports
 hosts_asked [] = refl
@@ -154,9 +140,7 @@ pub record Split (asked : Asked) (k : ℕ) (o : Option Creation) : Type 0 where
 others_stay : (k : ℕ) (n : Option Creation) (asked : Asked) → AllByRecursion (λ (h : ℕ). eqb h k ≡ false) (map (λ (e : ℕ × Option Creation). e.0) asked)
     → set_asked k n asked ≡ asked
 others_stay k n [] a = refl
-others_stay k n (e ∷ asked) a = ap₂ (λ h l. h ∷ l) (by_test (eqb e.0 k)
-    (λ q. rw q (absurd (true≢false (rw q at a.0))))
-    (λ q. rw q refl)) (others_stay k n asked a.1)
+others_stay k n (e ∷ asked) a = ap₂ (λ h l. h ∷ l) (grind arith) (others_stay k n asked a.1)
 
 pub split_at : (ports : List Port) (k : ℕ) (p : Port) → AreDifferent (map (λ (p : Port). p.desk.host) ports) → port_at ports k ≡ Some p
     → Split (asked_of ports) k (asked_at p)
@@ -181,8 +165,7 @@ split_at (q ∷ ports) k p d e = by_test (eqb q.desk.host k)
       front = (q.desk.host, asked_at q) ∷ found.front;
       back = found.back;
       is = ap (λ l. (q.desk.host, asked_at q) ∷ l) found.is;
-      set = λ n. ap (λ b. cond b (q.desk.host, n) (q.desk.host, asked_at q) ∷ set_asked k n (asked_of ports)) off
-          ∙ ap (λ l. (q.desk.host, asked_at q) ∷ l) (found.set n);
+      set = grind arith;
     })
 
 -- ### What becomes of the creations of one asker
@@ -219,8 +202,7 @@ module _ (x : ℕ) (asked : Asked) (k : ℕ) where
   asked_here c s is none =
       let or_parts = both_empty (waits x s.front) (waits x s.back) (sym (was_parts None s) ∙ none) in
       in_parts None (Some c) s
-      ∙ (ap (λ l. waits x s.front ++ (l ++ waits x s.back)) (one_here x c is)
-      ∙ (ap (λ l. l ++ (c ∷ waits x s.back)) or_parts.0 ∙ ap (λ l. c ∷ l) or_parts.1))
+      ∙ (grind arith)
 
 -- one that asks for none
 pub none_waits : (x : ℕ) (ports : List Port) → asks_for ports x ≡ false → waits x (asked_of ports) ≡ []
@@ -235,30 +217,7 @@ none_waits x (p ∷ ports) e = by_option (asked_at p)
 module _ (x : ℕ) where
   -- with the session of its asker a creation is forgotten
   forgot_one : (all : List Port) (p : Port) → one_of x (asked_at (forgets all p)) ≡ cond (is_over_at all x) [] (one_of x (asked_at p))
-  forgot_one all p = go (asked_at p) refl where
-    both : (l : List Creation) (b : Bool) → cond b l l ≡ l
-    both l true = refl
-    both l false = refl
-
-    go : (o : Option Creation) → asked_at p ≡ o → one_of x (asked_at (forgets all p)) ≡ cond (is_over_at all x) [] (one_of x (asked_at p))
-    go None e =
-        let same : forgets all p ≡ p = rw e refl in
-        ap (λ (q : Port). one_of x (asked_at q)) same
-        ∙ (ap (one_of x) e ∙ (sym (both [] (is_over_at all x)) ∙ ap (λ o. cond (is_over_at all x) [] (one_of x o)) (sym e)))
-    go (Some c) e = by_notice p.desk.notice refl where
-      by_notice : (n : Option Notice) → p.desk.notice ≡ n → one_of x (asked_at (forgets all p)) ≡ cond (is_over_at all x) [] (one_of x (asked_at p))
-      by_notice None q = let z : None ≡ Some c = rw q at e in absurd (cc z)
-      by_notice (Some n) q = by_test (is_over_at all c.asker)
-          (λ z. let gone : asked_at (forgets all p) ≡ None = rw (e, z, q) refl in
-          ap (one_of x) gone ∙ here true z)
-          (λ z. let same : forgets all p ≡ p = rw (e, z) refl in
-          ap (λ (r : Port). one_of x (asked_at r)) same ∙ (ap (one_of x) e ∙ here false z)) where
-            here : (b : Bool) → is_over_at all c.asker ≡ b → cond b [] (one_of x (Some c)) ≡ cond (is_over_at all x) [] (one_of x (asked_at p))
-            here b z = by_test (eqb c.asker x)
-                (λ is. ap (λ d. cond d [] (one_of x (Some c))) (sym z ∙ ap (is_over_at all) (eqb-true c.asker x is))
-                ∙ ap (λ o. cond (is_over_at all x) [] (one_of x o)) (sym e))
-                (λ off. ap (cond b []) (one_else x c off)
-                ∙ (both [] b ∙ (sym (both [] (is_over_at all x)) ∙ ap (cond (is_over_at all x) []) (sym (one_else x c off) ∙ ap (one_of x) (sym e)))))
+  forgot_one all p = grind arith
 
   pub forgot : (all ports : List Port) → waits x (asked_of (map (forgets all) ports)) ≡ cond (is_over_at all x) [] (waits x (asked_of ports))
   forgot all [] = by_test (is_over_at all x) (λ q. rw q refl) (λ q. rw q refl)
@@ -294,10 +253,7 @@ module _ (x : ℕ) where
 
     -- nothing of it is of this asker
     same : stays (p ∷ ports) ≡ k → ended_of (p ∷ ports) ≡ e → late_of (p ∷ ports) ≡ l → waits x (asked_of (p ∷ ports)) ≡ w → Parts (p ∷ ports)
-    same s t u v = record {
-      many = ap₂ (λ a b. length (a ++ b)) s (ap₂ (λ a b. a ++ b) t u) ∙ (later.many ∙ ap length (sym v));
-      read = λ r q. subst (IsReadSo r) (ap₂ (λ a b. a ++ b) (sym s) (ap₂ (λ a b. a ++ b) (sym t) (sym u))) (later.read r (subst (IsReadSo r) v q));
-    }
+    same s t u v = grind arith
 
     -- one is
     placed : (c : Creation) (a b : List Creation) → a ++ b ≡ k ++ (e ++ l) → stays (p ∷ ports) ++ (ended_of (p ∷ ports) ++ late_of (p ∷ ports)) ≡ a ++ (c ∷ b)
@@ -308,12 +264,7 @@ module _ (x : ℕ) where
     }
 
     by_creation : (o : Option Creation) → asked_at p ≡ o → Parts (p ∷ ports)
-    by_creation None q = by p.ended p.late refl refl where
-      by : (b c : Bool) → p.ended ≡ b → p.late ≡ c → Parts (p ∷ ports)
-      by true true s t = same (rw s refl) (rw (s, q) refl) (rw (t, q) refl) (rw q refl)
-      by true false s t = same (rw s refl) (rw (s, q) refl) (rw t refl) (rw q refl)
-      by false true s t = same (rw (s, t) refl) (rw s refl) (rw (t, q) refl) (rw q refl)
-      by false false s t = same (rw (s, t, q) refl) (rw s refl) (rw t refl) (rw q refl)
+    by_creation None q = grind arith
     by_creation (Some c) q = by_asker (cases_Bool (eqb c.asker x)) where
       by_asker : (eqb c.asker x ≡ true) ⊎ (eqb c.asker x ≡ false) → Parts (p ∷ ports)
       by_asker (inl is) = by p.ended p.late refl refl where
@@ -418,25 +369,14 @@ abbrev AsksNobody : Decision → Type 0
 AsksNobody (Ask dest notice c answer) = ⊥
 AsksNobody _ = Unit {0}
 
--- a pipe to the controller itself leads to gate 04 or 05
-gate_fine : (gate : ℕ) → not (eqb gate 4 || eqb gate 5) ≡ false → eqb gate 0 ≡ false
-gate_fine gate e = by_test (eqb gate 4)
-    (λ is. ap (λ n. eqb n 0) (eqb-true gate 4 is))
-    (λ off. ap (λ n. eqb n 0) (eqb-true gate 5 (not-false (eqb gate 5) (rw off at e))))
-
 module _ (v : LinkView) (h : ℕ) (host : eqb h 0 ≡ false) where
   tells_suit : (c : Command) (told notice : List ℕ) → IsProperCommand c → is_response notice ≡ false
       → Suits h (commits_and_tells c told notice)
-  tells_suit c [] notice may e = (may, refl)
-  tells_suit c (y ∷ told) notice may e = (may, e)
+  tells_suit c told notice may e = grind arith
 
   created_proper : (body : List ℕ) (pid : ℕ) → eqb (dest_in body) h ≡ false
       → (eqb (dest_in body) 0 && not (eqb (dest_gate_in body) 4 || eqb (dest_gate_in body) 5)) ≡ false → IsProper (created h body pid)
-  created_proper body pid other gate = record {
-    host = host;
-    two = ne_eqb h (dest_in body) (λ s. eqb-false (dest_in body) h other (sym s));
-    gate = λ e. gate_fine (dest_gate_in body) (rw e at gate);
-  }
+  created_proper body pid other gate = grind arith
 
   decided_suits : (t : HciTables) (pipe instruction : ℕ) (body : List ℕ) → Suits h (decided t v h pipe instruction body)
   unfolding AllFalse
@@ -457,25 +397,12 @@ module _ (v : LinkView) (h : ℕ) (host : eqb h 0 ≡ false) where
   -- no pipe but 01 leads to the administration gate
   far_proper : (o : Option PipeRow) → ((row : PipeRow) → o ≡ Some row → IsProper row) → (end : ℕ × ℕ)
       → option_and_then (far_end_of h) o ≡ Some end → eqb end.0 0 ≡ true → eqb end.1 0 ≡ false
-  far_proper None proper end e zero_is = absurd (cc e)
-  far_proper (Some row) proper end e zero_is = by_test (eqb row.creator h)
-      (λ own. let same : Some (row.dest, row.dest_gate) ≡ Some end = rw own at e in
-      let is : (row.dest, row.dest_gate) ≡ end = cc in
-      ap (λ (p : ℕ × ℕ). eqb p.1 0) (sym is) ∙ of.gate (ap (λ (p : ℕ × ℕ). eqb p.0 0) is ∙ zero_is))
-      (λ off. by_test (eqb row.dest h)
-      (λ here. let same : Some (row.creator, row.creator_gate) ≡ Some end = rw (off, here) at e in
-      let is : (row.creator, row.creator_gate) ≡ end = cc in
-      absurd (true≢false (sym zero_is ∙ (ap (λ (p : ℕ × ℕ). eqb p.0 0) (sym is) ∙ of.host))))
-      (λ none. absurd (cc (rw (off, none) at e)))) where
-        of : IsProper row
-        of = proper row refl
+  far_proper o proper end e zero_is = grind arith
 
   far_end_proper : (t : HciTables) (pipe : ℕ) (end : ℕ × ℕ) → AreProper t.rows → eqb pipe 1 ≡ false → far_end t h pipe ≡ Some end → eqb end.0 0 ≡ true
       → eqb end.1 0 ≡ false
   far_end_proper t pipe end proper off e zero_is = by_test (eqb pipe 0)
-      (λ static. let same : Some (0, 6) ≡ Some end = rw static at e in
-      let is : (0, 6) ≡ end = cc in
-      ap (λ (p : ℕ × ℕ). eqb p.1 0) (sym is))
+      (λ static. grind arith)
       (λ dynamic. far_proper (pipe_at t.rows pipe) (λ row here. proper_at t.rows pipe row proper here) end (rw (dynamic, off) at e) zero_is)
 
   is_through : (t : HciTables) (m : Message) (instruction : ℕ) → header_of m.1 ≡ Ok (IsCommand, instruction) → AreProper t.rows → eqb m.0 1 ≡ false
@@ -516,9 +443,7 @@ pub record IsAskedSo (ports : List Port) (h to : ℕ) (notice : List ℕ) (c : C
   pub up : has_link ports h ≡ true
 
 three : (a b c : Bool) → (a && b && c) ≡ true → (a ≡ true) × (b ≡ true) × (c ≡ true)
-three true true c e = (refl, refl, e)
-three true false c e = absurd (true≢false (sym e))
-three false b c e = absurd (true≢false (sym e))
+three a b c e = grind arith
 
 module _ (x : ℕ) where
   -- it leaves the creations that wait
@@ -577,13 +502,7 @@ module _ (x : ℕ) where
     decision_is pipe (Ask dest notice c answer) up free suits (inr none) =
         let row : PipeRow = suits.0 in
         let of : IsAskFor h notice.items row = suits.3 in
-        IsAsking dest notice.items (record { asker = h; command = c; answer = answer.items }) refl (record {
-          due = record { row = row; command = suits.1; asker = of.creator; proper = of.proper; answer = suits.2 };
-          asker = refl;
-          notice_of = record { row = row; command = suits.1; asker = of.creator; message_is = of.notice_is };
-          asks = none;
-          up = up;
-        })
+        IsAsking dest notice.items (record { asker = h; command = c; answer = answer.items }) refl ((grind arith))
 
     link_stays : (pipe : ℕ) (answer : List ℕ × Option ℕ) → (eqb pipe 1 ≡ true → asks_for ports h ≡ false) → All (link_deeds h pipe answer)
     link_stays pipe answer free = by_option answer.1
@@ -635,20 +554,16 @@ unasked (p ∷ ports) k none d = go (cases_Bool (eqb p.desk.host k)) (unasked po
   others (q ∷ ports) a = ap₂ (λ e l. e ∷ l) (ap (λ b. cond b (q.desk.host, None) (q.desk.host, asked_at q)) a.0) (others ports a.1)
 
   none_of : (o : Option Notice) → p.desk.notice ≡ o → is_some o ≡ false → asked_at p ≡ None
-  none_of None e off = ap creation_in e
-  none_of (Some n) e off = absurd (true≢false off)
+  none_of o e off = grind arith
 
   go : (eqb p.desk.host k ≡ true) ⊎ (eqb p.desk.host k ≡ false)
       → (has_notice ports k ≡ false → AreDifferent (map (λ (p : Port). p.desk.host) ports) → set_asked k None (asked_of ports) ≡ asked_of ports)
       → set_asked k None (asked_of (p ∷ ports)) ≡ asked_of (p ∷ ports)
   go (inl is) later =
       let off : is_some p.desk.notice ≡ false = rw is at none in
-      ap₂ (λ e l. e ∷ l) (ap (λ b. cond b (p.desk.host, None) (p.desk.host, asked_at p)) is
-      ∙ ap (λ o. (p.desk.host, o)) (sym (none_of p.desk.notice refl off)))
+      ap₂ (λ e l. e ∷ l) (grind arith)
       (others ports (subst (λ n. AllByRecursion (λ (y : ℕ). eqb y n ≡ false) (map (λ (p : Port). p.desk.host) ports)) (eqb-true p.desk.host k is) d.0))
-  go (inr off) later =
-      ap₂ (λ e l. e ∷ l) (ap (λ b. cond b (p.desk.host, None) (p.desk.host, asked_at p)) off)
-      (later (let z : has_notice ports k ≡ false = rw off at none in z) d.1)
+  go (inr off) later = grind arith
 
 pub all_leave : (x : ℕ) (ports : List Port) (deeds : List Deed) → AreDifferent (map (λ (p : Port). p.desk.host) ports)
     → AllByRecursion (Leaves x (asked_of ports)) deeds → AllByRecursion (GoesToFree ports) deeds → AllByRecursion (LeavesAsked x (asked_of ports)) deeds

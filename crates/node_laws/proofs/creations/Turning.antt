@@ -2,21 +2,20 @@
 -- them.
 use Rattle.node_laws.proofs.Words.{AllByRecursion, AllReach, AreDifferent, Asks, AsksReset, AtEnd, Bool, Comes, Creation, Deed, Desk, Entry, FetchMessage}
 use Rattle.node_laws.proofs.Words.{GoesOut, GoesToFree, Hold, IfAwaited, IsAwaited, IsHost, IsShut, Link, LinkEnd, LinkInput, List, Message, NextFrame, NoInput}
-use Rattle.node_laws.proofs.Words.{NodeInput, None, Notice, Option, Port, Reset, Some, Start, Starts, Stop, Stops, Take, Tick, TimePasses, Turn, Up, Work, []}
-use Rattle.node_laws.proofs.Words.{after_input, after_sessions, after_turn, all_come, all_owed, ap, arith, asked_at, asks_for, by_list, by_option, by_test}
-use Rattle.node_laws.proofs.Words.{changed_if, cond, controller_deeds, creation_in, deeds_of, end_of_node, eq-eqb, eqb, eqb-true, false, flat_map, forgets}
-use Rattle.node_laws.proofs.Words.{forgotten, goes_through_ends, handles, has_come, has_input, has_link, has_taken, have_turns, holds_back, inl, input_at}
-use Rattle.node_laws.proofs.Words.{input_of, is_held, is_late, is_open, is_some, is_up, is_waiting, lack, lets_go, lt-ltb, ltb-false, map, nat_lt, ne_eqb, need}
-use Rattle.node_laws.proofs.Words.{needs, not, noting, option_map, option_map_or, passes, port_at, refl, reset_late, sent_all, spare, steps}
-use Rattle.node_laws.proofs.Words.{steps_at_controller, subst, sym, synced, ticked_so, ticks_at_controller, times_out, true, true≢false, turn, turn_at, turned}
-use Rattle.node_laws.proofs.Words.{unless_cut, view_of, with_desk, with_older, with_port, without_notice, ℕ, ◌++◌, ◌∙◌, ◌∷◌, ◌≡◌}
-use Rattle.shdlc_core.specs.declared.answers.LinkState.TheVariants.{Down}
+use Rattle.node_laws.proofs.Words.{NodeInput, None, Notice, Option, Port, Reset, Some, Start, Starts, Stop, Stops, Tick, TimePasses, Turn, Up, Work, []}
+use Rattle.node_laws.proofs.Words.{after_input, after_sessions, after_turn, all_come, all_owed, ap, arith, asked_at, asks_for, by_test, changed_if, cond}
+use Rattle.node_laws.proofs.Words.{controller_deeds, deeds_of, end_of_node, eq-eqb, eqb, eqb-true, false, flat_map, forgets, forgotten, goes_through_ends}
+use Rattle.node_laws.proofs.Words.{handles, has_come, has_input, has_link, have_turns, holds_back, inl, input_at, input_of, is_held, is_late, is_some, is_up}
+use Rattle.node_laws.proofs.Words.{is_waiting, lack, lets_go, map, nat_lt, ne_eqb, need, needs, not, noting, option_map, option_map_or, passes, port_at, refl}
+use Rattle.node_laws.proofs.Words.{reset_late, sent_all, spare, steps, steps_at_controller, subst, sym, synced, ticked_so, ticks_at_controller, times_out, true}
+use Rattle.node_laws.proofs.Words.{true≢false, turn, turn_at, turned, unless_cut, view_of, with_desk, with_older, with_port, without_notice, ℕ, ◌++◌, ◌∙◌, ◌∷◌}
+use Rattle.node_laws.proofs.Words.{◌≡◌}
 use Rattle.node_laws.proofs.creations.Outcomes.{Asked, IsAskedSo, LeavesAsked, Outcome, Split, all_leave, asked_of, none_waits, outcome, split_at, waits}
 use Rattle.node_laws.proofs.creations.Doing.{Fine, Good, HasBlock, agrees, asks_one, desks, hears, leaves, many, notes, then_fine, turns}
 use Rattle.node_laws.proofs.creations.Outcomes.Outcome.{IsAsking, IsDone, IsHeard, Stays}
 use Rattle.node_laws.proofs.links.Noticing.{UpAt, at_all, controller_reach}
 use Rattle.node_laws.proofs.notices.Telling.{controller_free}
-use Rattle.node_laws.proofs.readings.Noticed.{not_waiting, up_is}
+use Rattle.node_laws.proofs.readings.Noticed.{up_is}
 use Rattle.node_laws.proofs.readings.Turning.{lack_parts}
 use Rattle.node_laws.proofs.steps.StepWalks.{changed_host, come_host, forgets_host, late_host, without_host}
 use Rattle.node_laws.proofs.telling.Accounts.{AreSilent, all_owed_mute, all_synced_mute, at_changed, forgotten_mute, rest, turned-append}
@@ -38,18 +37,14 @@ due_at asked k c s a =
 -- an end with a link that is up and a block to spare
 block_at : (ports : List Port) (x : ℕ) → nat_lt (option_map_or (λ (p : Port). spare p.side) (port_at ports x) 0) 1 ≡ false → has_link ports x ≡ true
     → HasBlock (port_at ports x)
-block_at ports x room up = by_option (port_at ports x)
-    (λ q. rw q (absurd (true≢false (sym (rw q at up)))))
-    (λ p q. rw q ((up_is p.side.shdlc.phase (rw q at up), lt-ltb 0 (spare p.side) (ltb-false (spare p.side) 1 (rw q at room)))))
+block_at ports x room up = grind arith
 
 -- it has it still, where ends are changed that keep that
 block_with : (k x : ℕ) (g : Port → Port) (ports : List Port) → ((p : Port) → (g p).desk.host ≡ p.desk.host)
     → ((p : Port) → HasBlock (Some p) → HasBlock (Some (g p))) → HasBlock (port_at ports x) → HasBlock (port_at (with_port k g ports) x)
 block_with k x g ports host one a =
     subst HasBlock (sym (at_all ports x (λ p. changed_if (eqb p.desk.host k) g p) (λ p. changed_host (eqb p.desk.host k) g p host)))
-    (by_option (port_at ports x)
-    (λ q. rw q (rw q at a))
-    (λ p q. rw q (let z = rw q at a in by_test (eqb p.desk.host k) (λ q. rw q (one p z)) (λ q. rw q z))))
+    (grind arith)
 
 module _ (x : ℕ) (before : List Entry) (hosts : List ℕ) (different : AreDifferent hosts) where
   module _ (k : ℕ) (host : IsHost k) where
@@ -96,8 +91,7 @@ module _ (x : ℕ) (before : List Entry) (hosts : List ℕ) (different : AreDiff
           unnoticed = subst (λ d. AllByRecursion (GoesToFree w.ports) d) e (controller_free w.core w.ports k m)
 
           none_of : (p : Port) (o : Option Notice) → p.desk.notice ≡ o → is_some o ≡ false → asked_at p ≡ None
-          none_of p None is off = ap creation_in is
-          none_of p (Some n) is off = absurd (true≢false off)
+          none_of p o is off = grind arith
 
           there : (o : Option Port) → port_at w.ports to ≡ o → option_map_or (λ (p : Port). is_up p.side.shdlc.phase) o false ≡ true → Split asked to None
           there None is up = absurd (true≢false (sym up))
@@ -202,8 +196,7 @@ module _ (x : ℕ) (e : LinkEnd) (late : Bool) where
     g p = record p { desk = f p.desk }
 
     go : (b : Bool) → port_at (with_port k g w.ports) x ≡ Some (changed_if b g a.port) → IsMade (with_desk k f w)
-    go true z = record { port = g a.port; here = z; is = a.is; late_is = a.late_is }
-    go false z = record { port = a.port; here = z; is = a.is; late_is = a.late_is }
+    go b z = grind arith
 
   turns_of_sides : (k : ℕ) (t : Turn) (w : Work) → IsMade w → IsMade (turn_at k t w)
   turns_of_sides k t w a = go (eqb a.port.desk.host k) (at_changed w.ports x k (after_turn t) a.port (λ p. refl) a.here) where
@@ -227,8 +220,7 @@ begins_so x c v all here none =
       port = (without_notice (forgets all c));
       here = at_all (map (forgets all) v.ports) x without_notice without_host
           ∙ ap (option_map without_notice) (at_all v.ports x (forgets all) (forgets_host all) ∙ ap (option_map (forgets all)) here);
-      is = (without_same (forgets all c)).side ∙ ((forgets_same all c).side
-          ∙ sym (ap (turned c.side) ((without_same (forgets all c)).turns ∙ ((forgets_same all c).turns ∙ none))));
+      is = (without_same (forgets all c)).side ∙ (grind arith);
       late_is = (without_same (forgets all c)).late ∙ (forgets_same all c).late;
     }
 
@@ -243,8 +235,7 @@ goes_so x input w c here none =
     (forgotten_mute v.ports) (all_synced_mute w.core input w.ports) (all_owed_mute left) (begins_so x c v v.ports here none)
 
 come_turns : (p : Port) (o : Option LinkInput) → p.turns ≡ [] → (has_come p o).turns ≡ []
-come_turns p None e = e
-come_turns p (Some i) e = e
+come_turns p o e = grind arith
 
 reset_turns : (p : Port) → p.turns ≡ [] → (reset_late p).turns ≡ []
 reset_turns p e = by_test (is_late p) (λ z. rw z e) (λ z. rw z e)
@@ -274,12 +265,7 @@ tick_made x w p here none =
 
 input_side : (l : Link) (comes : Comes) (ts : List Turn) (i : LinkInput) → input_of l comes ≡ Some i
     → (steps_at_controller l comes ts GoesOut).controller.side ≡ sent_all (turned (after_input l.controller.side i) ts)
-input_side l NextFrame ts i e = by_list l.to_controller
-    (λ q. let z : None ≡ Some i = rw q at e in absurd (cc z))
-    (λ y ys q. let z : Some (Take y.frame) ≡ Some i = rw q at e in
-    let one : Take y.frame ≡ i = cc in
-    let is : steps_at_controller l NextFrame ts GoesOut ≡ has_taken l y ys ts GoesOut = rw q refl in
-    ap (λ (k : Link). k.controller.side) is ∙ ap (λ j. sent_all (turned (after_input l.controller.side j) ts)) one)
+input_side l NextFrame ts i e = grind arith
 input_side l (AsksReset window) ts i e =
     let one : Reset window ≡ i = cc in ap (λ j. sent_all (turned (after_input l.controller.side j) ts)) one
 input_side l (Starts value) ts i e =
@@ -294,8 +280,7 @@ pub near_side : (l : Link) (h k : ℕ) (comes : Comes) (i : LinkInput) (ts : Lis
 near_side l h k comes i ts p host side input = by_test (eqb k h)
     (λ e. subst (λ b. Goal b (eqb p.desk.host h)) (sym e) (subst (Goal true) (sym (ap (λ n. eqb n h) host ∙ e))
     (input_side l comes ts i (input e) ∙ ap (λ z. sent_all (turned (after_input z i) ts)) (sym side))))
-    (λ e. subst (λ b. Goal b (eqb p.desk.host h)) (sym e) (subst (Goal false) (sym (ap (λ n. eqb n h) host ∙ e))
-    (ap (λ z. sent_all (turned z ts)) (sym side)))) where
+    (λ e. subst (λ b. Goal b (eqb p.desk.host h)) (sym e) (grind arith)) where
       Goal : Bool → Bool → Type 0
       Goal b c = (steps_at_controller l (cond b comes NoInput) ts GoesOut).controller.side ≡ sent_all (turned (has_come p (cond c (Some i) None)).side ts)
 
@@ -313,13 +298,9 @@ tick_side l ts p side fresh noticed shut = go (is_late (with_older (has_come p (
       let late : (after_tick p).late ≡ true = rw e refl in
       let is : (after_tick p).side ≡ after_input (after_input p.side Tick) (Reset None) = rw e refl in
       let parts : IsLate p = late_parts p e in
-      let up : p.side.shdlc.phase ≡ Up = up_is p.side.shdlc.phase (noticed (by_option p.desk.notice
-      (λ e. let z : false ≡ true = rw e at parts.due in absurd (true≢false (sym z)))
-      (λ n e. ap (λ (o : Option Notice). is_some o) e))) in
-      let lasting : IsLasting p.side = record
-      { active = by_test (is_open p.side.role) (λ z. z) (λ z. let w : Up ≡ Down = sym up ∙ shut z in absurd (cc w)); up = up; goes_on = parts.goes_on } in
-      let going : is_waiting l.controller.side.shdlc ≡ false =
-      not_waiting l.controller.side.shdlc (ap (λ (z : LinkEnd). z.shdlc.phase) (sym side) ∙ up) in
+      let up : p.side.shdlc.phase ≡ Up = up_is p.side.shdlc.phase (noticed (grind arith)) in
+      let lasting : IsLasting p.side = grind arith in
+      let going : is_waiting l.controller.side.shdlc ≡ false = grind arith in
       ap (λ b. (ticked_so l b ts GoesOut).controller.side) late
       ∙ (ap (λ b. (cond (not b) (has_input l (Reset None) ts GoesOut) (ticks_at_controller l ts GoesOut)).controller.side) going
       ∙ (ap (λ z. sent_all (turned (after_input z (Reset None)) ts)) (sym side)

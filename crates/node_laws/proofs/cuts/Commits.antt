@@ -2,20 +2,17 @@
 use Rattle.std.proofs.lemmas.Bool.{and_cases, and_left, false_from_ne_true}
 use Rattle.std.proofs.lemmas.List.FromFn.{length-map-range_with_len}
 use Rattle.node_laws.proofs.Words.{AreTables, Bool, BootFinds, Command, FindsRoom, HciTables, IsAllOrNothing, IsCommand, IsRecordable, IsSome, Journal, Knows}
-use Rattle.node_laws.proofs.Words.{List, Memory, None, Option, Plan, Some, State, Write, [], after_planned, after_writes, and_from, and_parts, and_right, ap}
-use Rattle.node_laws.proofs.Words.{append_writes, apply, arith, body_of, both_ways, by_option, by_test, cases_eq, commit_writes, committed, compact_writes}
-use Rattle.node_laws.proofs.Words.{cond, count_of, current, cycled, eq-eqb, eqb-true, fails_within, false, get_or, in_use_is, inl, inr, is_next, is_opened_gate}
-use Rattle.node_laws.proofs.Words.{journal, last_place, leb-false, leb-true, left, length, length-append, memory_after, nat_le, ne_eqb, opens_gate, other}
-use Rattle.node_laws.proofs.Words.{overwritten, plan_after, plan_on, record_fits, refl, room_writes, slice_index, snapshot_bodies, subst, suc, sym, torn_bytes}
-use Rattle.node_laws.proofs.Words.{true, true≢false, with_room, zero, ℕ, ◌%◌, ◌&&◌, ◌++◌, ◌+◌, ◌-◌, ◌<◌, ◌==◌, ◌^◌, ◌∙◌, ◌∷◌, ◌≡◌, ◌≤◌, ◌⊎◌}
+use Rattle.node_laws.proofs.Words.{List, Memory, None, Option, Plan, Some, State, Write, [], after_planned, after_writes, and_parts, and_right, ap}
+use Rattle.node_laws.proofs.Words.{append_writes, apply, arith, body_of, by_test, cases_eq, commit_writes, committed, compact_writes, cond, count_of, current}
+use Rattle.node_laws.proofs.Words.{cycled, fails_within, false, get_or, in_use_is, inl, inr, is_next, is_opened_gate, journal, last_place, leb-false, leb-true}
+use Rattle.node_laws.proofs.Words.{left, length, length-append, memory_after, nat_le, ne_eqb, opens_gate, overwritten, plan_after, plan_on, record_fits, refl}
+use Rattle.node_laws.proofs.Words.{room_writes, slice_index, snapshot_bodies, subst, suc, sym, true, true≢false, with_room, zero, ℕ, ◌%◌, ◌&&◌, ◌++◌, ◌+◌, ◌-◌}
+use Rattle.node_laws.proofs.Words.{◌<◌, ◌==◌, ◌^◌, ◌∙◌, ◌∷◌, ◌≡◌, ◌≤◌, ◌⊎◌}
 use Rattle.hci_store.proofs.Committed.{room_count}
 use Rattle.journal_laws.proofs.Opening.{at_place as byte_there, length-cut}
-use Rattle.journal_laws.specs.Banks.{bank_place}
-use Rattle.journal_laws.specs.Operations.{close_bank, open_bank}
 use Rattle.journal_laws.specs.Writes.{FitIn, IsCut}
 use Rattle.swp_base.proofs.WriteLemmas.{length-overwritten}
-use Rattle.node_laws.proofs.kept.Reckoned.{can, commit_count, commit_knows, content_on, content_torn, finds_still, has_room, next_of, room_knows, room_left}
-use Rattle.node_laws.proofs.kept.Reckoned.{says_of}
+use Rattle.node_laws.proofs.kept.Reckoned.{can, commit_count, commit_knows, content_on, finds_still, has_room, next_of, room_knows, room_left, says_of}
 use Rattle.nv_journal.proofs.Appending as appending
 use Rattle.nv_journal.proofs.Compacting as compacting
 
@@ -34,18 +31,12 @@ next_one : (k : ℕ) → (suc (suc k) == 1) ≡ false
 next_one k = ne_eqb (suc (suc k)) 1 (λ is. absurd (omega arith))
 
 nearer : (k : ℕ) (fill : List ℕ) → plan_after (plan_of (suc (suc k)) fill) ≡ plan_of (suc k) fill
-nearer k fill =
-    ap (λ b. cond b None (plan_of (suc (suc k) - 1) fill)) (next_one k)
-    ∙ ap (λ n. plan_of n fill) (omega arith)
+nearer k fill = grind arith
 
 pub planned_filled : (k : ℕ) (fill : List ℕ) (writes : List Write) (m : Memory) → m.plan ≡ Some (record { nth = suc k; fill = fill }) → k < length writes
     → IsFilled k fill writes m.content (after_planned writes m).content
 planned_filled k fill [] m is within = absurd (omega arith)
-planned_filled zero fill (w ∷ writes) m is within =
-    let next : is_next m.plan ≡ true = ap is_next is in
-    ap (λ b. (cond b (memory_after m w.at w.bytes) (after_planned writes (memory_after m w.at w.bytes))).content) next
-    ∙ content_torn m w.at w.bytes next
-    ∙ ap (λ o. overwritten m.content w.at (torn_bytes o (length w.bytes))) is
+planned_filled zero fill (w ∷ writes) m is within = grind arith
 planned_filled (suc k) fill (w ∷ writes) m is within =
     let later : is_next m.plan ≡ false = ap is_next is ∙ next_one k in
     let next : Memory = memory_after m w.at w.bytes in
@@ -70,15 +61,11 @@ filled_append (suc k) fill (w ∷ first) later old new filled = one_on (filled_a
       ⊎ ((j : ℕ) × (k ≡ length first + j) × IsFilled j fill later (after_writes first (overwritten old w.at w.bytes)) new)
       → ((suc k < length (w ∷ first)) × IsFilled k fill first (overwritten old w.at w.bytes) new)
       ⊎ ((j : ℕ) × (suc k ≡ length (w ∷ first) + j) × IsFilled j fill later (after_writes first (overwritten old w.at w.bytes)) new)
-  one_on (inl front) = inl (omega (arith, front.0), front.1)
-  one_on (inr back) = inr (back.0, omega (arith, back.1), back.2)
+  one_on a = grind arith
 
 -- one byte of it
 one_filled : (fill : List ℕ) → cycled fill 1 ≡ slice_index fill 0 ∷ []
-one_filled fill = ap (λ i. slice_index fill i ∷ []) (none (length fill)) where
-  none : (n : ℕ) → 0 % n ≡ 0
-  none zero = refl
-  none (suc n) = omega arith
+one_filled fill = grind arith
 
 -- ## Writes of which the last opens a gate, and what is left where one of them is torn
 
@@ -89,8 +76,7 @@ EndsInGate (w ∷ []) = w.bytes ≡ 90 ∷ []
 EndsInGate (w ∷ next ∷ writes) = EndsInGate (next ∷ writes)
 
 behind_one : (w : Write) (writes : List Write) → EndsInGate writes → EndsInGate (w ∷ writes)
-behind_one w [] ends = absurd ends
-behind_one w (next ∷ writes) ends = ends
+behind_one w writes ends = grind arith
 
 ends_append : (first later : List Write) → EndsInGate later → EndsInGate (first ++ later)
 ends_append [] later ends = ends
@@ -116,8 +102,7 @@ gate_left (suc i) fill (w ∷ next ∷ writes) c new fit ends filled last =
 pub gate_opened : (i : ℕ) (fill : List ℕ) (writes : List Write) (c new : List ℕ) → EndsInGate writes → IsFilled i fill writes c new
     → i + 1 ≡ length writes → is_opened_gate (slice_index fill 0) ≡ true → new ≡ after_writes writes c
 gate_opened i fill [] c new ends filled last opened = absurd ends
-gate_opened zero fill (w ∷ []) c new ends filled last opened =
-    filled ∙ ap (overwritten c w.at) (gate_filled fill w.bytes ends ∙ ap (λ g. g ∷ []) (eqb-true (slice_index fill 0) 90 opened) ∙ sym ends)
+gate_opened zero fill (w ∷ []) c new ends filled last opened = grind arith
 gate_opened (suc i) fill (w ∷ []) c new ends filled last opened = absurd filled
 gate_opened zero fill (w ∷ next ∷ writes) c new ends filled last opened = absurd (omega (arith, last))
 gate_opened (suc i) fill (w ∷ next ∷ writes) c new ends filled last opened =
@@ -222,14 +207,9 @@ module _ (m : Memory) (s : State) (t : HciTables) (c : Command) (fails : fails_w
           fill = p.fill;
           within = within;
           filled = planned_filled (p.nth - 1) p.fill writes m (is ∙ ap (λ n. Some (record { nth = n; fill = p.fill })) (omega (arith, low))) within;
-          opened = λ n opens.
-              let both = and_parts (p.nth == n) (is_opened_gate (slice_index p.fill 0)) (sym (ap (opens_gate n) is) ∙ opens) in
-              (next ∙ eqb-true p.nth n both.0, both.1);
-          closed = λ n opens last. false_from_ne_true (is_opened_gate (slice_index p.fill 0)) (λ open_gate. both_ways (opens_gate n m.plan) opens
-              (ap (opens_gate n) is ∙ and_from (p.nth == n) (is_opened_gate (slice_index p.fill 0)) (eq-eqb p.nth n (sym next ∙ last)) open_gate));
-          reached = λ n near.
-              let two = and_parts (nat_le 1 p.nth) (nat_le p.nth n) (sym (ap (fails_within n) is) ∙ near) in
-              omega (arith, low, leb-true p.nth n two.1);
+          opened = grind arith;
+          closed = λ n opens last. false_from_ne_true (is_opened_gate (slice_index p.fill 0)) (λ open_gate. grind arith);
+          reached = grind arith;
           passed = λ n far. behind p low n (and_cases (nat_le 1 p.nth) (nat_le p.nth n) (sym (ap (fails_within n) is) ∙ far));
         }
       where
@@ -272,10 +252,7 @@ bank_of : (content : List ℕ) (s : State) (t : HciTables) → Knows content s t
 bank_of content s t k = ap (λ (x : State). x.in_use) k.state_is
 
 pub snapshot_ends : (s : State) (bodies : List (List ℕ)) → IsSome s.in_use → EndsInGate (compact_writes s bodies)
-snapshot_ends s bodies used = by_option s.in_use
-    (λ q. rw q (absurd (true≢false (sym (rw q at used)))))
-    (λ side q. rw q (ends_append (close_bank s.beside (bank_place (other side)))
-    (open_bank (bank_place (other side)) (s.generation + 1) (count_of s) bodies) refl))
+snapshot_ends s bodies used = grind arith
 
 -- ### The writes of a snapshot
 

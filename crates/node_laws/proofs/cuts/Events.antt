@@ -1,29 +1,26 @@
 -- What a boot, a cut, a plan or anything else leaves of what is known of each node, the one that is changed and the others.
-use Rattle.node_laws.proofs.Words.{Activates, AllByRecursion, AllKeep, AreHosts, Arms, AsksReset, AtController, AtEnd, Book, Bool, BootFinds, Boots, Comes}
-use Rattle.node_laws.proofs.Words.{Controller, Core, CutOff, EachIsAsRead, End, Entry, FindsBy, FindsExactly, Gives, Happening, HciTables, Host, IfRuns, Inits}
-use Rattle.node_laws.proofs.Words.{IsAllowedStill, IsCut, IsCutAsPlanned, IsHost, IsOnOrder, List, Loses, Loss, MayBeDone, MayHappen, Memory, Message}
-use Rattle.node_laws.proofs.Words.{NextFrame, NoInput, NodeWorld, None, Option, Orders, Plan, Reckoning, Resets, Running, RunsSo, Sends, Site, SiteKeeps, Some}
-use Rattle.node_laws.proofs.Words.{Starts, Step, Takes, Ticks, [], activates, after_commands, after_planned, ap, append-nil, arith, beginning, begins_with}
-use Rattle.node_laws.proofs.Words.{begun_by, book_in, boot_writes, boots, by_coming, by_list, by_loss, by_option, by_test, cases_Bool, changed_if, close}
-use Rattle.node_laws.proofs.Words.{comes_at, commands_in, cond, cond_both, controller_cut, count_of, counts, current, end_c, end_h, eq-eqb, eqb, eqb-false}
-use Rattle.node_laws.proofs.Words.{eqb-true, fails_within, false, first_lost, fold, format_writes, found, frame_lost, happens, host_cut, host_does, inl, inr}
-use Rattle.node_laws.proofs.Words.{is_command_message, is_some, length, link_to, links_of, loses_power_at, map, memory_at, min, ne_eqb, no_tables, node_at}
-use Rattle.node_laws.proofs.Words.{none_within, option_map_or, reckoned, reckoned_within, refl, sending, site_at, site_lost, started_state, state_of, steps}
-use Rattle.node_laws.proofs.Words.{subst, sym, take, true, true≢false, with_found, with_memory, with_node, with_site, world_step, ℕ, ◌&&◌, ◌++◌, ◌-◌, ◌^◌, ◌∙◌}
-use Rattle.node_laws.proofs.Words.{◌∷◌, ◌≡◌, ◌≤◌, ◌⊎◌}
+use Rattle.node_laws.proofs.Words.{Activates, AllByRecursion, AllKeep, AreHosts, Arms, AsksReset, AtEnd, Book, Bool, BootFinds, Boots, Comes, Core}
+use Rattle.node_laws.proofs.Words.{EachIsAsRead, End, Entry, FindsBy, FindsExactly, Gives, Happening, HciTables, IfRuns, Inits, IsCut, IsCutAsPlanned, IsHost}
+use Rattle.node_laws.proofs.Words.{IsOnOrder, List, Loses, Loss, MayBeDone, MayHappen, Memory, Message, NextFrame, NoInput, NodeWorld, None, Option, Orders}
+use Rattle.node_laws.proofs.Words.{Plan, Reckoning, Resets, Running, RunsSo, Sends, Site, SiteKeeps, Some, Starts, Takes, Ticks, [], activates, after_commands}
+use Rattle.node_laws.proofs.Words.{after_planned, ap, append-nil, arith, beginning, begins_with, begun_by, book_in, boot_writes, boots, by_coming, by_list}
+use Rattle.node_laws.proofs.Words.{by_loss, by_option, by_test, cases_Bool, close, comes_at, commands_in, cond, cond_both, controller_cut, count_of, counts}
+use Rattle.node_laws.proofs.Words.{current, end_c, end_h, eq-eqb, eqb, eqb-false, eqb-true, fails_within, false, fold, format_writes, found, frame_lost}
+use Rattle.node_laws.proofs.Words.{host_cut, host_does, inl, inr, is_command_message, is_some, length, links_of, loses_power_at, map, memory_at, min, ne_eqb}
+use Rattle.node_laws.proofs.Words.{no_tables, node_at, none_within, option_map_or, reckoned, reckoned_within, refl, sending, site_at, site_lost, started_state}
+use Rattle.node_laws.proofs.Words.{state_of, steps, subst, sym, take, true, true≢false, with_found, with_memory, with_node, with_site, world_step, ℕ, ◌&&◌}
+use Rattle.node_laws.proofs.Words.{◌++◌, ◌-◌, ◌^◌, ◌∙◌, ◌∷◌, ◌≡◌, ◌≤◌, ◌⊎◌}
 use Rattle.hci_store.proofs.Starting.{counted}
-use Rattle.journal_laws.specs.Writes.{IsCut as IsCutInWrites}
 use Rattle.node_laws.specs.cuts.Histories.{IsBootedBy}
 use Rattle.node_laws.proofs.cuts.Standing.{Stands, all_found, book_then, exact_idle, stands_same, still_booted}
 use Rattle.node_laws.proofs.cuts.Ticking.{ExactAt, IsThere, StandsAt, controller_exact, exact_both, host_exact, memory_far, node_far, none_exact, plain_exact}
 use Rattle.node_laws.proofs.cuts.Ticking.{ticks_exact, with_here, with_there}
-use Rattle.node_laws.proofs.kept.Doing.{all_fine, closed_book, plain_entries, same_new}
-use Rattle.node_laws.proofs.kept.Booting.{left_formatted, says}
+use Rattle.node_laws.proofs.kept.Doing.{all_fine, closed_book, same_new}
+use Rattle.node_laws.proofs.kept.Booting.{left_formatted}
 use Rattle.node_laws.proofs.kept.Reckoned.{IsNothingFor, finds_closed, other_idles, planned_cut, used_of}
 use Rattle.node_laws.proofs.kept.Events.{comes_goes, loses_is, no_order, site_found}
 use Rattle.node_laws.proofs.kept.Stepping.{steps_fine}
 use Rattle.node_laws.proofs.telling.Events.{site_map}
-use Rattle.node_laws.proofs.turns.Worlds.{counts_power}
 use Rattle.trace_model.specs.declared.entry.Entry.TheVariants as entry
 
 -- ## A node of a world that is changed, and the others, which stay
@@ -53,11 +50,7 @@ record ChangesFar (k : ℕ) (w v : NodeWorld) : Type 0 where
 
 same_far : (n : ℕ) (w v : NodeWorld) (s x : Site) → eqb n 0 ≡ false → site_at w.sites n ≡ Some s → site_at v.sites n ≡ Some x → x.memory ≡ s.memory
     → x.node ≡ s.node → IsSameAt n w v
-same_far n w v s x off was is memory node = record {
-  memory = memory_far v n x off is ∙ memory ∙ sym (memory_far w n s off was);
-  node = node_far v n x off is ∙ node ∙ sym (node_far w n s off was);
-  there = inr (off, (x, is));
-}
+same_far n w v s x off was is memory node = grind arith
 
 same_at : (k n : ℕ) (w v : NodeWorld) → (k ≡ n → ⊥) → (k ≡ 0 → ChangesNear w v) → (eqb k 0 ≡ false → ChangesFar k w v) → IsThere w n → IsSameAt n w v
 same_at k n w v other near far there = by_number (cases_Bool (eqb k 0)) there where
@@ -67,10 +60,7 @@ same_at k n w v other near far there = by_number (cases_Bool (eqb k 0)) there wh
       let a : ChangesNear w v = near (eqb-true k 0 is) in
       let s : Site = host.1.0 in
       same_far n w v s (a.change s) host.0 host.1.1 (ap (λ l. site_at l n) a.sites ∙ site_map a.change a.host w.sites n s host.1.1) (a.memory s) (a.node s)
-  by_number (inr off) (inl zero_is) =
-      let a : ChangesFar k w v = far off in
-      subst (IsSameAt n w) (sym a.is)
-      (subst (λ j. IsSameAt j w (record w { sites = with_site k a.change w.sites })) (sym zero_is) (record { memory = refl; node = refl; there = inl refl }))
+  by_number (inr off) (inl zero_is) = grind arith
   by_number (inr off) (inr host) =
       let a : ChangesFar k w v = far off in
       let s : Site = host.1.0 in
@@ -113,13 +103,7 @@ same_node k n w q other =
 same_loses : (k n : ℕ) (w : NodeWorld) → (k ≡ n → ⊥) → IsThere w n → IsSameAt n w (loses_power_at k w)
 same_loses k n w other =
     same_at k n w (loses_power_at k w) other
-    (λ z. subst (λ j. ChangesNear w (loses_power_at j w)) (sym z) (record {
-      change = λ (s : Site). record s { link = happens s.link (AtController (Step NoInput [] CutOff)) };
-      sites = refl;
-      host = λ s. refl;
-      memory = λ s. refl;
-      node = λ s. refl;
-    }))
+    (λ z. subst (λ j. ChangesNear w (loses_power_at j w)) (sym z) ((grind arith)))
     (λ off. record { change = host_cut; host = λ s. refl; is = loses_is w k off })
 
 -- ### The node itself
@@ -166,18 +150,12 @@ now_loses k w (inr far) =
 -- a node that runs, with links to some hosts
 runs_of : (hosts : List ℕ) (are : AreHosts hosts) (t : List Entry) (v : NodeWorld) (n : ℕ) (q : Running) → AllKeep hosts t v → IsThere v n
     → node_at v n ≡ Some q → (links : List ℕ) × RunsSo n links (memory_at v n).content t q
-runs_of hosts are t v n q all (inl z) running =
-    subst (λ j. (links : List ℕ) × RunsSo j links (memory_at v j).content t q) (sym z)
-    (hosts, subst (IfRuns 0 hosts v.memory.content t) (subst (λ j. node_at v j ≡ Some q) z running) all.controller.runs)
+runs_of hosts are t v n q all (inl z) running = grind arith
 runs_of hosts are t v n q all (inr far) running =
     let s : Site = far.1.0 in
     let known = site_found (SiteKeeps t) IsHost v.sites n s all.sites (subst (AllByRecursion IsHost) (sym all.hosts_are) are.all) far.1.1 in
     let was : s.node ≡ Some q = sym (node_far v n s far.0 far.1.1) ∙ running in
-    let here : RunsSo s.host (s.host ∷ []) s.memory.content t q = subst (IfRuns s.host (s.host ∷ []) s.memory.content t) was known.0.runs in (
-      n ∷ [],
-      subst (λ m. RunsSo n (n ∷ []) m.content t q) (sym (memory_far v n s far.0 far.1.1))
-          (subst (λ j. RunsSo j (j ∷ []) s.memory.content t q) known.2 here),
-    )
+    let here : RunsSo s.host (s.host ∷ []) s.memory.content t q = subst (IfRuns s.host (s.host ∷ []) s.memory.content t) was known.0.runs in (grind arith)
 
 -- ## What a boot, a cut or a plan leaves of what is known of each node
 
@@ -187,8 +165,7 @@ finds_cut : (m : Memory) (t : HciTables) (many : ℕ) → BootFinds m.content t 
 finds_cut m t many f fails = by_option (current m.content)
     (λ is. let cut = planned_cut (boot_writes m.content) m fails in
     left_formatted m.content t many f is cut.0 (after_planned (boot_writes m.content) m).content
-    (subst (λ w. IsCutInWrites cut.0 w m.content (after_planned (boot_writes m.content) m).content) (ap (λ p. option_map_or (λ _. []) p format_writes) is)
-    cut.1))
+    (grind arith))
     (λ side is. absurd (true≢false (sym fails ∙ ap (λ p. fails_within (length (option_map_or (λ _. []) p format_writes)) m.plan) is ∙ none_within m.plan)))
 
 -- only a boot that formats can be cut
@@ -198,8 +175,7 @@ blank_then m fails = by_option (current m.content)
     (λ side is. absurd (true≢false (sym fails ∙ ap (λ p. fails_within (length (option_map_or (λ _. []) p format_writes)) m.plan) is ∙ none_within m.plan)))
 
 least : (lost : Bool) (many all : ℕ) → FindsBy lost many all → many ≤ all
-least true many all is = omega (arith, is)
-least false many all is = omega (arith, is)
+least lost many all is = grind arith
 
 module _ (n : ℕ) (t : List Entry) (r : Reckoning) (m : Memory) where
   -- as a boot of the node begins
@@ -232,8 +208,7 @@ module _ (n : ℕ) (t : List Entry) (r : Reckoning) (m : Memory) where
   boot_found links node s few = subst (λ k. FindsBy r.lost k (length r.book.commands)) (sym now) s.which where
     now : count_of (found n links m.content).core.journal ≡ s.many
     now =
-        counted m.content (state_of m.content) (started_state (state_of m.content)) (says m.content (after_commands no_tables (take s.many r.book.commands))
-        (min s.many (2 ^ 32 - 1)) s.finds) refl
+        counted m.content (state_of m.content) (started_state (state_of m.content)) (grind arith) refl
         ∙ s.finds.keeps.count_is ∙ small s.many (length r.book.commands) (least r.lost s.many (length r.book.commands) s.which) few
       where
         small : (x l : ℕ) → x ≤ l → l ≤ 2 ^ 32 - 1 → min x (2 ^ 32 - 1) ≡ x
@@ -294,17 +269,7 @@ module _ (n : ℕ) (t : List Entry) (r : Reckoning) (m : Memory) where
   armed_stands : (plan : Plan) (node : Option Running) → Stands n t r m node
       → Stands n (t ++ []) (record r { memory = record r.memory { plan = Some plan } }) (record m { plan = Some plan }) node
   armed_stands plan node s = subst (λ l. Stands n l (record r { memory = record r.memory { plan = Some plan } }) (record m { plan = Some plan }) node)
-      (sym (append-nil t)) (record {
-        runs_is = s.runs_is;
-        book_is = s.book_is;
-        memory_is = ap (λ (x : Memory). record x { plan = Some plan }) s.memory_is;
-        none_due = s.none_due;
-        none_lost = s.none_lost;
-        many = s.many;
-        which = s.which;
-        finds = s.finds;
-        used = s.used;
-      })
+      (sym (append-nil t)) ((grind arith))
 
 -- ## What whatever happens leaves of what is known of each node, and how its entries come
 
@@ -315,10 +280,6 @@ pub record GoesExactly (n : ℕ) (t : List Entry) (r : Reckoning) (c : Happening
   pub stands : StandsAt n (t ++ p.1) (reckoned_within n c r p.1) p.0
   pub there : IsThere p.0 n
 
-so_or_so : (P : Bool → Type 0) → P true → P false → (b : Bool) → P b
-so_or_so P here there true = here
-so_or_so P here there false = there
-
 -- ### Boots that are noted
 
 -- none is where the node doesn't boot
@@ -328,8 +289,7 @@ none_booted P n r (e ∷ before) behind many each = none_booted P n (reckoned n 
 
 one_booted : (n j many : ℕ) (r : Reckoning) (before behind : List Entry) → entry.Booted n j ∷ [] ≡ before ++ (entry.Booted n many ∷ behind)
     → FindsExactly r j → FindsExactly (fold (reckoned n) r before) many
-one_booted n j many r [] behind is right = let same : entry.Booted n j ≡ entry.Booted n many = cc in let number : j ≡ many =
-    cc in subst (FindsExactly r) number right
+one_booted n j many r [] behind is right = grind arith
 one_booted n j many r (e ∷ []) behind is right = absurd (cc is)
 one_booted n j many r (e ∷ f ∷ before) behind is right = absurd (cc is)
 
@@ -384,8 +344,7 @@ module _ (hosts : List ℕ) (are : AreHosts hosts) (n : ℕ) where
       (cond_both (eqb m.0 1 && is_command_message m.1) (Orders m.1 ∷ []) (Sends h m ∷ []) (MayBeDone (Some work.core.journal) work.core.command work.core.init)
       (λ is. no_order work.core.command (Some m.1) work.core.init (ap (λ (c : Core). is_some c.command) same ∙ free x q here running is) on_now) (λ _. on_now))
       work.ports (same_new work.ports)
-      (λ z. cond_both (eqb m.0 1 && is_command_message m.1) (Orders m.1 ∷ []) (Sends h m ∷ []) (AllByRecursion
-      (IsAllowedStill work.core.tables work.ports)) (λ _. (tt, tt)) (λ _. (tt, tt)))) there stands
+      (λ z. grind arith)) there stands
 
   inits_exact : (t : List Entry) (r : Reckoning) (w : NodeWorld) (h : ℕ) (identity : List ℕ) (pipes : List (List ℕ)) → AllKeep hosts t w
       → IsThere w n → StandsAt n t r w → ExactAt n t r (host_does w h NoInput (begins_with h (beginning identity pipes)))
@@ -400,26 +359,8 @@ module _ (hosts : List ℕ) (are : AreHosts hosts) (n : ℕ) where
   lost_exact : (t : List Entry) (r : Reckoning) (w : NodeWorld) (e : End) (why : Loss) → IsThere w n → StandsAt n t r w → ExactAt n t r (frame_lost w e why)
   lost_exact t r w e why there stands =
       by_loss (ExactAt n t r) w e why
-      (λ side. plain_exact n t r w _ (record {
-        plain = plain_entries e.link (first_lost Host why (link_to w.sites e.link).to_host);
-        memory_is = refl;
-        controller = refl;
-        change = λ (s : Site). changed_if (eqb s.host e.link) far s;
-        sites = refl;
-        host = λ s. so_or_so (λ b. (changed_if b far s).host ≡ s.host) refl refl (eqb s.host e.link);
-        memory = λ s. so_or_so (λ b. (changed_if b far s).memory ≡ s.memory) refl refl (eqb s.host e.link);
-        node = λ s. so_or_so (λ b. is_some (changed_if b far s).node ≡ is_some s.node) (counts_power why e.link s.node) refl (eqb s.host e.link);
-      }) there stands)
-      (λ side. plain_exact n t r w _ (record {
-        plain = plain_entries e.link (first_lost Controller why (link_to w.sites e.link).to_controller);
-        memory_is = refl;
-        controller = counts_power why e.link w.controller;
-        change = λ (s : Site). changed_if (eqb s.host e.link) (site_lost e why) s;
-        sites = refl;
-        host = λ s. so_or_so (λ b. (changed_if b (site_lost e why) s).host ≡ s.host) refl refl (eqb s.host e.link);
-        memory = λ s. so_or_so (λ b. (changed_if b (site_lost e why) s).memory ≡ s.memory) refl refl (eqb s.host e.link);
-        node = λ s. so_or_so (λ b. is_some (changed_if b (site_lost e why) s).node ≡ is_some s.node) refl refl (eqb s.host e.link);
-      }) there stands) where
+      (λ side. plain_exact n t r w _ ((grind arith)) there stands)
+      (λ side. plain_exact n t r w _ ((grind arith)) there stands) where
         far : Site → Site
         far s = record (site_lost e why s) { node = counts why e.link s.node }
 
@@ -582,11 +523,7 @@ module _ (hosts : List ℕ) (are : AreHosts hosts) (n : ℕ) where
   -- ### Whatever happens
 
   node_there : (w : NodeWorld) (h : ℕ) (x : Site) (q : Running) → IsHost h → site_at w.sites h ≡ Some x → x.node ≡ Some q → node_at w h ≡ Some q
-  node_there w h x q host here running =
-      let off : eqb h 0 ≡ false = ne_eqb h 0 (λ z. not_host h host z) in rw off (rw here running)
-    where
-      not_host : (h : ℕ) → IsHost h → h ≡ 0 → ⊥
-      not_host h host z = omega (arith, z, host.0)
+  node_there w h x q host here running = grind arith
 
   pub event_exact : (t : List Entry) (r : Reckoning) (w : NodeWorld) (c : Happening) → AllKeep hosts t w → MayHappen w c → length (commands_in t n) ≤ 2 ^ 32 - 1
       → AllKeep hosts (t ++ (world_step w c).1) (world_step w c).0 → IsThere w n → StandsAt n t r w → GoesExactly n t r c (world_step w c)

@@ -4,9 +4,8 @@ use Rattle.node_laws.proofs.Words.{reckoning_in, refl, steps_from, take, true, �
 use Rattle.journal_laws.specs.Records.{found_from}
 use Rattle.gate_admin.specs.View.{hosts_where}
 use Rattle.pipe_table.specs.PipeRows.{lowest_free}
-use Rattle.node_machine.proofs.world.Schedules.{boot_cut_at_first_write_lines, boot_cut_at_second_write_lines}
-use Rattle.node_machine.proofs.world.Schedules.{cut_in_first_write_lines, cut_in_second_write_13_lines, cut_in_second_write_FF_lines}
-use Rattle.node_machine.proofs.world.Schedules.{cut_in_second_write_5A_lines}
+use Rattle.node_machine.proofs.world.Schedules.{boot_cut_at_first_write_lines, boot_cut_at_second_write_lines, cut_in_first_write_lines}
+use Rattle.node_machine.proofs.world.Schedules.{cut_in_second_write_13_lines, cut_in_second_write_FF_lines, cut_in_second_write_5A_lines}
 
 abbrev events_of : List Line → List Occurrence
 events_of lines = flat_map (λ (s : LineStep). occurrences_of s.outcome) (steps_from (new_world (2 ∷ [])) lines)

@@ -6,16 +6,15 @@ use Rattle.node_laws.proofs.Words.{IsSentByHost, IsSome, Line, LineStep, List, M
 use Rattle.node_laws.proofs.Words.{Side, Site, Some, State, [], after_planned, ap, append-nil, append_assoc, arith, begun_by, body_of, book_in, boot_writes}
 use Rattle.node_laws.proofs.Words.{by_test, commands_in, commit_writes, cond, cond-false, cond-true, cond_both, current, entries_in, eqb, eqb-true, false}
 use Rattle.node_laws.proofs.Words.{flat_map, fold, fold-append, format_writes, fresh, happenings, inl, inr, is_open_beside, last_in, length, list_any}
-use Rattle.node_laws.proofs.Words.{list_any-append, map, memory_at, new_book, new_memory, new_site, new_world, node_at, node_entries, occurrences_in}
-use Rattle.node_laws.proofs.Words.{occurrences_of, option_map_or, reckoned, reckoned_within, reckoning_in, reckoning_of, record_fits, refl, replicate, site_at}
-use Rattle.node_laws.proofs.Words.{state_of, subst, suc, sym, true, true≢false, with_event, with_found, with_written, world_behind, world_step, writes_of, ℕ}
-use Rattle.node_laws.proofs.Words.{◌++◌, ◌-◌, ◌^◌, ◌||◌, ◌∙◌, ◌∷◌, ◌≡◌, ◌≤◌}
+use Rattle.node_laws.proofs.Words.{list_any-append, map, memory_at, new_book, new_memory, new_site, new_world, node_entries, occurrences_in, occurrences_of}
+use Rattle.node_laws.proofs.Words.{option_map_or, reckoned, reckoned_within, reckoning_in, reckoning_of, record_fits, refl, replicate, site_at, state_of, subst}
+use Rattle.node_laws.proofs.Words.{suc, sym, true, true≢false, with_event, world_behind, world_step, writes_of, ℕ, ◌++◌, ◌-◌, ◌^◌, ◌||◌, ◌∙◌, ◌∷◌, ◌≡◌, ◌≤◌}
 use Rattle.node_laws.specs.cuts.Histories.{AreCutAsPlanned, AreFoundExactly, BootsWriteSo, CommandsWriteSo, KeptExactly, MemoriesHold, StandsInMemories}
 use Rattle.node_laws.specs.cuts.Histories.{boots_it}
 use Rattle.node_laws.proofs.cuts.Events.{GoesExactly, event_exact}
-use Rattle.node_laws.proofs.cuts.Standing.{FindsMany, Stands, book_then}
-use Rattle.node_laws.proofs.cuts.Ticking.{IsThere, StandsAt, memory_far, node_far}
-use Rattle.node_laws.proofs.kept.Ticking.{MayAllHappen, all_begin, are_kept, blank_finds, line_may, world_goes}
+use Rattle.node_laws.proofs.cuts.Standing.{Stands, book_then}
+use Rattle.node_laws.proofs.cuts.Ticking.{IsThere, StandsAt}
+use Rattle.node_laws.proofs.kept.Ticking.{MayAllHappen, all_begin, are_kept, line_may, world_goes}
 use Rattle.node_laws.proofs.telling.Lasting.{AllMay, AreCaused, lines_caused}
 use Rattle.trace_model.specs.declared.entry.Entry.TheVariants as entry
 
@@ -27,8 +26,7 @@ two_writes c r is = rw is refl
 -- with a snapshot
 more : (s : State) (t : HciTables) (c : Command) → record_fits s (body_of c) ≡ false → (side : Side) → s.in_use ≡ Some side → (b : Bool) → s.beside ≡ b
     → length (commit_writes s t (body_of c)) ≡ cond b 5 4
-more s t c full side used true open_gate = rw full (rw used (rw open_gate refl))
-more s t c full side used false closed = rw full (rw used (rw closed refl))
+more s t c full side used b open_gate = grind arith
 
 pub snapshot_writes : (c : Command) (r : Reckoning) → record_fits (state_of r.memory.content) (body_of c) ≡ false → IsSome (current r.memory.content)
     → length (writes_of c r) ≡ cond (is_open_beside r.memory.content) 5 4
@@ -42,17 +40,7 @@ snapshot_writes c r full some = by_bank (current r.memory.content) refl some whe
 -- ### The beginning
 
 begins : (n : ℕ) → Stands n [] (reckoning_of false new_book (new_memory (replicate 65536 255))) (new_memory (replicate 65536 255)) None
-begins n = record {
-  runs_is = refl;
-  book_is = refl;
-  memory_is = refl;
-  none_due = refl;
-  none_lost = λ on. refl;
-  many = 0;
-  which = refl;
-  finds = blank_finds (replicate 65536 255) (fresh 65536 (omega arith));
-  used = λ on. absurd (true≢false (sym on));
-}
+begins n = grind arith
 
 site_in : (content : List ℕ) (hosts : List ℕ) (n : ℕ) → list_any (λ h. eqb h n) hosts ≡ true
     → (s : Site) × (site_at (map (new_site content) hosts) n ≡ Some s) × (s.memory ≡ new_memory content) × (s.node ≡ None)
@@ -71,11 +59,7 @@ node_begins : (hosts : List ℕ) (n : ℕ) → IsNodeOf hosts n → Begins n (ne
 node_begins hosts n is = by_test (eqb n 0)
     (λ zero_is. subst (λ k. Begins k w) (sym (eqb-true n 0 zero_is)) (record { there = inl refl; stands = begins 0 }))
     (λ off. let s = site_in (replicate 65536 255) hosts n (sym (ap (λ b. b || list_any (λ h. eqb h n) hosts) off) ∙ is) in
-    record {
-      there = inr (off, (s.0, s.1));
-      stands = subst (λ m. Stands n [] blank m (node_at w n)) (sym (memory_far w n s.0 off s.1 ∙ s.2))
-          (subst (Stands n [] blank (new_memory (replicate 65536 255))) (sym (node_far w n s.0 off s.1 ∙ s.3)) (begins n));
-    }) where
+    (grind arith)) where
       w : NodeWorld
       w = new_world hosts
 
@@ -88,13 +72,10 @@ entries-append : (xs ys : List Occurrence) → entries_in (xs ++ ys) ≡ entries
 entries-append xs ys = flat_map-append (λ (o : Occurrence). o.entries) xs ys
 
 or_false_left : (a b : Bool) → (a || (b || false)) ≡ false → a ≡ false
-or_false_left true b is = is
-or_false_left false b is = refl
+or_false_left a b is = grind arith
 
 or_false_right : (a b : Bool) → (a || (b || false)) ≡ false → b ≡ false
-or_false_right true b is = absurd (true≢false is)
-or_false_right false true is = is
-or_false_right false false is = refl
+or_false_right a b is = grind arith
 
 abbrev pub blank : List ℕ
 blank = replicate 65536 255
@@ -109,13 +90,7 @@ boots_in n events = list_any (λ (o : Occurrence). boots_it n o.cause) events
 
 -- entries in which it doesn't boot leave it so
 new_one : (n : ℕ) (r : Reckoning) (e : Entry) → IsAsRead n r e → IsNew r → IsNew (reckoned n r e)
-new_one n r (entry.Command k c) as_read new =
-    cond_both (eqb k n) (with_written c r) r IsNew (λ is. absurd (true≢false (sym (as_read (eqb-true k n is)) ∙ new.off))) (λ _. new)
-new_one n r (entry.Booted k j) as_read new =
-    cond_both (eqb k n) (record r { runs = true; book = with_found j r.book; lost = false }) r IsNew (λ is. absurd (as_read (eqb-true k n is))) (λ _. new)
-new_one n r (entry.Cut k) as_read new =
-    cond_both (eqb k n) (record r { runs = false; due = false }) r IsNew (λ _. record { off = refl; content = new.content }) (λ _. new)
-new_one n r _ as_read new = new
+new_one n r e as_read new = grind arith
 
 new_all : (n : ℕ) (r : Reckoning) (es : List Entry) → EachIsAsRead n r es → IsNew r → IsNew (fold (reckoned n) r es)
 new_all n r [] each new = new
@@ -126,8 +101,7 @@ new_event : (n : ℕ) (r : Reckoning) (c : Happening) (es : List Entry) → boot
 new_event n r (Boots k) es none planned new =
     subst (λ x. IsNew (fold (reckoned n) x es))
     (sym (ap (λ b. cond b (record r { memory = after_planned (boot_writes r.memory.content) r.memory }) r) none)) (new_all n r es (rw none at planned) new)
-new_event n r (IsCut k) es none planned new =
-    subst (λ l. IsNew (fold (reckoned n) r l)) (sym planned) (new_one n r (entry.Cut k) tt new)
+new_event n r (IsCut k) es none planned new = grind arith
 new_event n r (Arms k plan) es none planned new =
     new_all n (begun_by n (Arms k plan) r) es planned.0
     (cond_both (eqb k n) (record r { memory = record r.memory { plan = Some plan } }) r IsNew (λ _. record { off = new.off; content = new.content }) (λ _. new))
@@ -174,8 +148,7 @@ module _ (hosts : List ℕ) (are : AreHosts hosts) (n : ℕ) where
             let first : boots_in n front ≡ false = or_false_left (boots_in n front) (boots_it n o.cause) both in
             let last : boots_it n o.cause ≡ false = or_false_right (boots_in n front) (boots_it n o.cause) both in
             subst IsNew (sym read) (new_event n (reckoning_in front n) o.cause es last g.planned (k.new first));
-        stands = subst (λ t. StandsAt n t (reckoning_in (front ++ o ∷ []) n) (world_step w o.cause).0) (sym here)
-            (subst (λ r. StandsAt n (entries_in front ++ es) r (world_step w o.cause).0) (sym read) g.stands);
+        stands = grind arith;
       }
 
   -- behind some more of them
@@ -192,24 +165,16 @@ module _ (hosts : List ℕ) (are : AreHosts hosts) (n : ℕ) where
       × ((before behind : List Entry) (many : ℕ) → o.entries ≡ before ++ (entry.Booted n many ∷ behind)
       → FindsExactly (reckoned_within n o.cause (reckoning_in front n) before) many)
   event_is front w o events k =
-      let g = goes front w o events k in (
-        subst (IsCutAsPlanned n (reckoning_in front n) o.cause) (sym k.caused.0) g.planned,
-        λ before behind many is. g.booted before behind many (sym k.caused.0 ∙ is),
-      )
+      let g = goes front w o events k in (grind arith)
 
 -- what an event begins with leaves the commands
 begun_book : (n : ℕ) (c : Happening) (r : Reckoning) → (begun_by n c r).book ≡ r.book
-begun_book n (Boots k) r = cond_both (eqb k n) (record r { memory = after_planned (boot_writes r.memory.content) r.memory }) r
-    (λ (x : Reckoning). x.book ≡ r.book) (λ _. refl) (λ _. refl)
-begun_book n (Arms k plan) r = cond_both (eqb k n) (record r { memory = record r.memory { plan = Some plan } }) r
-    (λ (x : Reckoning). x.book ≡ r.book) (λ _. refl) (λ _. refl)
-begun_book n _ r = refl
+begun_book n c r = grind arith
 
 -- ### Schedules
 
 may_all : (causes : List Happening) (w : NodeWorld) → MayAllHappen w causes → AllMay MayHappen w causes
-may_all [] w may = tt
-may_all (c ∷ causes) w may = (may.0, may_all causes (world_step w c).0 may.1)
+may_all causes w may = grind arith
 
 module _ (header : Header) (lines : List Line) (t : NodeHistory) (follows : FollowsNodes header lines t) (are : AreHosts header.hosts.items)
     (sides : AllByRecursion IsSentByHost lines) (few : IsFew (node_entries t)) where
@@ -283,8 +248,7 @@ module _ (header : Header) (lines : List Line) (t : NodeHistory) (follows : Foll
   writes_none : (content : List ℕ) → IsSome (current content) → boot_writes content ≡ []
   writes_none content some = by_bank (current content) refl some where
     by_bank : (b : Option Side) → current content ≡ b → IsSome b → boot_writes content ≡ []
-    by_bank None is used = absurd (true≢false (sym used))
-    by_bank (Some side) is used = ap (λ p. option_map_or (λ _. []) p format_writes) is
+    by_bank b is used = grind arith
 
   pub boots_write_so : BootsWriteSo t
   boots_write_so front back n node is =
@@ -313,11 +277,7 @@ module _ (header : Header) (lines : List Line) (t : NodeHistory) (follows : Foll
   memories_hold front back n node is =
       let k : IsKnown header.hosts.items are n front (world_behind w0 front) back = known n node front back is in
       let r : Reckoning = reckoning_in front n in
-      record {
-        many = k.stands.many;
-        which = k.stands.which;
-        finds = subst (λ (m : Memory). FindsMany m.content r.book.commands k.stands.many) (sym k.stands.memory_is) k.stands.finds;
-      }
+      grind arith
 
   pub kept_exactly : KeptExactly t
   kept_exactly = record {

@@ -3,12 +3,11 @@ use Rattle.std.proofs.Math.Seq.{take-append_seam, take-length}
 use Rattle.std.proofs.lemmas.Bool.Decides.{nat_tests}
 use Rattle.node_laws.proofs.Words.{AllByRecursion, Book, Bool, BootFinds, Command, EachIsAsRead, Entry, FindsBy, FindsRoom, IsCommand, IsSome, List, Memory}
 use Rattle.node_laws.proofs.Words.{None, Option, Plan, Port, Reckoning, Running, Some, StillRuns, Work, Write, [], after_commands, after_planned, and_parts, ap}
-use Rattle.node_laws.proofs.Words.{append-nil, append_assoc, apply, arith, body_of, book_after, book_in, both_ways, by_option, by_test, cases_Bool, close}
-use Rattle.node_laws.proofs.Words.{commands_in, commit, commit_writes, committed, cond, count_of, current, eq-eqb, fails_within, false, fold, inl, inr, is_next}
+use Rattle.node_laws.proofs.Words.{append-nil, append_assoc, apply, arith, body_of, book_after, book_in, by_option, by_test, cases_Bool, close, commands_in}
+use Rattle.node_laws.proofs.Words.{commit, commit_writes, committed, cond, count_of, current, eq-eqb, fails_within, false, fold, inl, inr, is_next}
 use Rattle.node_laws.proofs.Words.{is_opened_gate, is_some, leb-true, length, length-append, list_any, list_any-append, loses_power, map, memory_after, min}
-use Rattle.node_laws.proofs.Words.{nat_le, ne_eqb, no_tables, not, noting, one_more, opens_gate, or-false, overwritten, plan_after, plan_on, reckoned}
-use Rattle.node_laws.proofs.Words.{reckoning_of, refl, runs_on, slice_index, subst, suc, sym, take, torn_bytes, true, true≢false, with_written, writes_of, ℕ}
-use Rattle.node_laws.proofs.Words.{◌&&◌, ◌++◌, ◌+◌, ◌-◌, ◌==◌, ◌^◌, ◌||◌, ◌∙◌, ◌∷◌, ◌≡◌, ◌≤◌, ◌⊎◌}
+use Rattle.node_laws.proofs.Words.{nat_le, ne_eqb, no_tables, not, noting, opens_gate, or-false, reckoned, reckoning_of, refl, runs_on, slice_index, subst, suc}
+use Rattle.node_laws.proofs.Words.{sym, take, true, true≢false, with_written, writes_of, ℕ, ◌&&◌, ◌++◌, ◌+◌, ◌-◌, ◌==◌, ◌^◌, ◌||◌, ◌∙◌, ◌∷◌, ◌≡◌, ◌≤◌, ◌⊎◌}
 use Rattle.node_laws.specs.cuts.Histories.{is_boot_of}
 use Rattle.node_laws.specs.kept.Books.{HasLostIn}
 use Rattle.node_laws.proofs.cuts.Commits.{planned_closed, planned_opened}
@@ -25,18 +24,7 @@ abbrev farther : ℕ → Plan → Option Plan
 farther n p = Some (record { nth = p.nth + n; fill = p.fill })
 
 spent : (m : Memory) (at : ℕ) (bytes : List ℕ) → is_next m.plan ≡ true → (memory_after m at bytes).plan ≡ None
-spent m at bytes next =
-    ap (λ b. (cond b (record m { content = overwritten m.content at (torn_bytes m.plan (length bytes)); plan = None; faults = one_more m.faults })
-    (record m { content = overwritten m.content at bytes; plan = plan_after m.plan })).plan) next
-
-one_before : (o : Option Plan) (p : Plan) (n : ℕ) → 1 ≤ p.nth → is_next o ≡ false → plan_after o ≡ farther n p → o ≡ farther (suc n) p
-one_before None p n low later is = absurd (cc)
-one_before (Some q) p n low later is =
-    let nearer : Some (record q { nth = q.nth - 1 }) ≡ farther n p = sym (ap (λ b. cond b None (Some (record q { nth = q.nth - 1 }))) later) ∙ is in
-    let same : record q { nth = q.nth - 1 } ≡ record { nth = p.nth + n; fill = p.fill } = cc in
-    let filling : q.fill ≡ p.fill = ap (λ (x : Plan). x.fill) same in
-    let filled : Some q ≡ Some (record { nth = q.nth; fill = p.fill }) = ap (λ f. Some (record { nth = q.nth; fill = f })) filling in
-    filled ∙ ap (λ k. Some (record { nth = k; fill = p.fill })) (omega (arith, ap (λ (x : Plan). x.nth) same, low))
+spent m at bytes next = grind arith
 
 -- a plan that is left behind writes was planned before them
 plan_before : (writes_of_steps : List Write) (m : Memory) (p : Plan) → 1 ≤ p.nth → (after_planned writes_of_steps m).plan ≡ Some p
@@ -55,9 +43,7 @@ plan_before (w ∷ writes_of_steps) m p low is =
         → ((after_planned writes_of_steps (memory_after m w.at w.bytes)).plan ≡ Some p
         → (memory_after m w.at w.bytes).plan ≡ farther (length writes_of_steps) p)
         → m.plan ≡ farther (length (w ∷ writes_of_steps)) p
-    by_next (inl next) behind = absurd (none_left (here true next) (spent m w.at w.bytes next))
-    by_next (inr later) behind =
-        one_before m.plan p (length writes_of_steps) low later (sym (plan_on m w.at w.bytes later) ∙ behind (here false later))
+    by_next a behind = grind arith
 
 same_last : (x a b l : ℕ) → l ≡ a + b → (x + a == l) ≡ (x == b)
 same_last x a b l all = grind (arith, nat_tests)
@@ -78,8 +64,7 @@ module _ (n : ℕ) (hosts : List ℕ) (old : Memory) (before : List Entry) (c : 
   fails : fails_within (length writes_of_steps) w.plan ≡ true
   fails = by_test (fails_within (length writes_of_steps) w.plan)
       (λ fails. fails)
-      (λ none. let on : (commit c w).cut ≡ false = rw none r.on in
-      absurd (both_ways (commit c w).cut on cut))
+      (λ none. grind arith)
 
   is_lost : commit c w ≡ lost
   is_lost = rw fails refl
@@ -133,8 +118,7 @@ module _ (n : ℕ) (hosts : List ℕ) (old : Memory) (before : List Entry) (c : 
       (subst (λ x. BootFinds x (after_commands no_tables (commands_in seen n ++ c ∷ [])) (min (length (commands_in seen n ++ c ∷ [])) (2 ^ 32 - 1)))
       (sym memory_is)
       (subst (λ k. BootFinds (after_planned writes_of_steps r.memory).content (after_commands no_tables (commands_in seen n ++ c ∷ [])) k) count_then
-      (finds_closed (after_planned writes_of_steps r.memory).content (apply w.core.tables c) (after_commands no_tables (commands_in seen n ++ c ∷ []))
-      (count_of (committed w.core.journal w.core.tables (body_of c))) found closed)))
+      (grind arith)))
 
   pub step_closed : opens_gate (length (commit c w).writes) old.plan ≡ false → FindsAll (commands_in seen n)
   step_closed opens =
@@ -227,17 +211,7 @@ exact_idle n t r es m node s all =
 -- so a node stands that has the same memory, and runs or not as before
 pub stands_same : (n : ℕ) (t : List Entry) (r : Reckoning) (m k : Memory) (node later : Option Running) → Stands n t r m node → k ≡ m
     → is_some later ≡ is_some node → Stands n t r k later
-stands_same n t r m k node later s memory runs = subst (λ x. Stands n t r x later) (sym memory) (record {
-  runs_is = s.runs_is ∙ sym runs;
-  book_is = s.book_is;
-  memory_is = s.memory_is;
-  none_due = s.none_due;
-  none_lost = λ on. s.none_lost (sym runs ∙ on);
-  many = s.many;
-  which = s.which;
-  finds = s.finds;
-  used = s.used;
-})
+stands_same n t r m k node later s memory runs = grind arith
 
 pub exact_then : (n : ℕ) (t : List Entry) (r : Reckoning) (xs ys : List Entry) (k : Memory) (later : Option Running) → EachIsAsRead n r xs
     → Exact n (t ++ xs) (fold (reckoned n) r xs) ys k later → Exact n t r (xs ++ ys) k later
@@ -254,12 +228,7 @@ module _ (n : ℕ) (links : List ℕ) (t : List Entry) (m : Memory) (q : Running
   start = reckoning_of true (book_in t n) m
 
   begins : r ≡ start
-  begins =
-      ap (λ b. record { runs = b; book = r.book; memory = r.memory; due = r.due; lost = r.lost }) s.runs_is
-      ∙ ap (λ b. record { runs = true; book = b; memory = r.memory; due = r.due; lost = r.lost }) s.book_is
-      ∙ ap (λ x. record { runs = true; book = book_in t n; memory = x; due = r.due; lost = r.lost }) s.memory_is
-      ∙ ap (λ d. record { runs = true; book = book_in t n; memory = m; due = d; lost = r.lost }) s.none_due
-      ∙ ap (λ l. record { runs = true; book = book_in t n; memory = m; due = false; lost = l }) (s.none_lost refl)
+  begins = grind arith
 
   -- it runs on
   step_runs : (k : Work) → StillRuns n links m t k → Exact n t start k.entries (after_planned k.writes m) (runs_on k)
@@ -399,10 +368,7 @@ module _ (n : ℕ) (links : List ℕ) (t : List Entry) (m : Memory) (q : Running
           length (before_it.book.commands ++ c ∷ []),
           subst (λ b. FindsBy b (length (before_it.book.commands ++ c ∷ [])) (length (before_it.book.commands ++ c ∷ []))) (sym (lost_is true opened)) refl,
           all_found left (before_it.book.commands ++ c ∷ [])
-              (subst (λ x. BootFinds x (after_commands no_tables (before_it.book.commands ++ c ∷ [])) (min (length (before_it.book.commands ++ c ∷ []))
-              (2 ^ 32 - 1))) left_is
-              (subst
-              (λ l2. BootFinds (after_planned (commit c work).writes m).content (after_commands no_tables l2) (min (length l2) (2 ^ 32 - 1))) same all)),
+              (grind arith),
         ))
         (λ closed. let less = step_closed n l.hosts m t c work l.ran l.may l.room cut (gate ∙ closed) in (
           length before_it.book.commands,

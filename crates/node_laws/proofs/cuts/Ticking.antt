@@ -42,15 +42,11 @@ node_far w n s off here = rw off (rw here refl)
 
 stands_far : (n : ℕ) (t : List Entry) (r : Reckoning) (w : NodeWorld) (s : Site) → eqb n 0 ≡ false → site_at w.sites n ≡ Some s → StandsAt n t r w
     → Stands n t r s.memory s.node
-stands_far n t r w s off here a =
-    subst (λ m. Stands n t r m s.node) (memory_far w n s off here) (subst (Stands n t r (memory_at w n)) (node_far w n s off here) a)
+stands_far n t r w s off here a = grind arith
 
 exact_far : (n : ℕ) (t : List Entry) (r : Reckoning) (v : NodeWorld) (es : List Entry) (s : Site) → eqb n 0 ≡ false → site_at v.sites n ≡ Some s
     → Exact n t r es s.memory s.node → ExactAt n t r (v, es)
-exact_far n t r v es s off here a = record {
-  exact = subst (λ m. Exact n t r es m (node_at v n)) (sym (memory_far v n s off here)) (subst (Exact n t r es s.memory) (sym (node_far v n s off here)) a);
-  there = inr (off, (s, here));
-}
+exact_far n t r v es s off here a = grind arith
 
 exact_near : (t : List Entry) (r : Reckoning) (v : NodeWorld) (es : List Entry) → Exact 0 t r es v.memory v.controller → ExactAt 0 t r (v, es)
 exact_near t r v es a = record { exact = a; there = inl refl }
@@ -163,8 +159,7 @@ run_exact hosts n t r w p a (inl is) stands =
 run_exact hosts n t r w p a (inr far) stands =
     let s : Site = far.1.0 in
     exact_far n t r p.0 p.1 (a.change s) far.0 (ap (λ l. site_at l n) a.sites ∙ site_map a.change a.host w.sites n s far.1.1)
-    (exact_idle n t r p.1 (a.change s).memory (a.change s).node (stands_same n t r s.memory (a.change s).memory s.node (a.change s).node
-    (stands_far n t r w s far.0 far.1.1 stands) (a.memory s) (ap is_some (a.node s)))
+    (exact_idle n t r p.1 (a.change s).memory (a.change s).node (grind arith)
     (subst (AllByRecursion (IsNothingFor n)) (sym a.entries_are) (run_idles 0 n hosts t w.memory a.work a.more a.fine a.plain (not_zero n far.0))))
 
 host_run_exact : (n : ℕ) (t : List Entry) (r : Reckoning) (w : NodeWorld) (h : ℕ) (p : NodeWorld × List Entry) → HostHasRun t w h p → IsThere w n
@@ -376,16 +371,7 @@ module _ (hosts : List ℕ) (are : AreHosts hosts) (n : ℕ) where
   near_exact : (t : List Entry) (r : Reckoning) (w : NodeWorld) → AllKeep hosts t w → IsThere w n → StandsAt n t r w → ExactAt n t r (controller_ticks w)
   near_exact t r w all there stands =
       by_controller_tick (ExactAt n t r) w
-      (λ e. plain_exact n t r w (record w { sites = map site_unticked w.sites }, []) (record {
-        plain = tt;
-        memory_is = refl;
-        controller = refl;
-        change = site_unticked;
-        sites = refl;
-        host = λ s. refl;
-        memory = λ s. refl;
-        node = λ s. refl;
-      }) there stands)
+      (λ e. plain_exact n t r w (record w { sites = map site_unticked w.sites }, []) ((grind arith)) there stands)
       (λ q e.
       let k : NodeKeeps 0 hosts t w.memory (Some q) = subst (NodeKeeps 0 hosts t w.memory) e all.controller in
       let work : Work = near_tick w q in

@@ -1,31 +1,27 @@
 -- Something comes to an end of the controller, an identifier, too: in this event it answers before its first turn exactly what is due.
-use Rattle.std.proofs.lemmas.Bool.{lt-leb}
-use Rattle.node_laws.proofs.Words.{ActStart, ActStop, ActTake, ActTick, AllByRecursion, AnswersSo, AreDifferent, AreHosts, AreNamed, AreNotOf, AreSessionsRead}
-use Rattle.node_laws.proofs.Words.{AsksReset, AtEnd, Bare, Bool, Clf, Comes, Command, Commits, Control, Controller, Core, Creation, Cut, CutOff, Deed, Desk}
-use Rattle.node_laws.proofs.Words.{End, Ending, Entry, Err, GoesOut, Happening, HasEnds, HasRoomForAll, HciTables, Host, IfRuns, Inactive, IsClf, IsDueAt}
-use Rattle.node_laws.proofs.Words.{IsFresh, IsNamed, IsNoAnswer, IsOrderly, IsUpNow, Link, LinkEnd, LinkInput, LinkState, List, Loss, LpduRow, NextFrame}
-use Rattle.node_laws.proofs.Words.{NoInput, NodeInput, NodeWorld, None, Noted, NumberedEnd, Occurrence, Ok, OnWire, Option, Phase, Port, PowerMode}
-use Rattle.node_laws.proofs.Words.{ReadsBetween, Ready, Report, Reset, Response, Restarted, Result, Role, Running, RunsSo, Site, Some, Start, Starts, Stop}
-use Rattle.node_laws.proofs.Words.{Stops, Sync, SyncId, Take, Tick, Ticked, TimePasses, TooMany, Took, Uicc, Work, [], act_out, after_controller, age_in}
-use Rattle.node_laws.proofs.Words.{aged_entries, all_append, all_flat, and_right, ap, append-nil, ap₂, arith, arrival, asking_in, begun_at, by_option, by_test}
-use Rattle.node_laws.proofs.Words.{clf_step, comes_to, cond, cond_both, controller_begins, controller_does, creation_read, down_in, due, end_c, end_of}
-use Rattle.node_laws.proofs.Words.{ended_by, ending_entries, ending_of, ends_session, entries_for, entries_in, eq-eqb, eqb, eqb-true, false, far, filter, find}
-use Rattle.node_laws.proofs.Words.{finds_room, first_lost, flat_map, flat_map-append, frames_noted, frames_out, goes_down, has_come, has_come_so, hosts_in}
-use Rattle.node_laws.proofs.Words.{hosts_of_ends, inl, input_at, input_of, inr, is_answer_of, is_kept_sync, is_late_in, is_of_node, is_open, is_over}
-use Rattle.node_laws.proofs.Words.{is_own_reset, is_some, is_tick, is_within, kind_number, length, link_to, list_any, lpdu_of, lpdu_row_of, nat_le, nat_lt}
-use Rattle.node_laws.proofs.Words.{near_end_in, new_link, new_sync, node_of, not, noted_of_deeds, notice_in, number_now, option_map_or, or-false, owed, owed_in}
-use Rattle.node_laws.proofs.Words.{port_at, port_for, pushed_out, put, put_entries, puts_entries, read_by, refl, report, same_end, session_now, session_of_port}
-use Rattle.node_laws.proofs.Words.{site_at, steps, still_asked, subst, sym, synced, syncs_in, table, tables_in, told, told_of_coming, true, true≢false}
-use Rattle.node_laws.proofs.Words.{wire_with, wires_for, ℕ, ◌%◌, ◌&&◌, ◌*◌, ◌++◌, ◌+◌, ◌/◌, ◌==◌, ◌||◌, ◌∙◌, ◌∷◌, ◌≡◌, ◌≤◌, ◌⊎◌}
+use Rattle.node_laws.proofs.Words.{AllByRecursion, AnswersSo, AreDifferent, AreHosts, AreNamed, AreNotOf, AreSessionsRead, AsksReset, AtEnd, Bare, Bool, Comes}
+use Rattle.node_laws.proofs.Words.{Command, Commits, Control, Controller, Core, Creation, Cut, CutOff, Deed, Desk, Ending, Entry, Err, GoesOut, Happening}
+use Rattle.node_laws.proofs.Words.{HasEnds, HasRoomForAll, HciTables, Host, IsClf, IsDueAt, IsFresh, IsNamed, IsNoAnswer, IsOrderly, Link, LinkEnd, LinkInput}
+use Rattle.node_laws.proofs.Words.{List, Loss, LpduRow, NextFrame, NoInput, NodeInput, NodeWorld, None, Noted, NumberedEnd, Occurrence, Ok, OnWire, Option}
+use Rattle.node_laws.proofs.Words.{Port, PowerMode, ReadsBetween, Ready, Report, Reset, Response, Restarted, Result, Running, Site, Some, Start, Starts, Stop}
+use Rattle.node_laws.proofs.Words.{Stops, Sync, SyncId, Take, Ticked, TimePasses, TooMany, Took, Work, [], after_controller, aged_entries, all_append, all_flat}
+use Rattle.node_laws.proofs.Words.{ap, append-nil, ap₂, arith, arrival, asking_in, begun_at, by_option, by_test, comes_to, cond, controller_begins}
+use Rattle.node_laws.proofs.Words.{controller_does, creation_read, down_in, due, end_c, end_of, ended_by, ending_entries, ending_of, ends_session, entries_for}
+use Rattle.node_laws.proofs.Words.{entries_in, eq-eqb, eqb, eqb-true, false, far, filter, find, finds_room, first_lost, flat_map, flat_map-append, frames_noted}
+use Rattle.node_laws.proofs.Words.{frames_out, goes_down, has_come, has_come_so, hosts_in, hosts_of_ends, inl, input_at, input_of, inr, is_answer_of}
+use Rattle.node_laws.proofs.Words.{is_kept_sync, is_late_in, is_of_node, is_over, is_some, is_tick, is_within, kind_number, length, link_to, lpdu_of}
+use Rattle.node_laws.proofs.Words.{lpdu_row_of, nat_lt, near_end_in, new_link, new_sync, not, noted_of_deeds, notice_in, number_now, option_map_or, or-false}
+use Rattle.node_laws.proofs.Words.{owed, owed_in, port_at, port_for, pushed_out, put, put_entries, puts_entries, read_by, refl, report, same_end, session_now}
+use Rattle.node_laws.proofs.Words.{session_of_port, site_at, steps, still_asked, subst, sym, synced, syncs_in, table, tables_in, told, told_of_coming, true}
+use Rattle.node_laws.proofs.Words.{true≢false, wire_with, wires_for, ℕ, ◌%◌, ◌&&◌, ◌*◌, ◌++◌, ◌+◌, ◌/◌, ◌||◌, ◌∙◌, ◌∷◌, ◌≡◌, ◌≤◌, ◌⊎◌}
 use Rattle.link_laws.specs.entries.Entries.{End as Side}
-use Rattle.swp_act.specs.declared.clf.ClfAct.{ClfAct}
 use Rattle.swp_base.specs.declared.control_frames.Act.{Act}
 use Rattle.swp_lpdu.specs.Controls.{control_of}
 use Rattle.swp_lpdu.specs.declared.LpduFault.{LpduFault}
 use Rattle.node_laws.proofs.creations.Knowing.{far_reading}
 use Rattle.node_laws.proofs.dues.Freed.{IsElse, any_cause, come_found, come_none, come_so, ends_at, same_port}
 use Rattle.node_laws.proofs.dues.Steps.{links_mute, near_due, none_due, one_command}
-use Rattle.node_laws.proofs.kept.Stepping.{synced_other, ticked_sync}
+use Rattle.node_laws.proofs.kept.Stepping.{synced_other}
 use Rattle.node_laws.proofs.links.Noticing.{at_host}
 use Rattle.node_laws.proofs.notices.Turning.{controller_side, notice_more}
 use Rattle.node_laws.proofs.notices.Near.{AreFar, arrival_quiet, far_reads}
@@ -66,12 +62,7 @@ module _ (bytes : List ℕ) where
   Brings o = brought_by (read_by o bytes) ≡ None
 
   by_row : (r : LpduRow) → brought (r.says bytes) ≡ None → Brings (Some r)
-  by_row r none = go (nat_lt (length bytes) r.need) (nat_lt r.most (length bytes)) where
-    go : (b c : Bool) → brought_by (cond b (Err (Rattle.swp_lpdu.specs.declared.LpduFault.TheVariants.Short r.need (length bytes)))
-        (cond c (Err (Rattle.swp_lpdu.specs.declared.LpduFault.TheVariants.TooLong (length bytes))) (Ok (r.says bytes)))) ≡ None
-    go true c = refl
-    go false true = refl
-    go false false = none
+  by_row r none = grind arith
 
   -- a row that is found brings none, where each does that may be found
   rows_bring : (p : LpduRow → Bool) (rows : List LpduRow) → AllByRecursion (λ r. (brought (r.says bytes) ≡ None) ⊎ (p r ≡ false)) rows → Brings (find p rows)
@@ -84,37 +75,7 @@ module _ (bytes : List ℕ) where
 
   high_brings : (b : ℕ) → 0x80 ≤ b → Brings (lpdu_row_of b)
   high_brings b high =
-      rows_bring (λ (r : LpduRow). is_within r.first r.last b) table (
-        inl refl,
-        (
-          inl refl,
-          (
-            inl refl,
-            (
-              inl refl,
-              (
-                inl refl,
-                (
-                  inl refl,
-                  (
-                    inl refl,
-                    (
-                      inl refl,
-                      (
-                        inl refl,
-                        (
-                          inr (and_right (nat_le 0x61 b) (nat_le b 0x61) (lt-leb b 0x61 (omega (arith, high)))),
-                          (inl refl, (inl refl, (inl refl, (inl refl, tt)))),
-                        ),
-                      ),
-                    ),
-                  ),
-                ),
-              ),
-            ),
-          ),
-        ),
-      )
+      rows_bring (λ (r : LpduRow). is_within r.first r.last b) table (grind arith)
 
 pub written : (c : Control) → brought_by (control_of (lpdu_of c)) ≡ brought c
 written (control.I ns nr info) = high_brings (lpdu_of (control.I ns nr info)) (0x80 + 8 * ns + nr) (omega arith)
@@ -160,22 +121,14 @@ abbrev pub IsUnread : HciTables → Entry → Type 0
 IsUnread t x = new_sync t x ≡ []
 
 tookless_one : (t : HciTables) (x : Entry) → IsTookless x → IsUnread t x
-tookless_one t (entry.Took e lpdu) q = absurd (true≢false q)
-tookless_one t _ q = refl
+tookless_one t x q = grind arith
 
 pub tookless_all : (t : HciTables) (es : List Entry) → AreTookless es → AllByRecursion (IsUnread t) es
 tookless_all t [] a = tt
 tookless_all t (x ∷ es) a = (tookless_one t x a.0, tookless_all t es a.1)
 
-far_unread : (t : HciTables) (e : End) (lpdu : List ℕ) → (node_of e == 0) ≡ false → IsUnread t (entry.Took e lpdu)
-far_unread t e lpdu off = by_test e.at_host
-    (λ q. rw q refl)
-    (λ q. let zero : node_of e ≡ 0 = rw q refl in
-    absurd (true≢false (sym (ap (λ n. n == 0) zero) ∙ off)))
-
 other_unread : (t : HciTables) (x : Entry) → is_of_node 0 x ≡ false → IsUnread t x
-other_unread t (entry.Took e lpdu) off = far_unread t e lpdu off
-other_unread t _ off = refl
+other_unread t x off = grind arith
 
 pub others_unread : (t : HciTables) (es : List Entry) → AreNotOf 0 es → AllByRecursion (IsUnread t) es
 others_unread t [] a = tt
@@ -211,8 +164,7 @@ coming_tookless input w = coming_all IsTookless (λ h who n acked r. notes_tookl
 
 -- frames that go out, or are lost
 lost_takes : (who : Side) (why : Loss) (xs : List OnWire) → AreNoTakes (first_lost who why xs)
-lost_takes who why [] = tt
-lost_takes who why (x ∷ xs) = (tt, tt)
+lost_takes who why xs = grind arith
 
 pushed_takes : (who : Side) (wire : List OnWire) → AreNoTakes (pushed_out who wire)
 pushed_takes who wire = by_test (nat_lt 64 (length wire)) (λ q. rw q (lost_takes who TooMany wire)) (λ q. rw q tt)
@@ -252,53 +204,17 @@ aged_tookless (s ∷ sites) =
 
 -- ### What an input brings
 
-clf_brings : (s : ClfAct) (act : Act) (again : Bool) → (clf_step s (ActTake act again)).1.sync ≡ brought (control.Act act again)
-clf_brings s (SyncId id) true = refl
-clf_brings s _ true = refl
-clf_brings s (SyncId id) false = go s.phase refl where
-  go : (p : Phase) → s.phase ≡ p → (clf_step s (ActTake (SyncId id) false)).1.sync ≡ Some id
-  go Inactive q = rw q refl
-  go _ q = rw q refl
-clf_brings s Ready false = go s.phase refl where
-  go : (p : Phase) → s.phase ≡ p → (clf_step s (ActTake Ready false)).1.sync ≡ None
-  go Inactive q = rw q refl
-  go _ q = rw q refl
-clf_brings s (PowerMode code) false = refl
-
-act_brings : (r : Role) (act : Act) (again : Bool) → IsClf r → (act_out r (Some (ActTake act again))).sync ≡ brought (control.Act act again)
-act_brings Bare act again a = absurd a
-act_brings (Uicc s) act again a = absurd a
-act_brings (Clf s) act again a = clf_brings s act again
-
 take_brings : (e : LinkEnd) (c : Control) → IsClf e.role → (report e (Take c)).sync ≡ brought c
-take_brings e (control.Act act again) a = act_brings e.role act again a
-take_brings e _ a = refl
+take_brings e c a = grind arith
 
 reset_brings : (e : LinkEnd) (window : Option ℕ) → (report e (Reset window)).sync ≡ None
 reset_brings e window = refl
 
 start_brings : (e : LinkEnd) (value : ℕ) → IsClf e.role → (report e (Start value)).sync ≡ None
-start_brings e value a = go e.role a where
-  go : (r : Role) → IsClf r → (act_out r (Some (ActStart value))).sync ≡ None
-  go Bare a = absurd a
-  go (Uicc s) a = absurd a
-  go (Clf s) a = refl
+start_brings e value a = grind arith
 
 stop_brings : (e : LinkEnd) → IsClf e.role → (report e Stop).sync ≡ None
-stop_brings e a = go e.role a where
-  go : (r : Role) → IsClf r → (act_out r (Some ActStop)).sync ≡ None
-  go Bare a = absurd a
-  go (Uicc s) a = absurd a
-  go (Clf s) a = refl
-
-tick_brings : (e : LinkEnd) → IsClf e.role → (report e Tick).sync ≡ None
-tick_brings e a =
-    cond_both (is_open e.role) None (Some ActTick) (λ o. (act_out e.role o).sync ≡ None) (λ _. refl) (λ _. go e.role a)
-  where
-    go : (r : Role) → IsClf r → (act_out r (Some ActTick)).sync ≡ None
-    go Bare a = absurd a
-    go (Uicc s) a = absurd a
-    go (Clf s) a = ticked_sync s.phase s.last
+stop_brings e a = grind arith
 
 -- ### The command that keeps it
 
@@ -308,8 +224,7 @@ few_of t h None = None
 few_of t h (Some id) = cond (is_kept_sync t.syncs h id) None (Some (Sync h id))
 
 few_is : (t : HciTables) (h : ℕ) (o : Option ℕ) → keeps_new t h o ≡ one_command (few_of t h o)
-few_is t h None = refl
-few_is t h (Some id) = by_test (is_kept_sync t.syncs h id) (λ q. rw q refl) (λ q. rw q refl)
+few_is t h o = grind arith
 
 module _ (core : Core) (room : (c : Command) → finds_room core c ≡ true) where
   synced_here : (h : ℕ) (i : LinkInput) (p : Port) (o : Option ℕ) → p.desk.host ≡ h → (report p.side i).sync ≡ o
@@ -325,12 +240,9 @@ module _ (core : Core) (room : (c : Command) → finds_room core c ≡ true) whe
     by : (o : Option ℕ) → (report p.side i).sync ≡ o → synced core (AtEnd h i) p ≡ keeps_new core.tables h o
     by None q = rw (there, q) refl
     by (Some id) q =
-        (let is : synced core (AtEnd h i) p
-        ≡ cond (not (is_kept_sync core.tables.syncs p.desk.host id) && finds_room core (Sync p.desk.host id)) (Commits (Sync p.desk.host id) ∷ []) [] =
-        rw (there, q) refl in is)
+        (grind arith)
         ∙ (ap (λ b. cond (not (is_kept_sync core.tables.syncs p.desk.host id) && b) (Commits (Sync p.desk.host id) ∷ []) []) (room (Sync p.desk.host id))
-        ∙ (both (is_kept_sync core.tables.syncs p.desk.host id) (Commits (Sync p.desk.host id) ∷ [])
-        ∙ ap (λ k. cond (is_kept_sync core.tables.syncs k id) [] (Commits (Sync k id) ∷ [])) host))
+        ∙ (grind arith))
 
 none_else : (core : Core) (h : ℕ) (i : LinkInput) (k : ℕ) (ports : List Port) → AllByRecursion (λ (j : ℕ). eqb j k ≡ false) (hosts_of_ends ports) → k ≡ h
     → flat_map (synced core (AtEnd h i)) ports ≡ []
@@ -345,8 +257,7 @@ synced_at : (core : Core) (h : ℕ) (i : LinkInput) (ports : List Port) → AreD
 synced_at core h i [] d = refl
 synced_at core h i (p ∷ ports) d = by_test (eqb p.desk.host h)
     (λ q. ap (λ ds. synced core (AtEnd h i) p ++ ds) (none_else core h i p.desk.host ports d.0 (eqb-true p.desk.host h q))
-    ∙ (append-nil (synced core (AtEnd h i) p)
-    ∙ sym (ap (λ b. option_map_or (synced core (AtEnd h i)) (cond b (Some p) (port_at ports h)) []) q)))
+    ∙ (grind arith))
     (λ q. ap (λ ds. ds ++ flat_map (synced core (AtEnd h i)) ports) (synced_other core h i p q)
     ∙ (synced_at core h i ports d.1 ∙ sym (ap (λ b. option_map_or (synced core (AtEnd h i)) (cond b (Some p) (port_at ports h)) []) q)))
 
@@ -354,8 +265,7 @@ synced_at core h i (p ∷ ports) d = by_test (eqb p.desk.host h)
 pub ticks_none : (core : Core) (ports : List Port) → AllByRecursion (λ (p : Port). IsClf p.side.role) ports → flat_map (synced core TimePasses) ports ≡ []
 ticks_none core [] a = refl
 ticks_none core (p ∷ ports) a =
-    (let none : (report p.side Tick).sync ≡ None = tick_brings p.side a.0 in
-    let is : synced core TimePasses p ≡ [] = rw none refl in ap (λ ds. ds ++ flat_map (synced core TimePasses) ports) is)
+    (grind arith)
     ∙ ticks_none core ports a.1
 
 -- ## Something comes to an end of the controller: in this event it answers before its first turn exactly what is due
@@ -363,18 +273,10 @@ ticks_none core (p ∷ ports) a =
 -- ### Where nothing is due
 
 pub tookless_own : (x : Entry) → IsOfStep x → IsTookless x
-tookless_own (entry.Took e lpdu) a = absurd a
-tookless_own x a = refl
-
-far_down : (k : ℕ) (f : End) → (node_of f == 0) ≡ false → (same_end f (end_c k) && true) ≡ false
-far_down k f off = by_test f.at_host
-    (λ q. rw q (by_test (eqb f.link k) (λ q. rw q refl) (λ q. rw q refl)))
-    (λ q. let zero : node_of f ≡ 0 = rw q refl in
-    absurd (true≢false (sym (ap (λ n. n == 0) zero) ∙ off)))
+tookless_own x a = grind arith
 
 other_down : (k : ℕ) (x : Entry) → is_of_node 0 x ≡ false → ends_session any_cause (end_c k) x ≡ false
-other_down k (entry.Down f cause) off = far_down k f off
-other_down k _ off = refl
+other_down k x off = grind arith
 
 others_down : (k : ℕ) (es : List Entry) → AreNotOf 0 es → ends_at k es ≡ false
 others_down k [] a = refl
@@ -415,17 +317,12 @@ module _ (hosts : List ℕ) (past : List Occurrence) (o : Occurrence) where
   others_due begun still other =
       nothing_due begun (others_answer 0 o.entries other) (others_unread (tables_in (entries_in past) 0) o.entries other)
       (owed_calm (λ k. others_down k o.entries other)
-      (λ k. ap (λ b. ((b && is_some (notice_in (entries_in past) k)) && age_in past k == 99)
-      && not (list_any (ends_session (λ cause. not (is_own_reset cause))
-      (end_c k)) o.entries)) still))
+      (λ k. grind arith))
 
 -- ### The session of an end
 
 pub session_is : (e : NumberedEnd) (d : Desk) → session_in (Some (port_for e d)) ≡ number_now e
-session_is e d = go e.side.shdlc.phase refl where
-  go : (s : LinkState) → e.side.shdlc.phase ≡ s → session_in (Some (port_for e d)) ≡ number_now e
-  go IsUpNow q = rw q refl
-  go _ q = rw q refl
+session_is e d = grind arith
 
 -- ### What is taken
 
@@ -439,8 +336,8 @@ arrival_read t h l NextFrame i is e clf = go l.to_controller refl where
   go (x ∷ xs) z =
       let some : Some (Take x.frame) ≡ Some i = rw z at is in
       let same : Take x.frame ≡ i = cc in
-      let told : flat_map (new_sync t) (entries_for h (arrival Controller l NextFrame)) ≡ new_sync t (entry.Took (end_c h) (lpdu_of x.frame)) ++ [] =
-      rw z refl in
+      let told : flat_map (new_sync t) (entries_for h (arrival Controller l NextFrame)) ≡ new_sync t (entry.Took (end_c h) (lpdu_of x.frame))
+      ++ [] = grind arith in
       subst (λ j. flat_map (new_sync t) (entries_for h (arrival Controller l NextFrame)) ≡ keeps_new t h (report e j).sync) same
       (told
       ∙ (append-nil (new_sync t (entry.Took (end_c h) (lpdu_of x.frame)))
@@ -458,8 +355,7 @@ arrival_read t h l NoInput i is e clf = absurd (cc is)
 
 -- nothing comes where no link is
 no_arrival : (h : ℕ) (comes : Comes) → entries_for h (arrival Controller (new_link Bare Bare) comes) ≡ []
-no_arrival h NextFrame = refl
-no_arrival h _ = refl
+no_arrival h comes = grind arith
 
 front_flat : (t : HciTables) (xs ys : List Entry) → AllByRecursion (IsUnread t) ys → flat_map (new_sync t) (xs ++ ys) ≡ flat_map (new_sync t) xs
 front_flat t xs ys a =
@@ -519,10 +415,7 @@ module _ (hosts : List ℕ) (are : AreHosts hosts) (past : List Occurrence) (w :
     -- ### Its identifiers
 
     tables : begun.core.tables ≡ tables_in t 0
-    tables =
-        let so : RunsSo 0 hosts w.memory.content t r =
-        subst (IfRuns 0 hosts w.memory.content t) runs between.keeps.creations.kept.controller.runs in
-        so.tables_are
+    tables = grind arith
 
     clf_at : (k : ℕ) (p : Port) → port_at begun.ports k ≡ Some p → IsClf p.side.role
     clf_at k p found =
@@ -602,8 +495,7 @@ module _ (hosts : List ℕ) (are : AreHosts hosts) (past : List Occurrence) (w :
         (λ cause q. rw q refl) ∙ sym (ap (λ b. is_some (ended_by p.side j) || b) fresh.1 ∙ or-false (is_some (ended_by p.side j)))
 
     come_late : (p : Port) → IsFresh p → (o : Option LinkInput) → (has_come p o).late ≡ false
-    come_late p fresh None = fresh.1
-    come_late p fresh (Some j) = fresh.1
+    come_late p fresh o = grind arith
 
     -- an end behind what came was one before
     was : (k : ℕ) (q : Port) → port_at (has_come_so (AtEnd h i) begun).ports k ≡ Some q
@@ -618,8 +510,7 @@ module _ (hosts : List ℕ) (are : AreHosts hosts) (past : List Occurrence) (w :
         let site : HasSite w.sites a = site_for begun.ports w.sites a p hosts_are found in
         let s : Site = site.site in
         let at : Stands near_ends r.desks a = stands near_ends r.desks w.sites a s has.ends site.there in
-        let still : near_ends a ≡ s.link.controller =
-        ap (λ b. near_end_in (link_to w.sites a) (cond b comes NoInput)) else ∙ ap (λ (x : Link). x.controller) (link_is w.sites a s site.there) in
+        let still : near_ends a ≡ s.link.controller = grind arith in
         ap session_in at.here ∙ (session_is (near_ends a) at.desk ∙ (ap number_now still ∙ sym (read a s site.there).controller))
 
     owned : AreOwn 0 last.entries
@@ -653,6 +544,4 @@ module _ (hosts : List ℕ) (are : AreHosts hosts) (past : List Occurrence) (w :
         (all_append IsNoAnswer frames rest (frames_quiet (λ s. wires_for s.link (comes_to h comes s.host)) last w.sites) (no_answer rest other))
       where
         late_none : (c : Happening) → is_tick c ≡ false → (k : ℕ) → is_late_in past (record { cause = c; entries = last.entries ++ tail }) k ≡ false
-        late_none c still k =
-            ap (λ b. ((b && is_some (notice_in t k)) && age_in past k == 99)
-            && not (list_any (ends_session (λ cause. not (is_own_reset cause)) (end_c k)) (last.entries ++ tail))) still
+        late_none c still k = grind arith

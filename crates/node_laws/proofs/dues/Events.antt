@@ -1,4 +1,5 @@
 -- In a tick, and in each event of a history, the controller answers before its first turn exactly what is due.
+use Rattle.std.proofs.Common.{arith}
 use Rattle.node_laws.proofs.Words.{Activates, AllByRecursion, AreDifferent, AreDue, AreHosts, AreNodeLinesOf, AreNotOf, ArePlayable, Arms, AsksReset}
 use Rattle.node_laws.proofs.Words.{AtEachOccurrence, AtEnd, Bool, Boots, Comes, Controller, Deed, End, EndedBy, Entry, FollowsNodes, Gives, Happening, HasEnds}
 use Rattle.node_laws.proofs.Words.{HciTables, Header, Host, IfReads, Inits, IsBegunByHost, IsClf, IsCut, IsDueAt, IsFew, IsNamed, IsNoAnswer, IsNodeHeader}
@@ -146,9 +147,7 @@ module _ (hosts : List ℕ) (are : AreHosts hosts) (past : List Occurrence) (w :
             → site_at (map (λ (x : Site). record x { link = aged x.link }) sites) k ≡ Some (record s { link = aged s.link })
         aged_site [] e = absurd (cc e)
         aged_site (x ∷ sites) e = by_test (eqb x.host k)
-            (λ z. let same : Some x ≡ Some s = rw z at e in
-            let one : x ≡ s = cc in
-            rw z (ap (λ (y : Site). Some (record y { link = aged y.link })) one))
+            (λ z. grind arith)
             (λ z. rw z (aged_site sites (rw z at e)))
 
     clf_at : (k : ℕ) (p : Port) → port_at begun.ports k ≡ Some p → IsClf p.side.role

@@ -1,14 +1,13 @@
 -- What a controller owes to askers as sessions end: each answer is taken, and goes out in the session that its asker had.
 use Rattle.node_laws.proofs.Words.{AllByRecursion, AreDifferent, AreHosts, AreTaken, AtEnd, Bool, Commits, CountsCommands, Creation, Deed, End, EndedBy, Entry}
-use Rattle.node_laws.proofs.Words.{Give, HciTables, IsFresh, IsOutside, LinkEnd, LinkInput, LinkState, List, Message, NodeInput, None, Notice, Option, PipeRow}
-use Rattle.node_laws.proofs.Words.{Port, Release, Releases, Response, Sends, Some, State, TakesMessage, Tick, TimePasses, Up, Work, [], after_sessions}
-use Rattle.node_laws.proofs.Words.{after_turn, all_append, all_done, all_owed, all_synced_hold, answer_of, ap, append-nil, append_assoc, ap₂, arith, asked_at}
-use Rattle.node_laws.proofs.Words.{asking_in, body_in, by_option, by_test, cond, creation_in, creation_read, done, end_c, end_of_number, ends_session}
-use Rattle.node_laws.proofs.Words.{entries_of_reply, eq-eqb, eqb, eqb-true, false, filter, filter_map, flat_map, fold-append, forgets, forgotten}
-use Rattle.node_laws.proofs.Words.{forgotten_hold, has_come, has_come_so, has_freed, has_synced, hosts_of_ends, in_use, inl, input_at, inr, instruction_in}
-use Rattle.node_laws.proofs.Words.{is_down, is_forgotten, is_over, is_over_at, is_up, length, length-append, map, option_map_or, owed, owed_in_step}
-use Rattle.node_laws.proofs.Words.{pipe_named_in, port_at, refl, reset_late, same_bytes, same_end, session_now, session_of_port, subst, sym, syncs_in, true}
-use Rattle.node_laws.proofs.Words.{true≢false, turn_at, with_older, without_notice, ℕ, ◌&&◌, ◌++◌, ◌+◌, ◌||◌, ◌∙◌, ◌∷◌, ◌≡◌, ◌≤◌, ◌⊎◌}
+use Rattle.node_laws.proofs.Words.{Give, HciTables, IsFresh, IsOutside, LinkInput, LinkState, List, Message, NodeInput, None, Option, Port, Release, Releases}
+use Rattle.node_laws.proofs.Words.{Response, Sends, Some, State, TakesMessage, Tick, TimePasses, Up, Work, [], after_sessions, after_turn, all_append, all_done}
+use Rattle.node_laws.proofs.Words.{all_owed, all_synced_hold, answer_of, ap, append-nil, append_assoc, ap₂, arith, asked_at, asking_in, by_test, cond}
+use Rattle.node_laws.proofs.Words.{creation_read, done, end_c, end_of_number, ends_session, entries_of_reply, eq-eqb, eqb, eqb-true, false, filter, filter_map}
+use Rattle.node_laws.proofs.Words.{flat_map, fold-append, forgets, forgotten, forgotten_hold, has_come, has_come_so, has_freed, has_synced, hosts_of_ends}
+use Rattle.node_laws.proofs.Words.{in_use, input_at, is_down, is_over, is_over_at, is_up, length, length-append, map, option_map_or, owed, owed_in_step}
+use Rattle.node_laws.proofs.Words.{port_at, refl, reset_late, same_end, session_now, session_of_port, subst, sym, syncs_in, true, true≢false, turn_at}
+use Rattle.node_laws.proofs.Words.{with_older, without_notice, ℕ, ◌&&◌, ◌++◌, ◌+◌, ◌||◌, ◌∙◌, ◌∷◌, ◌≡◌, ◌≤◌, ◌⊎◌}
 use Rattle.node_laws.proofs.creations.Outcomes.{Asked, asked_of, owes, waits}
 use Rattle.node_laws.proofs.creations.Coming.{ComeAt, HasCome, all_kept, answer_response, begins, came_near, came_tick, forgets_ended, frees, keeps_all}
 use Rattle.node_laws.proofs.creations.Coming.{over_at, shared}
@@ -20,8 +19,7 @@ use Rattle.node_laws.proofs.read_steps.Reading.{IsBegun}
 use Rattle.node_laws.proofs.replies.Passes.{AreReplyEntries, commands_told}
 use Rattle.node_laws.proofs.replies.Creations.{IsIn, all_found, in_waits}
 use Rattle.node_laws.proofs.steps.StepWalks.{at_port, come_host, forgets_host, late_host, without_host}
-use Rattle.node_laws.proofs.telling.Steps.{at_map, come_session, forgets_same, none_map, without_same}
-use Rattle.node_laws.proofs.telling.Ticks.{reset_session}
+use Rattle.node_laws.proofs.telling.Steps.{at_map, forgets_same, none_map, without_same}
 use Rattle.node_laws.proofs.worlds.Ticking.{ends_in_list}
 use Rattle.gate_answers.specs.declared.response.Response.TheVariants as response
 use Rattle.trace_model.specs.declared.entry.Entry.TheVariants as entry
@@ -48,8 +46,7 @@ downs_are (x ∷ es) = by_test (is_down x)
 
 module _ (test : EndedBy → Bool) (e : End) where
   no_end : (x : Entry) → is_down x ≡ false → ends_session test e x ≡ false
-  no_end (entry.Down f cause) q = absurd (true≢false q)
-  no_end x q = refl
+  no_end x q = grind arith
 
   pub downs_end : (es : List Entry) → ends_in_list test e (filter is_down es) ≡ ends_in_list test e es
   downs_end [] = refl
@@ -64,28 +61,18 @@ pub either_ends : (one other : EndedBy → Bool) → ((cause : EndedBy) → (one
 either_ends one other all e [] = refl
 either_ends one other all e (x ∷ es) =
     ap (λ b. ends_session any_cause e x || b) (either_ends one other all e es)
-    ∙ (ap (λ b. b || (ends_in_list one e es || ends_in_list other e es)) (at x)
-    ∙ swap (ends_session one e x) (ends_session other e x) (ends_in_list one e es) (ends_in_list other e es))
+    ∙ (grind arith)
   where
     spread : (a b c : Bool) → (b || c) ≡ true → (a && true) ≡ ((a && b) || (a && c))
-    spread true b c q = sym q
-    spread false b c q = refl
+    spread a b c q = grind arith
 
     at : (x : Entry) → ends_session any_cause e x ≡ (ends_session one e x || ends_session other e x)
-    at (entry.Down f cause) = spread (same_end f e) (one cause) (other cause) (all cause)
-    at _ = refl
+    at x = grind arith
 
     swap : (a b c d : Bool) → ((a || b) || (c || d)) ≡ ((a || c) || (b || d))
-    swap true b c d = refl
-    swap false true true d = refl
-    swap false true false d = refl
-    swap false false c d = refl
+    swap a b c d = grind arith
 
 -- ### What is read behind them
-
-both_none : {X : Type 0} (b : Bool) (o : Option X) → cond b o o ≡ o
-both_none true o = refl
-both_none false o = refl
 
 module _ (x : ℕ) where
   down_session : (t : List Entry) (y : Entry) → is_down y ≡ true
@@ -107,8 +94,7 @@ module _ (x : ℕ) where
         ∙ (behind ds (t ++ y ∷ []) a.1
         ∙ (ap (cond (ends_at x ds) None) (one t y a.0) ∙ by (ends_session any_cause (end_c x) y) (ends_at x ds))) where
           by : (b c : Bool) → cond c None (cond b None (read t)) ≡ cond (b || c) None (read t)
-          by true c = both_none c None
-          by false c = refl
+          by b c = grind arith
 
   pub session_behind : (t ds : List Entry) → AreDowns ds → session_now (t ++ ds) (end_c x) 0 ≡ cond (ends_at x ds) None (session_now t (end_c x) 0)
   session_behind t ds a = behind (λ l. session_now l (end_c x) 0) down_session ds t a
@@ -125,56 +111,11 @@ unless_over over (Some c) = cond (over c.asker) None (Some c)
 
 pub read_behind : (over : ℕ → Bool) (t u : List Entry) → ((k : ℕ) → asking_in u k ≡ cond (over k) None (asking_in t k)) → (r : Option (List ℕ))
     → creation_read u r ≡ unless_over over (creation_read t r)
-read_behind over t u reads None = refl
-read_behind over t u reads (Some m) = go (eqb (instruction_in m) 18) refl where
-  Goal : Type 0
-  Goal = creation_read u (Some m) ≡ unless_over over (creation_read t (Some m))
-
-  go : (b : Bool) → eqb (instruction_in m) 18 ≡ b → Goal
-  go false i = rw i refl
-  go true i = by_row (pipe_named_in (body_in m)) refl where
-    by_row : (o : Option PipeRow) → pipe_named_in (body_in m) ≡ o → Goal
-    by_row None q = rw (i, q) refl
-    by_row (Some row) q = by_test (over row.creator)
-        (λ z. was (option_map_or (same_bytes m) (asking_in t row.creator) false) refl z
-        (ap (λ o. option_map_or (same_bytes m) o false) (reads row.creator ∙ ap (λ b. cond b None (asking_in t row.creator)) z)))
-        (λ z. still (option_map_or (same_bytes m) (asking_in t row.creator) false) refl z
-        (ap (λ o. option_map_or (same_bytes m) o false) (reads row.creator ∙ ap (λ b. cond b None (asking_in t row.creator)) z))) where
-          was : (b : Bool) → option_map_or (same_bytes m) (asking_in t row.creator) false ≡ b → over row.creator ≡ true
-              → option_map_or (same_bytes m) (asking_in u row.creator) false ≡ false → Goal
-          was true s z none = rw (i, q, none, s, z) refl
-          was false s z none = rw (i, q, none, s) refl
-
-          still : (b : Bool) → option_map_or (same_bytes m) (asking_in t row.creator) false ≡ b → over row.creator ≡ false
-              → option_map_or (same_bytes m) (asking_in u row.creator) false ≡ b → Goal
-          still true s z now = rw (i, q, now, s, z) refl
-          still false s z now = rw (i, q, now, s) refl
+read_behind over t u reads r = grind arith
 
 -- so it is with what an end keeps
 pub kept_behind : (all : List Port) (p : Port) → asked_at (forgets all p) ≡ unless_over (is_over_at all) (asked_at p)
-kept_behind all p = by_option p.desk.notice (λ q. none_asked (ap creation_in q)) (λ n q. by n q (asked_at p) refl) where
-  Goal : Type 0
-  Goal = asked_at (forgets all p) ≡ unless_over (is_over_at all) (asked_at p)
-
-  by_over : (n : Notice) (c : Creation) → p.desk.notice ≡ Some n → asked_at p ≡ Some c → (b : Bool) → is_over_at all c.asker ≡ b → Goal
-  by_over n c q e true z =
-      let gone : is_forgotten all (asked_at p) ≡ true = rw (e, z) refl in
-      let none : asked_at (forgets all p) ≡ None = rw (gone, q) refl in
-      none ∙ sym (ap (unless_over (is_over_at all)) e ∙ ap (λ b. cond b None (Some c)) z)
-  by_over n c q e false z =
-      let stays : is_forgotten all (asked_at p) ≡ false = rw (e, z) refl in
-      let same : forgets all p ≡ p = rw stays refl in
-      ap asked_at same ∙ (e ∙ sym (ap (unless_over (is_over_at all)) e ∙ ap (λ b. cond b None (Some c)) z))
-
-  none_asked : asked_at p ≡ None → Goal
-  none_asked e =
-      let stays : is_forgotten all (asked_at p) ≡ false = rw e refl in
-      let same : forgets all p ≡ p = rw stays refl in
-      ap asked_at same ∙ (e ∙ sym (ap (unless_over (is_over_at all)) e))
-
-  by : (n : Notice) → p.desk.notice ≡ Some n → (o : Option Creation) → asked_at p ≡ o → Goal
-  by n q None e = none_asked e
-  by n q (Some c) e = by_over n c q e (is_over_at all c.asker) refl
+kept_behind all p = grind arith
 
 -- ## What a controller owes to askers is sent, since the blocks for it are free, and what is noted of that are these messages
 
@@ -266,8 +207,7 @@ module _ (sessions : ℕ → Option ℕ) where
     go : (o : Option ℕ) → AreReplyEntries es × (commands_told es ≡ 0)
         → AreReplyEntries (option_map_or (λ n. entry.Sent (end_of_number 0 to) n m.0 m.1 ∷ []) o [] ++ es)
         × (commands_told (option_map_or (λ n. entry.Sent (end_of_number 0 to) n m.0 m.1 ∷ []) o [] ++ es) ≡ 0)
-    go None later = later
-    go (Some n) later = ((refl, later.0), later.1)
+    go o later = grind arith
   owed_entries count (_ ∷ deeds) a = absurd a.0
 
 -- its message goes out in the session that is read
@@ -299,8 +239,7 @@ module _ (Q : Deed → Type 0) where
       (λ z. subst (λ b. AllByRecursion Q (flat_map (λ p. owed r (asked_at p)) (cond b (p ∷ filter test ports) (filter test ports)))) (sym z)
       (some_owed r test over ports a.1)) where
         of : (o : Option Creation) → asked_at p ≡ o → test p ≡ true → AllByRecursion Q (owed r o)
-        of None q z = tt
-        of (Some c) q z = let both = a.0 (over p z) c q in (both.0, (both.1 (1, answer_of r []), tt))
+        of o q z = grind arith
 
   owed_all : (ports : List Port) → AllByRecursion IfOwed ports → AllByRecursion Q (all_owed ports)
   owed_all ports a =
@@ -310,8 +249,7 @@ module _ (Q : Deed → Type 0) where
       (some_owed response.Timeout (λ p. p.late) (λ p z. second p.ended p.late z) ports a)
     where
       second : (a b : Bool) → b ≡ true → (a || b) ≡ true
-      second true b z = refl
-      second false b z = z
+      second a b z = grind arith
 
 -- ## A step of a controller: as its pass begins each answer that it owes is taken, and goes out in the session that its asker had as the step began
 
@@ -365,8 +303,7 @@ pub same_port : (p q : Port) → Some p ≡ Some q → p ≡ q
 same_port p q e = cc
 
 come_number : (input : NodeInput) (p : Port) → (come_so input p).session ≡ p.session
-come_number (AtEnd h i) p = come_session p (input_at (AtEnd h i) p)
-come_number TimePasses p = reset_session (with_older (has_come p (Some Tick)))
+come_number input p = grind arith
 
 -- the end isn't the one to which something comes
 abbrev pub IsElse : NodeInput → ℕ → Type 0
@@ -375,11 +312,7 @@ IsElse TimePasses k = Unit {0}
 
 -- nothing ends the session of another end
 else_goes : (h : ℕ) (i : LinkInput) (p : Port) → IsFresh p → is_over (come_so (AtEnd h i) p) ≡ true → eqb p.desk.host h ≡ true
-else_goes h i p fresh over = by_test (eqb p.desk.host h)
-    (λ q. q)
-    (λ q. let same : come_so (AtEnd h i) p ≡ p = rw q refl in
-    let off : is_over p ≡ false = rw (fresh.0, fresh.1) refl in
-    absurd (true≢false (sym over ∙ (ap is_over same ∙ off))))
+else_goes h i p fresh over = grind arith
 
 forgets_over : (all : List Port) (p : Port) → is_over (forgets all p) ≡ is_over p
 forgets_over all p = ap (λ b. b || (forgets all p).late) (forgets_ended all p) ∙ ap (λ b. p.ended || b) (forgets_same all p).late
@@ -388,14 +321,6 @@ forgets_over all p = ap (λ b. b || (forgets all p).late) (forgets_ended all p) 
 record WaitsStill (over : ℕ → Bool) (o : Option Creation) (c : Creation) : Type 0 where
   was : o ≡ Some c
   goes : over c.asker ≡ false
-
-still_waits : (over : ℕ → Bool) (o : Option Creation) (c : Creation) → unless_over over o ≡ Some c → WaitsStill over o c
-still_waits over None c is = absurd (cc is)
-still_waits over (Some d) c is = by_test (over d.asker)
-    (λ q. let none : None ≡ Some c = sym (ap (λ b. cond b None (Some d)) q) ∙ is in absurd (cc none))
-    (λ q. let some : Some d ≡ Some c = sym (ap (λ b. cond b None (Some d)) q) ∙ is in
-    let same : d ≡ c = cc in
-    record { was = some; goes = subst (λ (x : Creation). over x.asker ≡ false) same q })
 
 -- ### A step
 
@@ -444,8 +369,7 @@ module _ (hosts : List ℕ) (are : AreHosts hosts) (t : List Entry) (input : Nod
     where
       by : Good x t hosts now owing (has_synced input w) ⊎ IsOff x t hosts (has_synced input w)
           → Good x t hosts now owing (has_synced input w)
-      by (inl a) = a
-      by (inr a) = absurd (true≢false (sym a.off ∙ on))
+      by a = grind arith
 
   pub owed_goes : (has_synced input w).cut ≡ false → Goes hosts t (owed_in_step input w) (has_synced input w)
   owed_goes on =
@@ -470,9 +394,7 @@ module _ (hosts : List ℕ) (are : AreHosts hosts) (t : List Entry) (input : Nod
       (λ p. same (forgets came.ports p) p (forgets_same came.ports p).side (forgets_same came.ports p).session) came.ports k))
     where
       same : (p q : Port) → p.side ≡ q.side → p.session ≡ q.session → session_in (Some p) ≡ session_in (Some q)
-      same p q side number =
-          ap (λ (e : LinkEnd). cond (is_up e.shdlc.phase) (Some p.session) None) side
-          ∙ ap (λ n. cond (is_up q.side.shdlc.phase) (Some n) None) number
+      same p q side number = grind arith
 
   pub come_different : AreDifferent (hosts_of_ends came.ports)
   come_different = subst AreDifferent (sym (come 0).hosts_are) are.different
@@ -558,8 +480,7 @@ module _ (hosts : List ℕ) (are : AreHosts hosts) (t : List Entry) (input : Nod
 
         each : (k : ℕ) (q : Port) → port_at came.ports k ≡ Some q → P q
         each k q found over c waiting =
-            let still : WaitsStill (is_over_at came.ports) (asked_at q) c = still_waits (is_over_at came.ports) (asked_at q) c
-            (sym (kept_behind came.ports q) ∙ waiting) in
+            let still : WaitsStill (is_over_at came.ports) (asked_at q) c = grind arith in
             let lost : is_over q ≡ true = sym (forgets_over came.ports q) ∙ over in
             let sent : session_of_port (has_synced input w).ports c.asker ≡ read c.asker =
             synced_session c.asker

@@ -7,7 +7,7 @@ use Rattle.node_laws.proofs.Words.{count_of, creation_read, down_in, due, end_c,
 use Rattle.node_laws.proofs.Words.{goes_down, goes_in, has_come_so, has_freed, has_synced, hosts_of_ends, is_answer_of, is_cut_of, is_late_in, is_over}
 use Rattle.node_laws.proofs.Words.{is_over_at, is_turn_of, length, list_any, map, min, new_sync, next_count, not, noted_by_deeds, notice_in, option_map_or}
 use Rattle.node_laws.proofs.Words.{owed, owed_in, owed_in_step, passes, port_at, refl, session_now, session_of_port, steps, still_asked, subst, sym, syncs_in}
-use Rattle.node_laws.proofs.Words.{tables_in, to_command, told, told_of_coming, true, true≢false, unless_cut, ℕ, ◌&&◌, ◌++◌, ◌-◌, ◌^◌, ◌||◌, ◌∙◌, ◌∷◌, ◌≡◌}
+use Rattle.node_laws.proofs.Words.{tables_in, told, told_of_coming, true, true≢false, unless_cut, ℕ, ◌&&◌, ◌++◌, ◌-◌, ◌^◌, ◌||◌, ◌∙◌, ◌∷◌, ◌≡◌}
 use Rattle.node_laws.specs.passes.Passing.ComesTo.{Begins}
 use Rattle.node_laws.proofs.creations.Outcomes.{Asked, asked_of, waits}
 use Rattle.node_laws.proofs.creations.Coming.{ComeAt, forgets_ended, over_at}
@@ -24,7 +24,7 @@ use Rattle.node_laws.proofs.read_steps.Reading.{IsBegun}
 use Rattle.node_laws.proofs.replies.Passes.{AreOfReply, Trails, answers_so}
 use Rattle.node_laws.proofs.replies.Creations.{IsIn, all_found, asked_same, awaited_same, in_waits}
 use Rattle.node_laws.proofs.telling.Steps.{forgets_same}
-use Rattle.node_laws.proofs.worlds.Late.{AreUnanswered, BeginsBehind, before_first, coming_unanswered, late_all, unanswered_all}
+use Rattle.node_laws.proofs.worlds.Late.{AreUnanswered, BeginsBehind, coming_unanswered, late_all, unanswered_all}
 use Rattle.gate_answers.specs.declared.response.Response.TheVariants as response
 use Rattle.trace_model.specs.declared.entry.Entry.TheVariants as entry
 
@@ -92,10 +92,7 @@ module _ (hosts : List ℕ) (t : List Entry) (read : ℕ → Option ℕ) (owed :
           let off : v.cut ≡ true = lost q in
           let cut : (unless_cut (all_done 0 owed) v).cut ≡ true = ap (λ (x : Work). x.cut) (off_is 0 t hosts (all_done 0 owed) v off) ∙ off in
           let X : List Entry = noted_by_deeds 0 owed v in
-          let is : first ++ cond v.cut [] X ≡ entry.Command 0 c ∷ entry.Cut 0 ∷ [] =
-          ap (λ b. ((entry.Command f.core.node c ∷ cond b (entry.Cut f.core.node ∷ []) []) ++ cond v.cut [] []) ++ cond v.cut [] X) q
-          ∙ (ap (λ b. ((entry.Command f.core.node c ∷ entry.Cut f.core.node ∷ []) ++ cond b [] []) ++ cond b [] X) off
-          ∙ ap (λ n. entry.Command n c ∷ entry.Cut n ∷ []) node) in
+          let is : first ++ cond v.cut [] X ≡ entry.Command 0 c ∷ entry.Cut 0 ∷ [] = grind arith in
           subst (λ b. IsReplyNoted b 0 (first ++ cond v.cut [] X) (entry.Command 0 c ∷ rest)) (sym cut) ([], c, rest, refl, is)
 
       goes_on : goes_in c f ≡ false → (v.cut ≡ false → Goes hosts t owed v) → AllByRecursion (SentSo (session_of_port v.ports) read) owed → Goal v
@@ -139,11 +136,7 @@ abbrev pub AreMute : List Entry → Type 0
 AreMute es = AllByRecursion IsMute es
 
 mute_answers : (x : Entry) (es answers : List Entry) → IsMute x → AnswersSo 0 es answers → AnswersSo 0 (x ∷ es) answers
-mute_answers x es answers mute a =
-    ap (filter (is_answer_of 0)) (before_first 0 x es mute.0)
-    ∙ (ap (λ b. cond b (x ∷ filter (is_answer_of 0) (before_turn 0 es)) (filter (is_answer_of 0) (before_turn 0 es))) mute.1
-    ∙ (a ∙ sym (ap (λ l. cond (list_any (is_cut_of 0) l) (to_command answers) answers) (before_first 0 x es mute.0)
-    ∙ ap (λ b. cond (b || list_any (is_cut_of 0) (before_turn 0 es)) (to_command answers) answers) mute.2)))
+mute_answers x es answers mute a = grind arith
 
 mutes_answer : (xs es answers : List Entry) → AreMute xs → AnswersSo 0 es answers → AnswersSo 0 (xs ++ es) answers
 mutes_answer [] es answers mute a = a
@@ -185,8 +178,7 @@ same_owed r F f g S (p ∷ ports) a = by (g p.desk.host) refl (same_owed r F f g
 
 same_over : (one other : ℕ → Bool) (o : Option Creation) → ((c : Creation) → o ≡ Some c → one c.asker ≡ other c.asker)
     → unless_over one o ≡ unless_over other o
-same_over one other None same = refl
-same_over one other (Some c) same = ap (λ b. cond b None (Some c)) (same c refl)
+same_over one other o same = grind arith
 
 -- ### A step
 
@@ -260,12 +252,7 @@ module _ (hosts : List ℕ) (are : AreHosts hosts) (t : List Entry) (input : Nod
   -- ### Tests
 
   ended_only : (p : Port) → (p.late ≡ true → p.ended ≡ false) → p.ended ≡ (is_over p && not p.late)
-  ended_only p flag = go p.ended p.late refl refl where
-    go : (a c : Bool) → p.ended ≡ a → p.late ≡ c → p.ended ≡ (is_over p && not p.late)
-    go true true x y = absurd (true≢false (sym x ∙ flag y))
-    go true false x y = rw (x, y) refl
-    go false true x y = rw (x, y) refl
-    go false false x y = rw (x, y) refl
+  ended_only p flag = grind arith
 
   abbrev F : Port → Port
   F = forgets ports
@@ -391,9 +378,7 @@ pass_noted input w own = by_test v.cut
       v = comes_to_pass input w
 
       behind : (x : Entry) (front back : List Entry) → IsTurnSo (ComesTo v) v front x back → BeginsBehind x back
-      behind (entry.Held f need spare) front back a = a.next
-      behind (entry.Turn f pid message) front back a = tt
-      behind _ front back a = tt
+      behind x front back a = grind arith
 
 -- ### A step
 

@@ -10,11 +10,10 @@ use Rattle.node_laws.proofs.Words.{boots, by_boot, by_coming, by_controller, by_
 use Rattle.node_laws.proofs.Words.{by_running, by_test, changed_if, comes_at, comes_to_pass, cond, cond-true, controller_does, controller_ticks, count_of}
 use Rattle.node_laws.proofs.Words.{end_c, end_h, entries_for, entries_in, eq-eqb, eqb, eqb-true, exchanged, false, fold, frame_lost, frames_noted, fresh}
 use Rattle.node_laws.proofs.Words.{has_come, holds_in, host_cut, host_does, host_tick, host_ticks, host_work, hosts_in, hosts_of_ends, hosts_tick, input_at}
-use Rattle.node_laws.proofs.Words.{inr, is_command_message, is_of_node, is_response, last_after, last_in, loses_power_at, map, memory_at, near_end_in}
-use Rattle.node_laws.proofs.Words.{near_tick, new_world, no_errors, no_journal, node_entries, occurrences_in, option_map, option_map_or, order_of, own_side}
-use Rattle.node_laws.proofs.Words.{port_at, refl, replicate, sending, site_at, site_ticked, site_unticked, steps, subst, sym, true, true≢false, waiting_at}
-use Rattle.node_laws.proofs.Words.{wires_for, with_command, with_found, with_response, with_site, work_of, world_behind, world_step, world_ticks, ℕ, ◌&&◌, ◌++◌}
-use Rattle.node_laws.proofs.Words.{◌+◌, ◌∙◌, ◌∷◌, ◌≡◌, ◌≤◌}
+use Rattle.node_laws.proofs.Words.{inr, is_command_message, is_of_node, last_after, last_in, loses_power_at, map, memory_at, near_end_in, near_tick, new_world}
+use Rattle.node_laws.proofs.Words.{no_errors, no_journal, node_entries, occurrences_in, option_map_or, order_of, own_side, port_at, refl, replicate, sending}
+use Rattle.node_laws.proofs.Words.{site_at, site_ticked, site_unticked, steps, subst, sym, true, true≢false, waiting_at, wires_for, with_site, work_of}
+use Rattle.node_laws.proofs.Words.{world_behind, world_step, world_ticks, ℕ, ◌&&◌, ◌++◌, ◌+◌, ◌∙◌, ◌∷◌, ◌≡◌, ◌≤◌}
 use Rattle.node_laws.specs.reply_passes.Counts.{commands_noted as commits}
 use Rattle.node_laws.proofs.hosts.Knowing.{HasNone, HaveNone, begun_none, host_knows}
 use Rattle.node_laws.proofs.hosts.Passes.{BeginsSo, errors_behind, zero}
@@ -23,26 +22,23 @@ use Rattle.node_laws.proofs.kept.Events.{IsSame, comes_goes, keeps_same, plain_f
 use Rattle.node_laws.proofs.kept.Stepping.{ready_fine, steps_fine}
 use Rattle.node_laws.proofs.kept.Ticking.{aged_goes, moved, near_ticks}
 use Rattle.node_laws.proofs.notices.Near.{all_ports}
-use Rattle.node_laws.proofs.passes.InSteps.{links_none}
-use Rattle.node_laws.proofs.power.Steps.{AreOwn, Runs as Power, arrival_of_side, links_own}
+use Rattle.node_laws.proofs.power.Steps.{AreOwn, Runs as Power}
 use Rattle.node_laws.proofs.power.Events.{far_runs}
 use Rattle.node_laws.proofs.read_steps.Knowing.{errors_ready}
 use Rattle.node_laws.proofs.readings.Turning.{Runs, Stands, host_side, reads as order_reads}
-use Rattle.node_laws.proofs.readings.Sites.{arrival_quiet, arrival_read, begun_stands, others_read}
+use Rattle.node_laws.proofs.readings.Sites.{begun_stands, others_read}
 use Rattle.node_laws.proofs.readings.Noting.{ready_stand}
 use Rattle.node_laws.proofs.reply_passes.Ordered.{begun_at, mine, ms, port_begins, there_still}
 use Rattle.node_laws.proofs.reply_passes.Roomy.{begun_grows, boot_grown, commits-append, generation_in, history_lasts, node_begins_grown, node_step_grown}
-use Rattle.node_laws.proofs.reply_passes.Held.{AreNoBoots, begun_read_at, is_held_among, notes_unbooted, ports_held, steps_unbooted}
+use Rattle.node_laws.proofs.reply_passes.Held.{AreNoBoots, begun_read_at, is_held_among, ports_held, steps_unbooted}
 use Rattle.node_laws.proofs.telling.Events.{hosts_same_of_nodes as hosts_same, site_is}
-use Rattle.node_laws.proofs.telling.Shapes.{entries_uncut}
 use Rattle.node_laws.proofs.telling.Accounts.{AreUncut}
 use Rattle.node_laws.proofs.turns.Passing.{AreStill, Goes, Known, goes-append, still_goes}
-use Rattle.node_laws.proofs.turns.Nodes.{arrival_still}
-use Rattle.node_laws.proofs.views.Going.{Stands as InitStands, quiet_init, reads_init, ready_stand as ready_inits}
+use Rattle.node_laws.proofs.views.Going.{Stands as InitStands, reads_init, ready_stand as ready_inits}
 use Rattle.node_laws.proofs.views.Doing.{IsStill, Leaves, Right, reads_append}
 use Rattle.node_laws.proofs.views.InitWorlds.{begun_stands as begun_inits, keep_same, leaves_all}
-use Rattle.node_laws.proofs.views.Nodes.{IfKeeps, arrival_still as arrival_errors, begun_right, leaves_kept}
-use Rattle.node_laws.proofs.worlds.Resting.{idle_held, idle_still, other_end, others_idle}
+use Rattle.node_laws.proofs.views.Nodes.{IfKeeps, begun_right, leaves_kept}
+use Rattle.node_laws.proofs.worlds.Resting.{idle_held, idle_still, others_idle}
 use Rattle.node_laws.proofs.worlds.Due.{of_hosts}
 use Rattle.trace_model.specs.declared.entry.Entry.TheVariants as entry
 
@@ -167,8 +163,7 @@ module _ (hosts : List ℕ) (are : AreHosts hosts) where
         (λ x. by v (none s r) x (eqb x.host h)) w.sites before)
       where
         by : (v : Work) → v.writes ≡ [] → (x : Site) (b : Bool) → (changed_if b (after_host NoInput v) x).memory ≡ x.memory
-        by v none_written x true = ap (λ l. after_planned l x.memory) none_written
-        by v none_written x false = refl
+        by v none_written x b = grind arith
 
     comes_grown : (e : End) (comes : Comes) → ThenGrown t (comes_at w e comes)
     comes_grown e comes =
@@ -180,8 +175,7 @@ module _ (hosts : List ℕ) (are : AreHosts hosts) where
     changed_grown h f es same =
         map_grown t es (λ (x : Site). changed_if (eqb x.host h) f x) (λ x. by x (eqb x.host h)) w.sites before where
           by : (x : Site) (b : Bool) → (changed_if b f x).memory ≡ x.memory
-          by x true = same x
-          by x false = refl
+          by x b = grind arith
 
     memory_of : (n : ℕ) (s : Site) → eqb n 0 ≡ false → site_at w.sites n ≡ Some s → memory_at w n ≡ s.memory
     memory_of n s off here = rw (off, here) refl
@@ -207,8 +201,7 @@ module _ (hosts : List ℕ) (are : AreHosts hosts) where
       (λ z. map_grown t (entry.Cut n ∷ []) (λ (x : Site). changed_if (eqb x.host n) host_cut x)
       (λ x. by x (eqb x.host n)) v.sites a) where
         by : (x : Site) (b : Bool) → (changed_if b host_cut x).memory ≡ x.memory
-        by x true = refl
-        by x false = refl
+        by x b = grind arith
 
   boots_grown : (t : List Entry) (w : NodeWorld) (n : ℕ) → AreGrown t w.sites → AllKeep hosts t w → ThenGrown t (boots w n)
   boots_grown t w n a all =
@@ -219,8 +212,7 @@ module _ (hosts : List ℕ) (are : AreHosts hosts) where
       (λ (x : Site). changed_if (eqb x.host n) (λ (s : Site). record s { node = Some (boot_found w n) }) x) (λ x. by x (eqb x.host n)) (boot_written w n).sites
       (written t w a all n))) where
         by : (x : Site) (b : Bool) → (changed_if b (λ (s : Site). record s { node = Some (boot_found w n) }) x).memory ≡ x.memory
-        by x true = refl
-        by x false = refl
+        by x b = grind arith
 
         more : (es : List Entry) (sites : List Site) → AreGrown t sites → AreGrown (t ++ es) sites
         more es [] b = tt
@@ -300,8 +292,7 @@ module _ (hosts : List ℕ) (are : AreHosts hosts) where
   event_sites t w (Gives e m) a all = far_begins t w a all e.link (sending e.link m) (λ s r. by s r (eqb m.0 1 && is_command_message m.1)) where
     by : (s : Site) (r : Running) (b : Bool)
         → (host_work s r NoInput (begins_with e.link (cond b (Orders m.1 ∷ []) (Sends e.link m ∷ [])))).writes ≡ []
-    by s r true = refl
-    by s r false = refl
+    by s r b = grind arith
   event_sites t w (Inits e identity pipes) a all = far_begins t w a all e.link (beginning identity pipes) (λ s r. refl)
   event_sites t w (Takes e) a all = comes_grown t w a all e NextFrame
   event_sites t w (Loses e why) a all = lost_grown t w e why a all
@@ -331,27 +322,14 @@ history_sites header lines t follows are sent few front back parts =
 
 module _ (n : ℕ) where
   pub not_silent : (x : Entry) → is_of_node n x ≡ false → IsSilent n x
-  not_silent (entry.Sent f k pid message) off =
-      λ waits. ap (λ b. cond ((b && eqb pid 1) && is_command_message message) (Some message) waits) (other_end (end_h n) f off)
-  not_silent (entry.Turn f pid message) off =
-      λ waits. ap (λ b. cond ((b && eqb pid 1) && is_response message) None waits) (other_end (end_h n) f off)
-  not_silent (entry.Down f cause) off = λ waits. ap (λ b. cond b None waits) (other_end (end_h n) f off)
-  not_silent (entry.Cut m) off = λ waits. ap (λ b. cond b None waits) off
-  not_silent _ off = λ waits. refl
+  not_silent x off = grind arith
 
   are_silent : (es : List Entry) → AreNotOf n es → AllByRecursion (IsSilent n) es
   are_silent [] a = tt
   are_silent (x ∷ es) a = (not_silent x a.0, are_silent es a.1)
 
   pub not_init : (x : Entry) → is_of_node n x ≡ false → LeavesInit n x
-  not_init (entry.Turn f pid message) off =
-      λ i. ap (λ b. cond (b && (eqb pid 1 && is_response message)) (option_map with_response i) i) (other_end (end_h n) f off)
-  not_init (entry.InitSame f) off = λ i. ap (λ b. cond b None i) (other_end (end_h n) f off)
-  not_init (entry.InitMade f count) off = λ i. ap (λ b. cond b None i) (other_end (end_h n) f off)
-  not_init (entry.InitFailed f code) off = λ i. ap (λ b. cond b None i) (other_end (end_h n) f off)
-  not_init (entry.Down f cause) off = λ i. ap (λ b. cond b None i) (other_end (end_h n) f off)
-  not_init (entry.Cut m) off = λ i. ap (λ b. cond b None i) off
-  not_init _ off = λ i. refl
+  not_init x off = grind arith
 
   inits_left : (es : List Entry) → AreNotOf n es → AllByRecursion (LeavesInit n) es
   inits_left [] a = tt
@@ -361,16 +339,10 @@ module _ (n : ℕ) where
   init_stays es i a = leaves_all n es i (inits_left es a)
 
   pub not_book : (b : Book) (x : Entry) → is_of_node n x ≡ false → book_after n b x ≡ b
-  not_book b (entry.Command m c) off = ap (λ t. cond t (with_command c b) b) off
-  not_book b (entry.Booted m k) off = ap (λ t. cond t (with_found k b) b) off
-  not_book b _ off = refl
+  not_book b x off = grind arith
 
   not_last : (l : Last) (x : Entry) → is_of_node n x ≡ false → last_after n l x ≡ l
-  not_last l (entry.Command m c) off = rw off refl
-  not_last l (entry.AnyOk m k) off = rw off refl
-  not_last l (entry.Booted m k) off = rw off refl
-  not_last l (entry.Cut m) off = rw off refl
-  not_last l _ off = refl
+  not_last l x off = grind arith
 
   books_stay : (es : List Entry) (b : Book) → AreNotOf n es → fold (book_after n) b es ≡ b
   books_stay [] b a = refl
@@ -437,17 +409,7 @@ pub blank_opens : (n : ℕ) → OpensQuietly n []
 blank_opens n = record { order = λ c. refl; init = λ y. refl; errors = tt; plain = tt; queue = tt; turns = tt; boots = tt; own = tt; uncut = tt }
 
 pub arrival_opens : (n : ℕ) (l : Link) (comes : Comes) → OpensQuietly n (entries_for n (arrival Host l comes))
-arrival_opens n l comes = record {
-  order = arrival_read n Host n l comes;
-  init = λ y. quiet_init n n (arrival Host l comes) y (arrival_quiet Host l comes);
-  errors = arrival_errors (end_h n) Host n l comes;
-  plain = plain_entries n (arrival Host l comes);
-  queue = arrival_still (end_h n) Host n l comes;
-  turns = links_none n (arrival Host l comes);
-  boots = notes_unbooted n (arrival Host l comes);
-  own = links_own n n Host refl (arrival Host l comes) (arrival_of_side Host l comes);
-  uncut = entries_uncut n (arrival Host l comes);
-}
+arrival_opens n l comes = grind arith
 
 module _ (u : List Entry) (i : Option Init) (s : Site) (a : HostStands u i s) (r : Running) (q : s.node ≡ Some r) (near_end : NumberedEnd)
     (side : near_end.side ≡ s.link.host.side) (es : List Entry) (opens : OpensQuietly s.host es) (input : NodeInput) (outside : IsOutside input) where

@@ -3,14 +3,14 @@ use Rattle.node_laws.proofs.Words.{Activates, AllByRecursion, AreDifferent, AreN
 use Rattle.node_laws.proofs.Words.{Comes, ComesTo, Controller, End, Entry, Gives, GoesOut, Happening, HoldsInStep, Host, IfItRuns, Init, Inits, IsCut}
 use Rattle.node_laws.proofs.Words.{IsHeldFor, IsHost, IsNoTurn, IsOrderly, IsOutside, IsReplied, Link, LinkInput, List, Loses, Lost, Moment, NextFrame}
 use Rattle.node_laws.proofs.Words.{NodeInput, NodeWorld, None, Noted, NumberedEnd, Occurrence, OnWire, Option, Resets, Running, Site, Some, Start, Starts, Step}
-use Rattle.node_laws.proofs.Words.{Take, Takes, Ticks, TimePasses, Work, [], aged, aged_entries, all_aged, all_append, all_flat, ap, append-nil, append_assoc}
-use Rattle.node_laws.proofs.Words.{ap₂, arith, arrival, beginning, boots, by_coming, by_controller, by_controller_tick, by_host_tick, by_option, by_test}
-use Rattle.node_laws.proofs.Words.{comes_at, comes_to, comes_to_pass, controller_ticks, controller_work, end_c, end_h, ending_of, entries_for, entries_in}
-use Rattle.node_laws.proofs.Words.{eq-eqb, eqb, eqb-true, exchanged, false, flat_map, frame_lost, frames_at, frames_noted, host_begins_step, host_tick}
-use Rattle.node_laws.proofs.Words.{host_ticks, hosts_in, hosts_of_ends, hosts_tick, init_begun, init_in, inl, input_of, inr, is_answer_of, is_cut_of}
-use Rattle.node_laws.proofs.Words.{is_left_short, is_of_node, link_after_controller, link_to, makes_step, map, ne_eqb, near_end_in, near_tick, node_of}
-use Rattle.node_laws.proofs.Words.{noted_before_pass, passes, refl, sending, site_at, site_ticked, site_unticked, steps, subst, sym, ticks_host, true}
-use Rattle.node_laws.proofs.Words.{true≢false, turn_link, turns_at, wires_for, work_of, world_step, world_ticks, ℕ, ◌++◌, ◌==◌, ◌||◌, ◌∙◌, ◌∷◌, ◌≡◌, ◌≤◌, ◌⊎◌}
+use Rattle.node_laws.proofs.Words.{Takes, Ticks, TimePasses, Work, [], aged, aged_entries, all_aged, all_append, all_flat, ap, append-nil, append_assoc, ap₂}
+use Rattle.node_laws.proofs.Words.{arith, arrival, beginning, boots, by_coming, by_controller, by_controller_tick, by_host_tick, by_option, by_test, comes_at}
+use Rattle.node_laws.proofs.Words.{comes_to, comes_to_pass, controller_ticks, controller_work, end_c, end_h, ending_of, entries_for, entries_in, eq-eqb, eqb}
+use Rattle.node_laws.proofs.Words.{eqb-true, exchanged, false, flat_map, frame_lost, frames_at, frames_noted, host_begins_step, host_tick, host_ticks, hosts_in}
+use Rattle.node_laws.proofs.Words.{hosts_of_ends, hosts_tick, init_begun, init_in, inl, input_of, inr, is_answer_of, is_cut_of, is_left_short, is_of_node}
+use Rattle.node_laws.proofs.Words.{link_after_controller, link_to, makes_step, map, ne_eqb, near_end_in, near_tick, node_of, noted_before_pass, passes, refl}
+use Rattle.node_laws.proofs.Words.{sending, site_at, site_ticked, site_unticked, steps, subst, sym, ticks_host, true, true≢false, turn_link, turns_at}
+use Rattle.node_laws.proofs.Words.{wires_for, work_of, world_step, world_ticks, ℕ, ◌++◌, ◌==◌, ◌||◌, ◌∙◌, ◌∷◌, ◌≡◌, ◌≤◌, ◌⊎◌}
 use Rattle.link_laws.specs.entries.Entries.{End as Side}
 use Rattle.node_laws.specs.passes.Passing.ComesTo.{Begins}
 use Rattle.node_laws.specs.reply_passes.Counts.{commands_noted as commits}
@@ -87,16 +87,14 @@ module _ (n : ℕ) where
   -- ### Entries without answers
 
   not_cut : (x : Entry) → is_of_node n x ≡ false → is_cut_of n x ≡ false
-  not_cut (entry.Cut m) off = off
-  not_cut x off = refl
+  not_cut x off = grind arith
 
   others_quiet : (es : List Entry) → AreNotOf n es → AreUnanswered n es
   others_quiet [] a = tt
   others_quiet (x ∷ es) a = ((other_answers n x a.0, not_cut x a.0), others_quiet es a.1)
 
   uncut_one : (x : Entry) → IsUncut x → is_cut_of n x ≡ false
-  uncut_one (entry.Cut m) u = absurd u
-  uncut_one x u = refl
+  uncut_one x u = grind arith
 
   quiet_if : (es : List Entry) → AllByRecursion (λ x. is_answer_of n x ≡ false) es → AreUncut es → AreUnanswered n es
   quiet_if [] a u = tt
@@ -704,8 +702,7 @@ module _ (hosts : List ℕ) (past : List Occurrence) (w : NodeWorld) (so : IsSo 
       where
         empty : (e : End) → e ≡ end_h n → (xs : List OnWire) → (link_to w.sites n).to_host ≡ xs
             → input_of (exchanged (link_to w.sites n)) NextFrame ≡ None → frames_at w e ≡ []
-        empty e same [] q none = ap (λ f. frames_at w f) same ∙ q
-        empty e same (x ∷ xs) q none = let no : Some (Take x.frame) ≡ None = rw q at none in absurd (cc no)
+        empty e same xs q none = grind arith
     event_parted (Loses e why) few = turnless_so (Loses e why) (frame_lost w e why).1 refl (lost_turnless w e why)
     event_parted Ticks few = ticking_so few
     event_parted (Resets e window) few = coming_so e (AsksReset window) (Resets e window) refl (λ q. q) (λ same none. absurd (cc none)) few

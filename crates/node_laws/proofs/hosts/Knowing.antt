@@ -1,10 +1,9 @@
 -- What a host keeps in the midst of a step is what is read off all entries until there, and no end of it has a block set aside.
 use Rattle.node_laws.proofs.Words.{AtEnd, ComesTo, Deed, Entry, ErrorCount, Init, IsHost, IsOnOrder, IsOutside, LastsOverTurns, LinkState, List, Memory}
 use Rattle.node_laws.proofs.Words.{Message, NodeInput, None, Option, Port, Reset, StillRuns, Tick, TimePasses, Work, [], after_sessions, all_come, all_done}
-use Rattle.node_laws.proofs.Words.{all_map, ap, asked_at, by_test, comes_to_pass, deeds_of, end_h, eqb, false, forgets, forgotten, handles, has_come}
-use Rattle.node_laws.proofs.Words.{has_come_so, has_freed, has_synced, holds_back, inl, input_at, inr, is_forgotten, is_late, is_over, lacking, lets_go, map}
-use Rattle.node_laws.proofs.Words.{owed_in_step, refl, reset_late, subst, sym, syncs_in, true, true≢false, waiting_at, with_older, without_notice, ℕ, ◌∙◌, ◌∷◌}
-use Rattle.node_laws.proofs.Words.{◌≡◌}
+use Rattle.node_laws.proofs.Words.{all_map, ap, arith, asked_at, by_test, comes_to_pass, deeds_of, end_h, eqb, false, forgets, forgotten, handles, has_come}
+use Rattle.node_laws.proofs.Words.{has_come_so, has_freed, has_synced, holds_back, input_at, inr, is_forgotten, is_late, is_over, lacking, lets_go, map}
+use Rattle.node_laws.proofs.Words.{owed_in_step, refl, reset_late, subst, sym, syncs_in, true, waiting_at, with_older, without_notice, ℕ, ◌∙◌, ◌∷◌, ◌≡◌}
 use Rattle.node_laws.proofs.creations.Coming.{input_aside}
 use Rattle.node_laws.proofs.creations.HostSides.{EachEndHas, ends_last, turn_none}
 use Rattle.node_laws.proofs.kept.Doing.{GoesOn_or_lost}
@@ -105,12 +104,10 @@ module _ (n : ℕ) (host : IsHost n) (u : List Entry) (i0 : Option Init) (x0 : E
   single far = refl
 
   still_on : (w : Work) → w.cut ≡ false → Stands n host u order_phase w → Runs n host u order_phase w
-  still_on w still (inl r) = r
-  still_on w still (inr off) = absurd (true≢false (sym off.off ∙ still))
+  still_on w still a = grind arith
 
   still_kept : (w : Work) → w.cut ≡ false → GoesOn_or_lost n (n ∷ []) memory u w → StillRuns n (n ∷ []) memory u w × IsOnOrder w.core.command w.core.init
-  still_kept w still (inl a) = (a.0, a.1)
-  still_kept w still (inr lost) = absurd (true≢false (sym lost.off ∙ still))
+  still_kept w still a = grind arith
 
   -- so it is, where the power is on
   pub host_knows : (w : Work) → w.cut ≡ false → Stands n host u order_phase w → Inits n host i0 init_phase w → Right (end_h n) (n ∷ []) x0 w

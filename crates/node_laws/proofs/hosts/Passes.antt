@@ -1,19 +1,18 @@
 -- What a host does and answers as it handles a message, at its turn and over its pass, is what is read.
 use mathlib.Core.Path.{fun_ext}
-use Rattle.node_laws.proofs.Words.{AllByRecursion, AnswersSo, ArePassed, ArePortsRead, Asks, BeginWithTurn, Bool, Clear, ComesTo, Command, Commits, Core}
-use Rattle.node_laws.proofs.Words.{Create, Deed, Delete, Drops, End, Ends, Entry, ErrorCount, GiveOnce, GoesOn, HadTurn, HasRoomForAll, Hears, Host, Init}
-use Rattle.node_laws.proofs.Words.{IsAnswered, IsHeldFor, IsHost, IsPlain, IsReplied, IsReplyNoted, IsWaitingRead, LinkState, List, MayBeDone, Memory, Message}
-use Rattle.node_laws.proofs.Words.{Moment, None, Option, Orders, Port, Releases, SaysOk, Sends, Set, SetsErrors, Some, State, Tells, WasHeld, Work, [], accepts}
-use Rattle.node_laws.proofs.Words.{ap, append-nil, append_assoc, append_cancel_left, ap₂, arith, before_turn, body_in, by_option, by_test, cases_Bool}
-use Rattle.node_laws.proofs.Words.{commands_in, commands_noted, cond, cond-true, cond_both, count_of, deeds_far, deeds_of, end_h, end_of, end_of_node}
-use Rattle.node_laws.proofs.Words.{end_of_number, end_read, end_view, entries_of_reply, eq-eqb, eqb, eqb-true, errors_in, false, filter, finds_room, first_lack}
-use Rattle.node_laws.proofs.Words.{handles, holds_in, host_deeds, host_holds, hosts_of_ends, init_deeds, init_holds, inl, inr, is_answer_of, is_cut_of}
-use Rattle.node_laws.proofs.Words.{is_held_at, is_one_of, is_some, is_turn_of, is_up, is_up_read, lack, lack_at, lack_of, lacking, learned, learned_holds}
-use Rattle.node_laws.proofs.Words.{learns, learns_holds, length, link_deeds, link_served, list_any, min, ne_eqb, needs, next_count, no_errors, node_of, not}
-use Rattle.node_laws.proofs.Words.{noted_by_deeds, noted_of_deeds, oldest, option_and_then, option_map_or, or-false, order_in, ordered_deeds, ordered_holds}
-use Rattle.node_laws.proofs.Words.{own_read, own_side, own_view, passes, port_at, prefix_len, refl, reply, same_number, sent_in_session, session_now}
-use Rattle.node_laws.proofs.Words.{session_of_port, spare, spare_at, spare_read, spare_with, subst, sym, tables_in, take, takes_up, to_command, true}
-use Rattle.node_laws.proofs.Words.{true≢false, unhandled_in, until, view_read, waiting_at, waits_behind, ℕ, ◌++◌, ◌+◌, ◌-◌, ◌^◌, ◌||◌, ◌∙◌, ◌∷◌, ◌≡◌, ◌≤◌, ◌⊎◌}
+use Rattle.node_laws.proofs.Words.{AllByRecursion, AnswersSo, ArePassed, ArePortsRead, Asks, BeginWithTurn, Bool, ComesTo, Command, Commits, Core, Deed, Drops}
+use Rattle.node_laws.proofs.Words.{End, Ends, Entry, ErrorCount, GiveOnce, GoesOn, HadTurn, HasRoomForAll, Hears, Host, Init, IsAnswered, IsHeldFor, IsHost}
+use Rattle.node_laws.proofs.Words.{IsPlain, IsReplied, IsReplyNoted, IsWaitingRead, LinkState, List, MayBeDone, Memory, Message, Moment, None, Option, Orders}
+use Rattle.node_laws.proofs.Words.{Port, Releases, SaysOk, Sends, SetsErrors, Some, State, Tells, WasHeld, Work, [], ap, append-nil, append_assoc}
+use Rattle.node_laws.proofs.Words.{append_cancel_left, ap₂, arith, before_turn, body_in, by_option, by_test, cases_Bool, commands_in, commands_noted, cond}
+use Rattle.node_laws.proofs.Words.{cond-true, cond_both, count_of, deeds_of, end_h, end_of, end_of_node, end_of_number, end_read, end_view, entries_of_reply}
+use Rattle.node_laws.proofs.Words.{eq-eqb, eqb, eqb-true, errors_in, false, filter, finds_room, first_lack, handles, holds_in, host_deeds, host_holds}
+use Rattle.node_laws.proofs.Words.{hosts_of_ends, init_deeds, inl, inr, is_answer_of, is_cut_of, is_held_at, is_one_of, is_some, is_turn_of, is_up, is_up_read}
+use Rattle.node_laws.proofs.Words.{lack, lack_at, lack_of, lacking, learned, learned_holds, length, list_any, min, ne_eqb, needs, next_count, no_errors}
+use Rattle.node_laws.proofs.Words.{node_of, not, noted_by_deeds, noted_of_deeds, oldest, option_and_then, option_map_or, or-false, order_in, ordered_deeds}
+use Rattle.node_laws.proofs.Words.{own_read, own_side, own_view, passes, port_at, prefix_len, refl, reply, sent_in_session, session_now, session_of_port, spare}
+use Rattle.node_laws.proofs.Words.{spare_at, spare_read, spare_with, subst, sym, tables_in, take, takes_up, to_command, true, true≢false, unhandled_in, until}
+use Rattle.node_laws.proofs.Words.{waiting_at, ℕ, ◌++◌, ◌+◌, ◌-◌, ◌^◌, ◌||◌, ◌∙◌, ◌∷◌, ◌≡◌, ◌≤◌, ◌⊎◌}
 use Rattle.node_laws.specs.answers.Moments.{is_linked}
 use Rattle.node_laws.specs.passes.Passing.ComesTo.{Begins}
 use Rattle.node_laws.specs.reply_passes.Counts.{commands_noted as commits}
@@ -69,17 +68,11 @@ module _ (n : ℕ) where
   stop_until x es turn = (ap (filter (is_answer_of n)) (before_stop x es turn), ap (list_any (is_cut_of n)) (before_stop x es turn))
 
   quiet_until : (x : Entry) (es : List Entry) → is_turn_of n x ≡ false → is_answer_of n x ≡ false → is_cut_of n x ≡ false → IsSilent es → IsSilent (x ∷ es)
-  quiet_until x es off none kept silent =
-      let one = first_until x es off in (
-        one.0 ∙ (ap (λ b. cond b (x ∷ answers_until es) (answers_until es)) none ∙ silent.0),
-        one.1 ∙ (ap (λ b. b || cut_until es) kept ∙ silent.1),
-      )
+  quiet_until x es off none kept silent = grind arith
 
   -- an answer is no turn, and no loss of power
   answer_alone : (x : Entry) → is_answer_of n x ≡ true → (is_turn_of n x ≡ false) × (is_cut_of n x ≡ false)
-  answer_alone (entry.Turn e pid message) is = absurd (true≢false (sym is))
-  answer_alone (entry.Cut m) is = absurd (true≢false (sym is))
-  answer_alone x is = (refl, refl)
+  answer_alone x is = grind arith
 
   reply_until : (xs : List Entry) → AllByRecursion (λ x. is_answer_of n x ≡ true) xs → (es : List Entry)
       → (answers_until (xs ++ es) ≡ xs ++ answers_until es) × (cut_until (xs ++ es) ≡ cut_until es)
@@ -87,10 +80,7 @@ module _ (n : ℕ) where
   reply_until (x ∷ xs) all es =
       let alone = answer_alone x all.0 in
       let one = first_until x (xs ++ es) alone.0 in
-      let later = reply_until xs all.1 es in (
-        one.0 ∙ (ap (λ b. cond b (x ∷ answers_until (xs ++ es)) (answers_until (xs ++ es))) all.0 ∙ ap (λ l. x ∷ l) later.0),
-        one.1 ∙ (ap (λ b. b || cut_until (xs ++ es)) alone.1 ∙ later.1),
-      )
+      let later = reply_until xs all.1 es in (grind arith)
 
   -- entries that are neither answers of the host nor a loss of its power
   abbrev pub AreUnanswered : List Entry → Type 0
@@ -111,8 +101,7 @@ module _ (n : ℕ) where
 
   silent_trails : (later rest : List Entry) → TrailsOff later → AreUnanswered rest → IsSilent (later ++ rest)
   silent_trails [] rest trails none = silent_rest rest none
-  silent_trails (entry.Turn e pid message ∷ later) rest trails none =
-      stop_until (entry.Turn e pid message) (later ++ rest) (eq-eqb (node_of e) n trails)
+  silent_trails (entry.Turn e pid message ∷ later) rest trails none = grind arith
   silent_trails (entry.Held e need spare ∷ later) rest trails none =
       quiet_until (entry.Held e need spare) (later ++ rest) refl refl refl (silent_trails later rest trails none)
   silent_trails (_ ∷ later) rest trails none = absurd trails
@@ -182,28 +171,8 @@ module _ (core : Core) (off : eqb core.node 0 ≡ false) where
   abbrev Once : List Deed → Type 0
   Once deeds = GivesOnce core.node true deeds
 
-  own_told : eqb (node_of (end_of_node core core.node)) core.node ≡ true
-  own_told = rw off (eq-eqb core.node core.node refl)
-
-  accepts_once : (c : Command) → Once (accepts (own_view core) c)
-  accepts_once c = by_test (finds_room core c) (λ q. rw q (refl, refl, tt)) (λ q. rw q (refl, refl, tt))
-
-  link_once : (pipe : ℕ) (answer : List ℕ × Option ℕ) → Once (link_deeds core.node pipe answer)
-  link_once pipe answer = by_option answer.1 (λ q. rw q (refl, refl, tt)) (λ v q. rw q (refl, refl, tt))
-
   ordered_once : (errors pipe n : ℕ) (body : List ℕ) → Once (ordered_deeds (own_view core) errors pipe n body)
-  ordered_once errors pipe n body = ordered_holds Once core errors pipe n body (record {
-    none = tt;
-    refuses = λ r. (refl, refl, tt);
-    creates = λ row named welcome. accepts_once (Create row);
-    deletes = λ pid kept. accepts_once (Delete pid);
-    clears = λ x host. accepts_once (Clear x);
-    counts = λ link. link_once 0 (link_served errors n body);
-    names = λ off. (refl, refl, tt);
-  })
-
-  learns_then : (c : Command) (behind : List Deed) → Once behind → Once (learns (own_view core) c ++ behind)
-  learns_then c behind may = learns_holds (λ deeds. Once (deeds ++ behind)) core may (λ d is room. may) c
+  ordered_once errors pipe n body = grind arith
 
   learned_then : (b : Bool) (order value : List ℕ) (behind : List Deed) → Once behind → Once (cond b (learned (own_view core) order value) [] ++ behind)
   learned_then b order value behind may =
@@ -211,13 +180,7 @@ module _ (core : Core) (off : eqb core.node 0 ≡ false) where
       (λ _. learned_holds (λ deeds. Once (deeds ++ behind)) core may (λ c is room. may) order value) (λ _. may)
 
   init_once : (code : ℕ) (value : List ℕ) (o : Option Init) → Once (init_deeds (own_view core) code value o)
-  init_once code value None = tt
-  init_once code value (Some i) = init_holds Once core i code value (record {
-    same = (own_told, tt);
-    failed = λ code. (own_told, tt);
-    made = learns_then (Set core.node 0 1 (record { items = i.identity })) _ (own_told, tt);
-    next = λ order is. (refl, tt);
-  })
+  init_once code value o = grind arith
 
   host_once : (p : Port) (m : Message) → Once (host_deeds (own_view core) (end_view p) m)
   host_once p m = host_holds Once core p m (record {
@@ -277,8 +240,7 @@ module _ (n : ℕ) where
   -- of the sessions the host's own one counts
   module _ (sessions others : ℕ → Option ℕ) (same : sessions n ≡ others n) where
     sent_same : (to : ℕ) (m : Message) → to ≡ n → sent_in_session n sessions to m ≡ sent_in_session n others to m
-    sent_same to m is =
-        ap (λ o. option_map_or (λ k. entry.Sent (end_of_number n to) k m.0 m.1 ∷ []) o []) (ap sessions is ∙ (same ∙ ap others (sym is)))
+    sent_same to m is = grind arith
 
     reply_sessions : (count : ℕ) (may : Bool) (deeds : List Deed) → GivesOnce n may deeds
         → entries_of_reply n sessions n count deeds ≡ entries_of_reply n others n count deeds
@@ -301,8 +263,7 @@ module _ (n : ℕ) (sessions : ℕ → Option ℕ) (h : ℕ) where
   sent_none to m es = by_option (sessions to) (λ q. rw q refl) (λ k q. rw q refl)
 
   plain_none : (e : Entry) (es : List Entry) → IsPlain e → commands_noted (e ∷ es) ≡ commands_noted es
-  plain_none (entry.Command m c) es plain = absurd plain
-  plain_none e es plain = refl
+  plain_none e es plain = grind arith
 
   below : (es rest : List Entry) (most : ℕ) → commands_noted es ≡ commands_noted rest → commands_noted rest ≤ most → commands_noted es ≤ most
   below es rest most same few = omega (arith, same, few)
@@ -351,10 +312,7 @@ linked_far hosts n off j = ap (λ b. is_one_of (cond b hosts (n ∷ [])) j) off 
 -- the reply of a host, by what is read of it and of its end
 pub far_reply : (hosts : List ℕ) (n : ℕ) → eqb n 0 ≡ false → (m : Moment) (message : Message)
     → reply hosts m (end_h n) message ≡ host_deeds (own_read m n) (end_read (until m) n n) message
-far_reply hosts n off m message =
-    let ends : (view_read hosts m n).ends n ≡ Some (end_read (until m) n n) =
-    ap (λ b. cond b (Some (end_read (until m) n n)) None) (linked_far hosts n off n ∙ same_number n) in
-    deeds_far (view_read hosts m n) n message off ∙ ap (λ o. option_map_or (λ e. host_deeds (own_read m n) e message) o []) ends
+far_reply hosts n off m message = grind arith
 
 module _ (hosts : List ℕ) (n : ℕ) (host : IsHost n) (u : List Entry) (i0 : Option Init) (memory : Memory) (order_phase init_phase : LinkState) where
   abbrev pub Knows : Work → Type 0
@@ -391,8 +349,7 @@ module _ (hosts : List ℕ) (n : ℕ) (host : IsHost n) (u : List Entry) (i0 : O
 
     errors_is : its_port.desk.errors ≡ errors_in (until m) (end_of_number n n)
     errors_is =
-        let has : AllByRecursion (HasErrors (end_h n) k.errors.errors) (its_port ∷ []) =
-        subst (AllByRecursion (HasErrors (end_h n) k.errors.errors)) k.inits.base.is k.errors.ends in
+        let has : AllByRecursion (HasErrors (end_h n) k.errors.errors) (its_port ∷ []) = grind arith in
         has.0 (eq-eqb its_port.desk.host n k.inits.base.at)
         ∙ (sym k.errors.read.is
         ∙ (ap (λ (x : ErrorCount). x.errors) (sym (reads_append (end_h n) u w.entries no_errors))
@@ -563,8 +520,7 @@ module _ (hosts : List ℕ) (n : ℕ) (host : IsHost n) (u : List Entry) (i0 : O
       let a : IsWaitingRead n w v = waiting_read n w v c in
       let same : a.more ≡ front = append_cancel_left w.entries a.more front (sym a.entries ∙ entries) in
       told_all n true now front (waiting_at w.ports n) (front_sided front back (subst (AreOnSide true) more all_sided))
-      ∙ (ap (λ h. (waits_behind n (waiting_at w.ports n, h) front).1) b.held
-      ∙ (ap (λ l. (waits_behind n (waiting_at w.ports n, is_held_at w.ports n) l).1) (sym same) ∙ sym a.held))
+      ∙ (grind arith)
 
   -- ### Turns
 
@@ -586,8 +542,7 @@ module _ (hosts : List ℕ) (n : ℕ) (host : IsHost n) (u : List Entry) (i0 : O
   module _ (front back rest : List Entry) (m : Moment) (at : IsMomentOf hosts n host u i0 b.memory b.order_phase b.init_phase (w.entries ++ front) m)
       (quiet : AreUnanswered n rest) where
     moment_of : (v : Work) → v.entries ≡ w.entries ++ front → IsMomentOf hosts n host u i0 b.memory b.order_phase b.init_phase v.entries m
-    moment_of v entries =
-        subst (λ es. IsMomentOf hosts n host u i0 b.memory b.order_phase b.init_phase es m) (sym entries) at
+    moment_of v entries = grind arith
 
     entries_of : (v : Work) (x : Entry) → v.entries ≡ w.entries ++ front → walk.more ≡ front ++ (x ∷ back) → (passes w).entries ≡ v.entries ++ (x ∷ back)
     entries_of v x entries more =

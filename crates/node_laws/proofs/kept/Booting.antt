@@ -2,11 +2,10 @@
 use Rattle.node_laws.proofs.Words.{AllByRecursion, AreTables, AreTables-apply, AreTables-close, AreTables-none, Book, BootFinds, Command, Creation}
 use Rattle.node_laws.proofs.Words.{CutBehindCommand, Desk, Entry, FindsCommands, HciTables, IsCommand, IsRecordable, IsSome, Knows, List, Memory, NodeKeeps}
 use Rattle.node_laws.proofs.Words.{None, NumberedEnd, Option, Port, Running, RunsSo, Side, Some, State, WaitsFor, WouldFind, [], after_commands, after_planned}
-use Rattle.node_laws.proofs.Words.{after_writes, ap, applied, apply, arith, asked_at, book_in, boot_writes, by_test, close, command_of, commands_in, cond}
-use Rattle.node_laws.proofs.Words.{cond_both, count_of, current, eq-eqb, eqb, fails_within, false, fold, format_writes, found, inl, inr, is_command, is_some}
-use Rattle.node_laws.proofs.Words.{last_in, length, length-take, map, min, new_desk, no_tables, none_within, option_map_or, port_at, port_for, records, refl}
-use Rattle.node_laws.proofs.Words.{spelled_by, started_state, state_of, subst, suc, sym, tables_of, take, true, true≢false, with_found, ℕ, ◌++◌, ◌-◌, ◌^◌, ◌∙◌}
-use Rattle.node_laws.proofs.Words.{◌∷◌, ◌≡◌, ◌≤◌, ◌⊎◌}
+use Rattle.node_laws.proofs.Words.{after_writes, ap, applied, apply, arith, asked_at, book_in, boot_writes, close, command_of, commands_in, cond, cond_both}
+use Rattle.node_laws.proofs.Words.{count_of, current, eq-eqb, eqb, fails_within, false, fold, format_writes, found, inl, inr, last_in, length, length-take, map}
+use Rattle.node_laws.proofs.Words.{min, new_desk, no_tables, none_within, option_map_or, port_at, port_for, records, refl, spelled_by, started_state, state_of}
+use Rattle.node_laws.proofs.Words.{subst, suc, sym, tables_of, take, true, true≢false, with_found, ℕ, ◌++◌, ◌-◌, ◌^◌, ◌∙◌, ◌∷◌, ◌≡◌, ◌≤◌, ◌⊎◌}
 use Rattle.trace_model.specs.declared.entry.Entry.TheVariants as entry
 use Rattle.journal_laws.specs.Writes.{IsCut}
 use Rattle.journal_laws.specs.Journal.{count}
@@ -22,10 +21,7 @@ use Rattle.node_laws.proofs.kept.Doing.{book_more, closed_book, finds_all}
 -- ## The tables of a memory
 
 pub command_read : (o : Option Command) (c : Command) → if_command o ≡ Some c → IsCommand c
-command_read None c e = absurd (cc e)
-command_read (Some d) c e = by_test (is_command d)
-    (λ may. let e2 : Some d ≡ Some c = sym (ap (λ b. cond b (Some d) None) may) ∙ e in let same : d ≡ c = cc in subst IsCommand same may)
-    (λ not. let e2 : None ≡ Some c = sym (ap (λ b. cond b (Some d) None) not) ∙ e in absurd (cc e2))
+command_read o c e = grind arith
 
 -- tables as they are kept
 abbrev pub Good : HciTables → Type 0
@@ -138,8 +134,7 @@ module _ (n : ℕ) (hosts : List ℕ) (t : List Entry) (m : Memory) (would : Wou
       where
         small : (would.many ≡ length book.commands) ⊎ ((suc would.many ≡ length book.commands) × (last_in t n ≡ CutBehindCommand) × IsSome (current content))
             → min would.many (2 ^ 32 - 1) ≡ would.many
-        small (inl all) = omega arith
-        small (inr less) = omega (arith, less.0)
+        small a = grind arith
 
     pub boot_told : FindsCommands t n (count_of now)
     boot_told = elim would.which [ inl all ↦ inl (count_now ∙ all) | inr less ↦ inr (ap suc count_now ∙ less.0, less.1) ]
@@ -195,8 +190,7 @@ module _ (n : ℕ) (hosts : List ℕ) (t : List Entry) (m : Memory) (would : Wou
     all_of : current content ≡ None
         → (would.many ≡ length book.commands) ⊎ ((suc would.many ≡ length book.commands) × (last_in t n ≡ CutBehindCommand) × IsSome (current content))
         → would.many ≡ length book.commands
-    all_of none (inl all) = all
-    all_of none (inr less) = absurd (true≢false (sym less.2 ∙ ap is_some none))
+    all_of none a = grind arith
 
     by_bank : (o : Option Side) → current content ≡ o
         → WouldFind (after_planned (boot_writes content) m).content (book_in (t ++ entry.Cut n ∷ []) n) (last_in (t ++ entry.Cut n ∷ []) n)

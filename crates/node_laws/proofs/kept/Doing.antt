@@ -4,17 +4,15 @@ use Rattle.node_laws.proofs.Words.{About, AllByRecursion, AreTables, AreTables-a
 use Rattle.node_laws.proofs.Words.{Core, Creation, Cut, CutBehindCommand, Deed, Desk, Drops, Ends, Entry, FetchMessage, FindsRoom, Give, GoesOn, HciTables}
 use Rattle.node_laws.proofs.Words.{Hears, Init, IsAllowedBy, IsAllowedFor, IsAllowedStill, IsAnswered, IsCommand, IsOf, IsOnOrder, IsPlain, IsRecordable}
 use Rattle.node_laws.proofs.Words.{IsSome, IsTold, Knows, Last, List, MakeOf, MayBeDone, MayWait, Memory, None, Noted, NothingYet, Option, Orders, Port}
-use Rattle.node_laws.proofs.Words.{Reckoning, Release, Releases, Removed, Restarted, SaysOk, Sends, SetAside, SetsErrors, Some, State, StillRuns, Tells, Turn}
-use Rattle.node_laws.proofs.Words.{Waits, WaitsAt, WaitsFor, Work, WouldFind, Write, [], after_commands, after_planned, after_turn, all_append, all_done}
-use Rattle.node_laws.proofs.Words.{all_so, ap, append-nil, append_assoc, apply, ap₂, arith, asked_at, body_of, book_after, book_in, by_test, cases_Bool}
-use Rattle.node_laws.proofs.Words.{changed_if, close, commands_in, commit, commit_writes, committed, cond, cond-false, cond-true, cond_both, count_of}
-use Rattle.node_laws.proofs.Words.{creation_in, current, done, end_of_node, entries_for, entry_of, eq-eqb, eqb, eqb-true, fails_within, false, flat_map, fold}
-use Rattle.node_laws.proofs.Words.{fold-append, hosts_of_ends, inl, inr, keeps, last_after, last_in, length, length-append, loses_power, map, min, new_book}
-use Rattle.node_laws.proofs.Words.{no_tables, noted_of, notified, noting, option_map_or, own_side, plan_behind, port_at, reckoned, reckoning_of, refl, subst}
-use Rattle.node_laws.proofs.Words.{sym, tables_in, take, true, turn_at, turn_entry, unless_cut, with_command, with_desk, with_found, ℕ, ◌++◌, ◌+◌, ◌-◌, ◌==◌}
-use Rattle.node_laws.proofs.Words.{◌^◌, ◌∙◌, ◌∷◌, ◌≡◌, ◌⊎◌}
+use Rattle.node_laws.proofs.Words.{Reckoning, Release, Releases, Removed, SaysOk, Sends, SetAside, SetsErrors, Some, State, StillRuns, Tells, Turn, Waits}
+use Rattle.node_laws.proofs.Words.{WaitsAt, WaitsFor, Work, WouldFind, Write, [], after_commands, after_planned, after_turn, all_append, all_done, all_so, ap}
+use Rattle.node_laws.proofs.Words.{append-nil, append_assoc, apply, ap₂, arith, asked_at, body_of, book_after, book_in, by_test, cases_Bool, changed_if, close}
+use Rattle.node_laws.proofs.Words.{commands_in, commit, commit_writes, committed, cond, cond_both, count_of, creation_in, current, done, end_of_node}
+use Rattle.node_laws.proofs.Words.{entries_for, entry_of, eq-eqb, eqb, eqb-true, fails_within, false, flat_map, fold, fold-append, hosts_of_ends, inl, inr}
+use Rattle.node_laws.proofs.Words.{keeps, last_after, last_in, length, length-append, loses_power, map, min, new_book, no_tables, noted_of, notified, noting}
+use Rattle.node_laws.proofs.Words.{option_map_or, plan_behind, port_at, reckoned, reckoning_of, refl, subst, sym, tables_in, take, true, turn_at, unless_cut}
+use Rattle.node_laws.proofs.Words.{with_command, with_desk, with_found, ℕ, ◌++◌, ◌+◌, ◌-◌, ◌==◌, ◌^◌, ◌∙◌, ◌∷◌, ◌≡◌, ◌⊎◌}
 use Rattle.hci_store.proofs.Committed.{close-close, same_closed, recordable-apply}
-use Rattle.link_laws.specs.entries.Entries.Entry.{Tick}
 use Rattle.node_laws.specs.kept.Books.{HasLostPower, WaitsAbout}
 use Rattle.node_laws.proofs.kept.Reckoned.{after_planned-append, command_makes, commit_count, finds_closed, fold_book, make_idle, make_more, make_ok}
 use Rattle.node_laws.proofs.kept.Reckoned.{plain_idles, planned_knows, planned_left, planned_used, planned_whole}
@@ -31,29 +29,16 @@ last_more t es n = fold-append (last_after n) NothingYet t es
 -- ### Plain entries
 
 plain_one : (n : ℕ) (b : Book) (e : Entry) → IsPlain e → book_after n b e ≡ b
-plain_one n b (entry.Command m c) is = absurd is
-plain_one n b (entry.Booted m k) is = absurd is
-plain_one n b _ is = refl
+plain_one n b e is = grind arith
 
 plain_last_one : (n : ℕ) (l : Last) (e : Entry) → IsPlain e → last_after n l e ≡ l
-plain_last_one n l (entry.Command m c) is = absurd is
-plain_last_one n l (entry.AnyOk m c) is = absurd is
-plain_last_one n l (entry.Booted m k) is = absurd is
-plain_last_one n l (entry.Cut m) is = absurd is
-plain_last_one n l _ is = refl
+plain_last_one n l e is = grind arith
 
 plain_told_one : (t : List Entry) (e : Entry) → IsPlain e → IsTold t e
-plain_told_one t (entry.Command m c) is = absurd is
-plain_told_one t (entry.AnyOk m c) is = absurd is
-plain_told_one t (entry.Booted m k) is = absurd is
-plain_told_one t _ is = tt
+plain_told_one t e is = grind arith
 
 plain_own_one : (n : ℕ) (e : Entry) → IsPlain e → IsOf n e
-plain_own_one n (entry.Command m c) is = absurd is
-plain_own_one n (entry.AnyOk m c) is = absurd is
-plain_own_one n (entry.Booted m k) is = absurd is
-plain_own_one n (entry.Cut m) is = absurd is
-plain_own_one n _ is = tt
+plain_own_one n e is = grind arith
 
 pub plain_fold : (n : ℕ) (b : Book) (es : List Entry) → AllByRecursion IsPlain es → fold (book_after n) b es ≡ b
 plain_fold n b [] all = refl
@@ -138,8 +123,7 @@ finds_less content b c t many finds same is used = record {
 
 -- of equal memories and books
 would_at : (m left : List ℕ) (b c : Book) (l k : Last) → m ≡ left → b ≡ c → l ≡ k → WouldFind left c k → WouldFind m b l
-would_at m left b c l k m_is b_is l_is would =
-    subst (λ x. WouldFind x b l) (sym m_is) (subst (λ x. WouldFind left x l) (sym b_is) (subst (λ x. WouldFind left c x) (sym l_is) would))
+would_at m left b c l k m_is b_is l_is would = grind arith
 
 -- ## Ends where no creation waits that didn't wait before
 
@@ -164,13 +148,7 @@ map_found {X} key f same g also (p ∷ xs) x q here = by_host (cases_Bool (eqb (
   by_host : (eqb (key p) x ≡ true) ⊎ (eqb (key p) x ≡ false)
       → (port_at (map f xs) x ≡ Some q → (r : X) × (port_at (map g xs) x ≡ Some (g r)) × (q ≡ f r) × (key r ≡ x))
       → (r : X) × (port_at (map g (p ∷ xs)) x ≡ Some (g r)) × (q ≡ f r) × (key r ≡ x)
-  by_host (inl is) later =
-      let found : Some (f p) ≡ Some q = sym (cond-true (eqb (f p).desk.host x) (Some (f p)) (port_at (map f xs) x) (ap (λ k. eqb k x) (same p) ∙ is)) ∙ here in
-      let q_is : q ≡ f p = cc in
-      (p, cond-true (eqb (g p).desk.host x) (Some (g p)) (port_at (map g xs) x) (ap (λ k. eqb k x) (also p) ∙ is), q_is, eqb-true (key p) x is)
-  by_host (inr off) later =
-      let r = later (sym (cond-false (eqb (f p).desk.host x) (Some (f p)) (port_at (map f xs) x) (ap (λ k. eqb k x) (same p) ∙ off)) ∙ here) in
-      (r.0, cond-false (eqb (g p).desk.host x) (Some (g p)) (port_at (map g xs) x) (ap (λ k. eqb k x) (also p) ∙ off) ∙ r.1, r.2, r.3)
+  by_host a later = grind arith
 
 map_id : (ports : List Port) → map (λ (p : Port). p) ports ≡ ports
 map_id [] = refl
@@ -190,8 +168,7 @@ map_new f same none ports x q c here asked =
 
 changed_new : (b : Bool) (f : Port → Port) (p : Port) (c : Creation) → ((c : Creation) → asked_at (f p) ≡ Some c → asked_at p ≡ Some c)
     → asked_at (changed_if b f p) ≡ Some c → asked_at p ≡ Some c
-changed_new true f p c none asked = none c asked
-changed_new false f p c none asked = asked
+changed_new b f p c none asked = grind arith
 
 pub map_two : {X Y Z : Type 0} (f : Y → Z) (g : X → Y) (xs : List X) → map f (map g xs) ≡ map (λ x. f (g x)) xs
 map_two f g [] = refl
@@ -259,10 +236,7 @@ runs_plainly n hosts old before w v r p = record {
 -- ### Entries of links
 
 plain_entry : (h : ℕ) (x : Noted) → AllByRecursion IsPlain (entry_of h x)
-plain_entry h Tick = tt
-plain_entry h (Restarted who) = tt
-plain_entry h (Cut who) = tt
-plain_entry h _ = (tt, tt)
+plain_entry h x = grind arith
 
 pub plain_flat : {X : Type 0} (f : X → List Entry) → ((x : X) → AllByRecursion IsPlain (f x)) → (xs : List X) → AllByRecursion IsPlain (flat_map f xs)
 plain_flat f one [] = tt
@@ -274,12 +248,10 @@ plain_entries h xs = plain_flat (entry_of h) (plain_entry h) xs
 -- ### Ends
 
 changed_host : (b : Bool) (f : Port → Port) (p : Port) → (f p).desk.host ≡ p.desk.host → (changed_if b f p).desk.host ≡ p.desk.host
-changed_host true f p is = is
-changed_host false f p is = refl
+changed_host b f p is = grind arith
 
 changed_waits : (b : Bool) (f : Port → Port) (p : Port) → (WaitsAt p → WaitsAt (f p)) → WaitsAt p → WaitsAt (changed_if b f p)
-changed_waits true f p is w = is w
-changed_waits false f p is w = w
+changed_waits b f p is w = grind arith
 
 pub hosts_map : (f : Port → Port) → ((p : Port) → (f p).desk.host ≡ p.desk.host) → (ports : List Port) → hosts_of_ends (map f ports) ≡ hosts_of_ends ports
 hosts_map f same [] = refl
@@ -326,20 +298,7 @@ plainly_ports w f host waits none =
     plainly_changed w w.core (map f w.ports) refl refl refl (hosts_map f host w.ports) (waits_map f waits w.ports) (map_new f host none w.ports)
 
 pub plainly_noting : (w : Work) (es : List Entry) → AllByRecursion IsPlain es → Plainly w (noting es w)
-plainly_noting w es plain = record {
-  more = es;
-  plain = plain;
-  entries = refl;
-  writes = refl;
-  plan = refl;
-  cut = refl;
-  node = refl;
-  journal = refl;
-  tables = refl;
-  hosts = refl;
-  waits = λ h. h;
-  none_new = same_new w.ports;
-}
+plainly_noting w es plain = grind arith
 
 -- all ends are changed, and this is noted
 pub plainly_map : (w : Work) (f : Port → Port) (es : List Entry) → AllByRecursion IsPlain es → ((p : Port) → (f p).desk.host ≡ p.desk.host)
@@ -350,13 +309,11 @@ plainly_map w f es plain host waits none =
     plainly_then w v (noting es v) (plainly_ports w f host waits none) (plainly_noting v es plain)
 
 plain_option : (core : Core) (t : Turn) (o : Option Port) → AllByRecursion IsPlain (option_map_or (noted_of core t) o [])
-plain_option core t None = tt
-plain_option core t (Some p) = plain_entries p.desk.host (turn_entry (own_side core) p.session p.side t)
+plain_option core t o = grind arith
 
 -- of a message that is fetched nothing is noted
 pub fetch_none : (core : Core) (o : Option Port) → option_map_or (noted_of core FetchMessage) o [] ≡ []
-fetch_none core None = refl
-fetch_none core (Some p) = refl
+fetch_none core o = grind arith
 
 pub plainly_turn : (h : ℕ) (t : Turn) (w : Work) → Plainly w (turn_at h t w)
 plainly_turn h t w =
@@ -402,8 +359,7 @@ module _ (n : ℕ) (hosts : List ℕ) (old : Memory) (before : List Entry) where
     seen = before ++ w.entries
 
     told_then : w.core.node ≡ 0 → IsAllowedBy (tables_in seen w.core.node) c
-    told_then z =
-        subst (λ t. IsAllowedBy t c) (r.tables_are ∙ ap (tables_in seen) (sym r.number)) (fit (sym r.number ∙ z)).0
+    told_then z = grind arith
 
     abbrev start : Reckoning
     start = reckoning_of true (book_in before n) old
@@ -498,8 +454,7 @@ module _ (n : ℕ) (hosts : List ℕ) (old : Memory) (before : List Entry) where
             (body_of c)))
             → WouldFind left (with_command c (book_in seen n)) CutBehindCommand
         either (inl before_it) = finds_less left (book_in seen n) c w.core.tables (count_of w.core.journal) before_it closed_now r.count_is
-            (planned_used r.memory w.core.journal w.core.tables c r.knows r.sorted r.recordable may room (ap (fails_within (length writes))
-            (sym r.plan_is) ∙ fails))
+            (planned_used r.memory w.core.journal w.core.tables c r.knows r.sorted r.recordable may room (grind arith))
         either (inr behind_it) =
             finds_all left (with_command c (book_in seen n)) CutBehindCommand (apply w.core.tables c) (count_of (committed w.core.journal w.core.tables
             (body_of c))) behind_it
@@ -638,9 +593,7 @@ module _ (n : ℕ) (hosts : List ℕ) (old : Memory) (before : List Entry) where
           subst (λ x. GoesOn_or_lost (unless_cut (all_done h deeds) x)) (sym kept.0) (then_on (all_done h deeds) v kept.1 (later kept.1 tt may.1 v.ports
           (same_new v.ports)
           (λ z. none_fit v.core.tables v.ports w.core.command w.core.init deeds may.1)))
-      by_case later (inr gone) =
-          subst (λ x. GoesOn_or_lost (unless_cut (all_done h deeds) x)) (sym gone.0)
-          (subst GoesOn_or_lost (sym (stays_cut (all_done h deeds) lost gone.1.off)) (inr gone.1))
+      by_case later (inr gone) = grind arith
   all_fine h (Sends to m ∷ deeds) w s r allows may first new fit =
       let v : Work = turn_at to (Give m) w in
       let p : Plainly w v = plainly_turn to (Give m) w in

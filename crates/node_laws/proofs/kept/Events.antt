@@ -1,25 +1,24 @@
 -- What a node keeps between its steps and over a boot, and all nodes over whatever happens to the world.
 use Rattle.std.proofs.lemmas.Bool.{eqb-false}
 use Rattle.node_laws.proofs.Words.{AllByRecursion, AllKeep, AreDifferent, AreHosts, AreToldBehind, AtController, AtEnd, Book, Bool, Broken, Comes, Controller}
-use Rattle.node_laws.proofs.Words.{Core, CutOff, Desk, End, Entry, Host, IfRuns, Init, IsAllowedStill, IsHost, IsOf, IsOnOrder, IsPlain, Knows, Last, Link}
-use Rattle.node_laws.proofs.Words.{LinkEvent, List, Loss, MayBeDone, Memory, Message, NoInput, NodeKeeps, NodeWorld, None, NumberedEnd, Option, Orders, Plan}
-use Rattle.node_laws.proofs.Words.{Port, Running, RunsSo, Sends, Site, SiteKeeps, Some, Starts, Step, StillRuns, WaitsAt, WaitsFor, Work, WouldFind, []}
-use Rattle.node_laws.proofs.Words.{activates, after_host, after_planned, all_append, ap, append-nil, append_assoc, ap₂, arith, arrival, asked_at, beginning}
-use Rattle.node_laws.proofs.Words.{begins_with, book_after, book_in, boot_writes, boots, by_coming, by_controller, by_host, by_loss, by_test, cases_Bool}
-use Rattle.node_laws.proofs.Words.{changed_if, close, comes_at, comes_to, commands_in, cond, cond-false, cond-true, cond_both, controller_cut, controller_does}
-use Rattle.node_laws.proofs.Words.{controller_work, count_of, counts, creation_in, end_c, end_h, ending_entries, ending_of, entries_for, eqb, eqb-true}
-use Rattle.node_laws.proofs.Words.{errors_all, exchanged, fails_within, false, first_lost, flat_map, fold, found, frame_lost, frames_noted, happens, host_cut}
-use Rattle.node_laws.proofs.Words.{host_does, host_work, hosts_of_ends, inl, inr, is_command_message, is_some, last_after, last_in, length}
-use Rattle.node_laws.proofs.Words.{link_after_controller, link_to, loses_power_at, map, memory_at, min, near_end_in, new_book, new_memory, node_at}
-use Rattle.node_laws.proofs.Words.{option_map_or, port_at, port_for, reckoning_of, refl, runs_on, sending, site_at, site_lost, steps, subst, sym, true}
-use Rattle.node_laws.proofs.Words.{true≢false, wires_for, with_command, with_error, with_found, with_memory, with_site, work_of, ℕ, ◌&&◌, ◌++◌, ◌+◌, ◌-◌, ◌^◌}
-use Rattle.node_laws.proofs.Words.{◌∙◌, ◌∷◌, ◌≡◌, ◌≤◌, ◌⊎◌}
+use Rattle.node_laws.proofs.Words.{Core, CutOff, Desk, End, Entry, Host, IfRuns, Init, IsHost, IsOf, IsOnOrder, IsPlain, Knows, Last, Link, LinkEvent, List}
+use Rattle.node_laws.proofs.Words.{Loss, MayBeDone, Memory, Message, NoInput, NodeKeeps, NodeWorld, None, NumberedEnd, Option, Orders, Plan, Port, Running}
+use Rattle.node_laws.proofs.Words.{RunsSo, Sends, Site, SiteKeeps, Some, Starts, Step, StillRuns, WaitsAt, WaitsFor, Work, WouldFind, [], activates, after_host}
+use Rattle.node_laws.proofs.Words.{after_planned, all_append, ap, append-nil, append_assoc, ap₂, arith, arrival, asked_at, beginning, begins_with, book_after}
+use Rattle.node_laws.proofs.Words.{book_in, boot_writes, boots, by_coming, by_controller, by_host, by_loss, by_test, cases_Bool, changed_if, close, comes_at}
+use Rattle.node_laws.proofs.Words.{comes_to, commands_in, cond, cond-false, cond-true, cond_both, controller_cut, controller_does, controller_work, count_of}
+use Rattle.node_laws.proofs.Words.{counts, creation_in, end_c, end_h, ending_entries, ending_of, entries_for, eqb, eqb-true, errors_all, exchanged}
+use Rattle.node_laws.proofs.Words.{fails_within, false, first_lost, flat_map, fold, found, frame_lost, frames_noted, happens, host_cut, host_does, host_work}
+use Rattle.node_laws.proofs.Words.{hosts_of_ends, inl, inr, is_command_message, is_some, last_after, last_in, length, link_after_controller, link_to}
+use Rattle.node_laws.proofs.Words.{loses_power_at, map, memory_at, min, near_end_in, new_book, new_memory, node_at, option_map_or, port_at, port_for}
+use Rattle.node_laws.proofs.Words.{reckoning_of, refl, runs_on, sending, site_at, site_lost, steps, subst, sym, true, true≢false, wires_for, with_error}
+use Rattle.node_laws.proofs.Words.{with_found, with_memory, with_site, work_of, ℕ, ◌&&◌, ◌++◌, ◌+◌, ◌-◌, ◌^◌, ◌∙◌, ◌∷◌, ◌≡◌, ◌≤◌, ◌⊎◌}
 use Rattle.link_laws.specs.entries.Entries.{End as LinkSide}
 use Rattle.node_laws.specs.kept.Worlds.{IsStranger}
 use Rattle.node_laws.proofs.kept.Doing.{GoesOn_or_lost, NoneNew, all_fine, book_more, closed_book, finds_all, last_more, map_found, map_new, map_two, may_still}
 use Rattle.node_laws.proofs.kept.Doing.{plain_book, plain_entries, plain_flat, plain_last, plain_own, plain_told, same_new, told_append}
 use Rattle.node_laws.proofs.kept.Booting.{boot_lost, boot_runs, boot_told, cut_keeps}
-use Rattle.node_laws.proofs.kept.Reckoned.{idle_make, other_test, plain_idles}
+use Rattle.node_laws.proofs.kept.Reckoned.{idle_make, plain_idles}
 use Rattle.node_laws.proofs.kept.Stepping.{steps_fine}
 use Rattle.trace_model.specs.declared.entry.Entry.TheVariants as entry
 
@@ -49,8 +48,7 @@ hosts_same g same [] = refl
 hosts_same g same (s ∷ sites) = ap₂ (λ x l. x ∷ l) (same s) (hosts_same g same sites)
 
 pub changed_host : (b : Bool) (f : Site → Site) (s : Site) → (f s).host ≡ s.host → (changed_if b f s).host ≡ s.host
-changed_host true f s same = same
-changed_host false f s same = refl
+changed_host b f s same = grind arith
 
 pub hosts_with : (h : ℕ) (f : Site → Site) → ((s : Site) → (f s).host ≡ s.host) → (sites : List Site) → hosts_in (with_site h f sites) ≡ hosts_in sites
 hosts_with h f same sites = hosts_same (λ (s : Site). changed_if (eqb s.host h) f s) (λ s. changed_host (eqb s.host h) f s (same s)) sites
@@ -92,8 +90,7 @@ pub with_site_twice : (h : ℕ) (f g : Site → Site) → ((s : Site) → (f s).
 with_site_twice h f g same [] = refl
 with_site_twice h f g same (s ∷ sites) = ap₂ (λ x l. x ∷ l) (by_host (eqb s.host h) refl) (with_site_twice h f g same sites) where
   by_host : (b : Bool) → eqb s.host h ≡ b → changed_if (eqb (changed_if b f s).host h) g (changed_if b f s) ≡ changed_if b (λ s. g (f s)) s
-  by_host true is = ap (λ k. changed_if (eqb k h) g (f s)) (same s) ∙ ap (λ b. changed_if b g (f s)) is
-  by_host false is = ap (λ b. changed_if b g s) is
+  by_host b is = grind arith
 
 -- ## What a node keeps between its steps
 
@@ -111,16 +108,10 @@ pub plain_same : (n : ℕ) (t es : List Entry) → AllByRecursion IsPlain es →
 plain_same n t es plain = record { book = plain_book t es n plain; last = plain_last t es n plain }
 
 other_book : (m n : ℕ) (b : Book) (e : Entry) → (m ≡ n → ⊥) → IsOf m e → book_after n b e ≡ b
-other_book m n b (entry.Command k c) other is = ap (λ x. cond x (with_command c b) b) (other_test m n k is other)
-other_book m n b (entry.Booted k c) other is = ap (λ x. cond x (with_found c b) b) (other_test m n k is other)
-other_book m n b _ other is = refl
+other_book m n b e other is = grind arith
 
 other_last : (m n : ℕ) (l : Last) (e : Entry) → (m ≡ n → ⊥) → IsOf m e → last_after n l e ≡ l
-other_last m n l (entry.Command k c) other is = rw (other_test m n k is other) refl
-other_last m n l (entry.AnyOk k c) other is = rw (other_test m n k is other) refl
-other_last m n l (entry.Booted k c) other is = rw (other_test m n k is other) refl
-other_last m n l (entry.Cut k) other is = rw (other_test m n k is other) refl
-other_last m n l _ other is = refl
+other_last m n l e other is = grind arith
 
 other_book_fold : (m n : ℕ) (b : Book) (es : List Entry) → (m ≡ n → ⊥) → AllByRecursion (IsOf m) es → fold (book_after n) b es ≡ b
 other_book_fold m n b [] other all = refl
@@ -145,18 +136,7 @@ keeps_same n hosts t u m node same k = record {
 } where
   if_runs : (o : Option Running) → IfRuns n hosts m.content t o → IfRuns n hosts m.content u o
   if_runs None r = tt
-  if_runs (Some x) r = record {
-    number = r.number;
-    hosts_are = r.hosts_are;
-    knows = r.knows;
-    sorted = r.sorted;
-    recordable = r.recordable;
-    tables_are = r.tables_are ∙ ap (λ (b : Book). b.tables) (sym same.book);
-    count_is = r.count_is ∙ ap (λ (b : Book). min (length b.commands) (2 ^ 32 - 1)) (sym same.book);
-    on = r.on;
-    allowed = r.allowed;
-    waits = r.waits;
-  }
+  if_runs (Some x) r = grind arith
 
 -- ### Before and after a step
 
@@ -236,16 +216,14 @@ keeps_ended n hosts t m k (inr lost) = record { would = lost.would; runs = rw lo
 
 pub told_ended : (n : ℕ) (hosts : List ℕ) (t : List Entry) (m : Memory) (k : Work) → GoesOn_or_lost n hosts m t k
     → AreToldBehind t k.entries × AllByRecursion (IsOf n) k.entries
-told_ended n hosts t m k (inl (r, on)) = (r.told, r.own)
-told_ended n hosts t m k (inr lost) = (lost.told, lost.own)
+told_ended n hosts t m k a = grind arith
 
 -- ## What all nodes keep over an event
 
 -- ### Plain entries
 
 plain_option : {X : Type 0} (f : X → List Entry) (o : Option X) → ((x : X) → AllByRecursion IsPlain (f x)) → AllByRecursion IsPlain (option_map_or f o [])
-plain_option f None one = tt
-plain_option f (Some x) one = one x
+plain_option f o one = grind arith
 
 pub plain_frames : (who : LinkSide) (h : ℕ) (l : Link) (w : Work) → AllByRecursion IsPlain (frames_noted who h l w)
 plain_frames who h l w =
@@ -379,10 +357,7 @@ module _ (hosts : List ℕ) (are : AreHosts hosts) where
 -- ## What all nodes keep over what happens to the world
 
 pub no_order : (command order : Option (List ℕ)) (init : Option Init) → is_some command ≡ false → IsOnOrder command init → IsOnOrder order init
-no_order None None None off on = tt
-no_order None (Some o) None off on = tt
-no_order None order (Some i) off on = absurd on
-no_order (Some c) order init off on = absurd (true≢false off)
+no_order command order init off on = grind arith
 
 -- ends count one more error
 pub error_hosts : (h : ℕ) (desks : List Desk) → map (λ (d : Desk). d.host) (with_error h desks) ≡ map (λ (d : Desk). d.host) desks
@@ -499,8 +474,7 @@ module _ (hosts : List ℕ) (are : AreHosts hosts) where
       (cond_both (eqb m.0 1 && is_command_message m.1) (Orders m.1 ∷ []) (Sends h m ∷ []) (MayBeDone (Some work.core.journal) work.core.command work.core.init)
       (λ is. no_order work.core.command (Some m.1) work.core.init (ap (λ (c : Core). is_some c.command) same ∙ free x r here running is) on_now) (λ _. on_now))
       work.ports (same_new work.ports)
-      (λ z. cond_both (eqb m.0 1 && is_command_message m.1) (Orders m.1 ∷ []) (Sends h m ∷ []) (AllByRecursion
-      (IsAllowedStill work.core.tables work.ports)) (λ _. (tt, tt)) (λ _. (tt, tt))))
+      (λ z. grind arith))
 
   pub inits_goes : (t : List Entry) (w : NodeWorld) (h : ℕ) (identity : List ℕ) (pipes : List (List ℕ)) → AllKeep hosts t w
       → GoesBy t (host_does w h NoInput (begins_with h (beginning identity pipes)))
@@ -530,8 +504,7 @@ module _ (hosts : List ℕ) (are : AreHosts hosts) where
         far s = record (site_lost e why s) { node = counts why e.link s.node }
 
         change : (f : Site → Site) → ((s : Site) → (f s).host ≡ s.host) → (b : Bool) (s : Site) → (changed_if b f s).host ≡ s.host
-        change f same true s = same s
-        change f same false s = refl
+        change f same b s = grind arith
 
         stays : (f : Site → Site) → ((s : Site) → SiteKeeps t s → SiteKeeps t (f s)) → (b : Bool) (s : Site) → SiteKeeps t s → SiteKeeps t (changed_if b f s)
         stays f keeps true s k = keeps s k
@@ -557,10 +530,7 @@ module _ (hosts : List ℕ) (are : AreHosts hosts) where
   -- a node is the controller, a host, or neither
   by_node : (w : NodeWorld) (n : ℕ) (P : Type 0) → (n ≡ 0 → P) → ((x : Site) → (eqb n 0 ≡ false) → site_at w.sites n ≡ Some x → P) → ((eqb n 0 ≡ false)
       → site_at w.sites n ≡ None → P) → P
-  by_node w n P near far none = by_test (eqb n 0) (λ is. near (eqb-true n 0 is)) (λ off. by_site off (site_at w.sites n) refl) where
-    by_site : (eqb n 0 ≡ false) → (o : Option Site) → site_at w.sites n ≡ o → P
-    by_site off None e = none off e
-    by_site off (Some x) e = far x off e
+  by_node w n P near far none = grind arith
 
   pub cut_goes : (t : List Entry) (w : NodeWorld) (n : ℕ) (r : Running) → AllKeep hosts t w → node_at w n ≡ Some r
       → GoesBy t (loses_power_at n w, entry.Cut n ∷ [])
@@ -607,8 +577,7 @@ module _ (hosts : List ℕ) (are : AreHosts hosts) where
       (λ x off here.
       let known = site_found (SiteKeeps t) IsHost w.sites n x all.sites (subst (AllByRecursion IsHost) (sym all.hosts_are) are.all) here in
       rw off (rw here (host_goes hosts are t w [] n x (λ (s : Site). record s { memory = record x.memory { plan = Some plan } }) all here
-      (subst (λ l. NodeKeeps x.host (x.host ∷ []) l (record x.memory { plan = Some plan }) x.node) (sym (append-nil t)) (armed x.host
-      (x.host ∷ []) t x.memory plan x.node known.0))
+      (subst (λ l. NodeKeeps x.host (x.host ∷ []) l (record x.memory { plan = Some plan }) x.node) (sym (append-nil t)) (grind arith))
       tt tt (λ s. refl))))
       (λ off here.
       rw off (subst (λ l. Goes hosts are t (record w { sites = l }) []) (sym (with_none n (λ (s : Site). record s {

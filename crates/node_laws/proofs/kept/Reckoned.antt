@@ -1,19 +1,19 @@
 -- A commit, whole or cut, over a memory that holds what a node knows, and what is read of it then.
 use Rattle.std.proofs.lemmas.List.FromFn.{length-map-range_with_len}
 use Rattle.node_laws.proofs.Words.{AllByRecursion, AreTables, Bool, BootFinds, Command, EachIsAsRead, Entry, FindsRoom, HciTables, IsAllOrNothing, IsAsRead}
-use Rattle.node_laws.proofs.Words.{IsCommand, IsOf, IsPlain, IsRecordable, IsSome, IsSound, Journal, Knows, List, MakeOf, Memory, None, Option, PipeRow, Plan}
-use Rattle.node_laws.proofs.Words.{Reckoning, Side, Some, State, Write, [], after_planned, after_writes, all_so, and_parts, ap, append_writes, apply, arith}
-use Rattle.node_laws.proofs.Words.{body_of, book_after, cases_Bool, close, commit_writes, committed, compact_writes, cond, cond_both, count_of, current, eq-eqb}
-use Rattle.node_laws.proofs.Words.{eqb, fails_within, false, filter, fold, fold-append, get_or, in_use_is, inl, inr, is_allowed, is_cut_of, is_kept, is_next}
-use Rattle.node_laws.proofs.Words.{journal, leb-true, left, length, ltb-true, map, memory_after, min, nat_lt, ne_eqb, not, not-false, not-true, one_more}
-use Rattle.node_laws.proofs.Words.{opens_gate, option_map, other, overwritten, pid_of, plan_after, plan_behind, plan_on, reckoned, record_fits, refl}
-use Rattle.node_laws.proofs.Words.{room_writes, snapshot_bodies, state_of, subst, suc, sym, torn_bytes, true, true≢false, with_command, with_found, with_room}
-use Rattle.node_laws.proofs.Words.{with_written, writes_of, zero, ℕ, ◌%◌, ◌&&◌, ◌*◌, ◌++◌, ◌+◌, ◌-◌, ◌<◌, ◌^◌, ◌∙◌, ◌∷◌, ◌≡◌, ◌≤◌, ◌⊎◌}
-use Rattle.hci_store.proofs.Committed.{all_recordable, holds_more, holds_snapshot, are_bodies, holds_still, is_body, journal_left, room_count, short_value}
+use Rattle.node_laws.proofs.Words.{IsCommand, IsOf, IsPlain, IsRecordable, IsSome, Journal, Knows, List, MakeOf, Memory, None, Option, PipeRow, Plan, Reckoning}
+use Rattle.node_laws.proofs.Words.{Side, Some, State, Write, [], after_planned, after_writes, all_so, and_parts, ap, append_writes, apply, arith, body_of}
+use Rattle.node_laws.proofs.Words.{book_after, cases_Bool, close, commit_writes, committed, compact_writes, cond, count_of, current, eq-eqb, eqb, fails_within}
+use Rattle.node_laws.proofs.Words.{false, filter, fold, fold-append, get_or, in_use_is, inl, inr, is_allowed, is_cut_of, is_kept, is_next, journal, leb-true}
+use Rattle.node_laws.proofs.Words.{left, length, ltb-true, map, memory_after, min, nat_lt, ne_eqb, not, not-false, not-true, option_map, other, overwritten}
+use Rattle.node_laws.proofs.Words.{pid_of, plan_behind, plan_on, reckoned, record_fits, refl, room_writes, snapshot_bodies, state_of, subst, suc, sym}
+use Rattle.node_laws.proofs.Words.{torn_bytes, true, true≢false, with_room, with_written, writes_of, zero, ℕ, ◌%◌, ◌*◌, ◌++◌, ◌+◌, ◌-◌, ◌<◌, ◌^◌, ◌∙◌, ◌∷◌, ◌≡◌}
+use Rattle.node_laws.proofs.Words.{◌≤◌, ◌⊎◌}
+use Rattle.hci_store.proofs.Committed.{all_recordable, holds_more, holds_snapshot, are_bodies, is_body, journal_left, room_count, short_value}
 use Rattle.hci_store.specs.Snapshots.{create_command, open_command, set_command, snapshot_of, static_command, sync_command}
 use Rattle.hci_store.specs.Stored.{HoldsTables}
 use Rattle.hci_tables.specs.Tables.{static_place, sync_host}
-use Rattle.journal_laws.proofs.Opening.{length-after, length-cut, append_count, compact_count, same_count}
+use Rattle.journal_laws.proofs.Opening.{length-after, length-cut, append_count}
 use Rattle.journal_laws.proofs.Planned.{made_in_part, made_whole, planned_answer}
 use Rattle.journal_laws.specs.Operations.{CanCompact, HasRoomForBody, appended, compacted}
 use Rattle.journal_laws.specs.Records.{used}
@@ -31,23 +31,18 @@ use Rattle.trace_model.specs.declared.entry.Entry.TheVariants as entry
 -- ## What planned writes leave of a memory
 
 pub content_on : (m : Memory) (at : ℕ) (bytes : List ℕ) → is_next m.plan ≡ false → (memory_after m at bytes).content ≡ overwritten m.content at bytes
-content_on m at bytes later =
-    ap (λ b. (cond b (record m { content = overwritten m.content at (torn_bytes m.plan (length bytes)); plan = None; faults = one_more m.faults })
-    (record m { content = overwritten m.content at bytes; plan = plan_after m.plan })).content) later
+content_on m at bytes later = grind arith
 
 pub content_torn : (m : Memory) (at : ℕ) (bytes : List ℕ) → is_next m.plan ≡ true
     → (memory_after m at bytes).content ≡ overwritten m.content at (torn_bytes m.plan (length bytes))
-content_torn m at bytes next =
-    ap (λ b. (cond b (record m { content = overwritten m.content at (torn_bytes m.plan (length bytes)); plan = None; faults = one_more m.faults })
-    (record m { content = overwritten m.content at bytes; plan = plan_after m.plan })).content) next
+content_torn m at bytes next = grind arith
 
 length-torn : (plan : Option Plan) (n : ℕ) → is_next plan ≡ true → length (torn_bytes plan n) ≡ n
 length-torn None n next = absurd (true≢false (sym next))
 length-torn (Some p) n next = length-map-range_with_len (λ i. get_or p.fill (i % length p.fill) 0) 0 n
 
 told : (old : Memory) (at : ℕ) (bytes : List ℕ) (ok : Bool) (new : Memory) → WritesAsPlanned old at bytes ok new → IsWritten ok old.content new.content at bytes
-told old at bytes true new step =
-    ap (λ (m : Memory). m.content) step.memory ∙ content_on old at bytes (not-true (is_next old.plan) (sym step.answer))
+told old at bytes true new step = grind arith
 told old at bytes false new step =
     let next : is_next old.plan ≡ true = not-false (is_next old.plan) (sym step.answer) in
     (torn_bytes old.plan (length bytes), length-torn old.plan (length bytes) next, ap (λ (m : Memory). m.content) step.memory ∙ content_torn old at bytes next)
@@ -71,15 +66,7 @@ are_made (w ∷ planned) m = by_next (cases_Bool (is_next m.plan)) (are_made pla
   here b is = ap (λ b. cond b (memory_after m w.at w.bytes) (after_planned planned (memory_after m w.at w.bytes))) is
 
   by_next : (is_next m.plan ≡ true) ⊎ (is_next m.plan ≡ false) → Made planned (memory_after m w.at w.bytes) → Made (w ∷ planned) m
-  by_next (inl next) later = (false, inl (refl, record { answer = sym (ap not next); memory = here true next }))
-  by_next (inr on) later = (
-    later.0,
-    inr (
-      memory_after m w.at w.bytes,
-      record { answer = sym (ap not on); memory = refl },
-      subst (λ n. AreMade WritesAsPlanned planned (memory_after m w.at w.bytes) later.0 n) (sym (here false on)) later.1,
-    ),
-  )
+  by_next a later = grind arith
 
 -- where none of them fails, all stand in the memory
 pub planned_whole : (planned : List Write) (m : Memory) → fails_within (length planned) m.plan ≡ false
@@ -171,8 +158,7 @@ opened_taken (x ∷ xs) = by_state x.opened (opened_taken xs) where
   rest = filter (λ row. row.opened) xs
 
   by_state : (b : Bool) → taken (map open_command rest) ≤ 8 * length xs → taken (map open_command (cond b (x ∷ rest) rest)) ≤ 8 * length (x ∷ xs)
-  by_state true few = omega arith
-  by_state false few = omega arith
+  by_state b few = grind arith
 
 statics_taken : (xs : List (ℕ × ℕ)) → taken (map static_command xs) ≤ 8 * length xs
 statics_taken [] = omega arith
@@ -206,42 +192,15 @@ snapshot_fits t may are =
 -- a memory that says what another one says
 pub finds_still : (content new : List ℕ) (t : HciTables) (many : ℕ) → BootFinds content t many → length new ≡ length content → journal new ≡ journal content
     → BootFinds new t many
-finds_still content new t many f size same = record {
-  size = omega (arith, size, f.size);
-  version = ap (λ (j : Journal). j.head.version) same ∙ f.version;
-  enough = subst (λ (j : Journal). j.head.snapshot ≤ j.head.base + length j.found.bodies) (sym same) f.enough;
-  keeps = record {
-    sound = subst IsSound (sym same) f.keeps.sound;
-    holds = holds_still content new t f.keeps.holds (ap (λ (j : Journal). j.found.bodies) same);
-    count_is = same_count new content same ∙ f.keeps.count_is;
-  };
-}
+finds_still content new t many f size same = grind arith
 
 -- only closed tables count
 pub finds_closed : (content : List ℕ) (t u : HciTables) (many : ℕ) → BootFinds content t many → close t ≡ close u → BootFinds content u many
-finds_closed content t u many f same = record {
-  size = f.size;
-  version = f.version;
-  enough = f.enough;
-  keeps = record {
-    sound = f.keeps.sound;
-    holds = record { commands = f.keeps.holds.commands; tables_are = f.keeps.holds.tables_are ∙ same };
-    count_is = f.keeps.count_is;
-  };
-}
+finds_closed content t u many f same = grind arith
 
 pub knows_from : (content : List ℕ) (s : State) (t : HciTables) → Says content s → IsSome s.in_use → s.version ≡ 2 → s.snapshot ≤ s.base + s.many
     → HoldsTables content t → Knows content s t
-knows_from content s t says some version enough holds = record {
-  state_is = says.state_is;
-  in_use = some;
-  finds = record {
-    size = says.size;
-    version = ap (λ (x : State). x.version) says.state_is ∙ version;
-    enough = subst (λ (x : State). x.snapshot ≤ x.base + x.many) (sym says.state_is) enough;
-    keeps = record { sound = says.sound; holds = holds; count_is = ap count_of says.state_is };
-  };
-}
+knows_from content s t says some version enough holds = grind arith
 
 pub after-append : (first later : List Write) (c : List ℕ) → after_writes (first ++ later) c ≡ after_writes later (after_writes first c)
 after-append [] later c = refl
@@ -254,8 +213,7 @@ cut-append zero (w ∷ first) later c left cut = inl cut
 cut-append (suc k) (w ∷ first) later c left cut = cut-append k first later (overwritten c w.at w.bytes) left cut
 
 pub some_other : (o : Option Side) → IsSome o → IsSome (option_map other o)
-some_other None some = some
-some_other (Some side) some = refl
+some_other o some = grind arith
 
 -- a cut in writes that are all or nothing leaves this
 pub record IsLeftBetween (writes : List Write) (content left : List ℕ) : Type 0 where
@@ -350,8 +308,7 @@ module _ (content : List ℕ) (s : State) (t : HciTables) (k : Knows content s t
         (compact_between j left cut) k.finds compact_knows.finds)
       where
         either : BootFinds left t (count_of s) ⊎ BootFinds left t (count_of (compacted s (snapshot_bodies t))) → BootFinds left t (count_of s)
-        either (inl before) = before
-        either (inr later) = subst (λ n. BootFinds left t n) (compact_count s (snapshot_bodies t)) later
+        either a = grind arith
 
     compact_used : (j : ℕ) (left : List ℕ) → IsCut j (compact_writes s (snapshot_bodies t)) content left → IsSome (current left)
     compact_used j left cut =
@@ -449,14 +406,7 @@ planned_used m s t c k are may command room fails =
 -- ### Books
 
 one_book : (n : ℕ) (r : Reckoning) (e : Entry) → (reckoned n r e).book ≡ book_after n r.book e
-one_book n r (entry.Command m c) =
-    cond_both (eqb m n) (with_written c r) r (λ (x : Reckoning). x.book ≡ cond (eqb m n) (with_command c r.book) r.book)
-    (λ is. rw is refl) (λ other. rw other refl)
-one_book n r (entry.Booted m k) =
-    cond_both (eqb m n) (record r { runs = true; book = with_found k r.book; lost = false }) r
-    (λ (x : Reckoning). x.book ≡ cond (eqb m n) (with_found k r.book) r.book) (λ is. rw is refl) (λ other. rw other refl)
-one_book n r (entry.Cut m) = cond_both (eqb m n) (record r { runs = false; due = false }) r (λ (x : Reckoning). x.book ≡ r.book) (λ _. refl) (λ _. refl)
-one_book n r _ = refl
+one_book n r e = grind arith
 
 pub fold_book : (n : ℕ) (r : Reckoning) (es : List Entry) → (fold (reckoned n) r es).book ≡ fold (book_after n) r.book es
 fold_book n r [] = refl
@@ -471,11 +421,7 @@ pub record IsNothingFor (n : ℕ) (e : Entry) : Type 0 where
   pub as_read : (r : Reckoning) → IsAsRead n r e
 
 plain_nothing : (n : ℕ) (e : Entry) → IsPlain e → IsNothingFor n e
-plain_nothing n (entry.Command m c) is = absurd is
-plain_nothing n (entry.Booted m k) is = absurd is
-plain_nothing n (entry.Cut m) is = absurd is
-plain_nothing n (entry.AnyOk m k) is = absurd is
-plain_nothing n _ is = record { same = λ r. refl; uncut = refl; as_read = λ r. tt }
+plain_nothing n e is = grind arith
 
 pub other_test : (m n k : ℕ) → k ≡ m → (m ≡ n → ⊥) → eqb k n ≡ false
 other_test m n k is other = ne_eqb k n (λ same. other (sym is ∙ same))
@@ -483,18 +429,8 @@ other_test m n k is other = ne_eqb k n (λ same. other (sym is ∙ same))
 other_nothing : (m n : ℕ) (e : Entry) → (m ≡ n → ⊥) → IsOf m e → IsNothingFor n e
 other_nothing m n (entry.Command k c) other is =
     record { same = λ r. ap (λ b. cond b (with_written c r) r) (other_test m n k is other); uncut = refl; as_read = λ r same. absurd (other (sym is ∙ same)) }
-other_nothing m n (entry.Booted k j) other is =
-    record {
-      same = λ r. ap (λ b. cond b (record r { runs = true; book = with_found j r.book; lost = false }) r) (other_test m n k is other);
-      uncut = refl;
-      as_read = λ r same. absurd (other (sym is ∙ same));
-    }
-other_nothing m n (entry.Cut k) other is =
-    record {
-      same = λ r. ap (λ b. cond b (record r { runs = false; due = false }) r) (other_test m n k is other);
-      uncut = other_test m n k is other;
-      as_read = λ r. tt;
-    }
+other_nothing m n (entry.Booted k j) other is = grind arith
+other_nothing m n (entry.Cut k) other is = grind arith
 other_nothing m n (entry.AnyOk k j) other is = record { same = λ r. refl; uncut = refl; as_read = λ r same. absurd (other (sym is ∙ same)) }
 other_nothing m n _ other is = record { same = λ r. refl; uncut = refl; as_read = λ r. tt }
 
@@ -552,23 +488,14 @@ make_idle n r xs ys m a all = make_more n r xs ys m m a (idle_make n (fold (reck
 
 -- an answer that counts
 pub make_ok : (n : ℕ) (r : Reckoning) (xs : List Entry) (k j : ℕ) (m : Memory) → MakeOf n r xs m → MakeOf n r (xs ++ entry.AnyOk k j ∷ []) m
-make_ok n r xs k j m a = make_more n r xs (entry.AnyOk k j ∷ []) m m a (record {
-  on = a.on;
-  memory_is = a.memory_is;
-  none_due = a.none_due;
-  none_lost = a.none_lost;
-  each = (sym a.none_due, (λ _. a.on), tt);
-})
+make_ok n r xs k j m a = make_more n r xs (entry.AnyOk k j ∷ []) m m a ((grind arith))
 
 -- ### A command
 
 -- what a command writes, over what a node has
 pub writes_are : (r : Reckoning) (c : Command) (m : Memory) (s : State) (t : HciTables) → r.memory ≡ m → state_of m.content ≡ s → r.book.tables ≡ t
     → writes_of c r ≡ commit_writes s t (body_of c)
-writes_are r c m s t memory state tables =
-    ap (λ (x : Memory). commit_writes (state_of x.content) r.book.tables (body_of c)) memory
-    ∙ ap (λ x. commit_writes x r.book.tables (body_of c)) state
-    ∙ ap (λ x. commit_writes s x (body_of c)) tables
+writes_are r c m s t memory state tables = grind arith
 
 pub reckoned_command : (n k : ℕ) (r : Reckoning) (c : Command) → k ≡ n → reckoned n r (entry.Command k c) ≡ with_written c r
 reckoned_command n k r c same = ap (λ b. cond b (with_written c r) r) (eq-eqb k n same)
@@ -588,14 +515,5 @@ pub command_makes : (n k : ℕ) (r : Reckoning) (c : Command) (m : Memory) (s : 
 command_makes n k r c m s t same so through =
     let now = reckoned_command n k r c same in
     let writes = writes_are r c m s t so.memory so.state so.tables in
-    let passes : fails_within (length (writes_of c r)) r.memory.plan ≡ false =
-    ap (λ w. fails_within (length w) r.memory.plan) writes ∙ ap (λ (x : Memory). fails_within (length (commit_writes s t (body_of c))) x.plan) so.memory
-    ∙ through in
-    record {
-      on = ap (λ (x : Reckoning). x.runs) now ∙ so.on;
-      memory_is = ap (λ (x : Reckoning). x.memory) now ∙ ap (λ w. after_planned w r.memory) writes
-          ∙ ap (after_planned (commit_writes s t (body_of c))) so.memory;
-      none_due = ap (λ (x : Reckoning). x.due) now ∙ passes;
-      none_lost = ap (λ (x : Reckoning). x.lost) now ∙ ap (λ b. b && not (opens_gate (length (writes_of c r)) r.memory.plan)) passes;
-      each = (sym so.none, (λ _. so.on), tt);
-    }
+    let passes : fails_within (length (writes_of c r)) r.memory.plan ≡ false = grind arith in
+    grind arith

@@ -1,29 +1,26 @@
 -- What a node does with a message may be done, and what it keeps in its turns and in a step.
 use Rattle.std.proofs.Common.{add-one}
-use Rattle.node_laws.proofs.Words.{About, ActOut, ActTick, AllByRecursion, Answer, AreDifferent, AreHosts, AreTables, Ask, AtEnd, Awaiting, Bare, Bool, Clear}
-use Rattle.node_laws.proofs.Words.{Clf, Command, Commit, Commits, Core, Create, Creation, Decision, Deed, Delete, Ends, Entry, FetchMessage, Forgotten, Give}
-use Rattle.node_laws.proofs.Words.{HciTables, Hold, Inactive, Init, InitSame, IsAllowedStill, IsCommand, IsHost, IsNodeNumber, IsOnOrder, IsPlain}
-use Rattle.node_laws.proofs.Words.{IsRecordableDecision, IsSome, IsTrue, LinkInput, LinkView, List, MayBeDone, MayWait, Memory, Message, NodeInput, None}
-use Rattle.node_laws.proofs.Words.{Notice, Option, Phase, PipeRow, Port, Release, Releases, Removed, Reset, Role, Sends, Set, SetOpened, Some, State, StillRuns}
-use Rattle.node_laws.proofs.Words.{Sync, Tells, TimePasses, Uicc, Waits, WaitsAt, WaitsFor, Work, [], accepts, act_answer, act_out, after_input, after_sessions}
-use Rattle.node_laws.proofs.Words.{agreed, all_append, all_come, all_done, all_false, all_owed, all_owed_hold, and_from, and_parts, answer_of, ap, append-nil}
-use Rattle.node_laws.proofs.Words.{apply, arith, asked_at, body_in, by_option, by_test, cases_Bool, cases_eq, commit_deeds, cond, cond_both, controller_deeds}
-use Rattle.node_laws.proofs.Words.{controller_holds, creation_in, decided, decided_holds, decision_deeds, deeds_of, end_of_node, end_view, eq-eqb, eqb}
-use Rattle.node_laws.proofs.Words.{eqb-true, false, far_end, far_end_of, finds_room, flat_map, forgets, forgotten, forgotten_hold, goes_through_ends, handles}
-use Rattle.node_laws.proofs.Words.{has, has_come, have_turns, holds_back, host_deeds, host_holds, hosts_of_ends, hosts_where, init_agreed, init_deeds, inl}
-use Rattle.node_laws.proofs.Words.{input_at, inr, is_allowed, is_command, is_dynamic, is_forgotten, is_held, is_host, is_kept, is_kept_sync, is_late, is_none}
-use Rattle.node_laws.proofs.Words.{is_open, is_over, is_same, is_some, is_welcome, lack, le-leb, learned, learned_holds, learns, learns_holds, leb, lets_go}
-use Rattle.node_laws.proofs.Words.{link_deeds, link_served, list_any, lt-ltb, ltb, map, ne_eqb, needs, not, not-false, noting, option_and_then, option_map_or}
-use Rattle.node_laws.proofs.Words.{ordered_deeds, ordered_holds, orders_of, out_ticked, own_side, own_view, param_in, passes, pid_of, pipe_at, pipe_named_in}
-use Rattle.node_laws.proofs.Words.{port_at, refl, report, reset_late, slice_get, steps, subst, suc, sym, synced, tests_of_pipe, tests_to_delete}
-use Rattle.node_laws.proofs.Words.{tests_to_set_it, times_out, told, told_at, told_late, true, true≢false, turn_at, unless_cut, value_in, view_for, view_of}
-use Rattle.node_laws.proofs.Words.{whole_acked, with_desk, with_older, without_notice, zero, ℕ, ◌&&◌, ◌++◌, ◌+◌, ◌<◌, ◌||◌, ◌∙◌, ◌∷◌, ◌≡◌, ◌≤◌, ◌⊎◌}
+use Rattle.node_laws.proofs.Words.{ActTick, AllByRecursion, Answer, AreDifferent, AreHosts, AreTables, Ask, AtEnd, Bool, Clear, Command, Commit, Commits, Core}
+use Rattle.node_laws.proofs.Words.{Create, Creation, Decision, Deed, Delete, Entry, FetchMessage, Give, HciTables, Hold, Init, IsAllowedStill, IsCommand}
+use Rattle.node_laws.proofs.Words.{IsHost, IsNodeNumber, IsOnOrder, IsPlain, IsRecordableDecision, IsSome, IsTrue, LinkInput, LinkView, List, MayBeDone}
+use Rattle.node_laws.proofs.Words.{MayWait, Memory, Message, NodeInput, None, Notice, Option, Phase, PipeRow, Port, Release, Releases, Reset, Role, Sends}
+use Rattle.node_laws.proofs.Words.{SetOpened, Some, State, StillRuns, Sync, Tells, TimePasses, WaitsAt, WaitsFor, Work, [], accepts, act_answer, act_out}
+use Rattle.node_laws.proofs.Words.{after_input, after_sessions, agreed, all_append, all_come, all_done, all_false, all_owed, all_owed_hold, and_from, answer_of}
+use Rattle.node_laws.proofs.Words.{ap, append-nil, apply, arith, asked_at, body_in, by_option, by_test, cases_Bool, commit_deeds, cond, cond_both}
+use Rattle.node_laws.proofs.Words.{controller_deeds, controller_holds, creation_in, decided, decided_holds, decision_deeds, deeds_of, end_of_node, end_view}
+use Rattle.node_laws.proofs.Words.{eq-eqb, eqb, eqb-true, false, far_end, far_end_of, finds_room, flat_map, forgets, forgotten, forgotten_hold}
+use Rattle.node_laws.proofs.Words.{goes_through_ends, handles, has, has_come, have_turns, holds_back, host_deeds, host_holds, hosts_of_ends, hosts_where}
+use Rattle.node_laws.proofs.Words.{init_agreed, init_deeds, inl, input_at, inr, is_allowed, is_command, is_forgotten, is_held, is_host, is_kept, is_kept_sync}
+use Rattle.node_laws.proofs.Words.{is_late, is_none, is_open, is_over, is_some, is_welcome, lack, le-leb, learned, learned_holds, leb, lets_go, link_deeds}
+use Rattle.node_laws.proofs.Words.{link_served, list_any, lt-ltb, ltb, map, needs, not, not-false, noting, option_and_then, option_map_or, ordered_deeds}
+use Rattle.node_laws.proofs.Words.{ordered_holds, orders_of, out_ticked, own_side, own_view, param_in, passes, pid_of, pipe_at, pipe_named_in, port_at, refl}
+use Rattle.node_laws.proofs.Words.{report, reset_late, slice_get, steps, subst, suc, sym, synced, tests_of_pipe, tests_to_delete, tests_to_set_it, times_out}
+use Rattle.node_laws.proofs.Words.{told, told_at, told_late, true, true≢false, turn_at, unless_cut, value_in, view_for, view_of, whole_acked, with_desk}
+use Rattle.node_laws.proofs.Words.{with_older, without_notice, zero, ℕ, ◌&&◌, ◌++◌, ◌+◌, ◌<◌, ◌||◌, ◌∙◌, ◌∷◌, ◌≡◌, ◌≤◌, ◌⊎◌}
 use Rattle.gate_admin.proofs.CreationLemmas.{AllFalse, creation-recordable}
 use Rattle.gate_answers.specs.Answers.{is_read_only, is_unknown_access}
-use Rattle.node_machine.specs.HostReplies.{is_open_gate}
 use Rattle.registry.specs.Access.{access_of}
 use Rattle.sorted_rows.proofs.RowLemmas.{row_of-within}
-use Rattle.swp_act.specs.declared.Phase.TheVariants.{Active}
 use Rattle.swp_base.specs.declared.control_frames.Act.{Act}
 use Rattle.node_laws.proofs.kept.Doing.{GoesOn_or_lost, Plainly, all_fine, plain_entries, plain_flat, plainly_core, plainly_desk, plainly_map, plainly_noting}
 use Rattle.node_laws.proofs.kept.Doing.{plainly_ports, plainly_same, plainly_then, plainly_turn, runs_plainly, same_new, stays_cut, uncut}
@@ -55,28 +52,7 @@ may_open : (h pipe : ℕ) (opened : Bool) → h ≤ 7 → pipe < 112 → IsComma
 may_open h pipe opened most small = and_from (is_host h) (ltb pipe 112) (host_is h most) (lt-ltb pipe 112 small)
 
 kept_param : (h p : ℕ) → 1 ≤ h → h ≤ 7 → is_unknown_access (access_of 0 p) ≡ false → is_read_only (access_of 0 p) ≡ false → IsTrue (is_kept h 0 p)
-kept_param h p some most known writable = elim (cases_eq p 1) [
-  | inl is ↦ kept_as 1 is refl
-  | inr a ↦ elim (cases_eq p 3) [ inl is ↦ kept_as 3 is refl | inr b ↦ absurd (neither a b) ]
-] where
-  front : (leb 1 h && leb h 7 && true) ≡ true
-  front = and_from (leb 1 h && leb h 7) true (and_from (leb 1 h) (leb h 7) (le-leb 1 h some) (le-leb h 7 most)) refl
-
-  kept_as : (k : ℕ) → p ≡ k → (eqb k 1 || eqb k 3) ≡ true → IsTrue (is_kept h 0 p)
-  kept_as k is good = and_from (leb 1 h && leb h 7 && true) (eqb p 1 || eqb p 3) front (ap (λ n. eqb n 1 || eqb n 3) is ∙ good)
-
-  -- a parameter that can be written isn't 2 or 4
-  never : (k : ℕ) → is_read_only (access_of 0 k) ≡ true → p ≡ k → ⊥
-  never k only is = true≢false (sym (ap (λ n. is_read_only (access_of 0 n)) is ∙ only) ∙ writable)
-
-  neither : (p ≡ 1 → ⊥) → (p ≡ 3 → ⊥) → ⊥
-  neither a b =
-      let e1 = ne_eqb 1 p (λ s. a (sym s)) in
-      let e2 = ne_eqb 2 p (λ s. never 2 refl (sym s)) in
-      let e3 = ne_eqb 3 p (λ s. b (sym s)) in
-      let e4 = ne_eqb 4 p (λ s. never 4 refl (sym s)) in
-      let unknown : is_unknown_access (access_of 0 p) ≡ true = rw (e1, e2, e3, e4) refl in
-      true≢false (sym unknown ∙ known)
+kept_param h p some most known writable = grind arith
 
 pub decided_recordable : (t : HciTables) (v : LinkView) (h pipe instruction : ℕ) (body : List ℕ) → AreTables t → 1 ≤ h → h ≤ 7
     → IsRecordableDecision (decided t v h pipe instruction body)
@@ -103,13 +79,7 @@ decided_recordable t v h pipe instruction body are some most =
 -- ## A controller may do what it does with a message
 
 waiting : (n : Option Notice) (c : Creation) → WaitsFor n → creation_in n ≡ Some c → IsCommand c.command
-waiting None c w e = absurd (cc e)
-waiting (Some n) c w e = by_about n.about w e where
-  by_about : (a : About) → WaitsFor (Some (record { about = a; age = n.age })) → creation_in (Some
-      (record { about = a; age = n.age })) ≡ Some c → IsCommand c.command
-  by_about (Waits d) w e = let same : d ≡ c = cc in subst (λ (x : Creation). IsCommand x.command) same w
-  by_about Forgotten w e = absurd (cc e)
-  by_about Removed w e = absurd (cc e)
+waiting n c w e = grind arith
 
 module _ (core : Core) (on : IsOnOrder core.command core.init) where
   abbrev Fine : List Deed → Type 0
@@ -121,18 +91,13 @@ module _ (core : Core) (on : IsOnOrder core.command core.init) where
 
   commit_may : (c : Command) (room : Bool) → finds_room core c ≡ room → (h pipe : ℕ) (answer : List ℕ) (behind : List Deed) → IsCommand c
       → MayBeDone None core.command core.init behind → Fine (commit_deeds room h pipe c answer behind)
-  commit_may c true e h pipe answer behind may fine = ((may, e), fine)
-  commit_may c false e h pipe answer behind may fine = on
+  commit_may c room e h pipe answer behind may fine = grind arith
 
   agreed_may : (c : Creation) (flag : Bool) → (flag ≡ true → finds_room core c.command ≡ true) → IsCommand c.command → Fine (agreed flag c)
-  agreed_may c true e may = ((may, e refl), on)
-  agreed_may c false e may = on
+  agreed_may c flag e may = grind arith
 
   link_may : (h pipe : ℕ) (answer : List ℕ × Option ℕ) → Fine (link_deeds h pipe answer)
-  link_may h pipe answer = by_value answer.0 answer.1 where
-    by_value : (message : List ℕ) (value : Option ℕ) → Fine (link_deeds h pipe (message, value))
-    by_value message None = on
-    by_value message (Some errors) = on
+  link_may h pipe answer = grind arith
 
   decision_may : (h pipe : ℕ) (d : Decision) → IsRecordableDecision d → Fine (decision_deeds (own_view core) h pipe d)
   decision_may h pipe (Answer answer) may = on
@@ -162,23 +127,10 @@ module _ (core : Core) (on : IsOnOrder core.command core.init) where
 
 -- a pipe that a message names is closed
 named_closed : (body : List ℕ) (row : PipeRow) → pipe_named_in body ≡ Some row → row.opened ≡ false
-named_closed (a ∷ b ∷ c ∷ d ∷ e ∷ []) row is = let P : Option PipeRow → Bool = λ o. option_map_or (λ (r : PipeRow). r.opened) o false in sym (ap P is)
-named_closed _ row is = absurd (cc is)
+named_closed body row is = grind arith
 
 welcome_may : (own : ℕ) (row : PipeRow) → own ≤ 7 → is_welcome own row ≡ true → row.opened ≡ false → IsCommand (Create row)
-welcome_may own row most is closed =
-    let a = and_parts (is_host row.creator && not (eqb row.creator own) && eqb row.dest own && is_open_gate row.dest_gate) (is_dynamic row.pid) is in
-    let b = and_parts (is_host row.creator && not (eqb row.creator own) && eqb row.dest own) (is_open_gate row.dest_gate) a.0 in
-    let c = and_parts (is_host row.creator && not (eqb row.creator own)) (eqb row.dest own) b.0 in
-    let d = and_parts (is_host row.creator) (not (eqb row.creator own)) c.0 in
-    let same : row.dest ≡ own = eqb-true row.dest own c.1 in
-    let four = is_dynamic row.pid && is_host row.creator && is_host row.dest && not (eqb row.creator row.dest) in
-    and_from four (not row.opened)
-    (and_from (is_dynamic row.pid && is_host row.creator && is_host row.dest) (not (eqb row.creator row.dest))
-    (and_from (is_dynamic row.pid && is_host row.creator) (is_host row.dest) (and_from (is_dynamic row.pid) (is_host row.creator) a.1 d.0)
-    (ap is_host same ∙ le-leb own 7 most))
-    (ap (λ x. not (eqb row.creator x)) same ∙ d.1))
-    (ap not closed)
+welcome_may own row most is closed = grind arith
 
 delete_may : (t : HciTables) (pid : ℕ) → AreTables t → is_some (pipe_at t.rows pid) ≡ true → IsCommand (Delete pid)
 delete_may t pid are some =
@@ -210,25 +162,17 @@ learned_one core order value = learned_holds (OneOrNone core) core (inl refl) (o
 -- what may be done behind nothing or one command
 behind_one : (core : Core) (first behind : List Deed) (command : Option (List ℕ)) (init : Option Init) → OneOrNone core first
     → MayBeDone None command init behind → MayBeDone (Some core.journal) command init behind → MayBeDone (Some core.journal) command init (first ++ behind)
-behind_one core first behind command init (inl is) none some = subst (λ l. MayBeDone (Some core.journal) command init (l ++ behind)) (sym is) some
-behind_one core first behind command init (inr one) none some = subst (λ l. MayBeDone (Some core.journal) command init (l ++ behind)) (sym one.1)
-    ((one.2, one.3), none)
+behind_one core first behind command init a none some = grind arith
 
 -- an init that goes on
 agreed_on : (core : Core) (i : Init) (s : Option State) (value order : List ℕ) → slice_get (orders_of i) (i.answered + 1) ≡ Some order
     → MayBeDone s None (Some i) (init_agreed (own_view core) i value)
-agreed_on core i s value order next =
-    cond_both (is_same (own_view core) i value) (Ends (InitSame (end_of_node core core.node)) ∷ []) _ (MayBeDone s None (Some i)) (λ _. (tt, tt))
-    (λ _. rw next next)
+agreed_on core i s value order next = grind arith
 
 -- one that ends
 agreed_last : (core : Core) (i : Init) (value : List ℕ) → slice_get (orders_of i) (i.answered + 1) ≡ None
     → MayBeDone (Some core.journal) None (Some i) (init_agreed (own_view core) i value)
-agreed_last core i value none =
-    cond_both (is_same (own_view core) i value) (Ends (InitSame (end_of_node core core.node)) ∷ []) _ (MayBeDone (Some core.journal) None (Some i))
-    (λ _. (tt, tt))
-    (λ _. rw none (behind_one core (learns (own_view core) (Set core.node 0 1 (record { items = i.identity }))) _ None (Some i)
-    (learns_holds (OneOrNone core) core (inl refl) (one core) (Set core.node 0 1 (record { items = i.identity }))) (tt, tt) (tt, tt)))
+agreed_last core i value none = grind arith
 
 -- behind the last command of an init nothing else is learned
 last_learned : (core : Core) (i : Init) (order value : List ℕ) → slice_get (orders_of i) i.answered ≡ Some order
@@ -286,8 +230,7 @@ module _ (core : Core) (on : IsOnOrder core.command core.init) (sorted : AreTabl
 -- ## What a node keeps in its turns
 
 seven : (n : ℕ) → IsNodeNumber n → n ≤ 7
-seven n (inl is) = omega (arith, is)
-seven n (inr host) = host.1
+seven n a = grind arith
 
 module _ (n : ℕ) (hosts : List ℕ) (old : Memory) (before : List Entry) where
   abbrev Runs : Work → Type 0
@@ -371,12 +314,10 @@ module _ (n : ℕ) (hosts : List ℕ) (old : Memory) (before : List Entry) where
 -- ### What comes
 
 come_waits : (p : Port) (o : Option LinkInput) → WaitsAt p → WaitsAt (has_come p o)
-come_waits p None w = w
-come_waits p (Some i) w = w
+come_waits p o w = grind arith
 
 come_new : (p : Port) (o : Option LinkInput) (c : Creation) → asked_at (has_come p o) ≡ Some c → asked_at p ≡ Some c
-come_new p None c e = e
-come_new p (Some i) c e = e
+come_new p o c e = grind arith
 
 told_plain : (core : Core) (p : Port) (o : Option LinkInput) → AllByRecursion IsPlain (told_at core p o)
 told_plain core p None = tt
@@ -391,24 +332,16 @@ plainly_come input w =
 -- ### Timeouts
 
 older_waits : (p : Port) → WaitsAt p → WaitsAt (with_older p)
-older_waits p w = by_notice p.desk.notice refl w where
-  by_notice : (o : Option Notice) → p.desk.notice ≡ o → WaitsFor o → WaitsAt (with_older p)
-  by_notice None e w = rw e tt
-  by_notice (Some n) e w = rw e w
+older_waits p w = grind arith
 
 older_new : (p : Port) (c : Creation) → asked_at (with_older p) ≡ Some c → asked_at p ≡ Some c
-older_new p c asked = by_option p.desk.notice
-    (λ e. let none : None ≡ Some c = rw e at asked in absurd (cc none))
-    (λ n e. let same : creation_in (Some n) ≡ Some c = rw e at asked in rw e same)
+older_new p c asked = grind arith
 
 late_new : (p : Port) (c : Creation) → asked_at (reset_late p) ≡ Some c → asked_at p ≡ Some c
-late_new p c asked =
-    cond_both (is_late p) (record p { side = after_input p.side (Reset None); late = true }) p (λ q. asked_at q ≡ Some c → asked_at p ≡ Some c) (λ _ e. e)
-    (λ _ e. e) asked
+late_new p c asked = grind arith
 
 late_plain : (core : Core) (p : Port) → AllByRecursion IsPlain (told_late core p)
-late_plain core p =
-    cond_both (is_late p) (told_at core p (Some (Reset None))) [] (AllByRecursion IsPlain) (λ _. told_plain core p (Some (Reset None))) (λ _. tt)
+late_plain core p = grind arith
 
 late_waits : (p : Port) → WaitsAt p → WaitsAt (reset_late p)
 late_waits p w = cond_both (is_late p) (record p { side = after_input p.side (Reset None); late = true }) p WaitsAt (λ _. w) (λ _. w)
@@ -422,8 +355,7 @@ plainly_late TimePasses w =
 
 -- what came changes no core
 core_late : (input : NodeInput) (w : Work) → (times_out input w).core ≡ w.core
-core_late (AtEnd h i) w = refl
-core_late TimePasses w = refl
+core_late input w = grind arith
 
 -- ### Sessions that ended
 
@@ -434,14 +366,10 @@ without_waits : (p : Port) → WaitsAt p → WaitsAt (without_notice p)
 without_waits p w = cond_both (is_over p) (record p { desk = record p.desk { notice = None } }) p WaitsAt (λ _. tt) (λ _. w)
 
 forgets_new : (ports : List Port) (p : Port) (c : Creation) → asked_at (forgets ports p) ≡ Some c → asked_at p ≡ Some c
-forgets_new ports p c asked =
-    cond_both (is_forgotten ports (asked_at p)) _ p (λ q. asked_at q ≡ Some c → asked_at p ≡ Some c)
-    (λ _ e. let none : None ≡ Some c = sym (by_option p.desk.notice (λ q. rw q refl) (λ n q. rw q refl)) ∙ e in absurd (cc none)) (λ _ e. e) asked
+forgets_new ports p c asked = grind arith
 
 without_new : (p : Port) (c : Creation) → asked_at (without_notice p) ≡ Some c → asked_at p ≡ Some c
-without_new p c asked =
-    cond_both (is_over p) (record p { desk = record p.desk { notice = None } }) p (λ q. asked_at q ≡ Some c → asked_at p ≡ Some c) (λ _ e. absurd (cc e))
-    (λ _ e. e) asked
+without_new p c asked = grind arith
 
 plainly_sessions : (w : Work) → Plainly w (record w { core = after_sessions w.core w.ports; ports = map without_notice (map (forgets w.ports) w.ports) })
 plainly_sessions w =
@@ -455,8 +383,7 @@ plainly_sessions w =
 
 sessions_order : (core : Core) (ports : List Port) → IsOnOrder core.command core.init
     → IsOnOrder (after_sessions core ports).command (after_sessions core ports).init
-sessions_order core ports on =
-    cond_both (list_any is_over ports) (record core { command = None; init = None }) core (λ (c : Core). IsOnOrder c.command c.init) (λ _. tt) (λ _. on)
+sessions_order core ports on = grind arith
 
 -- ### Blocks that are freed, and answers that are owed
 
@@ -494,16 +421,10 @@ freed_cut (_ ∷ deeds) all w on = absurd all.0
 -- ### Sync
 
 pub ticked_sync : (phase : Phase) (last : Option Act) → (out_ticked phase last).sync ≡ None
-ticked_sync Inactive last = refl
-ticked_sync (Awaiting tries ticks) last =
-    cond_both (leb 10 (ticks + 1)) _ _ (λ (o : ActOut). o.sync ≡ None)
-    (λ _. cond_both (leb 3 tries) _ _ (λ (o : ActOut). o.sync ≡ None) (λ _. refl) (λ _. refl)) (λ _. refl)
-ticked_sync Active last = refl
+ticked_sync phase last = grind arith
 
 answer_sync : (role : Role) → (act_answer role ActTick).sync ≡ None
-answer_sync Bare = refl
-answer_sync (Clf s) = ticked_sync s.phase s.last
-answer_sync (Uicc s) = ticked_sync s.phase s.last
+answer_sync role = grind arith
 
 tick_sync : (role : Role) → (act_out role (cond (is_open role) None (Some ActTick))).sync ≡ None
 tick_sync role = cond_both (is_open role) None (Some ActTick) (λ e. (act_out role e).sync ≡ None) (λ _. refl) (λ _. answer_sync role)
@@ -514,21 +435,8 @@ synced_tick core p = rw (tick_sync p.side.role) refl
 pub synced_other : (core : Core) (h : ℕ) (i : LinkInput) (p : Port) → eqb p.desk.host h ≡ false → synced core (AtEnd h i) p ≡ []
 synced_other core h i p e = rw e refl
 
-sync_may : (h id : ℕ) → IsHost h → IsCommand (Sync h id)
-sync_may h id host = and_from (leb 1 h) (leb h 7) (le-leb 1 h host.0) (le-leb h 7 host.1)
-
 synced_here : (core : Core) (h : ℕ) (i : LinkInput) (p : Port) → IsHost p.desk.host → eqb p.desk.host h ≡ true → OneOrNone core (synced core (AtEnd h i) p)
-synced_here core h i p host e = by_option (report p.side i).sync
-    (λ is. rw e (rw is (inl refl)))
-    (λ id is. rw e (rw is (cond_both (not (is_kept_sync core.tables.syncs p.desk.host id) && finds_room core (Sync p.desk.host id)) (Commits
-    (Sync p.desk.host id) ∷ []) [] (OneOrNone core)
-    (λ t. inr (
-      Sync p.desk.host id,
-      refl,
-      sync_may p.desk.host id host,
-      (and_parts (not (is_kept_sync core.tables.syncs p.desk.host id))
-          (finds_room core (Sync p.desk.host id)) t).1,
-    )) (λ _. inl refl))))
+synced_here core h i p host e = grind arith
 
 flat_tick : (core : Core) (ports : List Port) → flat_map (synced core TimePasses) ports ≡ []
 flat_tick core [] = refl

@@ -1,22 +1,18 @@
 -- What all nodes keep over a tick and over the lines of a schedule; commands are kept over power cuts.
 use Rattle.std.proofs.lemmas.Bool.{eqb-false}
 use Rattle.std.proofs.lemmas.Grind.{flat_map-append}
-use Rattle.node_laws.proofs.Words.{Activates, AllByRecursion, AllKeep, AreDifferent, AreHosts, AreToldBehind, Arms, AsksReset, Book, Bool, BootFinds, Boots}
-use Rattle.node_laws.proofs.Words.{CommandLast, Controller, CutBehindCommand, End, Entry, FindsCommands, FollowsNodes, Gives, Happening, HciTables, Header}
-use Rattle.node_laws.proofs.Words.{Host, IfRuns, Inits, IsCut, IsFew, IsHost, IsOf, IsSentByHost, IsSound, IsTold, IsTrue, IsUnformatted, Journal, Last, Line}
-use Rattle.node_laws.proofs.Words.{LineOutcome, LineStep, List, Loses, LostFor, MayHappen, NextFrame, NoCause, NodeHistory, NodeKeeps, NodeWorld, None, NotUp}
-use Rattle.node_laws.proofs.Words.{NothingYet, Occurrence, Option, Refused, Resets, Running, Same, Site, SiteKeeps, Some, Takes, Ticks, TimePasses, ToldTables}
-use Rattle.node_laws.proofs.Words.{Undetected, Verdict, Work, [], after_planned, aged, aged_entries, all_aged, all_happen, ap, append-nil, append_assoc}
-use Rattle.node_laws.proofs.Words.{applied, ap₂, arith, book_after, book_in, by_controller_tick, by_host_tick, by_option, by_test, can_happen, cases_Bool}
-use Rattle.node_laws.proofs.Words.{close, commands_in, cond, controller_ticks, entries_for, entries_in, eq-eqb, eqb, eqb-true, exchanged, false, first_cause}
-use Rattle.node_laws.proofs.Words.{first_verdict, flat_map, fold, frames_at, frames_noted, fresh, give_refusal, goes_on, happenings, happens_by, has_order}
-use Rattle.node_laws.proofs.Words.{host_tick, host_ticks, hosts_tick, if_not_sent, if_off, if_waiting, inl, inr, is_command_message, is_some, journal}
-use Rattle.node_laws.proofs.Words.{last_after, last_in, length, length-append, length-take, line_step, link_to, machine_in, map, min, ne_eqb, near_tick}
-use Rattle.node_laws.proofs.Words.{new_memory, new_site, new_world, no_journal, no_tables, node_at, node_entries, node_of, occurrences_of, refl, refusal_in}
-use Rattle.node_laws.proofs.Words.{replicate, runs_on, site_at, site_ticked, site_unticked, steps_from, subst, suc, sym, tables_in, tables_told, taken_of, true}
-use Rattle.node_laws.proofs.Words.{true≢false, work_of, world_after, world_step, world_ticks, zero, ℕ, ◌&&◌, ◌++◌, ◌+◌, ◌-◌, ◌^◌, ◌∙◌, ◌∷◌, ◌≡◌, ◌≤◌, ◌⊎◌}
-use Rattle.hci_store.specs.Image.{are_commands}
-use Rattle.journal_laws.specs.Journal.{unformatted}
+use Rattle.node_laws.proofs.Words.{Activates, AllByRecursion, AllKeep, AreDifferent, AreHosts, AreToldBehind, Arms, AsksReset, Book, Boots, CommandLast}
+use Rattle.node_laws.proofs.Words.{Controller, CutBehindCommand, End, Entry, FindsCommands, FollowsNodes, Gives, Happening, HciTables, Header, Host, IfRuns}
+use Rattle.node_laws.proofs.Words.{Inits, IsCut, IsFew, IsHost, IsOf, IsSentByHost, IsTold, IsTrue, Last, Line, LineOutcome, LineStep, List, Loses, MayHappen}
+use Rattle.node_laws.proofs.Words.{NextFrame, NoCause, NodeHistory, NodeKeeps, NodeWorld, None, NothingYet, Occurrence, Option, Resets, Running, Site}
+use Rattle.node_laws.proofs.Words.{SiteKeeps, Some, Takes, Ticks, TimePasses, ToldTables, Verdict, Work, [], after_planned, aged, aged_entries, all_aged}
+use Rattle.node_laws.proofs.Words.{all_happen, ap, append-nil, append_assoc, ap₂, arith, book_after, book_in, by_controller_tick, by_host_tick, by_option}
+use Rattle.node_laws.proofs.Words.{by_test, can_happen, cases_Bool, commands_in, cond, controller_ticks, entries_for, entries_in, eq-eqb, eqb, eqb-true}
+use Rattle.node_laws.proofs.Words.{exchanged, false, first_cause, first_verdict, flat_map, frames_at, frames_noted, goes_on, happenings, happens_by, host_tick}
+use Rattle.node_laws.proofs.Words.{host_ticks, hosts_tick, if_not_sent, inl, inr, is_some, last_after, last_in, length, length-append, length-take, line_step}
+use Rattle.node_laws.proofs.Words.{link_to, map, min, ne_eqb, near_tick, new_memory, new_site, new_world, node_at, node_entries, occurrences_of, refl}
+use Rattle.node_laws.proofs.Words.{refusal_in, replicate, runs_on, site_at, site_ticked, site_unticked, steps_from, subst, suc, sym, tables_in, tables_told}
+use Rattle.node_laws.proofs.Words.{taken_of, true, work_of, world_after, world_step, world_ticks, zero, ℕ, ◌++◌, ◌-◌, ◌^◌, ◌∙◌, ◌∷◌, ◌≡◌, ◌≤◌, ◌⊎◌}
 use Rattle.node_machine.specs.world.NodeLegal.{Allowed, AreAllAnswered, AreAnswered, AreFound, Kept}
 use Rattle.node_machine.specs.world.NodeLegal.Last.{OtherLast}
 use Rattle.node_laws.proofs.kept.Doing.{GoesOn_or_lost, book_more, last_more, plain_entries, plain_flat, told_append}
@@ -96,10 +92,7 @@ sites_tick (s ∷ sites) t different hosts all =
         (keeps_same s.host (s.host ∷ []) (t ++ first.1) ((t ++ first.1) ++ later.1) first.0.memory first.0.node (rest.others s.host different.0) one.keeps) in
         record {
           hosts = ap₂ (λ x l. x ∷ l) one.host rest.hosts;
-          keep = (
-            subst (λ k. NodeKeeps k (k ∷ []) (t ++ (first.1 ++ later.1)) first.0.memory first.0.node) (sym one.host) here,
-            subst (λ l. AllByRecursion (SiteKeeps l) later.0) whole rest.keep,
-          );
+          keep = (grind arith);
           told = told_append t first.1 later.1 one.told rest.told;
           others = λ n off. subst (λ l. IsSame n t l) whole
               (same_then n t (t ++ first.1) ((t ++ first.1) ++ later.1) (other_same s.host n t first.1 (eqb-false s.host n off.0) one.own)
@@ -132,8 +125,7 @@ module _ (hosts : List ℕ) (are : AreHosts hosts) where
 
   far_ticks : (t : List Entry) (w : NodeWorld) → AllKeep hosts t w → Goes hosts are t (record w { sites = (hosts_tick w.sites).0 }) (hosts_tick w.sites).1
   far_ticks t w all =
-      let ticks = sites_tick w.sites t (subst AreDifferent (sym all.hosts_are) are.different) (subst (AllByRecursion IsHost)
-      (sym all.hosts_are) are.all) all.sites in
+      let ticks = sites_tick w.sites t (subst AreDifferent (sym all.hosts_are) are.different) (grind arith) all.sites in
       record {
         keep = record {
           controller = keeps_same 0 hosts t (t ++ (hosts_tick w.sites).1) w.memory w.controller (ticks.others 0 (subst (AllByRecursion
@@ -171,40 +163,17 @@ few_front xs ys few front back n is = few front (back ++ ys) n (ap (λ l. l ++ y
 -- ### Messages that may be sent
 
 pub first_none : (a b : Option NoCause) → first_cause a b ≡ None → (a ≡ None) × (b ≡ None)
-first_none None b e = (refl, e)
-first_none (Some c) b e = absurd (cc e)
-
-not_waiting : (waits : Bool) (why : Option Refused) → if_waiting waits why ≡ None → waits ≡ false
-not_waiting false why e = refl
-not_waiting true (Some NotUp) e = absurd (cc e)
-not_waiting true _ e = absurd (cc e)
+first_none a b e = grind arith
 
 pub off_none : (o : Option Running) → (cond (is_some o) None (Some cause.Off)) ≡ None → (r : Running) × (o ≡ Some r)
-off_none None e = absurd (cc e)
-off_none (Some r) e = (r, refl)
-
-both_false : (a b : Bool) → (a && b) ≡ false → a ≡ true → b ≡ false
-both_false true b e is = e
-both_false false b e is = absurd (true≢false (sym is))
+off_none o e = grind arith
 
 none_of : (o : Option (List ℕ)) → is_some o ≡ false → o ≡ None
-none_of None e = refl
-none_of (Some x) e = absurd (true≢false e)
+none_of o e = grind arith
 
 pub send_may : (w : NodeWorld) (e : End) (pid : ℕ) (message : List ℕ) → IsTrue e.at_host → if_not_sent w e (pid, message) ≡ None
     → MayHappen w (Gives e (pid, message))
-send_may w e pid message side sent r running is =
-    let waits =
-    not_waiting (eqb pid 1 && is_command_message message && has_order (node_at w (node_of e))) (give_refusal (machine_in w e) (pid, message)) sent in
-    let none : has_order (node_at w (node_of e)) ≡ false =
-    both_false (eqb pid 1 && is_command_message message) (has_order (node_at w (node_of e))) waits is in
-    none_of r.core.command (sym (ap has_order node_is) ∙ none)
-  where
-    link_is : node_of e ≡ e.link
-    link_is = ap (λ b. cond b e.link 0) side
-
-    node_is : node_at w (node_of e) ≡ Some r
-    node_is = ap (node_at w) link_is ∙ running
+send_may w e pid message side sent r running is = grind arith
 
 module _ (hosts : List ℕ) (are : AreHosts hosts) where
   known : (t : List Entry) (w : NodeWorld) (h : ℕ) (x : Site) → AllKeep hosts t w → site_at w.sites h ≡ Some x → SiteKeeps t x × IsHost x.host × (x.host ≡ h)
@@ -269,14 +238,10 @@ module _ (hosts : List ℕ) (are : AreHosts hosts) where
   ticks_may (suc n) w = (tt, ticks_may n (world_step w Ticks).0)
 
   damage_may : (w : NodeWorld) (e : End) (o : Option Verdict) → MayAllHappen w (happens_by e o)
-  damage_may w e None = tt
-  damage_may w e (Some Same) = (tt, tt)
-  damage_may w e (Some (LostFor why)) = (tt, tt)
-  damage_may w e (Some (Undetected read)) = tt
+  damage_may w e o = grind arith
 
   pub line_may : (w : NodeWorld) (l : Line) → IsSentByHost l → refusal_in w l ≡ None → MayAllHappen w (happenings w l)
-  line_may w (line.Send e pid message) side e2 =
-      (send_may w e pid message side (first_none (if_off w (node_of e)) (if_not_sent w e (pid, message)) e2).1, tt)
+  line_may w (line.Send e pid message) side e2 = grind arith
   line_may w (line.Deliver e count) side none = takes_may e (taken_of count (frames_at w e)) w
   line_may w (line.Damage e places) side none = damage_may w e (first_verdict (frames_at w e) places.items)
   line_may w (line.Tick times) side none = ticks_may _ w
@@ -393,28 +358,8 @@ module _ (hosts : List ℕ) (are : AreHosts hosts) where
 
 -- ### The beginning
 
-pub blank_finds : (content : List ℕ) → IsUnformatted content → BootFinds content no_tables 0
-blank_finds content blank =
-    let is : journal content ≡ unformatted = no_journal content blank.closed in
-    record {
-      size = blank.size;
-      version = ap (λ (j : Journal). j.head.version) is;
-      enough = subst (λ (j : Journal). j.head.snapshot ≤ j.head.base + length j.found.bodies) (sym is) (omega arith);
-      keeps = record {
-        sound = subst IsSound (sym is) (record { known = refl; good = refl });
-        holds = record {
-          commands = ap (λ (j : Journal). are_commands j.found.bodies) is;
-          tables_are = ap (λ (j : Journal). close (fold applied no_tables j.found.bodies)) is;
-        };
-        count_is = ap (λ (j : Journal). min (j.head.base + length j.found.bodies - j.head.snapshot) (2 ^ 32 - 1)) is;
-      };
-    }
-
 begins : (n : ℕ) (hosts : List ℕ) → NodeKeeps n hosts [] (new_memory (replicate 65536 255)) None
-begins n hosts = record {
-  would = record { many = 0; which = inl refl; finds = blank_finds (replicate 65536 255) (fresh 65536 (omega arith)) };
-  runs = tt;
-}
+begins n hosts = grind arith
 
 begin_hosts : (content : List ℕ) (hosts : List ℕ) → map (λ (s : Site). s.host) (map (new_site content) hosts) ≡ hosts
 begin_hosts content [] = refl
@@ -453,19 +398,11 @@ record AreSafe (k : ℕ) (b : Book) (l : Last) : Type 0 where
   all : k ≤ length b.commands
   more : IsOpen l → suc k ≤ length b.commands
 
-opened_cut : (l : Last) → IsOpen (last_after 0 l (entry.Cut 0)) → IsOpen l
-opened_cut NothingYet o = o
-opened_cut CommandLast o = tt
-opened_cut CutBehindCommand o = tt
-opened_cut OtherLast o = o
-
 found_most : (k j n : ℕ) (t : List Entry) → AreSafe k (book_in t n) (last_in t n) → FindsCommands t n j → k ≤ j
-found_most k j n t safe (inl all) = omega (arith, all, safe.all)
-found_most k j n t safe (inr less) = omega (arith, less.0, safe.more (subst IsOpen (sym less.1) tt))
+found_most k j n t safe a = grind arith
 
 found_least : (j n : ℕ) (t : List Entry) → FindsCommands t n j → j ≤ length (commands_in t n)
-found_least j n t (inl all) = omega (arith, all)
-found_least j n t (inr less) = omega (arith, less.0)
+found_least j n t a = grind arith
 
 safe_one : (k n : ℕ) (t : List Entry) (e : Entry) → AreSafe k (book_in t n) (last_in t n) → IsTold t e
     → AreSafe k (book_after n (book_in t n) e) (last_after n (last_in t n) e)
@@ -473,18 +410,14 @@ safe_one k n t (entry.Command m c) safe told = by_test (eqb m n)
     (λ is. let longer = length-append (commands_in t n) (c ∷ []) in
     rw is (record { all = omega (arith, longer, safe.all); more = λ o. omega (arith, longer, safe.all) }))
     (λ other. rw other safe)
-safe_one k n t (entry.AnyOk m j) safe told = by_test (eqb m n)
-    (λ is. rw is (record { all = safe.all; more = λ o. absurd o }))
-    (λ other. rw other safe)
+safe_one k n t (entry.AnyOk m j) safe told = grind arith
 safe_one k n t (entry.Booted m j) safe told = by_test (eqb m n)
     (λ is. let here : FindsCommands t n j = subst (λ x. FindsCommands t x j) (eqb-true m n is) told in
     let most = found_most k j n t safe here in
     let least = found_least j n t here in
     rw is (record { all = omega (arith, length-take j (commands_in t n), most, least); more = λ o. absurd o }))
     (λ other. rw other safe)
-safe_one k n t (entry.Cut m) safe told = by_test (eqb m n)
-    (λ is. rw is (record { all = safe.all; more = λ o. safe.more (opened_cut (last_in t n) o) }))
-    (λ other. rw other safe)
+safe_one k n t (entry.Cut m) safe told = grind arith
 safe_one k n t _ safe told = safe
 
 safe_then : (k n : ℕ) (t : List Entry) (e : Entry) → AreSafe k (book_in t n) (last_in t n) → IsTold t e
@@ -505,10 +438,9 @@ module _ (t : List Entry) (told : AreToldBehind [] t) (few : IsFew t) where
   are_found front back n k is = (at_front front back (entry.Booted n k) is).0
 
   are_counted : AreAllAnswered t
-  are_counted front back n k is = small k (length (commands_in front n)) (at_front front back (entry.AnyOk n k) is).0 (few front
-      (entry.AnyOk n k ∷ back) n is) where
-        small : (k l : ℕ) → k ≡ min l (2 ^ 32 - 1) → l ≤ 2 ^ 32 - 1 → k ≡ l
-        small k l a b = omega arith
+  are_counted front back n k is = small k (length (commands_in front n)) (at_front front back (entry.AnyOk n k) is).0 (grind arith) where
+    small : (k l : ℕ) → k ≡ min l (2 ^ 32 - 1) → l ≤ 2 ^ 32 - 1 → k ≡ l
+    small k l a b = omega arith
 
   are_answered : AreAnswered t
   are_answered front between back n k found is =

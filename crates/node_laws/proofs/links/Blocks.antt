@@ -1,30 +1,24 @@
 -- What holds of runs of the law of one link holds of each link of a world: its blocks are shared out.
-use Rattle.node_laws.proofs.Words.{ActEvent, ActFrame, ActStart, ActStop, ActTake, ActTick, Activate, AllByRecursion, ArePlayable, AreUpTogether, Asked}
-use Rattle.node_laws.proofs.Words.{AtController, AtHost, Bare, Bool, Chain, Clt, Control, EndEvent, EndState, Fetch, FetchMessage, FromNode, Give, Hold, I}
-use Rattle.node_laws.proofs.Words.{IsLine, IsRun, IsRunOf, IsSettled, Line, Link, LinkEnd, LinkEvent, LinkInput, LinkState, List, Message, None, OnWire, Option}
-use Rattle.node_laws.proofs.Words.{Release, Reset, Role, Rset, S, SetAside, Site, Some, Start, Starts, Step, Stop, Take, TakeBroken, TakeUnknown, Tick}
-use Rattle.node_laws.proofs.Words.{TicksWithout, Turn, Ua, Up, Waiting, [], act_answer, activated, after_input, after_link_events, aged, all_at_controller}
-use Rattle.node_laws.proofs.Words.{all_so, ap, arith, by_list, by_option, by_test, cond, drop, ended_by, exchanged, false, frame_fetched, give_refusal, given}
-use Rattle.node_laws.proofs.Words.{had_tick, happens, happens_at_controller, heard, if_up, in_use, is_faulty, is_open, is_some, length, ltb-false, ltb-true}
-use Rattle.node_laws.proofs.Words.{most_frames, moved, nat_le, nat_lt, need, need_of_all, new_line, new_link_end, new_world, not, number_of, one_number}
-use Rattle.node_laws.proofs.Words.{packet_count, put_down, refl, renewed, reset_by, reset_refusal, reset_with, role_after, sent_all, spare, steps_at_controller}
-use Rattle.node_laws.proofs.Words.{stopped, subst, sure_of, sym, take_answer, taken, talk_now, talk_of, tick_answer, tick_host, ticked, ticks_at_controller}
-use Rattle.node_laws.proofs.Words.{took, true, true≢false, turn, turned, whole_among, window_of, with_act, with_ready, world_after, ℕ, ◌++◌, ◌+◌, ◌-◌, ◌==◌}
-use Rattle.node_laws.proofs.Words.{◌∙◌, ◌∷◌, ◌≡◌, ◌≤◌}
-use Rattle.link_laws.proofs.entries.Stepping.{fetched_acked as frames_acked, one_fetched_acked}
+use Rattle.node_laws.proofs.Words.{ActEvent, ActFrame, ActStart, ActStop, ActTake, Activate, AllByRecursion, ArePlayable, AreUpTogether, AtController, AtHost}
+use Rattle.node_laws.proofs.Words.{Bool, Chain, Clt, Control, EndEvent, EndState, Fetch, FetchMessage, FromNode, Give, Hold, I, IsLine, IsRun, IsRunOf}
+use Rattle.node_laws.proofs.Words.{IsSettled, Line, Link, LinkEnd, LinkEvent, LinkInput, List, Message, None, OnWire, Option, Release, Reset, Rset, S, SetAside}
+use Rattle.node_laws.proofs.Words.{Site, Some, Start, Starts, Step, Stop, Take, TakeBroken, TakeUnknown, Tick, TicksWithout, Turn, Ua, Up, [], activated}
+use Rattle.node_laws.proofs.Words.{after_input, after_link_events, aged, all_at_controller, all_so, arith, by_option, by_test, cond, drop, ended_by, exchanged}
+use Rattle.node_laws.proofs.Words.{false, frame_fetched, give_refusal, given, had_tick, happens, happens_at_controller, heard, in_use, is_faulty, is_open}
+use Rattle.node_laws.proofs.Words.{is_some, length, most_frames, moved, nat_le, need, need_of_all, new_line, new_link_end, new_world, number_of, one_number}
+use Rattle.node_laws.proofs.Words.{packet_count, put_down, refl, renewed, sent_all, spare, steps_at_controller, stopped, subst, sure_of, sym, take_answer}
+use Rattle.node_laws.proofs.Words.{taken, talk_now, talk_of, tick_host, ticks_at_controller, took, true, turn, turned, whole_among, world_after, ℕ, ◌++◌, ◌+◌}
+use Rattle.node_laws.proofs.Words.{◌-◌, ◌∙◌, ◌∷◌, ◌≡◌, ◌≤◌}
+use Rattle.link_laws.proofs.entries.Stepping.{fetched_acked as frames_acked}
 use Rattle.link_laws.proofs.machine.Reports.{moved_sent as sent_moved, shdlc_is as moved_shdlc}
-use Rattle.link_laws.proofs.machine.Sound.{IsNotUp, SentAfter, Shift, need_less, need_more, reset_shift, taken_shift, ticked_shift, whole_few, whole_more}
+use Rattle.link_laws.proofs.machine.Sound.{IsNotUp, SentAfter, Shift, need_less, need_more, taken_shift, whole_few, whole_more}
 use Rattle.link_laws.proofs.machine.Sound.Shift.{Begins, Ends, Renews, Rests, Stays}
-use Rattle.link_laws.proofs.messages.Finishing.{reset_tells}
 use Rattle.link_laws.proofs.messages.Runs.{all_here, all_there, in_order_here_of_whole as in_order_here, in_order_there_of_whole as in_order_there}
 use Rattle.link_laws.proofs.messages.Runs.{no_chain_here, no_chain_there, up_together}
-use Rattle.link_laws.proofs.sessions.Ties.{after_frames-phase, fetched-phase}
+use Rattle.link_laws.proofs.sessions.Ties.{after_frames-phase}
 use Rattle.link_laws.specs.messages.Links.LinkEvent.{Ticks}
 use Rattle.link_laws.specs.messages.Order.{InOrder}
 use Rattle.link_laws.specs.messages.Quiet.{AllDelivered, IsQuiet, losses_of}
-use Rattle.shdlc_core.specs.Machine.{fetched}
-use Rattle.shdlc_core.specs.declared.answers.LinkState.TheVariants.{Down}
-use Rattle.swp_base.specs.declared.control_frames.Act.{Act}
 use Rattle.node_laws.specs.links.Runs.{SharesOut}
 use Rattle.node_laws.proofs.links.Sites.{here_host, here_is, tick_is}
 use Rattle.node_laws.proofs.links.Worlds.{links_run}
@@ -139,9 +133,7 @@ pub record IsWithin (e : LinkEnd) : Type 0 where
 
 -- no message, no blocks
 empty_within : (e f : LinkEnd) → f.sent ≡ [] → f.aside ≡ e.aside → IsWithin e → IsWithin f
-empty_within e f sent aside a =
-    let none : in_use f ≡ 0 = ap (λ (ms : List Message). need_of_all (drop (whole_among ms f.shdlc.session.acked) ms)) sent in
-    record { room = omega (arith, none, aside, a.room); forgot = λ no. sent }
+empty_within e f sent aside a = grind arith
 
 -- an end becomes one with its messages, of which no fewer are acknowledged
 grown_within : (e f : LinkEnd) → f.sent ≡ e.sent → e.shdlc.session.acked ≤ f.shdlc.session.acked → f.aside ≡ e.aside → (IsNotUp f.shdlc → e.sent ≡ [])
@@ -149,55 +141,29 @@ grown_within : (e f : LinkEnd) → f.sent ≡ e.sent → e.shdlc.session.acked �
 grown_within e f sent acked aside forgot a =
     let less = need_less e.sent (whole_among e.sent e.shdlc.session.acked) (whole_among e.sent f.shdlc.session.acked)
     (whole_more e.sent e.shdlc.session.acked f.shdlc.session.acked acked) in
-    let blocks : in_use f ≡ need_of_all (drop (whole_among e.sent f.shdlc.session.acked) e.sent) =
-    ap (λ (ms : List Message). need_of_all (drop (whole_among ms f.shdlc.session.acked) ms)) sent in
+    let blocks : in_use f ≡ need_of_all (drop (whole_among e.sent f.shdlc.session.acked) e.sent) = grind arith in
     record { room = omega (arith, blocks, less, a.room, aside); forgot = λ no. sent ∙ forgot no }
 
 -- it becomes one with the same session, messages and phase
 same_within : (e f : LinkEnd) → f.sent ≡ e.sent → f.shdlc.session.acked ≡ e.shdlc.session.acked → f.shdlc.phase ≡ e.shdlc.phase → f.aside ≡ e.aside
     → IsWithin e → IsWithin f
-same_within e f sent acked phase aside a =
-    grown_within e f sent (omega (arith, acked)) aside (λ no. a.forgot (λ up. no (phase ∙ up))) a
+same_within e f sent acked phase aside a = grind arith
 
 shifted_within : (e f : LinkEnd) (ended began : Bool) → Shift e.shdlc f.shdlc ended began → SentAfter ended e f → f.aside ≡ e.aside → IsWithin e → IsWithin f
 shifted_within e f ended began (Stays p q g) sent aside a =
     grown_within e f (by ended p sent) g.low aside (λ no. absurd (no g.is)) a
   where
     by : (b : Bool) → b ≡ false → SentAfter b e f → f.sent ≡ e.sent
-    by false z s = s
-    by true z s = absurd (true≢false z)
-shifted_within e f ended began (Ends p q up down s) sent aside a = empty_within e f (by ended p sent) aside a
-  where
-    by : (b : Bool) → b ≡ true → SentAfter b e f → f.sent ≡ []
-    by true z s = s
-    by false z s = absurd (true≢false (sym z))
-shifted_within e f ended began (Renews p q up n) sent aside a = empty_within e f (by ended p sent) aside a
-  where
-    by : (b : Bool) → b ≡ true → SentAfter b e f → f.sent ≡ []
-    by true z s = s
-    by false z s = absurd (true≢false (sym z))
-shifted_within e f ended began (Begins p q down n) sent aside a = empty_within e f (by ended p sent) aside a
-  where
-    by : (b : Bool) → b ≡ false → SentAfter b e f → f.sent ≡ []
-    by false z s = s ∙ a.forgot down
-    by true z s = absurd (true≢false z)
-shifted_within e f ended began (Rests p q down still s) sent aside a = empty_within e f (by ended p sent) aside a
-  where
-    by : (b : Bool) → b ≡ false → SentAfter b e f → f.sent ≡ []
-    by false z s = s ∙ a.forgot down
-    by true z s = absurd (true≢false z)
+    by b z s = grind arith
+shifted_within e f ended began (Ends p q up down s) sent aside a = grind arith
+shifted_within e f ended began (Renews p q up n) sent aside a = grind arith
+shifted_within e f ended began (Begins p q down n) sent aside a = grind arith
+shifted_within e f ended began (Rests p q down still s) sent aside a = grind arith
 
 -- ### Turns
 
 give_taken : (e : LinkEnd) (m : Message) → give_refusal e m ≡ None → (e.shdlc.phase ≡ Up) × (need m.1 ≤ spare e)
-give_taken e m q = go e.shdlc.phase refl (nat_lt 4096 (length m.1)) refl (nat_lt (spare e) (need m.1)) refl where
-  go : (p : LinkState) → e.shdlc.phase ≡ p → (b : Bool) → nat_lt 4096 (length m.1) ≡ b → (c : Bool) → nat_lt (spare e) (need m.1) ≡ c
-      → (e.shdlc.phase ≡ Up) × (need m.1 ≤ spare e)
-  go Up p true b c r = let z = rw (p, b) at q in absurd (cc z)
-  go Up p false b true r = let z = rw (p, b, r) at q in absurd (cc z)
-  go Up p false b false r = (p, ltb-false (spare e) (need m.1) r)
-  go Waiting p b r c s = let z = rw p at q in absurd (cc z)
-  go Down p b r c s = let z = rw p at q in absurd (cc z)
+give_taken e m q = grind arith
 
 given_within : (e : LinkEnd) (m : Message) → give_refusal e m ≡ None → IsWithin e → IsWithin (given e m)
 given_within e m q a =
@@ -207,27 +173,13 @@ given_within e m q a =
     let more = need_more e.sent m (whole_among e.sent acked) (whole_few e.sent acked) in
     record { room = omega (arith, less, more, taken.1, a.room); forgot = λ no. absurd (no taken.0) }
 
-ready_acked : (s : EndState) (r : Bool) → (with_ready s r).session.acked ≡ s.session.acked
-ready_acked s r = go s.ready r refl s.session.answered_rnr refl where
-  go : (b r : Bool) → s.ready ≡ b → (c : Bool) → s.session.answered_rnr ≡ c → (with_ready s r).session.acked ≡ s.session.acked
-  go true true p c q = rw p refl
-  go false false p c q = rw p refl
-  go true false p c q = rw p refl
-  go false true p true q = rw (p, q) refl
-  go false true p false q = rw (p, q) refl
-
 pub turn_within : (e : LinkEnd) (t : Turn) → IsWithin e → IsWithin (turn e t)
 turn_within e (Give m) a = by_option (give_refusal e m)
     (λ q. let is : turn e (Give m) ≡ given e m = rw q refl in subst IsWithin (sym is) (given_within e m q a))
     (λ why q. let is : turn e (Give m) ≡ e = rw q refl in subst IsWithin (sym is) a)
-turn_within e (Hold held) a =
-    same_within e (turn e (Hold held)) refl (ready_acked e.shdlc (not held)) (Rattle.link_laws.proofs.sessions.Ties.ready-phase e.shdlc (not held)) refl a
+turn_within e (Hold held) a = grind arith
 turn_within e FetchMessage a = same_within e (turn e FetchMessage) refl refl refl refl a
-turn_within e SetAside a = by_test (nat_lt 0 (spare e))
-    (λ q. let is : turn e SetAside ≡ record e { aside = e.aside + 1 } = rw q refl in
-    let some = ltb-true 0 (spare e) q in
-    subst IsWithin (sym is) (record { room = omega (arith, some, a.room); forgot = a.forgot }))
-    (λ q. let is : turn e SetAside ≡ e = rw q refl in subst IsWithin (sym is) a)
+turn_within e SetAside a = grind arith
 turn_within e Release a = record { room = omega (arith, a.room); forgot = a.forgot }
 
 turns_within : (e : LinkEnd) (ts : List Turn) → IsWithin e → IsWithin (turned e ts)
@@ -240,22 +192,12 @@ pub sent_within : (e : LinkEnd) → IsWithin e → IsWithin (sent_all e)
 sent_within e a = same_within e (sent_all e) refl (frames_acked most_frames e.shdlc) (after_frames-phase most_frames e.shdlc) refl a
 
 fetch_within : (e : LinkEnd) → IsWithin e → IsWithin (frame_fetched e)
-fetch_within e a = by_list e.acts
-    (λ q. fetch (frame_fetched e) (rw q refl) (rw q refl) (rw q refl))
-    (λ d acts q. by_test (d.behind == 0)
-    (λ z. same_within e (frame_fetched e) (rw (q, z) refl) (rw (q, z) refl) (rw (q, z) refl) (rw (q, z) refl) a)
-    (λ z. fetch (frame_fetched e) (rw (q, z) refl) (rw (q, z) refl) (rw (q, z) refl))) where
-      fetch : (f : LinkEnd) → f.sent ≡ e.sent → f.shdlc ≡ fetched e.shdlc → f.aside ≡ e.aside → IsWithin f
-      fetch f sent shdlc aside =
-          same_within e f sent (ap (λ (s : EndState). s.session.acked) shdlc ∙ one_fetched_acked e.shdlc)
-          (ap (λ (s : EndState). s.phase) shdlc ∙ fetched-phase e.shdlc)
-          aside a
+fetch_within e a = grind arith
 
 -- ### Inputs
 
 pub moved_aside : (e : LinkEnd) (b : Bool) (s : EndState) → (moved e b s).aside ≡ e.aside
-moved_aside e true s = refl
-moved_aside e false s = refl
+moved_aside e b s = grind arith
 
 moved_within : (e : LinkEnd) (b began : Bool) (s : EndState) → Shift e.shdlc s b began → IsWithin e → IsWithin (moved e b s)
 moved_within e b began s shift a =
@@ -265,23 +207,10 @@ ended_within : (e : LinkEnd) (s : EndState) → IsWithin e → IsWithin (moved e
 ended_within e s a = empty_within e (moved e true s) refl refl a
 
 down_within : (e : LinkEnd) (b : Bool) → IsWithin e → IsWithin (put_down b e)
-down_within e false a = a
-down_within e true a = go e.shdlc.phase refl where
-  go : (p : LinkState) → e.shdlc.phase ≡ p → IsWithin (put_down true e)
-  go Up q = rw q (ended_within e (stopped e.shdlc) a)
-  go Waiting q = rw q (ended_within e (stopped e.shdlc) a)
-  go Down q = same_within e (put_down true e) (rw q refl) (rw q refl) (rw q refl) (rw q refl) a
-
-act_within : (o : Option Act) (e : LinkEnd) → IsWithin e → IsWithin (with_act o e)
-act_within None e a = a
-act_within (Some act) e a = same_within e (with_act (Some act) e) refl refl refl refl a
+down_within e b a = grind arith
 
 activated_within : (e : LinkEnd) (event : ActEvent) → IsWithin e → IsWithin (activated e event)
-activated_within e event a =
-    let b : Bool = (act_answer e.role event).ended_link in
-    let down : LinkEnd = put_down b e in
-    act_within (act_answer e.role event).send (record down { role = role_after e.role event })
-    (same_within down (record down { role = role_after e.role event }) refl refl refl refl (down_within e b a))
+activated_within e event a = grind arith
 
 heard_within : (e : LinkEnd) (c : Control) (b : Bool) → IsWithin e → IsWithin (cond b (heard e c) e)
 heard_within e c false a = a
@@ -301,19 +230,10 @@ took_within e (Rset w caps) a = heard_within e (Rset w caps) (is_open e.role) a
 took_within e Ua a = heard_within e Ua (is_open e.role) a
 
 tick_within : (e : LinkEnd) → IsWithin e → IsWithin (had_tick e)
-tick_within e a = by_test (is_open e.role)
-    (λ o. let ended : Bool = is_some (tick_answer e.shdlc).ended in
-    let is : had_tick e ≡ moved e ended (ticked e.shdlc) = rw o refl in
-    subst IsWithin (sym is) (moved_within e ended false (ticked e.shdlc) (ticked_shift e.shdlc) a))
-    (λ o. let is : had_tick e ≡ activated e ActTick = rw o refl in
-    subst IsWithin (sym is) (activated_within e ActTick a))
+tick_within e a = grind arith
 
 reset_within : (e : LinkEnd) (window : Option ℕ) → IsWithin e → IsWithin (after_input e (Reset window))
-reset_within e window a = by_option (reset_refusal e)
-    (λ q. let w : ℕ = window_of e window in
-    let is : after_input e (Reset window) ≡ reset_by e w = rw q refl in
-    subst IsWithin (sym is) (moved_within e (is_some (if_up e.shdlc Asked)) false (reset_with e.shdlc w) (reset_shift e.shdlc w Asked (reset_tells e q).1) a))
-    (λ why q. let is : after_input e (Reset window) ≡ e = rw q refl in subst IsWithin (sym is) a)
+reset_within e window a = grind arith
 
 pub input_within : (e : LinkEnd) (i : LinkInput) → IsWithin e → IsWithin (after_input e i)
 input_within e (Take c) a = took_within e c a
@@ -327,10 +247,7 @@ input_within e (FromNode t) a = turn_within e t a
 input_within e Fetch a = fetch_within e a
 
 new_within : (e : LinkEnd) → IsWithin e → IsWithin (new_link_end (renewed e.role))
-new_within e a = go e.role where
-  go : (r : Role) → IsWithin (new_link_end (renewed r))
-  go Bare = record { room = omega arith; forgot = λ no. refl }
-  go _ = record { room = omega arith; forgot = λ no. refl }
+new_within e a = grind arith
 
 -- ### Links
 

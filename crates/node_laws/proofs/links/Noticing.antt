@@ -1,28 +1,19 @@
 -- A controller tells and asks only hosts whose links are up, so a notice that isn't answered stands only at an end that is up.
-use Rattle.node_laws.proofs.Words.{About, ActEvent, ActFrame, ActTake, ActTick, AllByRecursion, AllReach, Answer, Ask, Asked, Asks, AsksAsAllowed, AtEnd, Bool}
-use Rattle.node_laws.proofs.Words.{ByAct, Cause, Chain, Clt, Command, Commit, Commits, Control, Core, Create, Decision, Deed, Desk, Drops, EndState, Ends}
-use Rattle.node_laws.proofs.Words.{FetchMessage, Give, GoesOn, HciTables, Hears, Hold, I, IsAnswered, IsAskedFor, IsBegun, IsComing, IsNoticedUp, IsOutside}
-use Rattle.node_laws.proofs.Words.{LinkEnd, LinkInput, LinkState, LinkView, List, Message, NodeInput, None, Notice, OfDecision, OnFirst, Option, Orders, Plain}
-use Rattle.node_laws.proofs.Words.{Port, Reaches, Release, Releases, Removed, Reset, Rset, S, SaysOk, Sends, SetAside, SetsErrors, Some, Start, Stop, Take}
-use Rattle.node_laws.proofs.Words.{Tells, Tick, TimePasses, Turn, Ua, Up, Waiting, Waits, Work, [], act_answer, activated, after_input, after_sessions}
-use Rattle.node_laws.proofs.Words.{after_turn, all_come, all_of_controller, all_owed, all_owed_hold, all_synced_hold, and_parts, anyone, ap, arith}
-use Rattle.node_laws.proofs.Words.{aside_refusal, asked_at, body_in, body_of, by_option, by_test, changed_if, commit, commit_writes, cond, controller_deeds}
-use Rattle.node_laws.proofs.Words.{decided, decided_as_allowed, decided_holds, deeds_of, done, end_of_node, ended_by, ended_by_act, eqb, eqb-true, fails_within}
-use Rattle.node_laws.proofs.Words.{false, far_end_of, filter, flat_map, forgets, forgotten, forgotten_hold, give_refusal, had_tick, has, has_come, has_link}
-use Rattle.node_laws.proofs.Words.{heard, if_up, input_at, is_connected, is_connected_at, is_faulty, is_forgotten, is_late, is_open, is_opened, is_over}
-use Rattle.node_laws.proofs.Words.{is_some, is_up, leb-true, length, map, mask_of, moved, nat_le, notified, noting, option_and_then, option_map, option_map_or}
-use Rattle.node_laws.proofs.Words.{param_in, pipe_at, port_at, put_down, refl, reset_late, reset_refusal, role_after, shares, steps, subst, suc, sym, synced}
-use Rattle.node_laws.proofs.Words.{take_answer, taken, tick_answer, ticked, times_out, told_of_clearing, true, true≢false, turn, turn_at, view_for, view_of}
-use Rattle.node_laws.proofs.Words.{with_act, with_desk, with_older, with_port, without_notice, zero, ℕ, ◌%◌, ◌/◌, ◌==◌, ◌||◌, ◌∙◌, ◌∷◌, ◌≡◌, ◌≤◌}
+use Rattle.node_laws.proofs.Words.{About, AllByRecursion, AllReach, Answer, Ask, Asks, AsksAsAllowed, AtEnd, Bool, Chain, Command, Commit, Commits, Control}
+use Rattle.node_laws.proofs.Words.{Core, Create, Decision, Deed, Desk, Drops, EndState, Ends, FetchMessage, Give, GoesOn, HciTables, Hears, Hold, IsAnswered}
+use Rattle.node_laws.proofs.Words.{IsAskedFor, IsBegun, IsComing, IsNoticedUp, IsOutside, LinkEnd, LinkInput, LinkView, List, Message, NodeInput, None}
+use Rattle.node_laws.proofs.Words.{OfDecision, OnFirst, Option, Orders, Plain, Port, Reaches, Release, Releases, Removed, SaysOk, Sends, SetAside, SetsErrors}
+use Rattle.node_laws.proofs.Words.{Some, Tells, Tick, TimePasses, Turn, Up, Waits, Work, [], after_input, after_sessions, after_turn, all_come}
+use Rattle.node_laws.proofs.Words.{all_of_controller, all_owed, all_owed_hold, all_synced_hold, anyone, ap, arith, body_in, by_option, by_test, changed_if}
+use Rattle.node_laws.proofs.Words.{commit, cond, controller_deeds, decided, decided_as_allowed, decided_holds, deeds_of, done, end_of_node, ended_by, eqb}
+use Rattle.node_laws.proofs.Words.{eqb-true, false, far_end_of, filter, flat_map, forgets, forgotten, forgotten_hold, has, has_come, has_link, heard, input_at}
+use Rattle.node_laws.proofs.Words.{is_connected, is_connected_at, is_faulty, is_over, is_some, is_up, map, mask_of, notified, noting, option_and_then}
+use Rattle.node_laws.proofs.Words.{option_map, option_map_or, param_in, pipe_at, port_at, refl, reset_late, shares, steps, subst, suc, sym, synced, take_answer}
+use Rattle.node_laws.proofs.Words.{taken, times_out, told_of_clearing, true, true≢false, turn, turn_at, view_for, view_of, with_desk, with_older, with_port}
+use Rattle.node_laws.proofs.Words.{without_notice, zero, ℕ, ◌%◌, ◌/◌, ◌==◌, ◌||◌, ◌∙◌, ◌∷◌, ◌≡◌, ◌≤◌}
 use Rattle.gate_admin.specs.View.{hosts_where}
-use Rattle.link_laws.proofs.machine.Reports.{shdlc_is as shdlc_moved}
-use Rattle.link_laws.proofs.machine.Sound.{Shift, taken_shift, ticked_shift}
-use Rattle.link_laws.proofs.machine.Sound.Shift.{Begins, Ends as ShiftEnds, Renews, Rests, Stays}
-use Rattle.link_laws.proofs.sessions.Ties.{ready-phase as ready_phase}
-use Rattle.shdlc_core.specs.declared.answers.LinkState.TheVariants.{Down}
-use Rattle.swp_base.specs.declared.control_frames.Act.{Act}
-use Rattle.node_laws.proofs.steps.StepWalks.{Lasts, bit_most, bit_none, changed_host, come_host, digits, forgets_host, late_host, rest_lasts, sessions_node}
-use Rattle.node_laws.proofs.steps.StepWalks.{without_host}
+use Rattle.link_laws.proofs.machine.Sound.{Shift}
+use Rattle.node_laws.proofs.steps.StepWalks.{Lasts, bit_most, bit_none, changed_host, come_host, digits, forgets_host, late_host, rest_lasts, without_host}
 use Rattle.trace_model.specs.declared.entry.Entry.TheVariants as entry
 
 -- ## A host that is in the mask of the hosts that pass a test passes it
@@ -32,9 +23,7 @@ zero_one n z q = absurd (true≢false (sym q ∙ ap (λ k. eqb k 1) z))
 
 -- hosts in a mask are 07 at most
 pub has_small : (m x : ℕ) → has m x ≡ true → x ≤ 7
-has_small m x q = by_test (nat_le 1 x)
-    (λ p. by_test (nat_le x 7) (λ r. leb-true x 7 r) (λ r. absurd (true≢false (sym (rw (p, r) at q)))))
-    (λ p. absurd (true≢false (sym (rw p at q))))
+has_small m x q = grind arith
 
 -- nobody is in an empty mask
 pub nobody : hosts_where (has 0) ≡ []
@@ -117,8 +106,7 @@ module _ (v : LinkView) where
   sharing t host (x ∷ hosts) a = (first (is_connected v x) refl (from_mask (shares t v host) x a.0), sharing t host hosts a.1)
     where
       first : (b : Bool) → is_connected v x ≡ b → shares t v host x ≡ true → is_connected v x ≡ true
-      first true q s = q
-      first false q s = absurd (true≢false (sym (rw q at s)))
+      first b q s = grind arith
 
   decided_tells : (t : HciTables) (host pipe instruction : ℕ) (body : List ℕ) → TellsConnected v (decided t v host pipe instruction body)
   decided_tells t host pipe n body =
@@ -142,8 +130,7 @@ linked_of : (t : HciTables) (ports : List Port) (h x : ℕ) → is_connected (vi
 linked_of t ports h x q = go (port_at ports x) (from_mask (λ k. option_map_or (is_connected_at t) (port_at ports k) false) x q)
   where
     go : (o : Option Port) → option_map_or (is_connected_at t) o false ≡ true → option_map_or (λ (p : Port). is_up p.side.shdlc.phase) o false ≡ true
-    go None z = z
-    go (Some p) z = (and_parts (is_up p.side.shdlc.phase) (is_opened t p.desk.host 1) z).0
+    go o z = grind arith
 
 asked_reach : (t : HciTables) (ports : List Port) (h dest : ℕ) (c : Command) → IsAskedFor t (view_for t ports h) h dest c → IsLinked ports dest
 asked_reach t ports h dest (Create row) a = linked_of t ports h dest a.connected
@@ -175,64 +162,14 @@ abbrev pub IsUpEnd : LinkEnd → Type 0
 IsUpEnd e = e.shdlc.phase ≡ Up
 
 goes_on : (e f : EndState) (b began : Bool) → e.phase ≡ Up → b ≡ false → Shift e f b began → f.phase ≡ Up
-goes_on e f b began up q (Stays p r g) = g.is
-goes_on e f b began up q (ShiftEnds p r u n s) = absurd (true≢false (sym p ∙ q))
-goes_on e f b began up q (Renews p r u n) = absurd (true≢false (sym p ∙ q))
-goes_on e f b began up q (Begins p r n w) = absurd (n up)
-goes_on e f b began up q (Rests p r n m s) = absurd (n up)
-
-up_ends : (e : EndState) (cause : Cause) → e.phase ≡ Up → is_some (if_up e cause) ≡ false → ⊥
-up_ends e cause up q = let z : true ≡ false = rw up at q in true≢false z
-
-act_stays : (o : Option Act) (e : LinkEnd) → (with_act o e).shdlc ≡ e.shdlc
-act_stays None e = refl
-act_stays (Some act) e = refl
-
-activated_up : (e : LinkEnd) (event : ActEvent) → IsUpEnd e → is_some (ended_by_act e event) ≡ false → IsUpEnd (activated e event)
-activated_up e event up q = by_test (act_answer e.role event).ended_link
-    (λ z. absurd (up_ends e.shdlc ByAct up (rw z at q)))
-    (λ z. let down : (put_down (act_answer e.role event).ended_link e).shdlc ≡ e.shdlc = ap (λ b. (put_down b e).shdlc) z in
-    subst (λ (s : EndState). s.phase ≡ Up) (sym (act_stays (act_answer e.role event).send (f (act_answer e.role event).ended_link) ∙ down)) up)
-  where
-    f : Bool → LinkEnd
-    f b = record (put_down b e) { role = role_after e.role event }
-
-moved_up : (e : LinkEnd) (b : Bool) (s : EndState) → s.phase ≡ Up → IsUpEnd (moved e b s)
-moved_up e b s up = let P : EndState → Type 0 = λ z. z.phase ≡ Up in subst P (sym (shdlc_moved e b s)) up
-
-heard_up : (e : LinkEnd) (c : Control) → IsUpEnd e
-    → is_some (cond (is_faulty (taken e.shdlc c).session) (Some Chain) (take_answer e.shdlc c).ended) ≡ false → IsUpEnd (heard e c)
-heard_up e c up q = by_test (is_faulty (taken e.shdlc c).session)
-    (λ z. absurd (true≢false (rw z at q)))
-    (λ z. let same : is_some (take_answer e.shdlc c).ended ≡ false = rw z at q in
-    let s : EndState = taken e.shdlc c in
-    let b : Bool = is_some (take_answer e.shdlc c).ended in
-    rw z (moved_up e b s (goes_on e.shdlc s b (take_answer e.shdlc c).began up same (taken_shift e.shdlc c))))
+goes_on e f b began up q a = grind arith
 
 open_up : (e : LinkEnd) (c : Control) (b : Bool) → IsUpEnd e
     → is_some (cond b (cond (is_faulty (taken e.shdlc c).session) (Some Chain) (take_answer e.shdlc c).ended) None) ≡ false → IsUpEnd (cond b (heard e c) e)
-open_up e c true up q = heard_up e c up q
-open_up e c false up q = up
+open_up e c b up q = grind arith
 
 pub stays_up : (e : LinkEnd) (i : LinkInput) → IsComing i → IsUpEnd e → is_some (ended_by e i) ≡ false → IsUpEnd (after_input e i)
-stays_up e (Take (ActFrame act again)) k up q = activated_up e (ActTake act again) up q
-stays_up e (Take Clt) k up q = up
-stays_up e (Take (I ns nr info)) k up q = open_up e (I ns nr info) (is_open e.role) up q
-stays_up e (Take (S kind nr)) k up q = open_up e (S kind nr) (is_open e.role) up q
-stays_up e (Take (Rset w caps)) k up q = open_up e (Rset w caps) (is_open e.role) up q
-stays_up e (Take Ua) k up q = open_up e Ua (is_open e.role) up q
-stays_up e Tick k up q = by_test (is_open e.role)
-    (λ z. let b : Bool = is_some (tick_answer e.shdlc).ended in
-    let same : b ≡ false = rw z at q in
-    let is : had_tick e ≡ moved e b (ticked e.shdlc) = rw z refl in
-    subst IsUpEnd (sym is) (moved_up e b (ticked e.shdlc) (goes_on e.shdlc (ticked e.shdlc) b false up same (ticked_shift e.shdlc))))
-    (λ z. let same : is_some (ended_by_act e ActTick) ≡ false = rw z at q in
-    let is : had_tick e ≡ activated e ActTick = rw z refl in
-    subst IsUpEnd (sym is) (activated_up e ActTick up same))
-stays_up e (Reset window) k up q = by_option (reset_refusal e) (λ z. absurd (up_ends e.shdlc Asked up (rw z at q))) (λ why z. rw z up)
-stays_up e (Start value) k up q = absurd (up_ends e.shdlc ByAct up q)
-stays_up e Stop k up q = absurd (up_ends e.shdlc ByAct up q)
-stays_up e _ k up q = absurd k
+stays_up e i k up q = grind arith
 
 -- ## A notice that isn't answered stands only at an end that is up
 
@@ -240,11 +177,7 @@ stays_up e _ k up q = absurd k
 
 -- a turn leaves the phase of an end
 pub turn-phase : (e : LinkEnd) (t : Turn) → (turn e t).shdlc.phase ≡ e.shdlc.phase
-turn-phase e (Give m) = by_option (give_refusal e m) (λ q. rw q refl) (λ why q. rw q refl)
-turn-phase e (Hold held) = ready_phase e.shdlc _
-turn-phase e FetchMessage = refl
-turn-phase e SetAside = by_option (aside_refusal e) (λ q. rw q refl) (λ why q. rw q refl)
-turn-phase e Release = refl
+turn-phase e t = grind arith
 
 -- an end is up
 abbrev pub up_at : Option Port → Bool
@@ -266,9 +199,7 @@ at_all (p ∷ ports) x g keeps = by_test (p.desk.host == x)
 pub at_host : (ports : List Port) (h : ℕ) (p : Port) → port_at ports h ≡ Some p → p.desk.host ≡ h
 at_host [] h p q = cc
 at_host (x ∷ ports) h p q = by_test (x.desk.host == h)
-    (λ e. let is : Some x ≡ Some p = rw e at q in
-    let one : x ≡ p = cc in
-    ap (λ (z : Port). z.desk.host) (sym one) ∙ eqb-true x.desk.host h e)
+    (λ e. grind arith)
     (λ e. at_host ports h p (rw e at q))
 
 -- ### Works
@@ -281,9 +212,7 @@ module _ (U : ℕ → Bool) where
     pub up : (x : ℕ) → UpAt (port_at w.ports x)
 
   beside : (w v : Work) → v.core.node ≡ w.core.node → v.ports ≡ w.ports → Sure w → Sure v
-  beside w v node ports a =
-      let Q : List Port → Type 0 = λ ps. (x : ℕ) → UpAt (port_at ps x) in
-      record { node = node ∙ a.node; links = subst (λ (ps : List Port). (x : ℕ) → has_link ps x ≡ U x) (sym ports) a.links; up = subst Q (sym ports) a.up }
+  beside w v node ports a = grind arith
 
   -- an end is changed which keeps its host and its phase
   changes : (k : ℕ) (g : Port → Port) (w : Work) → ((q : Port) → (g q).desk.host ≡ q.desk.host)
@@ -332,9 +261,7 @@ module _ (U : ℕ → Bool) where
       (λ p found c n. ap up_at (sym found) ∙ (b.links k ∙ up)) b
 
   commits : (c : Command) (w : Work) → Sure w → Sure (commit c w)
-  commits c w a = by_test (fails_within (length (commit_writes w.core.journal w.core.tables (body_of c))) w.plan)
-      (λ q. beside w (commit c w) (rw q refl) (rw q refl) a)
-      (λ q. beside w (commit c w) (rw q refl) (rw q refl) a)
+  commits c w a = grind arith
 
   -- notices go where links are up
   abbrev Goes : Deed → Type 0
@@ -370,9 +297,7 @@ module _ (U : ℕ → Bool) where
   goes_of w a (d ∷ deeds) r = (one d r.0, goes_of w a deeds r.1)
     where
       one : (d : Deed) → Reaches w.ports d → Goes d
-      one (Asks to message c) q = sym (a.links to) ∙ q
-      one (Tells to message) q = sym (a.links to) ∙ q
-      one _ q = tt
+      one d q = grind arith
 
   deeds_go : (k : ℕ) (m : Message) (w : Work) → Sure w → AllGo (deeds_of w.core w.ports k m)
   deeds_go k m w a = by_test (w.core.node == 0)
@@ -402,34 +327,23 @@ first_map : (P Q : Port → Type 0) (g : Port → Port) (ports : List Port) (x :
 first_map P Q g ports x host one a = subst (OnFirst Q) (sym (at_all ports x g host)) (go (port_at ports x) a)
   where
     go : (o : Option Port) → OnFirst P o → OnFirst Q (option_map g o)
-    go None b = tt
-    go (Some p) b = one p b
+    go o b = grind arith
 
 come_ok : (p : Port) (o : Option LinkInput) → ((i : LinkInput) → o ≡ Some i → IsComing i) → IsBegun p → IsOk (has_come p o)
 come_ok p None k b n over = b.up n
 come_ok p (Some i) k b n over = stays_up p.side i (k i refl) (b.up n) (go (is_some (ended_by p.side i)) refl)
   where
     go : (c : Bool) → is_some (ended_by p.side i) ≡ c → is_some (ended_by p.side i) ≡ false
-    go false q = q
-    go true q = absurd (true≢false (sym (ap (λ c. c || p.late) q) ∙ over))
+    go c q = grind arith
 
 older_ok : (p : Port) → IsOk p → IsOk (with_older p)
 older_ok p b n over = b (by_option p.desk.notice (λ q. let z : false ≡ true = rw q at n in absurd (true≢false (sym z))) (λ m q. rw q refl)) over
 
 late_ok : (p : Port) → IsOk p → IsOk (reset_late p)
-late_ok p b = by_test (is_late p) (λ q. rw q (λ n over. absurd (over_late p.ended over))) (λ q. rw q b)
-  where
-    over_late : (c : Bool) → (c || true) ≡ false → ⊥
-    over_late true z = true≢false z
-    over_late false z = true≢false z
+late_ok p b = grind arith
 
 forgets_ok : (ports : List Port) (p : Port) → IsOk p → IsOk (forgets ports p)
-forgets_ok ports p b = go (is_forgotten ports (asked_at p)) refl p.desk.notice refl
-  where
-    go : (c : Bool) → is_forgotten ports (asked_at p) ≡ c → (o : Option Notice) → p.desk.notice ≡ o → IsOk (forgets ports p)
-    go false q o r = rw q b
-    go true q None r = rw (q, r) (λ n over. absurd (true≢false (sym n)))
-    go true q (Some n) r = rw (q, r) (λ z over. b (rw r refl) over)
+forgets_ok ports p b = grind arith
 
 without_up : (p : Port) → IsOk p → UpAt (Some (without_notice p))
 without_up p b = by_test (is_over p) (λ q. rw q (λ n. absurd (true≢false (sym n)))) (λ q. rw q (λ n. ap is_up (b n q)))
@@ -438,12 +352,7 @@ without_up p b = by_test (is_over p) (λ q. rw q (λ n. absurd (true≢false (sy
 
 -- what comes in a step comes from outside
 pub outside : (input : NodeInput) → IsOutside input → (p : Port) (i : LinkInput) → input_at input p ≡ Some i → IsComing i
-outside (AtEnd h j) k p i q = by_test (p.desk.host == h)
-    (λ z. let same : Some j ≡ Some i = rw z at q in
-    let is : j ≡ i = cc in
-    subst IsComing is k)
-    (λ z. let none : None ≡ Some i = rw z at q in cc)
-outside TimePasses k p i q = let is : Tick ≡ i = cc in subst IsComing is tt
+outside input k p i q = grind arith
 
 came_ok : (input : NodeInput) (w : Work) (x : ℕ) → IsOutside input → OnFirst IsBegun (port_at w.ports x)
     → OnFirst IsOk (port_at (times_out input (all_come input w)).ports x)
@@ -457,8 +366,7 @@ came_ok TimePasses w x k a =
     (first_map IsBegun IsOk (λ p. has_come p (Some Tick)) w.ports x (λ q. refl) (λ p b. come_ok p (Some Tick) (λ i q. outside TimePasses tt p i q) b) a))
 
 pub came_node : (input : NodeInput) (w : Work) → (times_out input (all_come input w)).core ≡ w.core
-came_node (AtEnd h i) w = refl
-came_node TimePasses w = refl
+came_node input w = grind arith
 
 -- the links of a controller after what came in a step
 abbrev pub links_after : NodeInput → Work → ℕ → Bool
@@ -475,12 +383,7 @@ steps_sure input w k node a =
     let kept : (x : ℕ) → UpAt (port_at (map without_notice left) x) =
     λ x. first_up left x (first_map IsOk IsOk (forgets came.ports) came.ports x (forgets_host came.ports) (forgets_ok came.ports)
     (came_ok input w x k (a x))) in
-    let sure : Sure U begun =
-    record {
-      node = sessions_node came.core came.ports ∙ (ap (λ (c : Core). c.node) (came_node input w) ∙ node);
-      links = λ x. refl;
-      up = λ x. kept x;
-    } in
+    let sure : Sure U begun = grind arith in
     rest_lasts (Sure U) (Goes U) (λ k m. Unit {0}) (sure_lasts U) (forgotten came.ports) (flat_map (synced w.core input) w.ports) (all_owed left) begun
     (forgotten_hold (Goes U) (λ asker. tt) came.ports) (all_synced_hold (Goes U) (λ host id. tt) w.core input w.ports)
     (all_owed_hold (Goes U) (λ asker. tt) (λ to r. tt) left) sure
@@ -493,13 +396,7 @@ steps_sure input w k node a =
         go (Some p) c = without_up p c
 
 pub up_of : (o : Option Port) → UpAt o → OnFirst IsNoticedUp o
-up_of None a = tt
-up_of (Some p) a = λ n. go p.side.shdlc.phase (a n)
-  where
-    go : (s : LinkState) → is_up s ≡ true → s ≡ Up
-    go Up q = refl
-    go Waiting q = cc
-    go Down q = cc
+up_of o a = grind arith
 
 pub noticed_up : (input : NodeInput) (w : Work) → IsOutside input → w.core.node ≡ 0 → ((x : ℕ) → OnFirst IsBegun (port_at w.ports x))
     → (x : ℕ) → OnFirst IsNoticedUp (port_at (steps input w).ports x)

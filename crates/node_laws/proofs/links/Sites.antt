@@ -1,21 +1,17 @@
 -- What came at an end may be sent on, and the link of each host is a run of the law of one link over all that happens to it.
-use Rattle.node_laws.proofs.Words.{ActDue, ActEvent, ActFrame, ActStart, ActStop, ActTake, ActTick, AllAllowed, AllByRecursion, AreSendable, AreSendableTurns}
-use Rattle.node_laws.proofs.Words.{Asked, AsksReset, AtController, AtHost, Bare, Bool, CanCome, CanEnd, Clf, Clt, Comes, Control, CutOff, EndEvent, Ending}
-use Rattle.node_laws.proofs.Words.{Fetch, FetchMessage, FromNode, Give, GoesOut, Hold, I, IsClf, IsEvent, IsRun, IsRunOf, IsUicc, IsWindow, Link, LinkEnd}
-use Rattle.node_laws.proofs.Words.{LinkEvent, LinkInput, List, Lose, Loss, Message, NextFrame, NoInput, Node, None, NumberedEnd, Option, Release, Reset, Role}
-use Rattle.node_laws.proofs.Words.{Rset, S, Session, SetAside, Start, Starts, Step, Stop, Stops, Take, TakeBroken, TakeUnknown, Tick, TicksWithout, Turn, Ua}
-use Rattle.node_laws.proofs.Words.{Uicc, [], activated, activated_got, activated_role, after_input, after_link_events, aged, all_append, ap, arith}
-use Rattle.node_laws.proofs.Words.{aside_refusal, by_list, by_option, by_test, clf_starts, cond, deactivated, drop, ended_by, exchanged, false, finished}
-use Rattle.node_laws.proofs.Words.{frame_fetched, give_refusal, good_of, had_tick, happens, happens_at_controller, has_input, has_taken, heard, host_ended}
-use Rattle.node_laws.proofs.Words.{host_finished, if_up, is_faulty, is_good, is_open, is_some, is_up, is_waiting, length, ltb-true, moved, moved_got}
-use Rattle.node_laws.proofs.Words.{moved_role, nat_lt, new_line, new_link_end, not, put_down, refl, renewed, reset_by, reset_refusal, reset_role, reset_with}
-use Rattle.node_laws.proofs.Words.{role_after, sent_all, silent, started, steps_at_controller, stopped, subst, suc, sym, take_answer, taken, tick_answer}
-use Rattle.node_laws.proofs.Words.{tick_host, ticked, ticked_so, ticks_at_controller, took, true, true≢false, turn, turned, turned_role, window_of, with_ended}
-use Rattle.node_laws.proofs.Words.{zero, ℕ, ◌%◌, ◌&&◌, ◌++◌, ◌<◌, ◌==◌, ◌∙◌, ◌∷◌, ◌≡◌}
-use Rattle.hcp_chain.specs.Joining.{given_by, grown, is_fifth, join_step, message_in}
+use Rattle.node_laws.proofs.Words.{ActEvent, ActFrame, ActStop, ActTake, AllAllowed, AllByRecursion, AreSendable, AreSendableTurns, AsksReset, AtController}
+use Rattle.node_laws.proofs.Words.{AtHost, Bool, CanCome, CanEnd, Clt, Comes, Control, EndEvent, Ending, Fetch, FromNode, I, IsClf, IsEvent, IsRun, IsRunOf}
+use Rattle.node_laws.proofs.Words.{IsUicc, IsWindow, Link, LinkEnd, LinkEvent, LinkInput, List, Lose, Loss, Message, NextFrame, NoInput, Node, None}
+use Rattle.node_laws.proofs.Words.{NumberedEnd, Option, Reset, Role, Rset, S, Session, Start, Starts, Step, Stop, Stops, Take, TakeBroken, TakeUnknown, Tick}
+use Rattle.node_laws.proofs.Words.{TicksWithout, Turn, Ua, [], activated, activated_got, after_input, after_link_events, aged, all_append, ap, arith, by_list}
+use Rattle.node_laws.proofs.Words.{by_test, cond, deactivated, drop, ended_by, exchanged, false, finished, good_of, had_tick, happens, happens_at_controller}
+use Rattle.node_laws.proofs.Words.{has_input, has_taken, heard, host_ended, host_finished, is_faulty, is_good, is_open, is_some, is_up, is_waiting, length}
+use Rattle.node_laws.proofs.Words.{ltb-true, moved, moved_got, nat_lt, new_line, new_link_end, not, put_down, refl, renewed, role_after, sent_all, silent}
+use Rattle.node_laws.proofs.Words.{steps_at_controller, stopped, subst, suc, sym, taken, tick_host, ticked_so, ticks_at_controller, took, true, turn, turned}
+use Rattle.node_laws.proofs.Words.{turned_role, with_ended, zero, ℕ, ◌%◌, ◌&&◌, ◌++◌, ◌<◌, ◌∙◌, ◌∷◌, ◌≡◌}
+use Rattle.hcp_chain.specs.Joining.{given_by, join_step, message_in}
 use Rattle.hcp_packet.specs.Packets.{packets_in}
 use Rattle.hcp_packet.specs.declared.Packet.{Packet}
-use Rattle.link_laws.proofs.entries.Settling.{down_role}
 use Rattle.link_laws.proofs.machine.Reports.{down_got}
 use Rattle.link_laws.specs.machine.Machine.{messages_got, news}
 use Rattle.link_laws.specs.messages.Links.{IfLine}
@@ -48,9 +44,7 @@ have_pipes ([] ∷ fs) = have_pipes fs
 have_pipes ((first ∷ rest) ∷ fs) = by_test (nat_lt (first % 128) 112) (λ q. rw q (ltb-true (first % 128) 112 q, have_pipes fs)) (λ q. rw q (have_pipes fs))
 
 joined_pipe : (begun : List Message) (p : Packet) → p.pipe < 112 → OnPipes (message_in (join_step begun p).0)
-joined_pipe begun p fits = by_test (is_fifth begun p.pipe) (λ x. rw x tt)
-    (λ x. by_test (nat_lt 4096 (length (grown begun p))) (λ y. rw (x, y) tt)
-    (λ y. by_test p.last (λ z. rw (x, y, z) (fits, tt)) (λ z. rw (x, y, z) tt)))
+joined_pipe begun p fits = grind arith
 
 on_pipes : (begun : List Message) (ps : List Packet) → HavePipes ps → OnPipes (given_by begun ps)
 on_pipes begun [] a = tt
@@ -63,8 +57,7 @@ good_sendable [] a = tt
 good_sendable (m ∷ ms) a = by_test (is_good m.1) (λ q. rw q ((a.0, long m.1 q), good_sendable ms a.1)) (λ q. rw q (good_sendable ms a.1))
   where
     long : (bytes : List ℕ) → is_good bytes ≡ true → 0 < length bytes
-    long [] z = absurd (true≢false (sym z))
-    long (first ∷ rest) z = omega arith
+    long bytes z = grind arith
 
 got_sendable : (s : Session) → AreSendable (messages_got s)
 got_sendable s = good_sendable (given_by [] (packets_in s.acc)) (on_pipes [] (packets_in s.acc) (have_pipes s.acc))
@@ -96,23 +89,13 @@ took_clean e (Rset w caps) a = open_clean e (Rset w caps) (is_open e.role) a
 took_clean e Ua a = open_clean e Ua (is_open e.role) a
 
 tick_clean : (e : LinkEnd) → Clean e → Clean (had_tick e)
-tick_clean e a = by_test (is_open e.role)
-    (λ q. let b : Bool = is_some (tick_answer e.shdlc).ended in
-    rw q (got_same e (moved e b (ticked e.shdlc)) (moved_got e b (ticked e.shdlc)) a))
-    (λ q. rw q (got_same e (activated e ActTick) (activated_got e ActTick) a))
+tick_clean e a = grind arith
 
 reset_clean : (e : LinkEnd) (window : Option ℕ) → Clean e → Clean (after_input e (Reset window))
-reset_clean e window a = by_option (reset_refusal e)
-    (λ q. let w : ℕ = window_of e window in
-    rw q (got_same e (reset_by e w) (moved_got e (is_some (if_up e.shdlc Asked)) (reset_with e.shdlc w)) a))
-    (λ why q. rw q a)
+reset_clean e window a = grind arith
 
 turn_clean : (e : LinkEnd) (t : Turn) → Clean e → Clean (turn e t)
-turn_clean e (Give m) a = by_option (give_refusal e m) (λ q. rw q a) (λ why q. rw q a)
-turn_clean e (Hold held) a = a
-turn_clean e FetchMessage a = sendable-drop 1 e.got a
-turn_clean e SetAside a = by_option (aside_refusal e) (λ q. rw q a) (λ why q. rw q a)
-turn_clean e Release a = a
+turn_clean e t a = grind arith
 
 turned_clean : (e : LinkEnd) (ts : List Turn) → Clean e → Clean (turned e ts)
 turned_clean e [] a = a
@@ -127,15 +110,10 @@ input_clean e TakeUnknown a = a
 input_clean e (TakeBroken fault) a = a
 input_clean e Tick a = tick_clean e a
 input_clean e (Reset window) a = reset_clean e window a
-input_clean e (Start value) a =
-    got_same e (started e value) (activated_got (moved e true (stopped e.shdlc)) (ActStart value) ∙ moved_got e true (stopped e.shdlc)) a
+input_clean e (Start value) a = grind arith
 input_clean e Stop a = got_same e (deactivated e) (activated_got (moved e true (stopped e.shdlc)) ActStop ∙ moved_got e true (stopped e.shdlc)) a
 input_clean e (FromNode t) a = turn_clean e t a
-input_clean e Fetch a = got_same e (frame_fetched e) (fetched_got e.acts refl) a
-  where
-    fetched_got : (acts : List ActDue) → e.acts ≡ acts → (frame_fetched e).got ≡ e.got
-    fetched_got [] q = rw q refl
-    fetched_got (x ∷ acts) q = by_test (x.behind == 0) (λ z. rw (q, z) refl) (λ z. rw (q, z) refl)
+input_clean e Fetch a = grind arith
 
 -- ## What holds of the end of a link over all that may happen to it
 
@@ -147,18 +125,15 @@ module _ (P : LinkEnd → Type 0)
     (sends : (e : LinkEnd) → P e → P (sent_all e))
     (renews : (e : LinkEnd) → P e → P (new_link_end (renewed e.role))) where
   finished_is : (l : Link) (e : LinkEnd) (ending : Ending) → P e → P (finished l e ending).controller.side
-  finished_is l e GoesOut a = sends e a
-  finished_is l e CutOff a = renews (sent_all e) (sends e a)
+  finished_is l e ending a = grind arith
 
   input_is : (l : Link) (i : LinkInput) (ts : List Turn) (ending : Ending) → P l.controller.side
       → (m : Link) → P (finished m (turned (after_input l.controller.side i) ts) ending).controller.side
-  input_is l i ts ending a m =
-      finished_is m (turned (after_input l.controller.side i) ts) ending (turns (after_input l.controller.side i) ts (has l.controller.side i a))
+  input_is l i ts ending a m = grind arith
 
   step_is : (l : Link) (comes : Comes) (ts : List Turn) (ending : Ending) → P l.controller.side → P (steps_at_controller l comes ts ending).controller.side
   step_is l NextFrame ts ending a = by_list l.to_controller
-      (λ q. let is : steps_at_controller l NextFrame ts ending ≡ l = rw q refl in
-      let Q : Link → Type 0 = λ k. P k.controller.side in subst Q (sym is) a)
+      (λ q. grind arith)
       (λ x xs q. let is : steps_at_controller l NextFrame ts ending ≡ has_taken l x xs ts ending = rw q refl in
       subst (λ (k : Link). P k.controller.side) (sym is) (input_is l (Take x.frame) ts ending a _))
   step_is l (AsksReset window) ts ending a = input_is l (Reset window) ts ending a (with_ended l (is_some (ended_by l.controller.side (Reset window))))
@@ -206,58 +181,17 @@ module _ (Q : Role → Type 0) (acts : (r : Role) (event : ActEvent) → Q r →
   same : (e f : LinkEnd) → f.role ≡ e.role → Q e.role → Q f.role
   same e f q a = subst Q (sym q) a
 
-  activated_is : (e : LinkEnd) (event : ActEvent) → Q e.role → Q (activated e event).role
-  activated_is e event a = subst Q (sym (activated_role e event)) (acts e.role event a)
-
   heard_is : (e : LinkEnd) (c : Control) (b : Bool) → Q e.role → Q (cond b (heard e c) e).role
-  heard_is e c false a = a
-  heard_is e c true a = by_test (is_faulty (taken e.shdlc c).session)
-      (λ q. rw q (same e (put_down true e) (down_role e) a))
-      (λ q. let b : Bool = is_some (take_answer e.shdlc c).ended in
-      rw q (same e (moved e b (taken e.shdlc c)) (moved_role e b (taken e.shdlc c)) a))
-
-  took_is : (e : LinkEnd) (c : Control) → Q e.role → Q (took e c).role
-  took_is e (ActFrame act again) a = activated_is e (ActTake act again) a
-  took_is e Clt a = a
-  took_is e (I ns nr info) a = heard_is e (I ns nr info) (is_open e.role) a
-  took_is e (S kind nr) a = heard_is e (S kind nr) (is_open e.role) a
-  took_is e (Rset w caps) a = heard_is e (Rset w caps) (is_open e.role) a
-  took_is e Ua a = heard_is e Ua (is_open e.role) a
-
-  ticked_is : (e : LinkEnd) → Q e.role → Q (had_tick e).role
-  ticked_is e a = by_test (is_open e.role)
-      (λ q. let b : Bool = is_some (tick_answer e.shdlc).ended in
-      let f : LinkEnd = moved e b (ticked e.shdlc) in
-      let is : had_tick e ≡ f = rw q refl in
-      subst (λ (g : LinkEnd). Q g.role) (sym is) (same e f (moved_role e b (ticked e.shdlc)) a))
-      (λ q. let is : had_tick e ≡ activated e ActTick = rw q refl in
-      subst (λ (g : LinkEnd). Q g.role) (sym is) (activated_is e ActTick a))
-
-  fetch_is : (e : LinkEnd) → Q e.role → Q (frame_fetched e).role
-  fetch_is e a = by_list e.acts
-      (λ q. same e (frame_fetched e) (rw q refl) a)
-      (λ x acts q. by_test (x.behind == 0) (λ z. same e (frame_fetched e) (rw (q, z) refl) a) (λ z. same e (frame_fetched e) (rw (q, z) refl) a))
+  heard_is e c b a = grind arith
 
   pub role_input : (e : LinkEnd) (i : LinkInput) → Q e.role → Q (after_input e i).role
-  role_input e (Take c) a = took_is e c a
-  role_input e TakeUnknown a = a
-  role_input e (TakeBroken fault) a = a
-  role_input e Tick a = ticked_is e a
-  role_input e (Reset window) a = same e (after_input e (Reset window)) (reset_role e window) a
-  role_input e (Start value) a = activated_is (moved e true (stopped e.shdlc)) (ActStart value) a
-  role_input e Stop a = activated_is (moved e true (stopped e.shdlc)) ActStop a
-  role_input e (FromNode t) a = same e (turned e (t ∷ [])) (turned_role e (t ∷ [])) a
-  role_input e Fetch a = fetch_is e a
+  role_input e i a = grind arith
 
 clf_acts : (r : Role) (event : ActEvent) → IsClf r → IsClf (role_after r event)
-clf_acts (Clf s) event a = tt
-clf_acts (Uicc s) event a = absurd a
-clf_acts Bare event a = absurd a
+clf_acts r event a = grind arith
 
 uicc_acts : (r : Role) (event : ActEvent) → IsUicc r → IsUicc (role_after r event)
-uicc_acts (Uicc s) event a = tt
-uicc_acts (Clf s) event a = absurd a
-uicc_acts Bare event a = absurd a
+uicc_acts r event a = grind arith
 
 -- ### What is kept
 
@@ -271,23 +205,13 @@ clf_turns : (e : LinkEnd) (ts : List Turn) → HasClf e → HasClf (turned e ts)
 clf_turns e ts a = subst IsClf (sym (turned_role e ts)) a
 
 clf_renews : (e : LinkEnd) → HasClf e → HasClf (new_link_end (renewed e.role))
-clf_renews e a = go e.role a
-  where
-    go : (r : Role) → IsClf r → IsClf (renewed r)
-    go (Clf s) a = tt
-    go (Uicc s) a = absurd a
-    go Bare a = absurd a
+clf_renews e a = grind arith
 
 uicc_turns : (e : LinkEnd) (ts : List Turn) → HasUicc e → HasUicc (turned e ts)
 uicc_turns e ts a = subst IsUicc (sym (turned_role e ts)) a
 
 uicc_renews : (e : LinkEnd) → HasUicc e → HasUicc (new_link_end (renewed e.role))
-uicc_renews e a = go e.role a
-  where
-    go : (r : Role) → IsUicc r → IsUicc (renewed r)
-    go (Uicc s) a = tt
-    go (Clf s) a = absurd a
-    go Bare a = absurd a
+uicc_renews e a = grind arith
 
 pub here_clf : (l : Link) (x : EndEvent) → IsClf l.controller.side.role → IsClf (happens_at_controller l x).controller.side.role
 here_clf l x a = here_is HasClf (role_input IsClf clf_acts) clf_turns (λ e b. b) clf_renews l x a
@@ -344,24 +268,16 @@ pub record IsFineLink (l : Link) : Type 0 where
   pub line : IsLine l
 
 pub new_fine : IsFineLink new_line
-new_fine = record {
-  run = record { events = []; run = record { allowed = tt; is = refl } };
-  line = record { clf = tt; uicc = tt; near = tt; far = tt };
-}
+new_fine = grind arith
 
 pub clf_line : (r : Role) → IsClf r → IfLine r
-clf_line (Clf s) a = tt
-clf_line (Uicc s) a = absurd a
-clf_line Bare a = absurd a
+clf_line r a = grind arith
 
 pub uicc_line : (r : Role) → IsUicc r → IfLine r
-uicc_line (Uicc s) a = tt
-uicc_line (Clf s) a = absurd a
-uicc_line Bare a = absurd a
+uicc_line r a = grind arith
 
 pub can_end : (r : Role) (ending : Ending) → IfLine r → CanEnd r ending
-can_end r GoesOut a = tt
-can_end r CutOff a = a
+can_end r ending a = grind arith
 
 line_here : (l : Link) (x : EndEvent) → IsLine l → IsLine (happens_at_controller l x)
 line_here l x a =
@@ -390,11 +306,7 @@ MayCome (AsksReset window) = IsWindow window
 MayCome _ = Unit {0}
 
 pub can_come : (l : Link) (comes : Comes) → MayCome comes → IsClf l.controller.side.role → CanCome l comes
-can_come l NextFrame m a = tt
-can_come l (AsksReset window) m a = m
-can_come l (Starts value) m a = clf_starts l.controller.side.role l.host.side.role a
-can_come l Stops m a = clf_line l.controller.side.role a
-can_come l NoInput m a = tt
+can_come l comes m a = grind arith
 
 pub controller_steps : (l : Link) (comes : Comes) (ts : List Turn) (ending : Ending) → MayCome comes → AreSendableTurns ts → IsFineLink l
     → IsFineLink (happens l (AtController (Step comes ts ending)))
@@ -456,22 +368,14 @@ line_aged l a = record { clf = a.clf; uicc = a.uicc; near = a.near; far = a.far 
 pub tick_allowed : (l : Link) (c h : Node) → AreNodes c h → IsLine l → IsEvent l (Ticks c [] h)
 tick_allowed l c h send a =
     let m : Link = ticks_at_controller (aged l) c.turns c.ending in
-    let b : IsLine m = line_tick (aged l) c.turns c.ending (line_aged l a) in (
-      (send.controller, can_end l.controller.side.role c.ending (clf_line l.controller.side.role a.clf)),
-      tt,
-      (send.host, can_end m.host.side.role h.ending (uicc_line m.host.side.role b.uicc)),
-    )
+    let b : IsLine m = line_tick (aged l) c.turns c.ending (line_aged l a) in (grind arith)
 
 pub reset_allowed : (l : Link) (c h : Node) → AreNodes c h → IsLine l → is_waiting l.controller.side.shdlc ≡ false
     → IsEvent l (TicksWithout (Step (AsksReset None) c.turns c.ending ∷ []) h)
 reset_allowed l c h send a q =
     let reset : EndEvent = Step (AsksReset None) c.turns c.ending in
     let m : Link = happens_at_controller (aged l) reset in
-    let b : IsLine m = line_here (aged l) reset (line_aged l a) in (
-      q,
-      (tt, (tt, (send.controller, can_end l.controller.side.role c.ending (clf_line l.controller.side.role a.clf))), tt),
-      (send.host, can_end m.host.side.role h.ending (uicc_line m.host.side.role b.uicc)),
-    )
+    let b : IsLine m = line_here (aged l) reset (line_aged l a) in (grind arith)
 
 pub ticks_fine : (l : Link) (late : Bool) (c h : Node) → AreNodes c h → IsFineLink l → IsFineLink (ticked_of_sites l late c h)
 ticks_fine l late c h send a = go late (is_waiting l.controller.side.shdlc) refl

@@ -1,20 +1,16 @@
 -- What nodes decide on and send may be sent, so what a node does in a step is what it may do to its ends.
 use Rattle.node_laws.proofs.Words.{About, AllByRecursion, AllByRecursion-get, Answer, AreSendable, AreSendableTurns, Ask, Asks, AtEnd, Bool, Clear, Command}
-use Rattle.node_laws.proofs.Words.{Commit, Commits, Core, Create, Creation, Decision, Deed, Delete, Desk, FetchMessage, Forgotten, Give, HciTables, Hold, Init}
-use Rattle.node_laws.proofs.Words.{IsAnswered, IsSendable, LinkInput, LinkView, List, Message, NodeInput, None, Notice, OfHost, Option, Orders, Port, Release}
-use Rattle.node_laws.proofs.Words.{Releases, Removed, Reset, Response, Sends, SetAside, SetsErrors, Some, Tells, TimePasses, Turn, Waits, Work, [], accepts}
-use Rattle.node_laws.proofs.Words.{after_sessions, after_turn, agreed, all_changed, all_come, all_done, all_map, all_owed, all_owed_hold, all_synced_hold}
-use Rattle.node_laws.proofs.Words.{answer_of, answers_on, arith, asked_at, body_in, body_of, by_option, by_test, commit, commit_deeds, commit_writes}
-use Rattle.node_laws.proofs.Words.{commits_and_tells, controller_deeds, controller_holds, count_bytes, count_in, creation_in, decided, decided_holds}
-use Rattle.node_laws.proofs.Words.{decision_deeds, deeds_of, done, end_view, ends_of, eqb, fails_within, false, finds_room, first_of, flat_map, forgets}
-use Rattle.node_laws.proofs.Words.{forgotten, forgotten_hold, gates, handles, has, has_come, holds_back, host_deeds, host_holds, hosts_where, identity_served}
-use Rattle.node_laws.proofs.Words.{identity_value, input_at, is_forgotten, is_late, is_over, length, lets_go, link_deeds, link_served, map, mask_of, new_row}
-use Rattle.node_laws.proofs.Words.{notified, noting, older_notice, option_map_or, ordered_deeds, ordered_holds, orders_hold, orders_of, others_opened, own_view}
-use Rattle.node_laws.proofs.Words.{param_in, port_at, refl, reset_late, steps, subst, synced, tests_to_get, tests_to_set, tests_to_set_errors, times_out}
-use Rattle.node_laws.proofs.Words.{told_of_clearing, told_of_deletion, true, turn_at, value_in, view_for, view_of, with_desk, with_older, with_port}
-use Rattle.node_laws.proofs.Words.{without_notice, ℕ, ◌++◌, ◌<◌, ◌==◌, ◌∷◌, ◌≡◌}
-use Rattle.gate_identity.specs.Identity.{identity_unless_refused as identity_unless}
-use Rattle.gate_link.specs.Link.{link_unless_refused as link_unless}
+use Rattle.node_laws.proofs.Words.{Commit, Commits, Core, Creation, Decision, Deed, Delete, Desk, FetchMessage, Give, HciTables, Hold, Init, IsAnswered}
+use Rattle.node_laws.proofs.Words.{IsSendable, LinkInput, LinkView, List, Message, NodeInput, None, OfHost, Option, Orders, Port, Release, Releases, Removed}
+use Rattle.node_laws.proofs.Words.{Reset, Response, Sends, SetAside, SetsErrors, Some, Tells, TimePasses, Turn, Waits, Work, [], after_sessions, after_turn}
+use Rattle.node_laws.proofs.Words.{agreed, all_changed, all_come, all_done, all_map, all_owed, all_owed_hold, all_synced_hold, answer_of, answers_on, arith}
+use Rattle.node_laws.proofs.Words.{body_in, body_of, by_option, by_test, commit, commit_deeds, commit_writes, commits_and_tells, controller_deeds}
+use Rattle.node_laws.proofs.Words.{controller_holds, creation_in, decided, decided_holds, decision_deeds, deeds_of, done, end_view, ends_of, fails_within}
+use Rattle.node_laws.proofs.Words.{finds_room, flat_map, forgets, forgotten, forgotten_hold, gates, handles, has, has_come, holds_back, host_deeds, host_holds}
+use Rattle.node_laws.proofs.Words.{hosts_where, identity_served, input_at, is_late, is_over, length, lets_go, link_deeds, link_served, map, mask_of, new_row}
+use Rattle.node_laws.proofs.Words.{notified, noting, option_map_or, ordered_deeds, ordered_holds, orders_hold, orders_of, others_opened, own_view, param_in}
+use Rattle.node_laws.proofs.Words.{port_at, reset_late, steps, subst, synced, times_out, told_of_clearing, told_of_deletion, turn_at, view_for, view_of}
+use Rattle.node_laws.proofs.Words.{with_desk, with_older, with_port, without_notice, ℕ, ◌++◌, ◌<◌, ◌==◌, ◌∷◌, ◌≡◌}
 use Rattle.node_machine.proofs.Walks.{all_heard, told_hold}
 use Rattle.node_laws.proofs.links.Sites.{Clean, input_clean, one_clean}
 use Rattle.node_laws.proofs.links.Noticing.{nobody}
@@ -64,27 +60,11 @@ decided_speaks t v host pipe n body =
 
 -- ### Other gates
 
-link_one : (o : Option Response) (otherwise : List ℕ × Option ℕ) → IsSpoken otherwise.0 → IsSpoken (link_unless o otherwise).0
-link_one (Some r) otherwise a = answer_spoken r []
-link_one None otherwise a = a
-
 link_spoken : (errors instruction : ℕ) (body : List ℕ) → IsSpoken (link_served errors instruction body).0
-link_spoken errors instruction body = by_test (eqb instruction 1)
-    (λ p. rw p (link_one (first_of (tests_to_set_errors body)) (answer_of response.Ok [], Some (count_in (value_in body))) (omega arith)))
-    (λ p. by_test (eqb instruction 2)
-    (λ q. rw (p, q) (link_one (first_of (tests_to_get 6 body)) (answer_of response.Ok (count_bytes errors), None) (omega arith)))
-    (λ q. rw (p, q) (omega arith)))
-
-identity_one : (o : Option Response) (otherwise : List ℕ) → IsSpoken otherwise → IsSpoken (identity_unless o otherwise)
-identity_one (Some r) otherwise a = answer_spoken r []
-identity_one None otherwise a = a
+link_spoken errors instruction body = grind arith
 
 identity_spoken : (gates : List ℕ) (instruction : ℕ) (body : List ℕ) → IsSpoken (identity_served gates instruction body)
-identity_spoken gates instruction body = by_test (eqb instruction 1)
-    (λ p. rw p (identity_one (first_of (tests_to_set 5 body)) (answer_of response.RegistryAccessDenied []) (omega arith)))
-    (λ p. by_test (eqb instruction 2)
-    (λ q. rw (p, q) (identity_one (first_of (tests_to_get 5 body)) (answer_of response.Ok (identity_value gates (param_in body))) (omega arith)))
-    (λ q. rw (p, q) (omega arith)))
+identity_spoken gates instruction body = grind arith
 
 -- ## What nodes send may be sent: it is on pipes that aren't reserved, and not empty
 
@@ -124,22 +104,17 @@ answers_fine h pipe answer p a = ((p, a), tt)
 
 commit_fine_of_deeds : (room : Bool) (h pipe : ℕ) (c : Command) (answer : List ℕ) (behind : List Deed) → OnPipe pipe → IsSpoken answer → AreFine behind
     → AreFine (commit_deeds room h pipe c answer behind)
-commit_fine_of_deeds true h pipe c answer behind p a fine = (tt, ((p, a), (tt, fine)))
-commit_fine_of_deeds false h pipe c answer behind p a fine = ((p, omega arith), tt)
+commit_fine_of_deeds room h pipe c answer behind p a fine = grind arith
 
 agreed_fine : (flag : Bool) (c : Creation) → IsSpoken c.answer → AreFine (agreed flag c)
-agreed_fine true c a = (tt, (tt, (tt, ((low, a), (tt, tt)))))
-agreed_fine false c a = (tt, (tt, ((low, omega arith), tt)))
+agreed_fine flag c a = grind arith
 
 -- the desk of each of these ends is true
 abbrev AreTrue : List Port → Type 0
 AreTrue ports = AllByRecursion (λ (p : Port). IsTrueDesk p.desk) ports
 
 link_fine : (h pipe : ℕ) (answer : List ℕ × Option ℕ) → OnPipe pipe → IsSpoken answer.0 → AreFine (link_deeds h pipe answer)
-link_fine h pipe answer p a = by_value answer.0 answer.1 a where
-  by_value : (message : List ℕ) (value : Option ℕ) → IsSpoken message → AreFine (link_deeds h pipe (message, value))
-  by_value message None a = ((p, a), tt)
-  by_value message (Some errors) a = (tt, ((p, a), tt))
+link_fine h pipe answer p a = grind arith
 
 decision_fine : (core : Core) (h pipe : ℕ) (d : Decision) → OnPipe pipe → Speaks d → AreFine (decision_deeds (own_view core) h pipe d)
 decision_fine core h pipe (Answer answer) p a = answers_fine h pipe answer.items p a
@@ -166,9 +141,6 @@ controller_fine core ports h m a s =
 
 -- ## What hosts send may be sent
 
-accepts_fine : (core : Core) (c : Command) → AreFine (accepts (own_view core) c)
-accepts_fine core c = commit_fine_of_deeds (finds_room core c) core.node 1 c (answer_of response.Ok []) [] low (omega arith) tt
-
 -- ### Init
 
 orders_spoken : (i : Init) → AllByRecursion IsSpoken (orders_of i)
@@ -188,15 +160,7 @@ own core = record {
 -- ### Messages
 
 ordered_fine : (core : Core) (errors pipe n : ℕ) (body : List ℕ) → pipe < 112 → AreFine (ordered_deeds (own_view core) errors pipe n body)
-ordered_fine core errors pipe n body p = ordered_holds AreFine core errors pipe n body (record {
-  none = tt;
-  refuses = λ r. answers_fine core.node 1 (answer_of r []) low (omega arith);
-  creates = λ row named welcome. accepts_fine core (Create row);
-  deletes = λ pid kept. accepts_fine core (Delete pid);
-  clears = λ x host. accepts_fine core (Clear x);
-  counts = λ zero. link_fine core.node 0 (link_served errors n body) (omega arith) (link_spoken errors n body);
-  names = λ off. answers_fine core.node pipe (identity_served gates n body) p (identity_spoken gates n body);
-})
+ordered_fine core errors pipe n body p = ordered_holds AreFine core errors pipe n body ((grind arith))
 
 host_fine : (core : Core) (p : Port) (m : Message) → IsSendable m → AreFine (host_deeds (own_view core) (end_view p) m)
 host_fine core p m s = host_holds AreFine core p m (record {
@@ -234,9 +198,7 @@ port_fine h f one ports a = all_changed IsFinePort (λ p. p.desk.host == h) f on
 pub fine_at : (ports : List Port) (h : ℕ) (p : Port) → AreFinePorts ports → port_at ports h ≡ Some p → IsFinePort p
 fine_at [] h p a q = cc
 fine_at (x ∷ ports) h p a q = by_test (x.desk.host == h)
-    (λ e. let same : Some x ≡ Some p = rw e at q in
-    let is : x ≡ p = cc in
-    let P : Port → Type 0 = λ z. IsFinePort z in subst P is a.0)
+    (λ e. grind arith)
     (λ e. fine_at ports h p a.1 (rw e at q))
 
 are_true : (ports : List Port) → AreFinePorts ports → AreTrue ports
@@ -327,20 +289,8 @@ come_fine : (p : Port) (o : Option LinkInput) → IsFinePort p → IsFinePort (h
 come_fine p None a = a
 come_fine p (Some i) a = record { turns = a.turns; clean = input_clean p.side i a.clean; desk = a.desk }
 
-aged_about : (n : Notice) → HasAnswer (creation_in (Some n)) → HasAnswer (creation_in (Some (older_notice n)))
-aged_about n a = go n.about refl
-  where
-    go : (b : About) → n.about ≡ b → HasAnswer (creation_in (Some (older_notice n)))
-    go (Waits c) q = rw q (rw q at a)
-    go Forgotten q = rw q tt
-    go Removed q = rw q tt
-
 older_fine : (p : Port) → IsFinePort p → IsFinePort (with_older p)
-older_fine p a = record {
-  turns = a.turns;
-  clean = a.clean;
-  desk = by_option p.desk.notice (λ q. rw q tt) (λ n q. let d = a.desk in rw q (aged_about n (rw q at d)));
-}
+older_fine p a = grind arith
 
 late_fine : (p : Port) → IsFinePort p → IsFinePort (reset_late p)
 late_fine p a = by_test (is_late p) (λ q. rw q (record { turns = a.turns; clean = input_clean p.side (Reset None) a.clean; desk = a.desk })) (λ q. rw q a)
@@ -358,12 +308,7 @@ pub without_fine : (p : Port) → IsFinePort p → IsFinePort (without_notice p)
 without_fine p a = by_test (is_over p) (λ q. rw q (record { turns = a.turns; clean = a.clean; desk = tt })) (λ q. rw q a)
 
 pub forgets_fine : (ports : List Port) (p : Port) → IsFinePort p → IsFinePort (forgets ports p)
-forgets_fine ports p a = go (is_forgotten ports (asked_at p)) p.desk.notice refl refl
-  where
-    go : (b : Bool) (o : Option Notice) → is_forgotten ports (asked_at p) ≡ b → p.desk.notice ≡ o → IsFinePort (forgets ports p)
-    go true None q r = rw (q, r) (record { turns = a.turns; clean = a.clean; desk = tt })
-    go true (Some n) q r = rw (q, r) (record { turns = a.turns; clean = a.clean; desk = tt })
-    go false o q r = rw q a
+forgets_fine ports p a = grind arith
 
 pub steps_fine : (input : NodeInput) (w : Work) → IsFineWork w → IsFineWork (steps input w)
 steps_fine input w a =

@@ -1,19 +1,18 @@
 -- Each link of a world of nodes is a run of the law of one link, whatever lines are played.
 use Rattle.node_laws.proofs.Words.{Activates, AllByRecursion, ArePlayable, AreSendableTurns, Arms, AsksReset, AtController, AtEnd, Bool, Boots, CanCome, Comes}
 use Rattle.node_laws.proofs.Words.{CutOff, Deed, Desk, End, Ending, Gives, GoesOut, Happening, Inits, IsCut, IsPlayable, IsRun, IsSendable, IsWindow, Line}
-use Rattle.node_laws.proofs.Words.{Link, List, Lose, Loses, Loss, LostFor, Memory, Message, NextFrame, NoCause, NoInput, Node, NodeWorld, None, NumberedEnd}
-use Rattle.node_laws.proofs.Words.{OnDemand, Option, Port, Resets, Running, Same, Site, Some, Start, Starts, Step, Stops, Takes, Ticks, TimePasses, Turn}
-use Rattle.node_laws.proofs.Words.{Undetected, Verdict, Work, [], activates, after_controller, after_host, after_planned, aged, all_aged, all_happen, all_map}
-use Rattle.node_laws.proofs.Words.{ap, arith, at, beginning, begins_with, boot_found, boot_writes, boot_written, boots, by_boot, by_coming, by_controller}
-use Rattle.node_laws.proofs.Words.{by_controller_tick, by_counts, by_host, by_host_tick, by_list, by_loss, by_memory, by_option, by_power, by_running, by_some}
-use Rattle.node_laws.proofs.Words.{by_test, can_happen, changed_if, comes_at, comes_to, cond, controller_cut, controller_does, controller_ticks}
-use Rattle.node_laws.proofs.Words.{controller_work, counts, end_c, end_h, ending_of, errors_all, exchanged, false, first_cause, first_verdict, frame_lost}
-use Rattle.node_laws.proofs.Words.{frames_at, goes_on, happens, happens_by, host_cut, host_does, host_tick, host_ticks, host_work, hosts_tick, if_off}
-use Rattle.node_laws.proofs.Words.{is_command_message, is_late_at, is_some, is_waiting, line_step, link_after_controller, link_to, links_of, loses_power_at}
-use Rattle.node_laws.proofs.Words.{map, memory_at, near_end_in, near_tick, new_desk, new_site, new_world, not, port_at, port_for, refl, refusal_in, replicate}
-use Rattle.node_laws.proofs.Words.{runs_on, sending, site_at, site_lost, steps, subst, suc, sym, taken_of, tick_host, ticked_so, ticks_at_controller, true}
-use Rattle.node_laws.proofs.Words.{turns_at, unwrap_or, with_memory, with_node, with_site, work_of, world_after, world_step, world_ticks, zero, ℕ, ◌&&◌, ◌==◌}
-use Rattle.node_laws.proofs.Words.{◌∷◌, ◌≡◌}
+use Rattle.node_laws.proofs.Words.{Link, List, Lose, Loses, Loss, Memory, Message, NextFrame, NoCause, NoInput, Node, NodeWorld, None, NumberedEnd, OnDemand}
+use Rattle.node_laws.proofs.Words.{Option, Port, Resets, Running, Site, Some, Start, Starts, Step, Stops, Takes, Ticks, TimePasses, Turn, Verdict, Work, []}
+use Rattle.node_laws.proofs.Words.{activates, after_controller, after_host, after_planned, aged, all_aged, all_happen, all_map, arith, at, beginning}
+use Rattle.node_laws.proofs.Words.{begins_with, boot_found, boot_writes, boot_written, boots, by_boot, by_coming, by_controller, by_controller_tick, by_counts}
+use Rattle.node_laws.proofs.Words.{by_host, by_host_tick, by_loss, by_memory, by_option, by_power, by_running, by_some, by_test, can_happen, changed_if}
+use Rattle.node_laws.proofs.Words.{comes_at, comes_to, cond, controller_cut, controller_does, controller_ticks, controller_work, counts, end_c, end_h}
+use Rattle.node_laws.proofs.Words.{ending_of, errors_all, exchanged, false, first_cause, first_verdict, frame_lost, frames_at, goes_on, happens, happens_by}
+use Rattle.node_laws.proofs.Words.{host_cut, host_does, host_tick, host_ticks, host_work, hosts_tick, if_off, is_command_message, is_late_at, is_some}
+use Rattle.node_laws.proofs.Words.{is_waiting, line_step, link_after_controller, link_to, links_of, loses_power_at, map, memory_at, near_end_in, near_tick}
+use Rattle.node_laws.proofs.Words.{new_desk, new_site, new_world, not, port_at, port_for, refl, refusal_in, replicate, runs_on, sending, site_at, site_lost}
+use Rattle.node_laws.proofs.Words.{steps, subst, suc, sym, taken_of, tick_host, ticked_so, ticks_at_controller, true, turns_at, unwrap_or, with_memory}
+use Rattle.node_laws.proofs.Words.{with_node, with_site, work_of, world_after, world_step, world_ticks, zero, ℕ, ◌&&◌, ◌==◌, ◌∷◌, ◌≡◌}
 use Rattle.link_laws.proofs.messages.Runs.{IsIdleClf, can_start, started_clf}
 use Rattle.node_laws.proofs.links.Works.{AreFine, AreFinePorts, IsFineWork, IsTrueDesk, all_done_fine, fine_at, steps_fine}
 use Rattle.node_laws.proofs.links.Sites.{Clean, IsFineLink, MayCome, controller_loses, controller_steps, here_host, host_loses, host_steps, new_fine}
@@ -54,11 +53,7 @@ AtHostOnly P h s = (s.host == h) ≡ true → P s
 
 changed : (P : Site → Type 0) (h : ℕ) (f : Site → Site) → ((s : Site) → P s → IsFineSite s → IsFineSite (f s)) → (s : Site) → AtHostOnly P h s
     → IsFineSite s → IsFineSite (changed_if (s.host == h) f s)
-changed P h f one s known a = go (s.host == h) known
-  where
-    go : (b : Bool) → (b ≡ true → P s) → IsFineSite (changed_if b f s)
-    go true k = one s (k refl) a
-    go false k = a
+changed P h f one s known a = grind arith
 
 site_changed : (P : Site → Type 0) (h : ℕ) (f : Site → Site) → ((s : Site) → P s → IsFineSite s → IsFineSite (f s)) → (sites : List Site)
     → AllByRecursion (AtHostOnly P h) sites → AreFineSites sites → AreFineSites (with_site h f sites)
@@ -77,9 +72,7 @@ site_fine h f one sites a = site_changed (λ s. Unit {0}) h f (λ s k fine. one 
 fine_site : (sites : List Site) (h : ℕ) (s : Site) → AreFineSites sites → site_at sites h ≡ Some s → IsFineSite s
 fine_site [] h s a q = cc
 fine_site (x ∷ sites) h s a q = by_test (x.host == h)
-    (λ e. let same : Some x ≡ Some s = rw e at q in
-    let is : x ≡ s = cc in
-    let P : Site → Type 0 = λ z. IsFineSite z in subst P is a.0)
+    (λ e. grind arith)
     (λ e. fine_site sites h s a.1 (rw e at q))
 
 -- what came at the controller's ends may be sent on
@@ -93,9 +86,7 @@ fine_clean (s ∷ sites) a = (a.0.link.line.near, fine_clean sites a.1)
 clean_site : (sites : List Site) (h : ℕ) (s : Site) → AreClean sites → site_at sites h ≡ Some s → Clean s.link.controller.side
 clean_site [] h s a q = cc
 clean_site (x ∷ sites) h s a q = by_test (x.host == h)
-    (λ e. let same : Some x ≡ Some s = rw e at q in
-    let is : x ≡ s = cc in
-    let P : Site → Type 0 = λ z. Clean z.link.controller.side in subst P is a.0)
+    (λ e. grind arith)
     (λ e. clean_site sites h s a.1 (rw e at q))
 
 pub near_clean : (sites : List Site) (h : ℕ) → AreClean sites → Clean (link_to sites h).controller.side
@@ -104,8 +95,7 @@ near_clean sites h a = by_option (site_at sites h) (λ q. rw q tt) (λ s q. rw q
 -- ### A step of a node
 
 pub near_end_clean : (l : Link) (comes : Comes) → Clean l.controller.side → Clean (near_end_in l comes).side
-near_end_clean l NextFrame a = by_list l.to_controller (λ q. rw q a) (λ x xs q. rw q a)
-near_end_clean l _ a = a
+near_end_clean l comes a = grind arith
 
 pub ports_fine : (near_ends : ℕ → NumberedEnd) → ((h : ℕ) → Clean (near_ends h).side) → (desks : List Desk) → AreTrueDesks desks
     → AreFinePorts (map (λ (d : Desk). port_for (near_ends d.host) d) desks)
@@ -281,15 +271,7 @@ near_sites : (late : ℕ → Bool) (had : ℕ → Node) → ((h : ℕ) → AreSe
     → AllByRecursion IsNear (map (λ (s : Site). record s { link = ticked_so s.link (late s.host) (had s.host).turns (had s.host).ending }) sites)
 near_sites late had sends [] a = tt
 near_sites late had sends (s ∷ sites) a = (
-  record {
-    base = a.0.base;
-    fine = a.0.fine;
-    late = late s.host;
-    had = had s.host;
-    sends = sends s.host;
-    is = ap (λ l. ticked_so l (late s.host) (had s.host).turns (had s.host).ending) a.0.is;
-    node = a.0.node;
-  },
+  (grind arith),
   near_sites late had sends sites a.1,
 )
 
@@ -359,18 +341,10 @@ IsPlain Stops = ⊥
 IsPlain NoInput = Unit {0}
 
 plain_comes : (l : Link) (comes : Comes) → IsPlain comes → CanCome l comes
-plain_comes l NextFrame p = tt
-plain_comes l (AsksReset window) p = p
-plain_comes l (Starts value) p = absurd p
-plain_comes l Stops p = absurd p
-plain_comes l NoInput p = tt
+plain_comes l comes p = grind arith
 
 plain_may : (comes : Comes) → IsPlain comes → MayCome comes
-plain_may NextFrame p = tt
-plain_may (AsksReset window) p = p
-plain_may (Starts value) p = absurd p
-plain_may Stops p = absurd p
-plain_may NoInput p = tt
+plain_may comes p = grind arith
 
 pub plain_reach : (h : ℕ) (comes : Comes) → IsPlain comes → (sites : List Site) → AllByRecursion (AtHostOnly (CanReach comes) h) sites
 plain_reach h comes p [] = tt
@@ -471,15 +445,11 @@ repeated zero c m = tt
 repeated (suc n) c m = (m, repeated n c m)
 
 pub damaged : (e : End) (v : Option Verdict) → AreLasting (happens_by e v)
-damaged e None = tt
-damaged e (Some Same) = ((λ w. tt), tt)
-damaged e (Some (LostFor why)) = ((λ w. tt), tt)
-damaged e (Some (Undetected read)) = tt
+damaged e v = grind arith
 
 -- a line that isn't refused found the controller running
 pub runs_then : (b : Bool) (o : Option NoCause) → first_cause (cond b None (Some no.Off)) o ≡ None → b ≡ true
-runs_then true o q = refl
-runs_then false o q = cc
+runs_then b o q = grind arith
 
 goes_fine : (w : NodeWorld) (l : Line) → IsPlayable l → refusal_in w l ≡ None → IsFineWorld w → IsFineWorld (goes_on w l).0
 goes_fine w (line.Send e pid message) p q fine = all_fine (Gives e (pid, message) ∷ []) w ((λ v. p), tt) fine

@@ -4,12 +4,12 @@ use Rattle.node_laws.proofs.Words.{AtController, AtHost, Boots, Broken, Command,
 use Rattle.node_laws.proofs.Words.{Happening, HciTables, Header, Host, IfHostNode, IfReads, Inits, IsCommand, IsCut, IsHost, IsKeptNotice, IsRightNotice}
 use Rattle.node_laws.proofs.Words.{JoinTwo, KeepsNotices, Line, LineStep, Link, List, Lose, Loses, Loss, MayBoot, Memory, NextFrame, NoInput, NodeHistory}
 use Rattle.node_laws.proofs.Words.{NodeWorld, None, NoticesAreRead, OnWire, Option, Resets, Running, Site, Some, Step, Takes, Ticks, [], after_planned, ap}
-use Rattle.node_laws.proofs.Words.{append-nil, applied, apply, asking_in, beginning, boot_found, boot_writes, boot_written, boots, by_boot, by_counts}
+use Rattle.node_laws.proofs.Words.{append-nil, applied, apply, arith, asking_in, beginning, boot_found, boot_writes, boot_written, boots, by_boot, by_counts}
 use Rattle.node_laws.proofs.Words.{by_memory, by_power, by_running, by_test, close, command_of, controller_cut, count_of, counts, entries_for, entries_in, eqb}
 use Rattle.node_laws.proofs.Words.{eqb-true, errors_all, false, first_lost, flat_map, fold, found, frame_lost, happens, host_cut, link_to, links_of}
 use Rattle.node_laws.proofs.Words.{loses_power_at, map, memory_at, new_desk, new_site, new_world, no_tables, node_at, node_entries, notice_at, notice_in}
-use Rattle.node_laws.proofs.Words.{notice_of_running, occurrences_of, option_map_or, records, refl, replicate, sending, spelled_by, subst, sym, tables_of, true}
-use Rattle.node_laws.proofs.Words.{with_error, with_memory, with_node, with_site, world_after, world_step, written_off, ℕ, ◌++◌, ◌∷◌, ◌≡◌}
+use Rattle.node_laws.proofs.Words.{occurrences_of, option_map_or, records, refl, replicate, sending, spelled_by, subst, sym, tables_of, true, with_error}
+use Rattle.node_laws.proofs.Words.{with_memory, with_node, with_site, world_after, world_step, written_off, ℕ, ◌++◌, ◌∷◌, ◌≡◌}
 use Rattle.link_laws.specs.entries.Entries.{End as Side}
 use Rattle.tables_laws.proofs.tables.TwoHosts.{JoinTwo-after, JoinTwo-closed}
 use Rattle.node_laws.proofs.kept.Booting.{command_read}
@@ -211,10 +211,7 @@ begins_read hosts are = record {
 
 -- the notices of a controller are those that are read
 pub notices_of : (t : List Entry) (w : NodeWorld) → KeepsNotices t w → NoticesAreRead t w
-notices_of t w a = go w.controller a.controller where
-  go : (o : Option Running) → IfReads t o → (h : ℕ) → IsKeptNotice (notice_in t h) (notice_of_running o h)
-  go None none h = subst (λ m. IsKeptNotice m None) (sym (none h).0) tt
-  go (Some r) some h = some.kept h
+notices_of t w a = grind arith
 
 schedule_is : (header : Header) (lines : List Line) (t : NodeHistory) → FollowsNodes header lines t → AreHosts header.hosts.items
     → KeepsNotices (node_entries t) (world_after (new_world header.hosts.items) lines)

@@ -2,22 +2,22 @@
 use Rattle.node_laws.proofs.Words.{About, AllByRecursion, AreDifferent, Asks, AsksReset, AtEnd, AtHost, Bool, Comes, Command, Commits, Controller}
 use Rattle.node_laws.proofs.Words.{ControllerReads, Core, Cut, Deed, Desk, Down, Drops, End, EndEvent, Ending, Ends, Entry, FetchMessage, Give, GoesOn, GoesOut}
 use Rattle.node_laws.proofs.Words.{HasEnds, Hears, Hold, Host, IfHostNode, IfItRuns, IfNoticedUp, IfReads, IsAnswered, IsFresh, IsGoodSite, IsHost}
-use Rattle.node_laws.proofs.Words.{IsKeptNotice, IsNoticedUp, IsOrderly, IsOutside, IsRightNotice, IsShut, Link, LinkEnd, LinkInput, List, Message, NextFrame}
-use Rattle.node_laws.proofs.Words.{NoInput, NodeInput, NodeWorld, None, Noted, NoticesAreUp, NumberedEnd, OfHost, OnFirst, Option, Orders, Plain, Plan, Port}
-use Rattle.node_laws.proofs.Words.{Refused, Release, Releases, Removed, Report, Reset, Restarted, Running, SaysOk, Sends, Sent, SetsErrors, Site, Some, Starts}
-use Rattle.node_laws.proofs.Words.{Step, Tells, TimePasses, Turn, Work, [], activates, after_host, after_input, after_sessions, aged, aged_entries, all_aged}
-use Rattle.node_laws.proofs.Words.{all_changed, all_come, all_done, all_map, all_of_host, all_owed, all_owed_hold, all_synced_hold, and-false, anyone, ap}
-use Rattle.node_laws.proofs.Words.{append-nil, append_assoc, arrival, asking_after, asking_in, beginning, begins_with, body_of, by_coming, by_controller}
-use Rattle.node_laws.proofs.Words.{by_controller_tick, by_host, by_host_tick, by_list, by_option, by_test, comes_at, comes_to, commit, commit_writes, cond}
-use Rattle.node_laws.proofs.Words.{cond_both, controller_does, controller_ticks, controller_work, deeds_of, done, end_c, end_h, end_of, end_of_node, end_view}
-use Rattle.node_laws.proofs.Words.{ending_entries, ending_of, entries_for, eqb, exchanged, fails_within, false, flat_map, fold, fold-append, forgets, forgotten}
-use Rattle.node_laws.proofs.Words.{forgotten_hold, frames_noted, give_refusal, happens, has_input, host_deeds, host_does, host_tick, host_ticks, host_work}
-use Rattle.node_laws.proofs.Words.{hosts_in, hosts_tick, inl, input_at, input_of, inr, is_command_message, is_late, is_late_at, is_notice, is_response, is_up}
-use Rattle.node_laws.proofs.Words.{is_waiting, length, link_after_controller, link_to, map, near_end_in, near_tick, not, noted_of, notice_at, notice_in}
-use Rattle.node_laws.proofs.Words.{notified, noting, option_map_or, own_side, own_view, port_at, port_for, refl, report, runs_left, runs_none, runs_on}
-use Rattle.node_laws.proofs.Words.{same_end, same_side, sending, sent_unless, site_at, site_ticked, site_unticked, steps, subst, sym, synced, tick_host}
-use Rattle.node_laws.proofs.Words.{ticked_so, ticks_at_controller, times_out, told, told_at, told_late, true, true≢false, turn_at, turns_at, whole_acked}
-use Rattle.node_laws.proofs.Words.{wires_for, with_desk, with_older, with_site, work_of, world_ticks, ℕ, ◌&&◌, ◌++◌, ◌∙◌, ◌∷◌, ◌≡◌}
+use Rattle.node_laws.proofs.Words.{IsKeptNotice, IsNoticedUp, IsOrderly, IsOutside, IsRightNotice, IsShut, Link, LinkInput, List, Message, NoInput, NodeInput}
+use Rattle.node_laws.proofs.Words.{NodeWorld, None, Noted, NoticesAreUp, NumberedEnd, OfHost, OnFirst, Option, Orders, Plain, Plan, Port, Release, Releases}
+use Rattle.node_laws.proofs.Words.{Removed, Report, Reset, Restarted, Running, SaysOk, Sends, Sent, SetsErrors, Site, Some, Starts, Step, Tells, TimePasses}
+use Rattle.node_laws.proofs.Words.{Turn, Work, [], activates, after_host, after_input, after_sessions, aged, aged_entries, all_aged, all_changed, all_come}
+use Rattle.node_laws.proofs.Words.{all_done, all_map, all_of_host, all_owed, all_owed_hold, all_synced_hold, and-false, anyone, ap, append-nil, append_assoc}
+use Rattle.node_laws.proofs.Words.{arith, arrival, asking_after, asking_in, beginning, begins_with, body_of, by_coming, by_controller, by_controller_tick}
+use Rattle.node_laws.proofs.Words.{by_host, by_host_tick, by_option, by_test, comes_at, comes_to, commit, commit_writes, cond_both, controller_does}
+use Rattle.node_laws.proofs.Words.{controller_ticks, controller_work, deeds_of, done, end_c, end_h, end_of, end_of_node, end_view, ending_entries, ending_of}
+use Rattle.node_laws.proofs.Words.{entries_for, eqb, exchanged, fails_within, false, flat_map, fold, fold-append, forgets, forgotten, forgotten_hold}
+use Rattle.node_laws.proofs.Words.{frames_noted, happens, has_input, host_deeds, host_does, host_tick, host_ticks, host_work, hosts_in, hosts_tick, inl}
+use Rattle.node_laws.proofs.Words.{input_at, input_of, inr, is_command_message, is_late, is_late_at, is_waiting, length, link_after_controller, link_to, map}
+use Rattle.node_laws.proofs.Words.{near_end_in, near_tick, not, noted_of, notice_at, notice_in, notified, noting, option_map_or, own_side, own_view, port_at}
+use Rattle.node_laws.proofs.Words.{port_for, refl, report, runs_left, runs_none, runs_on, same_end, same_side, sending, site_at, site_ticked, site_unticked}
+use Rattle.node_laws.proofs.Words.{steps, subst, sym, synced, tick_host, ticked_so, ticks_at_controller, times_out, told, told_at, told_late, true, true≢false}
+use Rattle.node_laws.proofs.Words.{turn_at, turns_at, whole_acked, wires_for, with_desk, with_older, with_site, work_of, world_ticks, ℕ, ◌&&◌, ◌++◌, ◌∙◌, ◌∷◌}
+use Rattle.node_laws.proofs.Words.{◌≡◌}
 use Rattle.link_laws.specs.entries.Entries.{End as Side}
 use Rattle.link_laws.specs.entries.Entries.Entry.{Tick}
 use Rattle.node_laws.proofs.links.Sites.{here_host}
@@ -98,19 +98,8 @@ pub not_near : (e : End) (x : ℕ) → e.at_host ≡ true → same_end e (end_c 
 not_near e x far = ap (λ b. eqb e.link x && same_side b false) far ∙ and-false (eqb e.link x)
 
 module _ (x : ℕ) where
-  off_one : (b : Bool) (y z : Option (List ℕ)) → b ≡ false → cond b y z ≡ z
-  off_one b y z e = rw e refl
-
-  off_all : (a b c : Bool) (y z : Option (List ℕ)) → a ≡ false → cond (a && b && c) y z ≡ z
-  off_all a b c y z e = rw e refl
-
   one_far : (e : Entry) → IsFar e → (r : Option (List ℕ)) → reads x (e ∷ []) r ≡ r
-  one_far (entry.Down e cause) a r = off_one (same_end e (end_c x)) None r (not_near e x a)
-  one_far (entry.Sent e n pid message) a r = off_all (same_end e (end_c x)) (eqb pid 1) (is_notice message) (Some message) r (not_near e x a)
-  one_far (entry.Turn e pid message) a r = off_all (same_end e (end_c x)) (eqb pid 1) (is_response message) None r (not_near e x a)
-  one_far (entry.Ask h message) a r = absurd a
-  one_far (entry.Cut n) a r = off_one (eqb n 0) None r a
-  one_far _ a r = refl
+  one_far e a r = grind arith
 
   pub far_reads : (es : List Entry) → AreFar es → (r : Option (List ℕ)) → reads x es r ≡ r
   far_reads [] a r = refl
@@ -125,11 +114,7 @@ module _ (x : ℕ) where
   asking_more t es = fold-append (asking_after x) None t es
 
   one_asks : (e : Entry) → IsFar e → (r : Option (List ℕ)) → asks (e ∷ []) r ≡ r
-  one_asks (entry.Down e cause) a r = off_one (same_end e (end_c x)) None r (not_near e x a)
-  one_asks (entry.Sent e n pid message) a r = off_all (same_end e (end_c x)) (eqb pid 1) (is_response message) None r (not_near e x a)
-  one_asks (entry.Ask h message) a r = absurd a
-  one_asks (entry.Cut n) a r = off_one (eqb n 0) None r a
-  one_asks _ a r = refl
+  one_asks e a r = grind arith
 
   pub far_asks : (es : List Entry) → AreFar es → (r : Option (List ℕ)) → asks es r ≡ r
   far_asks [] a r = refl
@@ -160,15 +145,8 @@ come_far core p (Some i) side =
     subst (λ s. AreFar (entries_for p.desk.host (told s p.session (report p.side i) (whole_acked (after_input p.side i))))) (sym side)
     (told_far p.desk.host p.session (whole_acked (after_input p.side i)) (report p.side i))
 
-sent_far : (h n : ℕ) (m : Message) (o : Option Refused) → AreFar (entries_for h (sent_unless o Host n m))
-sent_far h n m (Some why) = tt
-sent_far h n m None = (refl, tt)
-
 turn_far : (core : Core) (t : Turn) (p : Port) → own_side core ≡ Host → AreFar (noted_of core t p)
-turn_far core (Give m) p side =
-    subst (λ s. AreFar (entries_for p.desk.host (sent_unless (give_refusal p.side m) s p.session m))) (sym side)
-    (sent_far p.desk.host p.session m (give_refusal p.side m))
-turn_far core _ p side = tt
+turn_far core t p side = grind arith
 
 -- ### Works
 
@@ -189,8 +167,7 @@ with_core w c same a = record { number = ap (λ n. eqb n 0) same ∙ a.number; f
 turns : (h : ℕ) (t : Turn) (w : Work) → IsFarWork w → IsFarWork (turn_at h t w)
 turns h t w a = record { number = a.number; far = far-append w.entries _ a.far (go (port_at w.ports h)) } where
   go : (o : Option Port) → AreFar (option_map_or (noted_of w.core t) o [])
-  go None = tt
-  go (Some p) = turn_far w.core t p (host_side w a)
+  go o = grind arith
 
 desks : (h : ℕ) (f : Desk → Desk) (w : Work) → IsFarWork w → IsFarWork (with_desk h f w)
 desks h f w a = record { number = a.number; far = a.far }
@@ -344,8 +321,7 @@ frames_quiet who h l k = by_option (port_at k.ports h)
     (λ p q. rw q (quiet_far h (ending_entries who l p.side (ending_of k)) (ending_quiet who l p.side (ending_of k))))
 
 pub arrival_quiet : (who : Side) (h : ℕ) (l : Link) (comes : Comes) → AreFar (entries_for h (arrival who l comes))
-arrival_quiet who h l NextFrame = by_list l.to_controller (λ q. rw q tt) (λ x xs q. rw q (tt, tt))
-arrival_quiet who h l _ = tt
+arrival_quiet who h l comes = grind arith
 
 -- ### A host acts
 
@@ -364,9 +340,7 @@ module _ (t : List Entry) (w : NodeWorld) (a : Reads t w) where
       let good : IsGoodSite s = good_at w.sites h s a.sites here in
       let k : Work = host_work s r comes f in
       let frames : List Entry = frames_noted Host h (wires_for (exchanged s.link) comes) k in
-      let far : IsFarWork k =
-      keeps (work_of r s.memory.plan (λ n. near_end_in (exchanged s.link) comes) (entries_for s.host (arrival Host (exchanged s.link) comes)))
-      (record { number = subst IfHostNode e good.node; far = arrival_quiet Host s.host (exchanged s.link) comes }) in
+      let far : IsFarWork k = grind arith in
       record {
         sites = good_with h (after_host comes k)
             (λ z b. record { host = b.host; node = runs_far k far; shut = far_shut z.link (Step comes (turns_at k z.host) (ending_of k)) b.shut })
@@ -441,10 +415,7 @@ up_ports : (g h : ℕ → NumberedEnd) → ((n : ℕ) → (h n).side ≡ (g n).s
     → UpAt (port_at (ports_for h desks) x)
 up_ports g h same [] x a = tt
 up_ports g h same (d ∷ desks) x a = by_test (eqb d.host x)
-    (λ is. let b : IsNoticedUp (port_for (g d.host) d) = rw is at a in
-    let c : UpAt (Some (port_for (h d.host) d)) =
-    λ some. ap (λ (e : LinkEnd). is_up e.shdlc.phase) (same d.host) ∙ ap is_up (b some) in
-    rw is c)
+    (λ is. grind arith)
     (λ off. rw off ((up_ports g h same desks x) (rw off at a)))
 
 good_hosts : (sites : List Site) → AreGood sites → AllByRecursion IsHost (hosts_in sites)
@@ -523,8 +494,7 @@ module _ (t : List Entry) (w : NodeWorld) (r : Running) (has : HasEnds 0 (hosts_
         )
 
         on : after_it.cut ≡ false → (x : ℕ) → Stands x t after_it → IsOn x t after_it
-        on e x (inl a) = a
-        on e x (inr a) = absurd (true≢false (sym a.off ∙ e))
+        on e x a = grind arith
 
 -- ### What comes
 

@@ -1,31 +1,21 @@
 -- A whole step of a controller: its unanswered notice to a host stays the one that is read, and so do the blocks that an end has to spare.
-use Rattle.node_laws.proofs.Words.{About, ActEvent, ActFrame, ActStart, ActStop, ActTake, ActTick, AllByRecursion, AreDifferent, AtEnd, Bare, Bool, Clf, Clt}
-use Rattle.node_laws.proofs.Words.{Commits, Control, Controller, Core, Creation, Deed, End, EndEvent, Ending, Entry, Fetch, Forgotten, FromNode, HciTables, I}
-use Rattle.node_laws.proofs.Words.{IsAbout, IsComing, IsCommand, IsFresh, IsHost, IsKeptNotice, IsNoticeOf, IsOutside, IsRightNotice, IsShut, Link, LinkEnd}
-use Rattle.node_laws.proofs.Words.{LinkInput, LinkState, List, Message, NodeInput, None, Notice, NumberedEnd, Option, Port, Refused, Release, Releases, Removed}
-use Rattle.node_laws.proofs.Words.{Reset, Response, Role, Rset, S, Sends, Some, Start, Stop, Sync, Take, TakeBroken, TakeUnknown, Tick, TimePasses, Turn, Ua}
-use Rattle.node_laws.proofs.Words.{Uicc, Up, Waiting, Waits, Work, [], act_answer, activated, activated_role, after_input, after_sessions, all_append, all_come}
-use Rattle.node_laws.proofs.Words.{all_done, all_flat, all_map, all_owed, and_from, and_parts, answers_and_passes, ap, ap₂, asked_at, by_list, by_option}
-use Rattle.node_laws.proofs.Words.{by_test, cond, creation_in, drop, ended_by, eq-eqb, eqb, eqb-false, eqb-true, false, filter, filter_map, finds_room}
-use Rattle.node_laws.proofs.Words.{flat_map, forgets, frame_fetched, had_tick, happens_at_controller, has_come, heard, in_use, inl, input_at, inr}
-use Rattle.node_laws.proofs.Words.{instruction_in, is_asked_at, is_forgotten, is_kept_sync, is_late, is_notice, is_of_creation, is_open, is_over, is_some}
-use Rattle.node_laws.proofs.Words.{is_up, le-leb, list_any, map, moved, moved_role, nat_le, ne_eqb, need_of_all, new_link_end, node_of, not, number_of}
-use Rattle.node_laws.proofs.Words.{older_notice, option_and_then, option_map, option_map_or, or-false, or-true, owed, own_session, own_side, passes, port_at}
-use Rattle.node_laws.proofs.Words.{put_down, refl, renewed, report, reset_late, reset_refusal, role_after, sent_all, session_now, spare, spare_at, steps}
-use Rattle.node_laws.proofs.Words.{stopped, subst, sym, synced, tick_answer, ticked, ticks_at_controller, times_out, told_at, told_late, took, true, true≢false}
-use Rattle.node_laws.proofs.Words.{turn, turn_at, turned, turned_role, unacknowledged_in, unless_cut, whole_among, with_act, with_older, without_notice, ℕ}
-use Rattle.node_laws.proofs.Words.{◌&&◌, ◌++◌, ◌+◌, ◌-◌, ◌==◌, ◌||◌, ◌∙◌, ◌∷◌, ◌≡◌, ◌⊎◌}
-use Rattle.link_laws.proofs.entries.Settling.{heard_role}
-use Rattle.link_laws.proofs.messages.Finishing.{tick_role}
-use Rattle.link_laws.proofs.messages.Steps.{role_closes}
-use Rattle.link_laws.proofs.sessions.Ties.{fetched-phase}
+use Rattle.node_laws.proofs.Words.{ActEvent, ActStart, ActStop, AllByRecursion, AreDifferent, AtEnd, Bool, Commits, Control, Controller, Core, Creation, Deed}
+use Rattle.node_laws.proofs.Words.{End, EndEvent, Ending, Entry, Fetch, FromNode, HciTables, IsComing, IsCommand, IsFresh, IsHost, IsKeptNotice, IsOutside}
+use Rattle.node_laws.proofs.Words.{IsRightNotice, IsShut, Link, LinkEnd, LinkInput, List, NodeInput, None, NumberedEnd, Option, Port, Release, Releases, Reset}
+use Rattle.node_laws.proofs.Words.{Response, Role, Sends, Some, Start, Stop, Take, TakeBroken, TakeUnknown, Tick, TimePasses, Turn, Up, Work, [], act_answer}
+use Rattle.node_laws.proofs.Words.{activated, after_input, after_sessions, all_append, all_come, all_done, all_flat, all_map, all_owed, answers_and_passes, ap}
+use Rattle.node_laws.proofs.Words.{ap₂, arith, asked_at, by_option, by_test, cond, ended_by, eq-eqb, eqb, false, filter, filter_map, flat_map, forgets}
+use Rattle.node_laws.proofs.Words.{frame_fetched, had_tick, happens_at_controller, has_come, in_use, input_at, is_asked_at, is_forgotten, is_late, is_notice}
+use Rattle.node_laws.proofs.Words.{is_of_creation, is_open, is_over, is_some, list_any, map, moved, ne_eqb, need_of_all, new_link_end, node_of, option_and_then}
+use Rattle.node_laws.proofs.Words.{option_map, option_map_or, or-false, owed, own_side, passes, port_at, refl, renewed, reset_late, role_after, sent_all}
+use Rattle.node_laws.proofs.Words.{session_now, spare, spare_at, steps, stopped, subst, sym, synced, ticked, ticks_at_controller, times_out, told_at, told_late}
+use Rattle.node_laws.proofs.Words.{took, true, true≢false, turn, turn_at, turned, turned_role, unacknowledged_in, unless_cut, with_older, without_notice, ℕ}
+use Rattle.node_laws.proofs.Words.{◌&&◌, ◌++◌, ◌+◌, ◌-◌, ◌||◌, ◌∙◌, ◌∷◌, ◌≡◌}
 use Rattle.shdlc_core.specs.declared.answers.LinkState.TheVariants.{Down}
-use Rattle.swp_base.specs.declared.control_frames.Act.{Act}
 use Rattle.node_laws.specs.notices.Spares.{IsEndRead}
-use Rattle.node_laws.proofs.kept.Doing.{uncut}
 use Rattle.node_laws.proofs.links.Sites.{here_is, tick_is}
 use Rattle.node_laws.proofs.links.Noticing.{UpAt, at_all, at_host, outside as from_outside, stays_up, turn-phase}
-use Rattle.node_laws.proofs.notices.Telling.{AreRight, MayTell, answer_other}
+use Rattle.node_laws.proofs.notices.Telling.{AreRight, MayTell}
 use Rattle.node_laws.proofs.notices.Turning.{AreHostEnds, IsOn, Stands, all_stand, controller_side, kept_none, passes_stand, read_in, read_more, reads}
 use Rattle.node_laws.proofs.notices.Turning.{reads_append, then, told_reads, turns}
 use Rattle.node_laws.proofs.readings.Noticed.{up_is}
@@ -39,78 +29,31 @@ use Rattle.gate_answers.specs.declared.response.Response.TheVariants as response
 same_shut : (e f : LinkEnd) → f.role ≡ e.role → f.shdlc.phase ≡ e.shdlc.phase → IsShut e → IsShut f
 same_shut e f role phase a q = phase ∙ a (ap is_open (sym role) ∙ q)
 
-open_shut : (e f : LinkEnd) → f.role ≡ e.role → is_open e.role ≡ true → IsShut f
-open_shut e f role o q = absurd (true≢false (sym o ∙ (ap is_open (sym role) ∙ q)))
-
 -- ### Activation
-
-act_phase : (o : Option Act) (e : LinkEnd) → (with_act o e).shdlc.phase ≡ e.shdlc.phase
-act_phase None e = refl
-act_phase (Some act) e = refl
-
-down_phase : (e : LinkEnd) → (put_down true e).shdlc.phase ≡ Down
-down_phase e = go e.shdlc.phase refl where
-  go : (p : LinkState) → e.shdlc.phase ≡ p → (put_down true e).shdlc.phase ≡ Down
-  go Up q = rw q refl
-  go _ q = rw q refl
-
-down_either : (b : Bool) (e : LinkEnd) → (b ≡ false → e.shdlc.phase ≡ Down) → (put_down b e).shdlc.phase ≡ Down
-down_either true e a = down_phase e
-down_either false e a = a refl
 
 activated_shut : (e : LinkEnd) (event : ActEvent) → (is_open (role_after e.role event) ≡ false → (act_answer e.role event).ended_link ≡ false
     → e.shdlc.phase ≡ Down) → IsShut (activated e event)
-activated_shut e event a q =
-    act_phase (act_answer e.role event).send (record (put_down (act_answer e.role event).ended_link e) { role = role_after e.role event })
-    ∙ down_either (act_answer e.role event).ended_link e (λ n. a (ap is_open (sym (activated_role e event)) ∙ q) n)
-
-taken_shut : (e : LinkEnd) (act : Act) (again : Bool) → IsShut e → IsShut (activated e (ActTake act again))
-taken_shut e act again a = activated_shut e (ActTake act again) (λ q n. go (role_closes e.role act again q) n) where
-  go : (is_open e.role ≡ false) ⊎ ((act_answer e.role (ActTake act again)).ended_link ≡ true) → (act_answer e.role (ActTake act again)).ended_link ≡ false
-      → e.shdlc.phase ≡ Down
-  go (inl o) n = a o
-  go (inr t) n = absurd (true≢false (sym t ∙ n))
+activated_shut e event a q = grind arith
 
 restart_shut : (e : LinkEnd) (event : ActEvent) → IsShut (activated (moved e true (stopped e.shdlc)) event)
 restart_shut e event = activated_shut (moved e true (stopped e.shdlc)) event (λ q n. refl)
 
 -- ### Inputs
 
-heard_shut : (e : LinkEnd) (c : Control) (b : Bool) → is_open e.role ≡ b → IsShut e → IsShut (cond b (heard e c) e)
-heard_shut e c true o a = open_shut e (heard e c) (heard_role e c) o
-heard_shut e c false o a = a
-
 took_shut : (e : LinkEnd) (c : Control) → IsShut e → IsShut (took e c)
-took_shut e (ActFrame act again) a = taken_shut e act again a
-took_shut e Clt a = a
-took_shut e (I ns nr info) a = heard_shut e (I ns nr info) (is_open e.role) refl a
-took_shut e (S kind nr) a = heard_shut e (S kind nr) (is_open e.role) refl a
-took_shut e (Rset w caps) a = heard_shut e (Rset w caps) (is_open e.role) refl a
-took_shut e Ua a = heard_shut e Ua (is_open e.role) refl a
+took_shut e c a = grind arith
 
 tick_shut : (e : LinkEnd) → IsShut e → IsShut (had_tick e)
-tick_shut e a = by_test (is_open e.role)
-    (λ o. let ended : Bool = Rattle.std.specs.Prelude.is_some (tick_answer e.shdlc).ended in
-    let is : had_tick e ≡ moved e ended (ticked e.shdlc) = rw o refl in
-    subst IsShut (sym is) (open_shut e (moved e ended (ticked e.shdlc)) (moved_role e ended (ticked e.shdlc)) o))
-    (λ o. let is : had_tick e ≡ activated e ActTick = rw o refl in
-    subst IsShut (sym is) (activated_shut e ActTick (λ q n. a (tick_role e.role q))))
+tick_shut e a = grind arith
 
 reset_shut : (e : LinkEnd) (window : Option Rattle.std.specs.Prelude.ℕ) → IsShut e → IsShut (after_input e (Reset window))
-reset_shut e window a = by_test (is_open e.role)
-    (λ o. open_shut e (after_input e (Reset window)) (role (reset_refusal e) refl) o)
-    (λ o. let is : after_input e (Reset window) ≡ e = rw o refl in subst IsShut (sym is) a) where
-      role : (o : Option Refused) → reset_refusal e ≡ o → (after_input e (Reset window)).role ≡ e.role
-      role None q = rw q (moved_role e _ _)
-      role (Some why) q = rw q refl
+reset_shut e window a = grind arith
 
 turn_shut : (e : LinkEnd) (t : Turn) → IsShut e → IsShut (turn e t)
 turn_shut e t a = same_shut e (turn e t) (turned_role e (t ∷ [])) (turn-phase e t) a
 
 fetch_shut : (e : LinkEnd) → IsShut e → IsShut (frame_fetched e)
-fetch_shut e a = by_list e.acts
-    (λ q. rw q (λ o. fetched-phase e.shdlc ∙ a o))
-    (λ d acts q. by_test (d.behind == 0) (λ z. rw (q, z) a) (λ z. rw (q, z) (λ o. fetched-phase e.shdlc ∙ a o)))
+fetch_shut e a = grind arith
 
 pub input_shut : (e : LinkEnd) (i : LinkInput) → IsShut e → IsShut (after_input e i)
 input_shut e (Take c) a = took_shut e c a
@@ -131,9 +74,7 @@ sent_shut : (e : LinkEnd) → IsShut e → IsShut (sent_all e)
 sent_shut e a o = sent_phase e [] ∙ a o
 
 new_shut : (r : Role) → IsShut (new_link_end (renewed r))
-new_shut Bare q = absurd (true≢false q)
-new_shut (Clf s) q = refl
-new_shut (Uicc s) q = refl
+new_shut r q = grind arith
 
 -- ### Links
 
@@ -170,21 +111,10 @@ no_notices_may x F (Releases asker ∷ deeds) a = no_notices_may x (λ n. ⊥) d
 no_notices_may x F (_ ∷ deeds) a = absurd a.0
 
 owed_no_notices : (r : Response) (o : Option Creation) → TellNoNotices (owed r o)
-owed_no_notices r None = tt
-owed_no_notices r (Some c) = (tt, (answer_other r [], tt))
+owed_no_notices r o = grind arith
 
 pub synced_no_notices : (core : Core) (input : NodeInput) (p : Port) → IsHost p.desk.host → TellNoNotices (synced core input p)
-synced_no_notices core input p host = by_option (input_at input p)
-    (λ q. rw q tt)
-    (λ i q. by_option (report p.side i).sync
-    (λ e. rw (q, e) tt)
-    (λ id e. rw (q, e) (either (not (is_kept_sync core.tables.syncs p.desk.host id) && finds_room core (Sync p.desk.host id)) id))) where
-      may : (id : ℕ) → IsCommand (Sync p.desk.host id)
-      may id = and_from (nat_le 1 p.desk.host) (nat_le p.desk.host 7) (le-leb 1 p.desk.host host.0) (le-leb p.desk.host 7 host.1)
-
-      either : (b : Bool) (id : ℕ) → TellNoNotices (cond b (Commits (Sync p.desk.host id) ∷ []) [])
-      either true id = (may id, tt)
-      either false id = tt
+synced_no_notices core input p host = grind arith
 
 -- ### What is read of many ends
 
@@ -203,8 +133,7 @@ module _ (x : ℕ) where
         others [] a e r = refl
         others (q ∷ ports) a e r =
             reads_append x (f q) (flat_map f ports) r
-            ∙ (ap (reads x (flat_map f ports)) (silent q r (ne_eqb q.desk.host x (λ s. eqb-false q.desk.host p.desk.host a.0
-            (s ∙ sym (eqb-true p.desk.host x e))))) ∙ others ports a.1 e r)
+            ∙ (ap (reads x (flat_map f ports)) (silent q r (ne_eqb q.desk.host x (λ s. grind arith))) ∙ others ports a.1 e r)
 
   pub told_elsewhere : (core : Core) → own_side core ≡ Controller → (p : Port) (o : Option LinkInput) (r : Option (List ℕ)) → eqb p.desk.host x ≡ false
       → reads x (told_at core p o) r ≡ r
@@ -236,14 +165,7 @@ IsComeAt r (Some q) = IsCome r q
 module _ (p : Port) (fresh : IsFresh p) (up : UpAt (Some p)) (shut : IsShut p.side) where
   pub come_is : (r : Option (List ℕ)) (o : Option LinkInput) → ((i : LinkInput) → o ≡ Some i → IsComing i) → IsKeptNotice r p.desk.notice
       → IsCome (option_map_or (λ i. cond (is_some (ended_by p.side i)) None r) o r) (has_come p o)
-  come_is r None coming kept =
-      let not_over : is_over p ≡ false = rw (fresh.0, fresh.1) refl in
-      record {
-        kept = λ n. kept;
-        gone = λ y. absurd (true≢false (sym y ∙ not_over));
-        up = λ n some. up_is p.side.shdlc.phase (up some);
-        shut = shut;
-      }
+  come_is r None coming kept = grind arith
   come_is r (Some i) coming kept = go (is_some (ended_by p.side i)) refl where
     over : (b : Bool) → is_some (ended_by p.side i) ≡ b → is_over (has_come p (Some i)) ≡ b
     over b e = ap (λ c. c || p.late) e ∙ (ap (λ c. b || c) fresh.1 ∙ or-false b)
@@ -263,22 +185,7 @@ module _ (p : Port) (fresh : IsFresh p) (up : UpAt (Some p)) (shut : IsShut p.si
     })
 
 pub older_is : (r : Option (List ℕ)) (q : Port) → IsCome r q → IsCome r (with_older q)
-older_is r q a = record { kept = λ n. kept q.desk.notice (a.kept n); gone = a.gone; up = λ n some. a.up n (some_of q.desk.notice some); shut = a.shut } where
-  by : Option Notice → Option Notice
-  by None = None
-  by (Some n) = Some (older_notice n)
-
-  kept_of : (r : Option (List ℕ)) (n : Notice) → IsKeptNotice r (Some n) → IsKeptNotice r (Some (older_notice n))
-  kept_of None n k = k
-  kept_of (Some m) n k = k
-
-  kept : (o : Option Notice) → IsKeptNotice r o → IsKeptNotice r (by o)
-  kept None k = k
-  kept (Some n) k = kept_of r n k
-
-  some_of : (o : Option Notice) → is_some (by o) ≡ true → is_some o ≡ true
-  some_of None z = z
-  some_of (Some n) z = refl
+older_is r q a = grind arith
 
 -- an end that is up loses its session by a reset
 pub reset_ends : (e : LinkEnd) → IsShut e → e.shdlc.phase ≡ Up → is_some (ended_by e (Reset None)) ≡ true
@@ -286,61 +193,10 @@ reset_ends e shut up = by_test (is_open e.role) (λ o. rw (o, up) refl) (λ o. l
 
 late_is : (core : Core) (r : Option (List ℕ)) (q : Port) → q.late ≡ false → IsCome r q
     → IsCome (cond (is_late q) (cond (is_some (ended_by q.side (Reset None))) None r) r) (reset_late q)
-late_is core r q fresh a = by_test (is_late q)
-    (λ e. let parts = and_parts (option_map_or (λ (n : Notice). nat_le 100 n.age) q.desk.notice false) (not q.ended) e in
-    let not_over : is_over q ≡ false = ap (λ b. b || q.late) (not_of q.ended parts.1) ∙ fresh in
-    let ends : is_some (ended_by q.side (Reset None)) ≡ true = reset_ends q.side a.shut (a.up not_over (some_of q.desk.notice parts.0)) in
-    let reset : Port = record q { side = after_input q.side (Reset None); late = true } in
-    let over : is_over reset ≡ true = or-true q.ended in
-    let here : IsCome None reset = record {
-      kept = λ n. absurd (true≢false (sym over ∙ n));
-      gone = λ y. refl;
-      up = λ n. absurd (true≢false (sym over ∙ n));
-      shut = input_shut q.side (Reset None) a.shut;
-    } in
-    let is : reset_late q ≡ reset = rw e refl in
-    let read : cond (is_late q) (cond (is_some (ended_by q.side (Reset None))) None r) r ≡ None =
-    ap (λ b. cond b (cond (is_some (ended_by q.side (Reset None))) None r) r) e ∙ ap (λ b. cond b None r) ends in
-    subst (λ z. IsCome z (reset_late q)) (sym read) (subst (IsCome None) (sym is) here))
-    (λ e. rw e a) where
-      some_of : (o : Option Notice) → option_map_or (λ (n : Notice). nat_le 100 n.age) o false ≡ true → is_some o ≡ true
-      some_of None e = e
-      some_of (Some n) e = refl
-
-      not_of : (b : Bool) → not b ≡ true → b ≡ false
-      not_of true e = sym e
-      not_of false e = refl
+late_is core r q fresh a = grind arith
 
 forgets_is : (ports : List Port) (r : Option (List ℕ)) (q : Port) → IsCome r q → IsCome r (forgets ports q)
-forgets_is ports r q a = go (is_forgotten ports (asked_at q)) refl where
-  named : (c : Creation) (m : List ℕ) → IsNoticeOf c m → instruction_in m ≡ 18
-  named c m is = ap instruction_in is.message_is
-
-  about : (r : Option (List ℕ)) (n : Notice) (c : Creation) → creation_in (Some n) ≡ Some c → IsKeptNotice r (Some n)
-      → IsKeptNotice r (Some (record n { about = Forgotten }))
-  about None n c e k = k
-  about (Some m) n c e k = by n.about refl k where
-    by : (b : About) → n.about ≡ b → IsAbout n.about m → instruction_in m ≡ 18
-    by (Waits d) q k = let k2 : IsNoticeOf d m = subst (λ z. IsAbout z m) q k in named d m k2
-    by Forgotten q k = subst (λ z. IsAbout z m) q k
-    by Removed q k = let z : None ≡ Some c = rw q at e in absurd (cc z)
-
-  go : (b : Bool) → is_forgotten ports (asked_at q) ≡ b → IsCome r (forgets ports q)
-  go false e = rw e a
-  go true e = by_notice q.desk.notice refl where
-    by_notice : (o : Option Notice) → q.desk.notice ≡ o → IsCome r (forgets ports q)
-    by_notice None n = let z : false ≡ true = rw n at e in absurd (true≢false (sym z))
-    by_notice (Some n) is = by_option (creation_in (Some n))
-        (λ c. let none : asked_at q ≡ None = ap creation_in is ∙ c in
-        let z : false ≡ true = ap (is_forgotten ports) (sym none) ∙ e in absurd (true≢false (sym z)))
-        (λ c z. rw (e, is) (record {
-          kept = λ k. about r n c z (subst (IsKeptNotice r) is (a.kept k));
-          gone = a.gone;
-          up = λ k some. a.up k (ap (λ (o : Option Notice). is_some o) is);
-          shut = a.shut;
-        })) where
-          forgot : Port
-          forgot = record q { desk = record q.desk { notice = Some (record n { about = Forgotten }) } }
+forgets_is ports r q a = grind arith
 
 -- an end as the node's turns begin
 pub record IsReady (r : Option (List ℕ)) (q : Port) : Type 0 where
@@ -348,9 +204,7 @@ pub record IsReady (r : Option (List ℕ)) (q : Port) : Type 0 where
   pub up : UpAt (Some q)
 
 without_is : (r : Option (List ℕ)) (q : Port) → IsCome r q → IsReady r (without_notice q)
-without_is r q a = by_test (is_over q)
-    (λ e. rw e (record { kept = subst (λ z. IsKeptNotice z None) (sym (a.gone e)) tt; up = λ n. absurd (true≢false (sym n)) }))
-    (λ e. rw e (record { kept = a.kept e; up = λ n. ap is_up (a.up e n) }))
+without_is r q a = grind arith
 
 -- ## A whole step of a controller: its unanswered notice to a host stays the one that is read
 
@@ -362,18 +216,10 @@ hosts_map f host (p ∷ ports) =
     ap (λ h. h ∷ map (λ (q : Port). q.desk.host) (map f ports)) (host p) ∙ ap (λ l. p.desk.host ∷ l) (hosts_map f host ports)
 
 come_right : (p : Port) (o : Option LinkInput) → IsRightNotice p.desk.notice → IsRightNotice (has_come p o).desk.notice
-come_right p None a = a
-come_right p (Some i) a = a
+come_right p o a = grind arith
 
 older_right : (p : Port) → IsRightNotice p.desk.notice → IsRightNotice (with_older p).desk.notice
-older_right p a = go p.desk.notice a where
-  by : Option Notice → Option Notice
-  by None = None
-  by (Some n) = Some (older_notice n)
-
-  go : (o : Option Notice) → IsRightNotice o → IsRightNotice (by o)
-  go None b = tt
-  go (Some n) b = b
+older_right p a = grind arith
 
 reset_right : (p : Port) → IsRightNotice p.desk.notice → IsRightNotice (reset_late p).desk.notice
 reset_right p a = by_test (is_late p) (λ e. rw e a) (λ e. rw e a)
@@ -421,8 +267,7 @@ module _ (x : ℕ) (before : List Entry) (w : Work) (a : IsOn x before w) where
         ∙ ap (option_map without_notice) (at_all v.ports x (forgets v.ports) (forgets_host v.ports))
 
     ups : (o : Option Port) → IsComeAt (read_in x before v) o → UpAt (option_map without_notice (option_map (forgets v.ports) o))
-    ups None b = tt
-    ups (Some q) b = (without_is (read_in x before v) (forgets v.ports q) (forgets_is v.ports (read_in x before v) q b)).up
+    ups o b = grind arith
 
     keeps : (o : Option Port) → IsComeAt (read_in x before v) o
         → IsKeptNotice (read_in x before v) (option_and_then (λ (p : Port). p.desk.notice) (option_map without_notice (option_map (forgets v.ports) o)))
@@ -436,8 +281,8 @@ module _ (x : ℕ) (before : List Entry) (w : Work) (a : IsOn x before w) where
   frees (c ∷ cs) v b =
       let u : Work = turn_at c.asker Release v in
       let freed : IsOn x before u = turns x before IsKeptNotice c.asker Release v (λ p r. refl) b in
-      let on : unless_cut (all_done 0 (map (λ (c : Creation). Releases c.asker) cs)) u ≡ all_done 0 (map (λ (c : Creation). Releases c.asker) cs) u =
-      uncut (all_done 0 (map (λ (c : Creation). Releases c.asker) cs)) u freed.on in
+      let on : unless_cut (all_done 0 (map (λ (c : Creation). Releases c.asker) cs)) u ≡ all_done 0
+      (map (λ (c : Creation). Releases c.asker) cs) u = grind arith in
       subst (IsOn x before) (sym on) (frees cs u freed)
 
   rest : (cs : List Creation) (syncs owing : List Deed) (v : Work) → TellNoNotices syncs → TellNoNotices owing → IsOn x before v
@@ -570,8 +415,7 @@ module _ (x : ℕ) (before : List Entry) (w : Work) (a : IsOn x before w) where
     go None e b = b
     go (Some q) e b =
         subst (λ r. IsCome r (reset_late (with_older q))) (sym (read_late (with_older q) (reads x noted (read_in x before w)) (at_host ticked x q e)))
-        (late_is w.core (reads x noted (read_in x before w)) (with_older q) (at_port (λ (p : Port). p.late ≡ false) ticked x q (all_fresh w.ports fresh) e)
-        (older_is (reads x noted (read_in x before w)) q b))
+        (grind arith)
 
   pub steps_stand : (input : NodeInput) → IsOutside input → AreDifferent (map (λ (p : Port). p.desk.host) w.ports) → AllByRecursion IsFresh w.ports
       → AllByRecursion (λ (p : Port). IsShut p.side) w.ports → Stands x before (steps input w)
@@ -594,49 +438,16 @@ module _ (x : ℕ) (before : List Entry) (w : Work) (a : IsOn x before w) where
 -- ## What a controller knows of hosts by its notices is what is read
 
 pub noticed_is : (message : Option (List ℕ)) (p : Port) → IsKeptNotice message p.desk.notice → is_some p.desk.notice ≡ is_some message
-noticed_is message p kept = go message p.desk.notice kept where
-  go : (r : Option (List ℕ)) (n : Option Notice) → IsKeptNotice r n → is_some n ≡ is_some r
-  go None None k = refl
-  go (Some m) (Some n) k = refl
-  go None (Some n) k = absurd k
-  go (Some m) None k = absurd k
+noticed_is message p kept = grind arith
 
 pub asked_is : (message : Option (List ℕ)) (p : Port) → IsKeptNotice message p.desk.notice → is_asked_at p ≡ is_of_creation message
-asked_is message p kept = go message p.desk.notice refl kept where
-  is : (m : List ℕ) (k : ℕ) (b : Bool) → instruction_in m ≡ k → eqb k 18 ≡ b → b ≡ eqb (instruction_in m) 18
-  is m k b e q = sym q ∙ ap (λ n. eqb n 18) (sym e)
-
-  asks : (n : Notice) → p.desk.notice ≡ Some n → (a : About) → n.about ≡ a → (m : List ℕ) → IsAbout a m
-      → is_asked_at p ≡ eqb (instruction_in m) 18
-  asks n e (Waits c) r m k = rw (e, r) (is m 18 true (ap instruction_in k.message_is) refl)
-  asks n e Forgotten r m k = rw (e, r) (is m 18 true k refl)
-  asks n e Removed r m (inl k) = rw (e, r) (is m 19 false k refl)
-  asks n e Removed r m (inr k) = rw (e, r) (is m 21 false k refl)
-
-  go : (r : Option (List ℕ)) (n : Option Notice) → p.desk.notice ≡ n → IsKeptNotice r n → is_asked_at p ≡ is_of_creation r
-  go None None e k = rw e refl
-  go (Some m) (Some n) e k = asks n e n.about refl m k
-  go None (Some n) e k = absurd k
-  go (Some m) None e k = absurd k
+asked_is message p kept = grind arith
 
 -- ## The blocks that an end has to spare are those that are read
 
 in_use_is : (t : List Entry) (e : End) (near_end : NumberedEnd) → IsEndRead t e near_end
     → need_of_all (unacknowledged_in t e (session_now t e (node_of e))) ≡ in_use near_end.side
-in_use_is t e near_end a = ap (λ o. need_of_all (unacknowledged_in t e o)) a.session ∙ go near_end.side.shdlc.phase refl where
-  nothing : (near_end.side.shdlc.phase ≡ Up → ⊥) → in_use near_end.side ≡ 0
-  nothing down = ap (λ (ms : List Message). need_of_all (drop (whole_among ms near_end.side.shdlc.session.acked) ms)) (a.none down)
-
-  go : (p : LinkState) → near_end.side.shdlc.phase ≡ p → need_of_all (unacknowledged_in t e (own_session near_end)) ≡ in_use near_end.side
-  go Up q =
-      let is : own_session near_end ≡ Some (number_of near_end) = rw q refl in
-      ap (λ o. need_of_all (unacknowledged_in t e o)) is ∙ ap₂ (λ n (ms : List Message). need_of_all (drop n ms)) (a.acked q) (a.sent q)
-  go Waiting q =
-      let is : own_session near_end ≡ None = rw q refl in
-      ap (λ o. need_of_all (unacknowledged_in t e o)) is ∙ sym (nothing (λ up. let z : Waiting ≡ Up = sym q ∙ up in cc))
-  go Down q =
-      let is : own_session near_end ≡ None = rw q refl in
-      ap (λ o. need_of_all (unacknowledged_in t e o)) is ∙ sym (nothing (λ up. let z : Down ≡ Up = sym q ∙ up in cc))
+in_use_is t e near_end a = grind arith
 
 pub spare_is : (t : List Entry) (e : End) (near_end : NumberedEnd) → IsEndRead t e near_end → spare_at t e ≡ spare near_end.side
 spare_is t e near_end a = ap₂ (λ n m. 128 - (n + m)) (in_use_is t e near_end a) a.aside

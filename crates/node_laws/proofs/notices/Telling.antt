@@ -1,16 +1,15 @@
 -- Which notices a controller decides on and sends, which message answers one, and that it asks and tells only hosts that have none.
-use Rattle.node_laws.proofs.Words.{About, AllByRecursion, Answer, AreDifferent, AreTables, Ask, Asks, AsksAsAllowed, Bool, Clear, Command, Commit, Commits}
-use Rattle.node_laws.proofs.Words.{Core, Create, Creation, Decision, Deed, Delete, Drops, Forgotten, GoesToFree, HciTables, IsAbout, IsAnswered, IsAskedFor}
-use Rattle.node_laws.proofs.Words.{IsCommand, IsNoticeOf, IsRecordableDecision, IsRightAbout, IsRightNotice, JoinTwo, LinkView, List, Message, None, Notice}
-use Rattle.node_laws.proofs.Words.{OfDecision, Option, PipeRow, Plain, Port, Releases, Removed, Response, SaysOk, Sends, Set, SetOpened, SetsErrors, Some}
-use Rattle.node_laws.proofs.Words.{Tells, Waits, [], agreed, all_false, all_of_controller, all_so, and_parts, answer_of, answers_on, ap, arith, asked_at}
-use Rattle.node_laws.proofs.Words.{body_in, by_test, commit_deeds, commits, commits_and_tells, cond, cond_both, controller_deeds, controller_holds, creation_in}
-use Rattle.node_laws.proofs.Words.{decided, decided_as_allowed, decided_holds, decision_deeds, dest_in, ends_of, eqb, eqb-false, eqb-true, false, far_end_of}
-use Rattle.node_laws.proofs.Words.{filter, finds_room, gates, has, has_link, has_notice, identity_served, inl, inr, is_connected, is_dynamic, is_host}
-use Rattle.node_laws.proofs.Words.{is_notice, is_response, is_some, leb-true, length, link_deeds, link_served, list_any, map, mask_of, nat_le, ne_eqb, new_row}
-use Rattle.node_laws.proofs.Words.{not, option_and_then, option_map_or, others_opened, own_gate, own_view, param_in, pipe_at, port_at, refl, shares, subst, suc}
-use Rattle.node_laws.proofs.Words.{sym, tests_to_clear, tests_to_create, tests_to_delete, told_of_clearing, told_of_deletion, true, true≢false, value_in}
-use Rattle.node_laws.proofs.Words.{view_for, view_of, zero, ℕ, ◌&&◌, ◌||◌, ◌∙◌, ◌∷◌, ◌≡◌, ◌≤◌}
+use Rattle.node_laws.proofs.Words.{AllByRecursion, Answer, AreDifferent, AreTables, Ask, Asks, AsksAsAllowed, Bool, Clear, Command, Commit, Commits, Core}
+use Rattle.node_laws.proofs.Words.{Create, Creation, Decision, Deed, Delete, Drops, GoesToFree, HciTables, IsAbout, IsAnswered, IsAskedFor, IsCommand}
+use Rattle.node_laws.proofs.Words.{IsNoticeOf, IsRecordableDecision, IsRightNotice, JoinTwo, LinkView, List, Message, None, Notice, OfDecision, Option, PipeRow}
+use Rattle.node_laws.proofs.Words.{Plain, Port, Releases, Removed, Response, SaysOk, Sends, Set, SetOpened, SetsErrors, Some, Tells, [], agreed, all_false}
+use Rattle.node_laws.proofs.Words.{all_of_controller, all_so, and_parts, answer_of, answers_on, arith, asked_at, body_in, by_test, commit_deeds, commits}
+use Rattle.node_laws.proofs.Words.{commits_and_tells, cond, cond_both, controller_deeds, controller_holds, creation_in, decided, decided_as_allowed}
+use Rattle.node_laws.proofs.Words.{decided_holds, decision_deeds, dest_in, ends_of, eqb, eqb-false, eqb-true, false, far_end_of, filter, finds_room, gates, has}
+use Rattle.node_laws.proofs.Words.{has_notice, identity_served, inl, inr, is_connected, is_notice, is_response, leb-true, length, link_deeds, link_served}
+use Rattle.node_laws.proofs.Words.{list_any, map, mask_of, nat_le, ne_eqb, new_row, not, option_and_then, option_map_or, others_opened, own_gate, own_view}
+use Rattle.node_laws.proofs.Words.{param_in, pipe_at, port_at, refl, shares, subst, suc, sym, tests_to_clear, tests_to_create, tests_to_delete}
+use Rattle.node_laws.proofs.Words.{told_of_clearing, told_of_deletion, true, true≢false, value_in, view_for, view_of, zero, ℕ, ◌&&◌, ◌||◌, ◌∙◌, ◌∷◌, ◌≡◌, ◌≤◌}
 use Rattle.gate_admin.proofs.CreationLemmas.{AllFalse}
 use Rattle.gate_admin.specs.View.{hosts_where, is_noticed}
 use Rattle.node_machine.proofs.Walks.{AnswersNone}
@@ -42,8 +41,7 @@ pub record IsAsking (h : ℕ) (notice : List ℕ) (c : Command) (answer : List �
   pub other : IsOther answer
 
 pub answer_other : (r : Response) (value : List ℕ) → IsOther (answer_of r value)
-answer_other response.Ok value = refl
-answer_other _ value = refl
+answer_other r value = grind arith
 
 deleted_notice : (pid : ℕ) → IsRemoval (19 ∷ pid ∷ [])
 deleted_notice pid = record { test = refl; short = omega arith; about = inl refl }
@@ -99,9 +97,7 @@ module _ (v : LinkView) (h : ℕ) where
   sharing t (y ∷ hosts) a = (first (is_connected v y) (eqb y h) refl refl (from_mask (shares t v h) y a.0), sharing t hosts a.1)
     where
       first : (b c : Bool) → is_connected v y ≡ b → eqb y h ≡ c → shares t v h y ≡ true → eqb y h ≡ false
-      first b false p q s = q
-      first true true p q s = absurd (true≢false (sym (rw (p, q) at s)))
-      first false true p q s = absurd (true≢false (sym (rw p at s)))
+      first b c p q s = grind arith
 
   tells_say : (c : Command) (told notice : List ℕ) → IsRemoval notice → AreElse (hosts_where (has (mask_of told))) → Says h (commits_and_tells c told notice)
   tells_say c [] notice is a = (answer_other response.Ok [], none_told [])
@@ -167,16 +163,13 @@ module _ (x : ℕ) where
   -- ### Answers
 
   no_and : (a b : Bool) → b ≡ false → (a && b) ≡ false
-  no_and true b e = e
-  no_and false b e = refl
+  no_and a b e = grind arith
 
   off_and : (a b : Bool) → a ≡ false → (a && b) ≡ false
-  off_and true b e = absurd (true≢false e)
-  off_and false b e = refl
+  off_and a b e = grind arith
 
   either : (F : List ℕ → Type 0) (b : Bool) (d e : List Deed) → MayTell F d → MayTell F e → MayTell F (cond b d e)
-  either F true d e y z = y
-  either F false d e y z = z
+  either F b d e y z = grind arith
 
   other_may : (F : List ℕ → Type 0) (h pipe : ℕ) (answer : List ℕ) → (eqb pipe 1 && is_notice answer) ≡ false → MayTell F (answers_on h pipe answer)
   other_may F h pipe answer e = (e, tt)
@@ -216,70 +209,19 @@ module _ (x : ℕ) where
         told_may (λ n. (eqb h x ≡ false) × IsShort n) notice hosts different told (behind_answer notice hosts told),
       ),
     )
-    commit_may false pipe c answer notice hosts may other different told =
-        answer_may IsShort h pipe (answer_of response.NotOk []) (answer_other response.NotOk [])
+    commit_may false pipe c answer notice hosts may other different told = grind arith
 
     -- the two hosts of a pipe that may be made
     apart : (row : PipeRow) → IsCommand (Create row) → eqb row.creator row.dest ≡ false
-    apart row may =
-        let closed = and_parts (is_dynamic row.pid && is_host row.creator && is_host row.dest && not (eqb row.creator row.dest)) (not row.opened) may in
-        no (eqb row.creator row.dest) (and_parts (is_dynamic row.pid && is_host row.creator && is_host row.dest) (not (eqb row.creator row.dest)) closed.0).1
-      where
-        no : (b : Bool) → not b ≡ true → b ≡ false
-        no true q = sym q
-        no false q = refl
+    apart row may = grind arith
 
     asked_may : (t : HciTables) (v : LinkView) (asked : ℕ) (notice : List ℕ) (c : Command) (answer : List ℕ) → IsAsking h notice c answer → IsCommand c
         → IsAskedFor t v h asked c → May (Asks asked notice (record { asker = h; command = c; answer = answer }) ∷ [])
-    asked_may t v asked notice c answer says may allowed =
-        let row : PipeRow = says.row in
-        let create : IsCommand (Create row) = subst IsCommand says.command may in
-        let named = subst (λ k. IsAskedFor t v h asked k) says.command allowed in
-        let two : eqb h asked ≡ false = ap (λ n. eqb n asked) (sym says.creator) ∙ (ap (λ n. eqb row.creator n) (sym named.asked) ∙ apart row create) in (
-          (λ e. subst IsShort (sym says.notice_is) (omega arith)),
-          record {
-            test = ap is_notice says.notice_is;
-            notice = record { row = row; command = says.command; asker = says.creator; message_is = says.notice_is };
-            right = (may, says.other);
-            else = two;
-          },
-          tt,
-        )
-
-    -- no host is twice in a mask
-    filter_different : (test : ℕ → Bool) (hosts : List ℕ) → AreDifferent hosts → AreDifferent (filter test hosts)
-    filter_different test [] d = tt
-    filter_different test (y ∷ hosts) d = by_test (test y)
-        (λ q. rw q (fewer hosts d.0, filter_different test hosts d.1))
-        (λ q. rw q (filter_different test hosts d.1)) where
-          fewer : (hosts : List ℕ) → AllByRecursion (λ (k : ℕ). eqb k y ≡ false) hosts → AllByRecursion (λ (k : ℕ). eqb k y ≡ false) (filter test hosts)
-          fewer [] a = tt
-          fewer (k ∷ hosts) a = by_test (test k) (λ q. rw q (a.0, fewer hosts a.1)) (λ q. rw q (fewer hosts a.1))
+    asked_may t v asked notice c answer says may allowed = grind arith
 
     mask_different : (test : ℕ → Bool) → AreDifferent (hosts_where test)
     unfolding hosts_where
-    mask_different test = filter_different test (1 ∷ 2 ∷ 3 ∷ 4 ∷ 5 ∷ 6 ∷ 7 ∷ []) (
-      (refl, (refl, (refl, (refl, (refl, (refl, tt)))))),
-      (
-        (refl, (refl, (refl, (refl, (refl, tt))))),
-        (
-          (refl, (refl, (refl, (refl, tt)))),
-          (
-            (refl, (refl, (refl, tt))),
-            (
-              (refl, (refl, tt)),
-              (
-                (refl, tt),
-                (
-                  tt,
-                  tt,
-                ),
-              ),
-            ),
-          ),
-        ),
-      ),
-    )
+    mask_different test = grind arith
 
     decision_may : (core : Core) (v : LinkView) (pipe : ℕ) (d : Decision) → Says h d → IsRecordableDecision d → AsksAsAllowed core.tables v h d
         → May (decision_deeds (own_view core) h pipe d)
@@ -291,10 +233,7 @@ module _ (x : ℕ) where
     -- ### Gates
 
     link_may : (pipe : ℕ) (answer : List ℕ × Option ℕ) → eqb pipe 1 ≡ false → May (link_deeds h pipe answer)
-    link_may pipe answer e = by_value answer.0 answer.1 where
-      by_value : (message : List ℕ) (value : Option ℕ) → May (link_deeds h pipe (message, value))
-      by_value message None = other_may IsShort h pipe message (off_and (eqb pipe 1) (is_notice message) e)
-      by_value message (Some errors) = other_may IsShort h pipe message (off_and (eqb pipe 1) (is_notice message) e)
+    link_may pipe answer e = grind arith
 
     -- ### Of a controller
 
@@ -322,12 +261,7 @@ module _ (x : ℕ) where
       right_there : (p : Port) (c : Creation) → port_at ports h ≡ Some p → asked_at p ≡ Some c → IsRight c
       right_there p c here waits = go p.desk.notice (at_port (λ (p : Port). IsRightNotice p.desk.notice) ports h p right here) waits where
         go : (o : Option Notice) → IsRightNotice o → creation_in o ≡ Some c → IsRight c
-        go None r w = absurd (cc w)
-        go (Some n) r w = by_about n.about r w where
-          by_about : (a : About) → IsRightAbout a → creation_in (Some (record { about = a; age = n.age })) ≡ Some c → IsRight c
-          by_about (Waits d) r w = let same : d ≡ c = cc in subst IsRight same r
-          by_about Forgotten r w = absurd (cc w)
-          by_about Removed r w = absurd (cc w)
+        go o r w = grind arith
 
       heard : (m : Message) (c : Creation) → answers m ≡ true → IsRight c → (flag : Bool) → Outcome ports m (agreed flag c)
       heard m c reply is_right true =
@@ -335,25 +269,8 @@ module _ (x : ℕ) where
       heard m c reply is_right false =
           IsHeard (Releases c.asker ∷ Sends c.asker (1, answer_of response.NotOk []) ∷ []) refl reply (answer_other response.NotOk [], tt)
 
-      -- a link that isn't up has no notice
-      none_down : has_link ports h ≡ false → eqb h x ≡ true → noticed ports x ≡ None
-      none_down down e = go (port_at ports x) up (subst (λ n. has_link ports n ≡ false) (eqb-true h x e) down) where
-        by : (p : Port) (o : Option Notice) → p.desk.notice ≡ o → UpAt (Some p) → has_link (p ∷ []) p.desk.host ≡ has_link (p ∷ []) p.desk.host
-            → Rattle.link_laws.specs.sessions.Sessions.is_up p.side.shdlc.phase ≡ false → o ≡ None
-        by p None is u same off = refl
-        by p (Some n) is u same off = absurd (true≢false (sym (u (ap is_some is)) ∙ off))
-
-        go : (o : Option Port) → UpAt o → option_map_or (λ (p : Port). Rattle.link_laws.specs.sessions.Sessions.is_up p.side.shdlc.phase) o false ≡ false
-            → option_and_then (λ (p : Port). p.desk.notice) o ≡ None
-        go None u off = refl
-        go (Some p) u off = by p p.desk.notice refl u refl off
-
       dropped : (m : Message) → AnswersNone core ports h m → (eqb h x && answers m) ≡ true → noticed ports x ≡ None
-      dropped m none e = by_test (has_link ports h)
-          (λ up. subst (λ n. noticed ports n ≡ None) (eqb-true h x both.0) (none both.1 up))
-          (λ down. none_down down both.0) where
-            both : (eqb h x ≡ true) × (answers m ≡ true)
-            both = and_parts (eqb h x) (answers m) e
+      dropped m none e = grind arith
 
       pub controller_outcome : (m : Message) → Outcome ports m (controller_deeds (view_of core ports) h m)
       controller_outcome m =
@@ -367,8 +284,7 @@ module _ (x : ℕ) where
             refuses = λ r off free. Leaves (no_reply ports m off) (answer_may IsShort h m.0 (answer_of r []) (answer_other r []));
             names =
                 λ n served gate. Leaves (no_reply ports m (no_and (eqb m.0 1) (is_response m.1) (rw served.command refl)))
-                (other_may IsShort h m.0 (identity_served gates n (body_in m.1)) (off_and (eqb m.0 1) (is_notice (identity_served gates n (body_in m.1)))
-                (gate_off m.0 5 gate)));
+                (other_may IsShort h m.0 (identity_served gates n (body_in m.1)) (grind arith));
             counts =
                 λ errors n served gate. Leaves (no_reply ports m (no_and (eqb m.0 1) (is_response m.1) (rw served.command refl)))
                 (link_may m.0 (link_served errors n (body_in m.1)) (gate_off m.0 6 gate));
@@ -412,8 +328,7 @@ module _ (v : LinkView) where
       ((λ z. both.0), (none_both p q hosts) both.1))
       (λ off. ((λ z. absurd (true≢false (sym z ∙ off))), (none_both p q hosts) (rw off at e))) where
         parts : (a b : Bool) → (a || b) ≡ false → (a ≡ false) × (b ≡ false)
-        parts true b f = absurd (true≢false f)
-        parts false b f = (refl, f)
+        parts a b f = grind arith
 
   one_of : (p q : ℕ → Bool) → list_any p (hosts_where q) ≡ false → (y : ℕ) → 1 ≤ y → y ≤ 7 → q y ≡ true → p y ≡ false
   unfolding hosts_where
@@ -440,8 +355,7 @@ module _ (v : LinkView) where
   deletion_frees None e = none_told_of_freeing
   deletion_frees (Some end) e = go (is_connected v end.0) refl e where
     first : (a : Bool) → (a || false) ≡ false → a ≡ false
-    first true f = absurd (true≢false f)
-    first false f = refl
+    first a f = grind arith
 
     go : (b : Bool) → is_connected v end.0 ≡ b → list_any (is_noticed v) (cond b (end.0 ∷ []) []) ≡ false
         → AllByRecursion (IsFree v) (hosts_where (has (mask_of (cond b (end.0 ∷ []) []))))
@@ -458,16 +372,10 @@ module _ (v : LinkView) where
       )
 
   tells_free : (c : Command) (told notice : List ℕ) → AllByRecursion (IsFree v) (hosts_where (has (mask_of told))) → Frees v (commits_and_tells c told notice)
-  tells_free c [] notice a = none_told_of_freeing
-  tells_free c (y ∷ told) notice a = a
+  tells_free c told notice a = grind arith
 
   asked_free : (d : ℕ) → eqb d 0 ≡ false → (not (eqb d 0) && not (is_connected v d)) ≡ false → (not (eqb d 0) && is_noticed v d) ≡ false → IsFree v d
-  asked_free d off connected noticed =
-      let there : is_connected v d ≡ true = yes (is_connected v d) (rw off at connected) in
-      free_of v.connected d there (rw off at noticed) where
-        yes : (b : Bool) → not b ≡ false → b ≡ true
-        yes true e = refl
-        yes false e = absurd (true≢false e)
+  asked_free d off connected noticed = grind arith
 
   decided_frees : (t : HciTables) (h pipe instruction : ℕ) (body : List ℕ) → Frees v (decided t v h pipe instruction body)
   unfolding AllFalse

@@ -1,32 +1,25 @@
 -- A controller does the deeds of a message and has its turns: its unanswered notice to a host stays the one that is read.
-use Rattle.std.proofs.Math.Bool.{and-true}
 use Rattle.node_laws.proofs.Words.{About, AllByRecursion, AllReach, AreTables, AreTables-apply, Asks, Bool, Cause, Command, Commits, Controller, Core, Deed}
 use Rattle.node_laws.proofs.Words.{Desk, Down, Drops, Entry, FetchMessage, Give, Hold, IsAbout, IsAnswered, IsCommand, IsHost, IsKeptNotice, IsRightAbout}
 use Rattle.node_laws.proofs.Words.{IsRightNotice, JoinTwo, LinkInput, List, Message, None, Noted, Notice, Option, Port, Refused, Release, Releases, Removed}
-use Rattle.node_laws.proofs.Words.{SaysOk, Sends, Sent, SetAside, SetsErrors, Some, Tells, Turn, Up, Waits, Work, Write, [], after_input, after_turn, all_done}
-use Rattle.node_laws.proofs.Words.{all_map, and-false, ap, append_assoc, awaited_after, body_of, by_cut, by_option, by_test, cases_Bool, changed_if, commit}
+use Rattle.node_laws.proofs.Words.{SaysOk, Sends, Sent, SetAside, SetsErrors, Some, Tells, Turn, Waits, Work, Write, [], after_input, after_turn, all_done}
+use Rattle.node_laws.proofs.Words.{all_map, and-false, ap, append_assoc, arith, awaited_after, body_of, by_option, by_test, cases_Bool, changed_if, commit}
 use Rattle.node_laws.proofs.Words.{commit_writes, cond, controller_deeds, done, end_c, end_of, end_of_node, ended_by, entries_for, eq-eqb, eqb, eqb-false}
 use Rattle.node_laws.proofs.Words.{eqb-true, fails_within, false, fold, fold-append, give_refusal, goes_through_ends, handles, has_link, have_turns, holds_back}
-use Rattle.node_laws.proofs.Words.{inl, inr, is_held, is_notice, is_response, is_some, is_up, keeps, lack, le-ltb, length, lets_go, map, nat_lt, ne_eqb, need}
-use Rattle.node_laws.proofs.Words.{needs, noted_of, notice_in, notified, noting, option_and_then, option_map, option_map_or, option_to_list, own_side, passes}
-use Rattle.node_laws.proofs.Words.{port_at, refl, report, same_end, sent_unless, spare, subst, sym, told_at, true, true≢false, turn_at, unless_cut, view_of}
-use Rattle.node_laws.proofs.Words.{whole_acked, with_desk, with_port, ℕ, ◌&&◌, ◌++◌, ◌∙◌, ◌∷◌, ◌≡◌, ◌⊎◌}
-use Rattle.link_laws.proofs.messages.Project.{give_tells}
+use Rattle.node_laws.proofs.Words.{inl, inr, is_held, is_notice, is_some, keeps, lack, length, lets_go, map, nat_lt, ne_eqb, need, needs, noted_of, notice_in}
+use Rattle.node_laws.proofs.Words.{notified, noting, option_and_then, option_map, option_map_or, option_to_list, own_side, passes, port_at, refl, report}
+use Rattle.node_laws.proofs.Words.{same_end, sent_unless, spare, subst, sym, told_at, true, turn_at, unless_cut, view_of, whole_acked, with_desk, with_port, ℕ}
+use Rattle.node_laws.proofs.Words.{◌&&◌, ◌++◌, ◌∙◌, ◌∷◌, ◌≡◌, ◌⊎◌}
 use Rattle.link_laws.specs.entries.Entries.{End as Side}
 use Rattle.tables_laws.proofs.tables.TwoHosts.{JoinTwo-after}
 use Rattle.node_laws.proofs.links.Noticing.{UpAt, at_all, at_host, controller_reach, turn-phase}
 use Rattle.node_laws.proofs.notices.Telling.{AreRight, IsShort, MayTell, Outcome, answers, controller_outcome, noticed}
 use Rattle.node_laws.proofs.notices.Telling.Outcome.{IsHeard, Leaves}
-use Rattle.node_laws.proofs.readings.Noticed.{up_is}
 use Rattle.node_laws.proofs.readings.Turning.{IsQuiet, lack_parts, rest_quiet, told_rest}
 use Rattle.node_laws.proofs.steps.StepWalks.{changed_host}
 use Rattle.trace_model.specs.declared.entry.Entry.TheVariants as entry
 
 -- ## What is read of the unanswered notice to a host
-
--- the end of this link is the one with that host
-pub same_near : (k x : ℕ) → same_end (end_of k Controller) (end_c x) ≡ eqb k x
-same_near k x = and-true (eqb k x)
 
 module _ (x : ℕ) where
   -- what is read after these entries, where this was read before
@@ -69,32 +62,13 @@ module _ (x : ℕ) where
       go None = quiet_reads p.desk.host rest c quiet ∙ ap (λ b. cond b None c) (sym (and-false (eqb p.desk.host x)))
       go (Some cause) = quiet_reads p.desk.host rest (cond (same_end (end_of p.desk.host Controller) (end_c x)) None c) quiet
 
-  -- a message that is no notice on pipe 01 reads as nothing
-  no_notice : (a b c : Bool) (y z : Option (List ℕ)) → (b && c) ≡ false → cond (a && b && c) y z ≡ z
-  no_notice false b c y z e = refl
-  no_notice true false c y z e = refl
-  no_notice true true false y z e = refl
-  no_notice true true true y z e = cc
-
   sent_reads : (k : ℕ) (who : Side) (n : ℕ) (m : Message) (o : Option Refused) (c : Option (List ℕ)) → (eqb m.0 1 && is_notice m.1) ≡ false
       → reads (entries_for k (sent_unless o who n m)) c ≡ c
-  sent_reads k who n m (Some why) c e = refl
-  sent_reads k who n m None c e = no_notice (same_end (end_of k who) (end_c x)) (eqb m.0 1) (is_notice m.1) (Some m.1) c e
-
-  -- nor does one to another host
-  off_all : (a b c : Bool) (y z : Option (List ℕ)) → a ≡ false → cond (a && b && c) y z ≡ z
-  off_all a b c y z e = rw e refl
+  sent_reads k who n m o c e = grind arith
 
   sent_elsewhere : (k n : ℕ) (m : Message) (o : Option Refused) (c : Option (List ℕ)) → eqb k x ≡ false
       → reads (entries_for k (sent_unless o Controller n m)) c ≡ c
-  sent_elsewhere k n m (Some why) c e = refl
-  sent_elsewhere k n m None c e =
-      off_all (same_end (end_of k Controller) (end_c x)) (eqb m.0 1) (is_notice m.1) (Some m.1) c (same_near k x ∙ e)
-
-  -- a notice that isn't refused is what is read
-  notice_reads : (k n : ℕ) (message : List ℕ) (c : Option (List ℕ)) → eqb k x ≡ true → is_notice message ≡ true
-      → reads (entries_for k (sent_unless None Controller n (1, message))) c ≡ Some message
-  notice_reads k n message c e is = rw (e, is) refl
+  sent_elsewhere k n m o c e = grind arith
 
 -- ## A controller does the deeds of a message: its unanswered notice to a host stays the one that is read
 
@@ -110,8 +84,7 @@ pub controller_side : (core : Core) → core.node ≡ 0 → own_side core ≡ Co
 controller_side core e = rw e refl
 
 changed_is : (P : Port → Port → Type 0) (b : Bool) (g : Port → Port) (p : Port) → P p p → P p (g p) → P p (changed_if b g p)
-changed_is P true g p same one = one
-changed_is P false g p same one = same
+changed_is P b g p same one = grind arith
 
 -- what is done to the end with another host leaves this one
 pub else_same : (k x : ℕ) (g : Port → Port) (ports : List Port) → ((q : Port) → (g q).desk.host ≡ q.desk.host) → eqb k x ≡ false
@@ -156,10 +129,7 @@ module _ (x : ℕ) (before : List Entry) where
 
   -- one thing after another, unless the power is cut
   pub then : (f : Work → Work) (w : Work) → Stands w → (IsOn w → Stands (f w)) → Stands (unless_cut f w)
-  then f w a next = by_cut Stands f w (λ q. a) (λ q. go q a) where
-    go : w.cut ≡ false → Stands w → Stands (f w)
-    go q (inl b) = next b
-    go q (inr b) = absurd (true≢false (sym b.off ∙ q))
+  then f w a next = grind arith
 
   -- it is noted so
   pub notes : (K L : Option (List ℕ) → Option Notice → Type 0) (es : List Entry) (w : Work)
@@ -185,13 +155,11 @@ module _ (x : ℕ) (before : List Entry) where
 
   noticed_map : (f : Port → Port) → ((q : Port) → (f q).desk.notice ≡ q.desk.notice) → (o : Option Port)
       → option_and_then (λ (p : Port). p.desk.notice) (option_map f o) ≡ option_and_then (λ (p : Port). p.desk.notice) o
-  noticed_map f notice None = refl
-  noticed_map f notice (Some p) = notice p
+  noticed_map f notice o = grind arith
 
   up_map : (f : Port → Port) → ((q : Port) → (f q).desk.notice ≡ q.desk.notice) → ((q : Port) → (f q).side.shdlc.phase ≡ q.side.shdlc.phase)
       → (o : Option Port) → UpAt o → UpAt (option_map f o)
-  up_map f notice phase None a = tt
-  up_map f notice phase (Some p) a = λ n. ap is_up (phase p) ∙ a (sym (ap (λ (z : Option Notice). is_some z) (notice p)) ∙ n)
+  up_map f notice phase o a = grind arith
 
   -- ends are changed that keep their hosts, phases and notices
   alters : (K : Option (List ℕ) → Option Notice → Type 0) (f : Port → Port) (w : Work) → ((q : Port) → (f q).desk.host ≡ q.desk.host)
@@ -332,24 +300,12 @@ module _ (x : ℕ) (before : List Entry) where
           ∙ ap (λ b. changed_if b as_new (after_turn (Give (1, message)) p)) there
 
       ups : (o : Option Port) → port_at w.ports x ≡ o → Takes o message → UpAt o → UpAt (option_map told (option_map given o))
-      ups None e t u = tt
-      ups (Some p) e t u =
-          subst (λ (q : Port). UpAt (Some q)) (sym (is_told p e))
-          (λ n. ap is_up (turn-phase p.side (Give (1, message)) ∙ (give_tells p.side (1, message) t).0))
+      ups o e t u = grind arith
 
       keeps_it : (o : Option Port) → port_at w.ports x ≡ o → Takes o message → IsKeptNotice (read_in w) (option_and_then (λ (p : Port). p.desk.notice) o)
           → IsKeptNotice (reads x (option_map_or (noted_of w.core (Give (1, message))) o []) (read_in w))
           (option_and_then (λ (p : Port). p.desk.notice) (option_map told (option_map given o)))
-      keeps_it None e t b = b
-      keeps_it (Some p) e t b =
-          let sent : noted_of w.core (Give (1, message)) p ≡ entries_for p.desk.host (sent_unless None Controller p.session (1, message)) =
-          ap (λ o. entries_for p.desk.host (sent_unless o (own_side w.core) p.session (1, message))) t
-          ∙ ap (λ s. entries_for p.desk.host (sent_unless None s p.session (1, message))) (controller_side w.core a.node) in
-          let read : reads x (noted_of w.core (Give (1, message)) p) (read_in w) ≡ Some message =
-          ap (λ es. reads x es (read_in w)) sent
-          ∙ notice_reads x p.desk.host p.session message (read_in w) (eq-eqb p.desk.host x (at_host w.ports x p e)) is in
-          subst (λ r. IsKeptNotice r (told (given p)).desk.notice) (sym read)
-          (subst (λ (q : Port). IsKeptNotice (Some message) q.desk.notice) (sym (is_told p e)) says)
+      keeps_it o e t b = grind arith
 
     pub tells : (w : Work) → (eqb k x ≡ true → Takes (port_at w.ports x) message) → is_notice message ≡ true → IsAbout about message
         → IsRightAbout about → IsOn w → IsOn (notified k about message w)
@@ -359,17 +315,7 @@ module _ (x : ℕ) (before : List Entry) where
 
   beside : (w v : Work) → v.cut ≡ w.cut → v.core.node ≡ w.core.node → AreTables v.core.tables → JoinTwo v.core.tables.rows → v.ports ≡ w.ports
       → v.entries ≡ w.entries → IsOn w → IsOn v
-  beside w v cut node sorted two ports entries a = record {
-    on = cut ∙ a.on;
-    node = node ∙ a.node;
-    sorted = sorted;
-    two = two;
-    hosts = subst AreHostEnds (sym ports) a.hosts;
-    right = subst AreRight (sym ports) a.right;
-    up = subst (λ ps. UpAt (port_at ps x)) (sym ports) a.up;
-    kept = subst (λ es. IsKeptNotice (notice_in (before ++ es) x) (noticed v.ports x)) (sym entries)
-        (subst (λ ps. IsKeptNotice (read_in w) (noticed ps x)) (sym ports) a.kept);
-  }
+  beside w v cut node sorted two ports entries a = grind arith
 
   pub commit_ports : (c : Command) (w : Work) → (commit c w).ports ≡ w.ports
   commit_ports c w = by_test (fails_within (length (commit_writes w.core.journal w.core.tables (body_of c))) w.plan) (λ e. rw e refl) (λ e. rw e refl)
@@ -459,14 +405,7 @@ pub record HasRoom (ports : List Port) (k : ℕ) (message : List ℕ) : Type 0 w
 
 -- it takes one that isn't too long
 takes_it : (ports : List Port) (x : ℕ) (message : List ℕ) → IsShort message → HasRoom ports x message → Takes (port_at ports x) message
-takes_it ports x message short has = go (port_at ports x) has.room has.up where
-  go : (o : Option Port) → nat_lt (option_map_or (λ (p : Port). spare p.side) o 0) (need message) ≡ false
-      → option_map_or (λ (p : Port). is_up p.side.shdlc.phase) o false ≡ true → Takes o message
-  go None room up = tt
-  go (Some p) room up =
-      let not_long : nat_lt 4096 (length message) ≡ false = le-ltb 4096 (length message) short in
-      let is : p.side.shdlc.phase ≡ Up = up_is p.side.shdlc.phase up in
-      rw (is, not_long, room) refl
+takes_it ports x message short has = grind arith
 
 module _ (x : ℕ) where
   -- where no deed lacks room, each notice to x finds it
@@ -480,13 +419,7 @@ module _ (x : ℕ) where
         ready k (λ n. (eqb to x ≡ false) × F n) (λ n. (eqb to x ≡ false) × G n) ports (λ n f has. (f.0, gives n f.1 has)) deeds may.1 reach.1 parts.1,
       )
   ready k F G ports gives (SaysOk ∷ deeds) may reach none = ready k F G ports gives deeds may reach.1 none
-  ready k F G ports gives (Asks to message c ∷ deeds) may reach none =
-      let first = lack_parts ports c.asker 1 ((to, need message) ∷ needs k deeds) none in
-      let parts = lack_parts ports to (need message) (needs k deeds) first.1 in (
-        (λ e. gives message (may.0 e) (subst (λ n. HasRoom ports n message) (eqb-true to x e) (record { room = parts.0; up = reach.0 }))),
-        may.1,
-        ready k (λ n. ⊥) (λ n. ⊥) ports (λ n f has. f) deeds may.2 reach.1 parts.1,
-      )
+  ready k F G ports gives (Asks to message c ∷ deeds) may reach none = grind arith
   ready k F G ports gives (Releases asker ∷ deeds) may reach none = ready k (λ n. ⊥) (λ n. ⊥) ports (λ n f has. f) deeds may reach.1 none
   ready k F G ports gives (Tells to message ∷ deeds) may reach none =
       let parts = lack_parts ports to (need message) (needs k deeds) none in (
@@ -498,11 +431,6 @@ module _ (x : ℕ) where
   ready k F G ports gives (SetsErrors errors ∷ deeds) may reach none = ready k F G ports gives deeds may reach.1 none
   ready k F G ports gives (_ ∷ deeds) may reach none = absurd may
 
-changed_takes : (b : Bool) (g : Port → Port) (p : Port) (m : List ℕ) → ((q : Port) → give_refusal (g q).side (1, m) ≡ give_refusal q.side (1, m))
-    → give_refusal (changed_if b g p).side (1, m) ≡ give_refusal p.side (1, m)
-changed_takes true g p m same = same p
-changed_takes false g p m same = refl
-
 -- an end takes what it took before it was changed so
 takes_with : (k x : ℕ) (g : Port → Port) (ports : List Port) (m : List ℕ) → ((q : Port) → (g q).desk.host ≡ q.desk.host)
     → ((q : Port) → give_refusal (g q).side (1, m) ≡ give_refusal q.side (1, m)) → Takes (port_at ports x) m → Takes (port_at (with_port k g ports) x) m
@@ -511,17 +439,13 @@ takes_with k x g ports m host same takes =
     (go (port_at ports x) takes)
   where
     go : (o : Option Port) → Takes o m → Takes (option_map (λ (p : Port). changed_if (eqb p.desk.host k) g p) o) m
-    go None t = tt
-    go (Some p) t = changed_takes (eqb p.desk.host k) g p m same ∙ t
+    go o t = grind arith
 
 pub kept_none : (r : Option (List ℕ)) (n : Option Notice) → n ≡ None → IsKeptNotice r n → r ≡ None
-kept_none None n e k = refl
-kept_none (Some m) None e k = absurd k
-kept_none (Some m) (Some n) e k = absurd (cc e)
+kept_none r n e k = grind arith
 
 three : (a b c : Bool) (y z : Option (List ℕ)) → cond (a && b && c) y z ≡ cond (a && (b && c)) y z
-three true b c y z = refl
-three false b c y z = refl
+three a b c y z = grind arith
 
 module _ (x : ℕ) (before : List Entry) (k : ℕ) where
   abbrev On : Work → Type 0
@@ -540,9 +464,7 @@ module _ (x : ℕ) (before : List Entry) (k : ℕ) where
 
   turn_read : (w : Work) (m : Message) → w.core.node ≡ 0 → (r : Option (List ℕ))
       → reads x (entry.Turn (end_of_node w.core k) m.0 m.1 ∷ []) r ≡ cond (eqb k x && answers x k m) None r
-  turn_read w m node r =
-      ap (λ s. cond (same_end (Rattle.history.specs.Steps.end_of k s) (end_c x) && eqb m.0 1 && is_response m.1) None r) (controller_side w.core node)
-      ∙ ap (λ b. cond (b && eqb m.0 1 && is_response m.1) None r) (same_near k x) ∙ three (eqb k x) (eqb m.0 1) (is_response m.1) None r
+  turn_read w m node r = grind arith
 
   fetched_holds : (K : Option (List ℕ) → Option Notice → Type 0) (m : Message) (w : Work)
       → ((r : Option (List ℕ)) (n : Option Notice) → IsKeptNotice r n → K (cond (eqb k x && answers x k m) None r) n) → On w
@@ -585,8 +507,7 @@ module _ (x : ℕ) (before : List Entry) (k : ℕ) where
     right p b = by_test (eqb p.desk.host k) (λ q. rw q tt) (λ q. rw q b)
 
     ups : (o : Option Port) → UpAt o → UpAt (option_map f o)
-    ups None u = tt
-    ups (Some p) u = by_test (eqb p.desk.host k) (λ q. rw q (λ n. absurd (true≢false (sym n)))) (λ q. rw q u)
+    ups o u = grind arith
 
     go : (eqb k x ≡ true) ⊎ (eqb k x ≡ false) → (o : Option Port) → port_at w.ports x ≡ o
         → pending m (read_in x before w) (option_and_then (λ (p : Port). p.desk.notice) o)
@@ -621,24 +542,13 @@ module _ (x : ℕ) (before : List Entry) (k : ℕ) where
           (λ e. let nothing : noticed w.ports x ≡ None = leaves e in
           let gone : read_in x before w ≡ None = kept_none (read_in x before w) (noticed w.ports x) nothing a.kept in
           let K : Option (List ℕ) → Option Notice → Type 0 = λ r n. (r ≡ None) × (n ≡ None) in
-          let none_kept : (r : Option (List ℕ)) (n : Option Notice) → (r ≡ None) × (n ≡ None) → IsKeptNotice r n =
-          λ r n b. subst (λ z. IsKeptNotice z n) (sym b.0) (subst (λ z. IsKeptNotice None z) (sym b.1) tt) in
+          let none_kept : (r : Option (List ℕ)) (n : Option Notice) → (r ≡ None) × (n ≡ None) → IsKeptNotice r n = grind arith in
           let noted : Work = noting (entry.Turn (end_of_node w.core k) m.0 m.1 ∷ []) w in
           desks x before IsKeptNotice k (λ d. record d { holds = false }) (turn_at k FetchMessage noted) (λ d. refl) (λ d. refl)
           (turns x before IsKeptNotice k FetchMessage noted (λ p r. refl)
           (notes x before K IsKeptNotice (entry.Turn (end_of_node w.core k) m.0 m.1 ∷ []) w
-          (λ r n b. none_kept (reads x (entry.Turn (end_of_node w.core k) m.0 m.1 ∷ []) r) n
-          (turn_read w m a.node r ∙ (ap (λ c. cond c None r) e), b.1))
-          (record {
-            on = a.on;
-            node = a.node;
-            sorted = a.sorted;
-            two = a.two;
-            hosts = a.hosts;
-            right = a.right;
-            up = a.up;
-            kept = (gone, nothing);
-          }))))
+          (λ r n b. grind arith)
+          ((grind arith)))))
           (λ e. fetched_holds IsKeptNotice m w (λ r n kept. subst (λ c. IsKeptNotice (cond c None r) n) (sym e) kept) a)
 
       still : On (fetched m w)
@@ -653,10 +563,7 @@ module _ (x : ℕ) (before : List Entry) (k : ℕ) where
       (ready x k IsShort (λ n. Takes (port_at w.ports x) n) w.ports (λ n short has. takes_it w.ports x n short has) deeds may reach room) b)
     where
       one : (r : Option (List ℕ)) (n : Option Notice) → IsKeptNotice r n → pending m (cond (eqb k x && answers x k m) None r) n
-      one r n b = by (eqb k x && answers x k m) refl where
-        by : (c : Bool) → (eqb k x && answers x k m) ≡ c → pending m (cond c None r) n
-        by true e = ((λ q. refl), (λ q. absurd (true≢false (sym e ∙ q))))
-        by false e = ((λ q. absurd (true≢false (sym q ∙ e))), (λ q. b))
+      one r n b = grind arith
 
   reached : (ports : List Port) (deeds rest : List Deed) → deeds ≡ IsAnswered ∷ rest → AllReach ports deeds → AllReach ports rest
   reached ports deeds rest e reach = let P : List Deed → Type 0 = λ d. AllReach ports d in let a : AllReach ports (IsAnswered ∷ rest) = subst P e reach in a.1

@@ -1,29 +1,22 @@
 -- What is noted of a link says at which of its ends activation is done.
-use Rattle.node_laws.proofs.Words.{Acked, Act, ActEvent, ActOut, ActStart, ActStop, ActTake, ActTick, Activate, Active, AllAllowed, AllByRecursion, AreOwn}
-use Rattle.node_laws.proofs.Words.{AsksReset, AtController, AtHost, Awaiting, Bare, Bool, Clf, Clt, Control, Controller, Cut, CutOff, Down, EndEvent, Ending}
-use Rattle.node_laws.proofs.Words.{GaveUp, GoesOut, Got, HasTick, Host, I, Inactive, IsActive, IsEvent, IsLine, IsOwn, Link, LinkEnd, LinkEvent, LinkInput}
-use Rattle.node_laws.proofs.Words.{List, Lose, NextFrame, NoInput, Node, None, Noted, NumberedEnd, OnWire, Option, Phase, PowerMode, Ready, Report, Reset}
-use Rattle.node_laws.proofs.Words.{Restarted, Role, Rset, S, Some, Sounds, Start, Starts, Step, Stop, Stops, SyncId, Take, TicksWithout, Turn, Ua, Uicc}
-use Rattle.node_laws.proofs.Words.{UiccAct, [], act_answer, act_event, act_out, activated, activated_role, after_input, after_link_events, aged, aged_entries}
-use Rattle.node_laws.proofs.Words.{all_at_controller, ap, before_here, before_there, by_test, ended_by, entries, entries_of_events, event_entries, exchanged}
-use Rattle.node_laws.proofs.Words.{false, far, finished, first_lost, fold, fold-append, frames_out, happens, happens_at_controller, has_taken, heard}
-use Rattle.node_laws.proofs.Words.{here_entries, if_so, if◌then◌else◌, input_entries, is_open, is_some, left_after, map, moved, nat_le, nat_lt, new_line}
-use Rattle.node_laws.proofs.Words.{no_act_out, number_of, option_to_list, puts_entries, refl, renewed, report, reset_role, rest_entries, restart_entries}
-use Rattle.node_laws.proofs.Words.{role_after, silent, step_entries, stopped, subst, sym, taken_entries, tick_answer, tick_entries, ticked, ticks_at_controller}
-use Rattle.node_laws.proofs.Words.{ticks_host, told, told_of, took_with, true, true≢false, turn_entries, turned, turned_role, uicc_step, whole_acked}
-use Rattle.node_laws.proofs.Words.{with_ended, ℕ, ◌++◌, ◌+◌, ◌∙◌, ◌∷◌, ◌≡◌}
-use Rattle.swp_base.specs.declared.control_frames.Act.{Act as Activation}
-use Rattle.swp_act.specs.Activation.{is_active, sends}
+use Rattle.node_laws.proofs.Words.{Acked, ActEvent, Activate, Active, AllAllowed, AllByRecursion, AreOwn, AsksReset, AtController, AtHost, Bool, Controller}
+use Rattle.node_laws.proofs.Words.{Cut, CutOff, Down, EndEvent, Ending, GaveUp, GoesOut, Got, HasTick, Host, IsEvent, IsLine, IsOwn, Link, LinkEnd, LinkEvent}
+use Rattle.node_laws.proofs.Words.{LinkInput, List, Lose, NextFrame, NoInput, Node, Noted, NumberedEnd, OnWire, Option, Report, Reset, Restarted, Role, Sounds}
+use Rattle.node_laws.proofs.Words.{Start, Starts, Step, Stop, Stops, Take, TicksWithout, Turn, [], after_input, after_link_events, aged, aged_entries}
+use Rattle.node_laws.proofs.Words.{all_at_controller, ap, arith, before_here, before_there, ended_by, entries, entries_of_events, event_entries, exchanged}
+use Rattle.node_laws.proofs.Words.{false, far, finished, fold, fold-append, frames_out, happens, happens_at_controller, has_taken, here_entries, if_so}
+use Rattle.node_laws.proofs.Words.{if◌then◌else◌, input_entries, is_open, is_some, left_after, map, nat_lt, new_line, number_of, option_to_list, puts_entries}
+use Rattle.node_laws.proofs.Words.{refl, renewed, report, reset_role, rest_entries, restart_entries, role_after, silent, step_entries, subst, sym}
+use Rattle.node_laws.proofs.Words.{taken_entries, tick_entries, ticks_at_controller, ticks_host, told, told_of, took_with, true, turn_entries, turned}
+use Rattle.node_laws.proofs.Words.{turned_role, whole_acked, with_ended, ℕ, ◌++◌, ◌∙◌, ◌∷◌, ◌≡◌}
 use Rattle.link_laws.specs.messages.Links.LinkEvent.{Ticks}
-use Rattle.link_laws.proofs.messages.ActsInOrder.{ActsInOrder, LinkInOrder, ended_means}
-use Rattle.link_laws.proofs.messages.Finishing.{tick_open}
+use Rattle.link_laws.proofs.messages.ActsInOrder.{ActsInOrder, LinkInOrder}
 use Rattle.link_laws.specs.entries.Entries.{End}
 use Rattle.link_laws.specs.entries.Entries.Entry.{Up, Tick}
 use Rattle.link_laws.specs.entries.Filters.{same_link_end}
 use Rattle.link_laws.proofs.entries.Books.{same_self, same_far}
-use Rattle.link_laws.proofs.entries.Settling.{heard_role}
 use Rattle.link_laws.proofs.entries.Running.{IsUnderWay, goes_on, start_under_way}
-use Rattle.node_laws.proofs.order.TickResets.{Holds, are-append, are_aged, are_last, are_lost, are_mapped, are_puts, are_so, are_turns}
+use Rattle.node_laws.proofs.order.TickResets.{Holds, are-append, are_aged, are_last, are_mapped, are_puts, are_so, are_turns}
 use Rattle.node_laws.proofs.links.Sites.{here_host, here_is, role_input, tick_is}
 
 -- ## What is read
@@ -64,15 +57,7 @@ dull_passes who (Cut w ∷ t) a b = absurd a.0
 dull_passes who (_ ∷ t) a b = dull_passes who t a.1 b
 
 dull_holds : (who : End) → Holds IsDull who
-dull_holds who = record {
-  up = λ n. tt;
-  gave_up = λ tries. tt;
-  acked = λ n count. tt;
-  got = λ n m. tt;
-  sent = λ n m. tt;
-  emit = λ c. tt;
-  lost = λ w c why. tt;
-}
+dull_holds who = grind arith
 
 -- ## What is told of an input
 
@@ -81,12 +66,10 @@ abbrev if_became : Bool → Bool → Bool
 if_became became b = if became then true else b
 
 became_so : (who : End) (c b : Bool) → all_acting who b (if_so c (Active who)) ≡ if_became c b
-became_so who false b = refl
-became_so who true b = let q = same_self who in rw q refl
+became_so who c b = grind arith
 
 became_far : (who : End) (c b : Bool) → all_acting (far who) b (if_so c (Active who)) ≡ b
-became_far who false b = refl
-became_far who true b = let q = same_far who in rw q refl
+became_far who c b = grind arith
 
 told_parts : (w who : End) (n : ℕ) (r : Report) (acked : ℕ) (b : Bool)
     → all_acting w b (told who n r acked) ≡ all_acting w b (if_so r.became_active (Active who))
@@ -108,14 +91,10 @@ abbrev pub IsLined : Role → Type 0
 IsLined r = is_open (renewed r) ≡ false
 
 pub lined_acts : (r : Role) (event : ActEvent) → IsLined r → IsLined (role_after r event)
-lined_acts Bare event a = a
-lined_acts (Clf s) event a = refl
-lined_acts (Uicc s) event a = refl
+lined_acts r event a = grind arith
 
 lined_renewed : (r : Role) → IsLined r → IsLined (renewed r)
-lined_renewed Bare a = a
-lined_renewed (Clf s) a = refl
-lined_renewed (Uicc s) a = refl
+lined_renewed r a = grind arith
 
 abbrev HasLine : LinkEnd → Type 0
 HasLine e = IsLined e.role
@@ -136,137 +115,21 @@ lined_tick l ts ending a = tick_is HasLine lined_input lined_turns (λ e b. b) (
 abbrev BecomesSo : LinkEnd → LinkInput → Bool → Type 0
 BecomesSo e i b = if_became (report e i).became_active b ≡ is_open (after_input e i).role
 
-tick_shut : (r : Role) → is_open r ≡ false → ((act_answer r ActTick).became_active ≡ false) × (is_open (role_after r ActTick) ≡ false)
-tick_shut Bare q = absurd (true≢false q)
-tick_shut (Clf s) q = go s.phase refl
-  where
-    go : (p : Phase) → s.phase ≡ p → ((act_answer (Clf s) ActTick).became_active ≡ false) × (is_open (role_after (Clf s) ActTick) ≡ false)
-    go Inactive p = (rw p refl, rw p refl)
-    go IsActive p = absurd (true≢false (let z = q in rw p at z))
-    go (Awaiting tries ticks) p = by_test (nat_le 10 (ticks + 1))
-        (λ x. by_test (nat_le 3 tries) (λ y. (rw (p, x, y) refl, rw (p, x, y) refl)) (λ y. (rw (p, x, y) refl, rw (p, x, y) refl)))
-        (λ x. (rw (p, x) refl, rw (p, x) refl))
-tick_shut (Uicc s) q = go s.phase refl
-  where
-    go : (p : Phase) → s.phase ≡ p → ((act_answer (Uicc s) ActTick).became_active ≡ false) × (is_open (role_after (Uicc s) ActTick) ≡ false)
-    go Inactive p = (rw p refl, rw p refl)
-    go IsActive p = absurd (true≢false (let z = q in rw p at z))
-    go (Awaiting tries ticks) p = by_test (nat_le 10 (ticks + 1))
-        (λ x. by_test (nat_le 3 tries) (λ y. (rw (p, x, y) refl, rw (p, x, y) refl)) (λ y. (rw (p, x, y) refl, rw (p, x, y) refl)))
-        (λ x. (rw (p, x) refl, rw (p, x) refl))
-
 ticks_so : (e : LinkEnd) → BecomesSo e HasTick (is_open e.role)
-ticks_so e = go (is_open e.role) refl
-  where
-    go : (o : Bool) → is_open e.role ≡ o → BecomesSo e HasTick (is_open e.role)
-    go true o =
-        let none : (report e HasTick).became_active ≡ false = rw o refl in
-        let role : (after_input e HasTick).role ≡ e.role =
-        ap (λ (f : LinkEnd). f.role) (tick_open e o).0 ∙ moved_same e (is_some (tick_answer e.shdlc).ended) in
-        ap (λ c. if_became c (is_open e.role)) none ∙ sym (ap is_open role)
-      where
-        moved_same : (e : LinkEnd) (b : Bool) → (moved e b (ticked e.shdlc)).role ≡ e.role
-        moved_same e true = refl
-        moved_same e false = refl
-    go false o =
-        let shut = tick_shut e.role o in
-        let event : act_event e HasTick ≡ Some ActTick = rw o refl in
-        let none : (report e HasTick).became_active ≡ false = ap (λ x. (act_out e.role x).became_active) event ∙ shut.0 in
-        let is : after_input e HasTick ≡ activated e ActTick = rw o refl in
-        let role : (after_input e HasTick).role ≡ role_after e.role ActTick = ap (λ (f : LinkEnd). f.role) is ∙ activated_role e ActTick in
-        ap (λ c. if_became c (is_open e.role)) none ∙ (o ∙ sym (ap is_open role ∙ shut.1))
+ticks_so e = grind arith
 
 resets_so : (e : LinkEnd) (window : Option ℕ) → BecomesSo e (Reset window) (is_open e.role)
 resets_so e window = sym (ap is_open (reset_role e window))
 
 -- activation that begins or ends leaves the end inactive
 starts_so : (e : LinkEnd) (value : ℕ) → HasLine e → BecomesSo e (Start value) false
-starts_so e value a = go e.role refl a
-  where
-    role : (after_input e (Start value)).role ≡ role_after e.role (ActStart value)
-    role = activated_role (moved e true (stopped e.shdlc)) (ActStart value)
-
-    go : (r : Role) → e.role ≡ r → IsLined r → BecomesSo e (Start value) false
-    go Bare q z = absurd (true≢false z)
-    go (Clf s) q z =
-        ap (λ x. if_became (act_answer x (ActStart value)).became_active false) q ∙ sym (ap is_open role ∙ ap (λ x. is_open (role_after x (ActStart value))) q)
-    go (Uicc s) q z =
-        ap (λ x. if_became (act_answer x (ActStart value)).became_active false) q ∙ sym (ap is_open role ∙ ap (λ x. is_open (role_after x (ActStart value))) q)
+starts_so e value a = grind arith
 
 stops_so : (e : LinkEnd) → HasLine e → BecomesSo e Stop false
-stops_so e a = go e.role refl a
-  where
-    role : (after_input e Stop).role ≡ role_after e.role ActStop
-    role = activated_role (moved e true (stopped e.shdlc)) ActStop
-
-    go : (r : Role) → e.role ≡ r → IsLined r → BecomesSo e Stop false
-    go Bare q z = absurd (true≢false z)
-    go (Clf s) q z = ap (λ x. if_became (act_answer x ActStop).became_active false) q ∙ sym (ap is_open role ∙ ap (λ x. is_open (role_after x ActStop)) q)
-    go (Uicc s) q z = ap (λ x. if_became (act_answer x ActStop).became_active false) q ∙ sym (ap is_open role ∙ ap (λ x. is_open (role_after x ActStop)) q)
-
--- a frame of activation
-act_so : (r f : Role) (x : OnWire) (w v : List OnWire) (act : Activation) (again : Bool) → x.frame ≡ Act act again → ActsInOrder r f (x ∷ w) v
-    → if_became (act_answer r (ActTake act again)).became_active (is_open r) ≡ is_open (role_after r (ActTake act again))
-act_so Bare f x w v act again q h = refl
-act_so (Clf s) f x w v act true q h = refl
-act_so (Clf s) f x w v (PowerMode code) false q h = refl
-act_so (Clf s) f x w v (SyncId id) false q h = go s.phase refl
-  where
-    ended : s.phase ≡ IsActive → (act_answer (Clf s) (ActTake (SyncId id) false)).ended_link ≡ true
-    ended p = rw p refl
-
-    go : (p : Phase) → s.phase ≡ p
-        → if_became (act_answer (Clf s) (ActTake (SyncId id) false)).became_active (is_open (Clf s)) ≡ is_open (role_after (Clf s) (ActTake (SyncId id) false))
-    go Inactive p = rw p refl
-    go (Awaiting tries ticks) p = rw p refl
-    go IsActive p = absurd (true≢false (let z = ended_means (Clf s) f x w v (SyncId id) false q h (ended p) in sym (ap is_active p) ∙ z))
-act_so (Clf s) f x w v Ready false q h = go s.phase refl
-  where
-    go : (p : Phase) → s.phase ≡ p
-        → if_became (act_answer (Clf s) (ActTake Ready false)).became_active (is_open (Clf s)) ≡ is_open (role_after (Clf s) (ActTake Ready false))
-    go Inactive p = rw p refl
-    go _ p = rw p refl
-act_so (Uicc s) f x w v act true q h = refl
-act_so (Uicc s) f x w v Ready false q h = refl
-act_so (Uicc s) f x w v (SyncId id) false q h = refl
-act_so (Uicc s) f x w v (PowerMode code) false q h = go s.phase (nat_le code 1) refl refl
-  where
-    step : UiccAct × ActOut
-    step = uicc_step s (ActTake (PowerMode code) false)
-
-    P : UiccAct × ActOut → Type 0
-    P z = if_became z.1.became_active (is_active s.phase) ≡ is_active z.0.phase
-
-    go : (p : Phase) (b : Bool) → s.phase ≡ p → nat_le code 1 ≡ b → P step
-    go p false a c = let is : step ≡ (s, no_act_out) = rw c refl in subst P (sym is) refl
-    go Inactive true a c = let is : step ≡ (s, no_act_out) = rw (c, a) refl in subst P (sym is) refl
-    go (Awaiting tries ticks) true a c =
-        let is : step ≡ (
-          record { phase = IsActive; last = Some Ready },
-          record { send = Some Ready; became_active = true; ended_link = false; sync = None; gave_up = None },
-        ) = rw (c, a) refl in subst P (sym is) refl
-    go IsActive true a c =
-        let is : step ≡ (record { phase = IsActive; last = Some Ready }, sends (Some Ready)) = rw (c, a) refl in subst P (sym is) (ap is_active a)
+stops_so e a = grind arith
 
 takes_so : (e : LinkEnd) (f : Role) (x : OnWire) (w v : List OnWire) → ActsInOrder e.role f (x ∷ w) v → BecomesSo e (Take x.frame) (is_open e.role)
-takes_so e f x w v h = go x.frame refl
-  where
-    Q : Control → Type 0
-    Q c = BecomesSo e (Take c) (is_open e.role)
-
-    -- a frame of SHDLC
-    open_or_not : (b : Bool) (c : Control) → is_open e.role ≡ is_open (if b then heard e c else e).role
-    open_or_not true c = sym (ap is_open (heard_role e c))
-    open_or_not false c = refl
-
-    go : (c : Control) → x.frame ≡ c → Q x.frame
-    go (Act act again) q =
-        subst Q (sym q) (act_so e.role f x w v act again q h ∙ sym (ap is_open (activated_role e (ActTake act again))))
-    go Clt q = subst Q (sym q) refl
-    go (I ns nr info) q = subst Q (sym q) (open_or_not (is_open e.role) (I ns nr info))
-    go (S kind nr) q = subst Q (sym q) (open_or_not (is_open e.role) (S kind nr))
-    go (Rset window caps) q = subst Q (sym q) (open_or_not (is_open e.role) (Rset window caps))
-    go Ua q = subst Q (sym q) (open_or_not (is_open e.role) Ua)
+takes_so e f x w v h = grind arith
 
 -- ## A step of an end
 
@@ -382,10 +245,7 @@ frame_acted who l ts ending order a = go l.to_controller refl
     P k = Acted who l k u
 
     go : (w : List OnWire) → l.to_controller ≡ w → Acted who l m u
-    go [] q =
-        let none : u ≡ [] = rw q refl in
-        let same : m ≡ l = rw q refl in
-        subst P (sym same) (subst (λ (z : List Noted). Acted who l l z) (sym none) (record { here = refl; there = λ b. refl }))
+    go [] q = grind arith
     go (x ∷ xs) q =
         let some : u ≡ taken_entries who l x xs ts ending = rw q refl in
         let next : m ≡ has_taken l x xs ts ending = rw q refl in
@@ -401,10 +261,7 @@ frame_acted who l ts ending order a = go l.to_controller refl
 
 pub here_acted : (who : End) (l : Link) (e : EndEvent) → LinkInOrder l → HasLine l.controller.side
     → Acted who l (happens_at_controller l e) (here_entries who l e)
-here_acted who l (Lose why) order a = record {
-  here = dull_passes who (first_lost who why l.to_controller) (are_lost IsDull who (dull_holds who) who why l.to_controller) (acts l.controller);
-  there = dull_passes (far who) (first_lost who why l.to_controller) (are_lost IsDull who (dull_holds who) who why l.to_controller);
-}
+here_acted who l (Lose why) order a = grind arith
 here_acted who l (Step NextFrame ts ending) order a = frame_acted who l ts ending order a
 here_acted who l (Step (AsksReset window) ts ending) order a = own_acted who l (Step (AsksReset window) ts ending) tt a
 here_acted who l (Step (Starts v) ts ending) order a = own_acted who l (Step (Starts v) ts ending) tt a

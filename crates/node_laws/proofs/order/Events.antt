@@ -1,17 +1,15 @@
 -- What is known of each link by what was noted so far lasts: each event of a world but a tick leaves each link told.
-use Rattle.node_laws.proofs.Words.{AllByRecursion, AsksReset, AtController, AtEnd, AtHost, Bare, Bool, Broken, Clf, Comes, Controller, CutOff, Deed, Desk, End}
-use Rattle.node_laws.proofs.Words.{EndEvent, Entry, HasEnds, Host, IfItRuns, IfOff, IsClf, IsLinkTold, IsOrderly, IsUicc, Link, LinkEnd, LinkEvent, LinkInput}
-use Rattle.node_laws.proofs.Words.{List, Lose, Loss, Memory, NextFrame, NoInput, NodeWorld, None, NumberedEnd, OnWire, Option, Reset, Role, Running, Site, Some}
-use Rattle.node_laws.proofs.Words.{Standing, StandsOf, Start, Starts, Step, Stop, Stops, Take, TellOf, Turn, Uicc, Work, [], after_controller, after_host}
-use Rattle.node_laws.proofs.Words.{after_input, after_link_events, after_planned, ap, append-nil, arrival, begins_with, boot_found, boot_writes, boot_written}
-use Rattle.node_laws.proofs.Words.{boots, by_boot, by_coming, by_controller, by_counts, by_list, by_memory, by_option, by_power, by_running, by_test}
-use Rattle.node_laws.proofs.Words.{changed_if, changed_same, comes_at, comes_to, cond, controller_does, controller_work, count_of, counts, ending_of, entries}
-use Rattle.node_laws.proofs.Words.{entries_for, eqb-true, errors_all, event_entries, exchanged, false, first_lost, fold-append, frame_lost, happens}
-use Rattle.node_laws.proofs.Words.{happens_at_controller, has_taken, host_cut, host_does, host_work, hosts_in, input_of, kept, law_noted, link_after_controller}
+use Rattle.node_laws.proofs.Words.{AllByRecursion, AtController, AtEnd, AtHost, Bool, Clf, Comes, Controller, CutOff, Deed, Desk, End, EndEvent, Entry, HasEnds}
+use Rattle.node_laws.proofs.Words.{Host, IfItRuns, IfOff, IsClf, IsLinkTold, IsOrderly, IsUicc, Link, LinkEnd, LinkEvent, LinkInput, List, Lose, Loss, Memory}
+use Rattle.node_laws.proofs.Words.{NoInput, NodeWorld, None, NumberedEnd, OnWire, Option, Role, Running, Site, Some, Standing, StandsOf, Step, TellOf, Turn}
+use Rattle.node_laws.proofs.Words.{Uicc, Work, [], after_controller, after_host, after_link_events, after_planned, ap, append-nil, arith, arrival, begins_with}
+use Rattle.node_laws.proofs.Words.{boot_found, boot_writes, boot_written, boots, by_boot, by_coming, by_controller, by_counts, by_memory, by_option, by_power}
+use Rattle.node_laws.proofs.Words.{by_running, by_test, changed_if, changed_same, comes_at, comes_to, cond, controller_does, controller_work, count_of, counts}
+use Rattle.node_laws.proofs.Words.{ending_of, entries, entries_for, eqb-true, errors_all, event_entries, exchanged, false, first_lost, fold-append, frame_lost}
+use Rattle.node_laws.proofs.Words.{happens, happens_at_controller, host_cut, host_does, host_work, hosts_in, input_of, kept, law_noted, link_after_controller}
 use Rattle.node_laws.proofs.Words.{link_to, links_of, loses_power_at, map, memory_at, near_end_in, new_clf, new_desk, new_line, new_link_end, new_standing}
-use Rattle.node_laws.proofs.Words.{new_uicc, of_link, refl, renewed, runs_on, same_number, site_at, standing, standing_by_law, stands_noted, steps}
-use Rattle.node_laws.proofs.Words.{steps_at_controller, subst, sym, true, turned, turns_at, with_memory, with_node, with_site, work_of, ℕ, ◌++◌, ◌==◌, ◌∙◌, ◌∷◌}
-use Rattle.node_laws.proofs.Words.{◌≡◌}
+use Rattle.node_laws.proofs.Words.{new_uicc, of_link, refl, renewed, runs_on, same_number, site_at, standing, standing_by_law, stands_noted, steps, subst, sym}
+use Rattle.node_laws.proofs.Words.{true, turns_at, with_memory, with_node, with_site, work_of, ℕ, ◌++◌, ◌==◌, ◌∙◌, ◌∷◌, ◌≡◌}
 use Rattle.link_laws.specs.entries.Entries.{End as Side}
 use Rattle.node_laws.proofs.links.Works.{AreFine, IsFineWork, all_done_fine, steps_fine}
 use Rattle.node_laws.proofs.links.Sites.{MayCome, can_come, can_end, clf_line, here_clf, here_host, here_uicc, run_of_more, uicc_line}
@@ -21,11 +19,11 @@ use Rattle.node_laws.proofs.order.Wires.{AreReady, Shown, ShownBy, clear_unstart
 use Rattle.node_laws.proofs.order.Marking.{AreUnnoticed, HasNoNotices, IfNone, all_done_none, runs_none, steps_none}
 use Rattle.node_laws.proofs.order.Watches.{IsStepOf, WatchedLink, kept_left, opened, watched}
 use Rattle.node_laws.proofs.readings.Noticed.{far_side}
-use Rattle.node_laws.proofs.telling.Accounts.{AreMute, of-append, of_other}
+use Rattle.node_laws.proofs.telling.Accounts.{AreMute, of-append}
 use Rattle.node_laws.proofs.telling.Events.{HostDoes, controller_stands, controller_tells, entries-append, host_does_begin, host_does_step, is_step, link_is}
 use Rattle.node_laws.proofs.telling.Events.{memory_goes, node_is, other_power, own_power, ports_for, site_host, site_is, site_map, swapped}
 use Rattle.node_laws.proofs.telling.Steps.{IsStep, notes-append}
-use Rattle.node_laws.proofs.telling.Shapes.{away_stands, clear_lost, clear_stands, entries_uncut, shaped_step}
+use Rattle.node_laws.proofs.telling.Shapes.{clear_lost, clear_stands, entries_uncut, shaped_step}
 use Rattle.node_laws.proofs.turns.Nodes.{site_none}
 use Rattle.trace_model.specs.declared.entry.Entry.TheVariants as entry
 
@@ -82,14 +80,10 @@ told_same h l t u q a =
 -- ### Ends whose nodes lose power
 
 pub renewed_clf : (r : Role) → IsClf (renewed r) → new_link_end (renewed r) ≡ new_link_end (Clf new_clf)
-renewed_clf (Clf s) a = refl
-renewed_clf (Uicc s) a = absurd a
-renewed_clf Bare a = absurd a
+renewed_clf r a = grind arith
 
 pub renewed_uicc : (r : Role) → IsUicc (renewed r) → new_link_end (renewed r) ≡ new_link_end (Uicc new_uicc)
-renewed_uicc (Uicc s) a = refl
-renewed_uicc (Clf s) a = absurd a
-renewed_uicc Bare a = absurd a
+renewed_uicc r a = grind arith
 
 -- an end is new after a step in which something came, or its node had turns, and its power went
 record IsCutNew (e : LinkEnd) : Type 0 where
@@ -98,15 +92,7 @@ record IsCutNew (e : LinkEnd) : Type 0 where
 
 cut_new : (l : Link) (comes : Comes) (ts : List Turn) (o : Option LinkInput) → input_of l comes ≡ o → IsStep comes o
     → IsCutNew (happens_at_controller l (Step comes ts CutOff)).controller.side
-cut_new l NextFrame ts None q c = absurd c
-cut_new l NextFrame ts (Some i) q c = by_list l.to_controller
-    (λ e. let z : None ≡ Some i = rw e at q in absurd (cc z))
-    (λ x xs e. let is : steps_at_controller l NextFrame ts CutOff ≡ has_taken l x xs ts CutOff = rw e refl in
-    record { role = (turned (after_input l.controller.side (Take x.frame)) ts).role; is = ap (λ (k : Link). k.controller.side) is })
-cut_new l (AsksReset window) ts o q c = record { role = (turned (after_input l.controller.side (Reset window)) ts).role; is = refl }
-cut_new l (Starts value) ts o q c = record { role = (turned (after_input l.controller.side (Start value)) ts).role; is = refl }
-cut_new l Stops ts o q c = record { role = (turned (after_input l.controller.side Stop) ts).role; is = refl }
-cut_new l NoInput ts o q c = record { role = (turned l.controller.side ts).role; is = refl }
+cut_new l comes ts o q c = grind arith
 
 cut_clf : (l : Link) (comes : Comes) (ts : List Turn) (o : Option LinkInput) → input_of l comes ≡ o → IsStep comes o → IsClf l.controller.side.role
     → (happens_at_controller l (Step comes ts CutOff)).controller.side ≡ new_link_end (Clf new_clf)
@@ -307,8 +293,7 @@ module _ (w : NodeWorld) (t : List Entry) (X : ℕ → WatchedLink) (a : IsWell 
         arrives false e = refl
 
         is_so : (b : Bool) → IsStep (cond b comes NoInput) (cond b (Some i) None)
-        is_so true = is_step comes i
-        is_so false = tt
+        is_so b = grind arith
 
         off : (c : Bool) → v.cut ≡ c → IsClf s.link.controller.side.role
             → IfOff (runs_on v) (new_link_end (Clf new_clf))
@@ -322,11 +307,7 @@ module _ (w : NodeWorld) (t : List Entry) (X : ℕ → WatchedLink) (a : IsWell 
             (ap (λ x. (happens s.link (AtController (Step (comes_to k comes s.host) (turns_at v s.host) x))).controller.side) ending
             ∙ cut_clf s.link (comes_to k comes s.host) (turns_at v s.host) (cond (s.host == k) (Some i) None) (arrives (s.host == k) refl)
             (is_so (s.host == k)) clf)
-        off false e clf =
-            let some : runs_on v ≡ Some (record { core = v.core; desks = map (λ p. p.desk) v.ports }) = rw e refl in
-            let G : Option Running → Type 0 = λ o. IfOff o (new_link_end (Clf new_clf))
-            (happens s.link (AtController (Step (comes_to k comes s.host) (turns_at v s.host) (ending_of v)))).controller.side in
-            subst G (sym some) tt
+        off false e clf = grind arith
 
     pub after : Each (t ++ u) Y (after_controller w k comes v).0
     after = each_map w (after_planned v.writes w.memory) (runs_on v) t u X Y (link_after_controller k comes v) (λ s. refl) one each
@@ -429,11 +410,7 @@ module _ (w : NodeWorld) (t : List Entry) (X : ℕ → WatchedLink) (a : IsWell 
             subst G (sym none)
             (ap (λ x. (happens_at_controller (exchanged s.link) (Step comes (turns_at worked s.host) x)).controller.side) ending
             ∙ cut_uicc (exchanged s.link) comes (turns_at worked s.host) o (q s there) so site_fine.link.line.uicc)
-        off false e =
-            let some : runs_on worked ≡ Some (record { core = worked.core; desks = map (λ p. p.desk) worked.ports }) = rw e refl in
-            let G : Option Running → Type 0 = λ o. IfOff o (new_link_end (Uicc new_uicc))
-            (happens_at_controller (exchanged s.link) (Step comes (turns_at worked s.host) (ending_of worked))).controller.side in
-            subst G (sym some) tt
+        off false e = grind arith
 
   pub host_each : Each (t ++ (host_does w k comes f).1) (later X (host_does w k comes f).1) (host_does w k comes f).0
   host_each = by_option (site_at w.sites k)
@@ -459,8 +436,7 @@ module _ (w : NodeWorld) (t : List Entry) (X : ℕ → WatchedLink) (a : IsWell 
 
 -- activation neither begins nor ends
 plain_at : (comes : Comes) → ((x : WatchedLink) → opened comes x ≡ x) → (b : Bool) (x : WatchedLink) → opened (cond b comes NoInput) x ≡ x
-plain_at comes plain true x = plain x
-plain_at comes plain false x = refl
+plain_at comes plain b x = grind arith
 
 pub comes_each : (w : NodeWorld) (t : List Entry) (X : ℕ → WatchedLink) (e : End) (comes : Comes) → IsWell w → Each t X w → MayCome comes
     → AllByRecursion (AtHostOnly (CanReach comes) e.link) w.sites → ((x : WatchedLink) → opened comes x ≡ x)
@@ -591,9 +567,7 @@ counts_none : (why : Loss) (h : ℕ) (o : Option Running) → IfNone o → IfNon
 counts_none why h o a = by_counts IfNone why h o a (λ r q. errors_all (λ d. d.notice ≡ None) (λ d n b. b) h r.desks (subst IfNone q a))
 
 counts_off : (why : Loss) (h : ℕ) (o : Option Running) (new e : LinkEnd) → IfOff o new e → IfOff (counts why h o) new e
-counts_off (Broken fault) h None new e a = a
-counts_off (Broken fault) h (Some r) new e a = tt
-counts_off _ h o new e a = a
+counts_off why h o new e a = grind arith
 
 pub lost_each : (w : NodeWorld) (t : List Entry) (X : ℕ → WatchedLink) (e : End) (why : Loss) → Each t X w
     → Each (t ++ (frame_lost w e why).1) (later X (frame_lost w e why).1) (frame_lost w e why).0
@@ -647,6 +621,4 @@ lost_each w t X e why each = by_test e.at_host
     to_controller = entries_for e.link (first_lost Controller why (link_to w.sites e.link).to_controller)
 
     leaves : (who : Side) (wire : List OnWire) (h : ℕ) → (e.link == h) ≡ false → LeaveLink h (entries_for e.link (first_lost who why wire))
-    leaves who wire h z =
-        let none = of_other e.link h (first_lost who why wire) z in
-        record { none = none; stands = away_stands h (entries_for e.link (first_lost who why wire)) (entries_uncut e.link (first_lost who why wire)) none }
+    leaves who wire h z = grind arith

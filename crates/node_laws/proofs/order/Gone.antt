@@ -1,18 +1,17 @@
 -- Once an end was started, stopped or cut off it is Down, and no session with a number in use until then begins there any more.
-use Rattle.node_laws.proofs.Words.{Acked, ActEvent, ActStart, ActStop, Activate, Active, AllByRecursion, AreOwn, AsksReset, AtController, AtHost, Bare, Bool}
-use Rattle.node_laws.proofs.Words.{CanEnd, Cause, Clf, Comes, Control, Controller, CoreEndEvent, CoreLink, Cut, CutOff, Down, Emit, EndEvent, EndState, Ending}
-use Rattle.node_laws.proofs.Words.{GaveUp, Give, GoesOut, Good, Got, HasTick, Host, IsDown, IsEvent, IsNode, IsOwn, IsUicc, Link, LinkEnd, LinkEvent, LinkInput}
-use Rattle.node_laws.proofs.Words.{List, Lose, Loss, Lost, Message, NextFrame, NoInput, Node, None, NumberedEnd, OnWire, Option, Reached, Refused, Report}
-use Rattle.node_laws.proofs.Words.{Reset, Restarted, Role, SafeLink, Seen, Sent, Some, Start, Starts, Step, Stop, Stops, Take, TicksWithout, TooMany, TooOld}
-use Rattle.node_laws.proofs.Words.{Took, Turn, Uicc, [], activated, after_input, aged, aged_entries, all_at_controller, ap, arith, begins, by_list, by_test}
-use Rattle.node_laws.proofs.Words.{clf_starts, core_end, core_event, core_here, core_of, core_tick_rest, ended_by, ending_entries, entries, entries_of_events}
-use Rattle.node_laws.proofs.Words.{eqb-true, event_entries, event_step, exchanged, false, far, finished, first_lost, frames_out, give_refusal, happens}
-use Rattle.node_laws.proofs.Words.{happens_at_controller, here_entries, host_finished, if_so, inl, inr, is_some, kept, left_after, length, list_any, map}
-use Rattle.node_laws.proofs.Words.{most_frames, moved, nat_lt, new_link_end, number_of, option_to_list, pushed_out, put, put_entries, puts_entries}
-use Rattle.node_laws.proofs.Words.{reached_more, refl, renewed, report, reset_role, rest_entries, rests_of, safe_reached, see, see_all, sent_unless, silences}
-use Rattle.node_laws.proofs.Words.{silent, step_entries, steps_at_controller, stopped, subst, sym, taken_entries, tick_entries, ticks_at_controller, told}
-use Rattle.node_laws.proofs.Words.{told_of, took_with, true, true≢false, turn, turn_entries, turn_entry, turned, turned_same, whole_acked, wire_with}
-use Rattle.node_laws.proofs.Words.{with_ended, ℕ, ◌++◌, ◌<◌, ◌==◌, ◌||◌, ◌∙◌, ◌∷◌, ◌≡◌, ◌≤◌, ◌⊎◌}
+use Rattle.node_laws.proofs.Words.{Acked, ActEvent, ActStart, ActStop, Activate, Active, AllByRecursion, AreOwn, AsksReset, AtController, AtHost, Bool, CanEnd}
+use Rattle.node_laws.proofs.Words.{Cause, Comes, Control, Controller, CoreEndEvent, CoreLink, Cut, CutOff, Down, Emit, EndEvent, EndState, Ending, GaveUp}
+use Rattle.node_laws.proofs.Words.{GoesOut, Good, Got, HasTick, Host, IsDown, IsEvent, IsNode, IsOwn, IsUicc, Link, LinkEnd, LinkEvent, LinkInput, List, Lose}
+use Rattle.node_laws.proofs.Words.{Loss, Lost, Message, NextFrame, NoInput, Node, NumberedEnd, OnWire, Option, Reached, Report, Reset, Restarted, SafeLink}
+use Rattle.node_laws.proofs.Words.{Seen, Sent, Start, Starts, Step, Stop, Stops, Take, TicksWithout, Took, Turn, [], activated, after_input, aged, aged_entries}
+use Rattle.node_laws.proofs.Words.{all_at_controller, ap, arith, begins, by_list, by_test, clf_starts, core_end, core_event, core_here, core_of, core_tick_rest}
+use Rattle.node_laws.proofs.Words.{ended_by, ending_entries, entries, entries_of_events, eqb-true, event_entries, event_step, exchanged, false, far, finished}
+use Rattle.node_laws.proofs.Words.{first_lost, frames_out, happens, happens_at_controller, here_entries, host_finished, if_so, inl, inr, is_some, kept}
+use Rattle.node_laws.proofs.Words.{left_after, list_any, map, most_frames, moved, nat_lt, number_of, option_to_list, pushed_out, put, put_entries, puts_entries}
+use Rattle.node_laws.proofs.Words.{reached_more, refl, report, reset_role, rest_entries, rests_of, safe_reached, see, see_all, silences, silent, step_entries}
+use Rattle.node_laws.proofs.Words.{steps_at_controller, stopped, subst, sym, taken_entries, tick_entries, ticks_at_controller, told, told_of, took_with, true}
+use Rattle.node_laws.proofs.Words.{true≢false, turn, turn_entries, turn_entry, turned, turned_same, whole_acked, wire_with, with_ended, ℕ, ◌++◌, ◌<◌, ◌==◌}
+use Rattle.node_laws.proofs.Words.{◌||◌, ◌∙◌, ◌∷◌, ◌≡◌, ◌≤◌, ◌⊎◌}
 use Rattle.link_laws.proofs.entries.Noting.{restart_can, tick_can}
 use Rattle.link_laws.proofs.entries.Running.{host_here}
 use Rattle.link_laws.proofs.entries.Seeing.{all_seen, here_seen, seen_as, step_seen, tick_seen}
@@ -58,25 +57,21 @@ module _ (f : Entry → Bool) where
   hears_parts (e ∷ t) u q = by_test (f e) (λ p. inl (rw p refl)) (λ p. with p (hears_parts t u (let z = q in rw p at z)))
     where
       with : f e ≡ false → Hears t ⊎ Hears u → Hears (e ∷ t) ⊎ Hears u
-      with p (inl x) = inl (rw p x)
-      with p (inr x) = inr x
+      with p a = grind arith
 
   module _ (deaf : IsDeaf f) where
     none_so : (b : Bool) (e : Entry) → f e ≡ false → Hears (if_so b e) → ⊥
-    none_so false e p q = true≢false (sym q)
-    none_so true e p q = true≢false (sym (let z = q in rw p at z))
+    none_so b e p q = grind arith
 
     none_option : {A : Type 0} (g : A → Entry) (o : Option A) → ((x : A) → f (g x) ≡ false) → Hears (map g (option_to_list o)) → ⊥
-    none_option g None p q = true≢false (sym q)
-    none_option g (Some x) p q = true≢false (sym (let r = p x in let z = q in rw r at z))
+    none_option g o p q = grind arith
 
     none_got : (who : End) (n : ℕ) (ms : List Message) → Hears (map (Got who n) ms) → ⊥
     none_got who n [] q = true≢false (sym q)
     none_got who n (m ∷ ms) q = none_got who n ms (let r = deaf.got who n m in let z = q in rw r at z)
 
     none : {A : Type 0} {B : Type 0} → (A → ⊥) → A ⊎ B → B
-    none never (inl x) = absurd (never x)
-    none never (inr x) = x
+    none never a = grind arith
 
     -- an end that comes up
     told_heard : (who : End) (n : ℕ) (r : Report) (acked : ℕ) → Hears (told who n r acked) → (r.began ≡ true) × (f (Up who n) ≡ true)
@@ -90,12 +85,7 @@ module _ (f : Entry → Bool) where
         began (hears_parts b (c ++ (d ++ (e ++ g))) (none (none_option (Down who) r.ended (deaf.down who)) (hears_parts a (b ++ (c ++ (d ++ (e ++ g)))) q)))
       where
         so : (x : Bool) → Hears (if_so x (Up who n)) → (x ≡ true) × (f (Up who n) ≡ true)
-        so false z = absurd (true≢false (sym z))
-        so true z = (refl, up (f (Up who n)) z)
-          where
-            up : (y : Bool) → (y || false) ≡ true → y ≡ true
-            up true w = refl
-            up false w = w
+        so x z = grind arith
 
         began : Hears (if_so r.began (Up who n)) ⊎ Hears (if_so r.became_active (Active who) ++ (map (GaveUp who) (option_to_list r.gave_up)
             ++ (if_so (nat_lt 0 r.acked) (Acked who n acked) ++ map (Got who n) r.got))) → (r.began ≡ true) × (f (Up who n) ≡ true)
@@ -110,13 +100,8 @@ module _ (f : Entry → Bool) where
             absurd (none_got who n r.got
             (none (none_so (nat_lt 0 r.acked) (Acked who n acked) (deaf.acked who n acked)) (hears_parts e g z)))
 
-    none_sent : (o : Option Refused) (who : End) (n : ℕ) (m : Message) → Hears (sent_unless o who n m) → ⊥
-    none_sent None who n m q = true≢false (sym (let r = deaf.sent who n m in let z = q in rw r at z))
-    none_sent (Some why) who n m q = true≢false (sym q)
-
     none_turn : (who : End) (n : ℕ) (e : LinkEnd) (t : Turn) → Hears (turn_entry who n e t) → ⊥
-    none_turn who n e (Give m) q = none_sent (give_refusal e m) who n m q
-    none_turn who n e _ q = true≢false (sym q)
+    none_turn who n e t q = grind arith
 
     none_turns : (who : End) (n : ℕ) (ts : List Turn) (e : LinkEnd) → Hears (turn_entries who n e ts) → ⊥
     none_turns who n [] e q = true≢false (sym q)
@@ -124,13 +109,10 @@ module _ (f : Entry → Bool) where
         none_turns who n ts (turn e t) (none (none_turn who n e t) (hears_parts (turn_entry who n e t) (turn_entries who n (turn e t) ts) q))
 
     none_first : (who : End) (why : Loss) (w : List OnWire) → Hears (first_lost who why w) → ⊥
-    none_first who why [] q = true≢false (sym q)
-    none_first who why (x ∷ xs) q = true≢false (sym (let r = deaf.lost who x.frame why in let z = q in rw r at z))
+    none_first who why w q = grind arith
 
     none_pushed : (who : End) (w : List OnWire) → Hears (pushed_out who w) → ⊥
-    none_pushed who w q = by_test (nat_lt 64 (length w))
-        (λ p. none_first who TooMany w (let z = q in rw p at z))
-        (λ p. true≢false (sym (let z = q in rw p at z)))
+    none_pushed who w q = grind arith
 
     none_puts : (who : End) (cs : List Control) (l : Link) → AllByRecursion (λ c. f (Emit who c) ≡ false) cs → Hears (puts_entries who l cs) → ⊥
     none_puts who [] l a q = true≢false (sym q)
@@ -148,8 +130,7 @@ module _ (f : Entry → Bool) where
         (hears_parts (turn_entries who (number_of l.controller) e ts) (ending_entries who l (turned e ts) ending) q))
       where
         up : (y : Bool) → (y || false) ≡ true → y ≡ true
-        up true w = refl
-        up false w = w
+        up y w = grind arith
 
         go : (ending : Ending) → Hears (ending_entries who l (turned e ts) ending) → (ending ≡ CutOff) × (f (Cut who) ≡ true)
         go GoesOut x = absurd (none_puts who (frames_out (turned e ts)) l (deaf.emit who (turned e ts)) x)
@@ -170,20 +151,12 @@ module _ (f : Entry → Bool) where
     none_aged who [] q = true≢false (sym q)
     none_aged who (x ∷ xs) q = by_test (nat_lt x.age 4)
         (λ p. none_aged who xs (let z = q in rw p at z))
-        (λ p. none_aged who xs (let y : Hears (Lost who x.frame TooOld ∷ aged_entries who xs) = rw p at q in
-        let r = deaf.lost who x.frame TooOld in rw r at y))
+        (λ p. none_aged who xs (grind arith))
 
 -- ### Down behind it
 
--- the new end of a node that lost power
-new_down : (r : Role) → CanEnd r CutOff → (new_link_end (renewed r)).shdlc.phase ≡ IsDown
-new_down Bare can = absurd can
-new_down (Clf s) can = refl
-new_down (Uicc s) can = refl
-
 cut_down : (k : Link) (g : LinkEnd) (ending : Ending) → CanEnd g.role ending → ending ≡ CutOff → (finished k g ending).controller.side.shdlc.phase ≡ IsDown
-cut_down k g GoesOut can q = cc
-cut_down k g CutOff can q = new_down g.role can
+cut_down k g ending can q = grind arith
 
 -- it goes on Down
 still_down : (k : Link) (f : LinkEnd) (ts : List Turn) (ending : Ending) → CanEnd (turned f ts).role ending → f.shdlc.phase ≡ IsDown
@@ -221,8 +194,7 @@ silences_deaf =
     }
 
 cut_of : {A : Type 0} {B : Type 0} {C : Type 0} → (B → ⊥) → ((A × B) ⊎ C) → C
-cut_of never (inl x) = absurd (never x.1)
-cut_of never (inr x) = x
+cut_of never a = grind arith
 
 not_so : false ≡ true → ⊥
 not_so q = true≢false (sym q)
@@ -288,8 +260,7 @@ module _ (f : Entry → Bool) (mute : HearsNone f) where
   input_mute who h i k e ts ending q = go (input_heard f mute.deaf who h i k e ts ending q)
     where
       go : (((report h.side i).began ≡ true) × (f (Up who (number_of h)) ≡ true)) ⊎ ((ending ≡ CutOff) × (f (Cut who) ≡ true)) → ⊥
-      go (inl x) = true≢false (sym x.1 ∙ mute.up who (number_of h))
-      go (inr x) = true≢false (sym x.1 ∙ mute.cut who)
+      go a = grind arith
 
   step_mute : (who : End) (l : Link) (comes : Comes) (ts : List Turn) (ending : Ending) → Hears f (step_entries who l comes ts ending) → ⊥
   step_mute who l NextFrame ts ending q = by_list l.to_controller
@@ -376,22 +347,18 @@ abbrev pub Gone : ℕ → Link → Type 0
 Gone n l = IsGone n Controller l ⊎ IsGone n Host (exchanged l)
 
 but : {A : Type 0} {B : Type 0} → (A → ⊥) → A ⊎ B → B
-but x (inl y) = absurd (x y)
-but x (inr y) = y
+but x a = grind arith
 
 -- ### One end
 
 near_number : (who : End) (l : Link) → number_seen who (seen_as who l) ≡ number_of l.controller
-near_number Controller l = refl
-near_number Host l = refl
+near_number who l = grind arith
 
 near_resets : (who : End) (l : Link) → (seen_as who l).resets ≡ l.resets
-near_resets Controller l = refl
-near_resets Host l = refl
+near_resets who l = grind arith
 
 near_within : (who : End) (l : Link) → l.controller.emitted ≤ l.resets → StaysWithin who (seen_as who l)
-near_within Controller l w = w
-near_within Host l w = w
+near_within who l w = grind arith
 
 step_gone : (n : ℕ) (who : End) (l k : Link) (u : List Entry) → see_all (seen_as who l) u ≡ seen_as who k → l.controller.emitted ≤ l.resets → n ≤ l.resets
     → Hears silences u → k.controller.side.shdlc.phase ≡ IsDown → IsGone n who k
@@ -399,11 +366,7 @@ step_gone n who l k u seen w r q down =
     go (silenced n who u (seen_as who l) (near_within who l w) (let z = near_resets who l in omega (arith, r, z)) q)
   where
     go : Jumps n who (see_all (seen_as who l) u) ⊎ (n ≤ number_seen who (see_all (seen_as who l) u)) → IsGone n who k
-    go (inl j) = inl (subst (λ s. Jumps n who s) seen j)
-    go (inr m) =
-        let z : n ≤ number_seen who (seen_as who k) = subst (λ s. n ≤ number_seen who s) seen m in
-        let y = near_number who k in
-        inr (down_past n k.controller down (omega (arith, z, y)))
+    go a = grind arith
 
 -- more RSETs only
 resets_more : (n : ℕ) (who : End) (l k : Link) (u : List Entry) → see_all (seen_as who l) u ≡ seen_as who k → n ≤ l.resets → n ≤ k.resets
@@ -582,8 +545,7 @@ begins_deaf n =
     }
 
 neither : {A : Type 0} {B : Type 0} → ((false ≡ true) × A) ⊎ (B × (false ≡ true)) → ⊥
-neither (inl x) = true≢false (sym x.0)
-neither (inr x) = true≢false (sym x.1)
+neither a = grind arith
 
 -- none does so by itself
 own_begins : (n : ℕ) (who : End) (l : Link) (e : EndEvent) → IsOwn e → Hears (begins n) (here_entries who l e) → ⊥
@@ -627,8 +589,7 @@ frame_begins n who l ts ending w q = go l.to_controller refl
   where
     took_first : (who : End) (x : OnWire) (xs : List OnWire) → l.to_controller ≡ x ∷ xs
         → number_seen who (see (seen_as who l) (Took who x.frame)) ≡ number_of (record l.controller { took = took_with l.controller.took x })
-    took_first Controller x xs p = rw p refl
-    took_first Host x xs p = rw p refl
+    took_first who x xs p = grind arith
 
     go : (ws : List OnWire) → l.to_controller ≡ ws → n ≤ number_of (steps_at_controller l NextFrame ts ending).controller
     go [] p = absurd (true≢false (sym (rw p at q)))

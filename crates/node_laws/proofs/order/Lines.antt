@@ -1,24 +1,23 @@
 -- Whatever lines are played each link of the world is told, an activation of it, too, and nothing is told of links with strangers.
-use Rattle.node_laws.proofs.Words.{Activates, AllByRecursion, AreHosts, ArePlayable, Arms, AsksReset, AtController, AtEnd, AtHost, Bare, Bool, Boots, Clf}
-use Rattle.node_laws.proofs.Words.{Comes, Controller, CutOff, Deed, Desk, End, Ending, Entry, FollowsNodes, Gives, Happening, HasEnds, Header, Host, IfItRuns}
-use Rattle.node_laws.proofs.Words.{IfOff, Inits, IsCut, IsLine, IsOrderly, IsPlayable, IsUicc, Line, LineStep, Link, LinkInput, List, Loses, Loss, Memory}
-use Rattle.node_laws.proofs.Words.{Message, NextFrame, NoInput, NodeHistory, NodeWorld, None, Noted, NoticesAreUp, NumberedEnd, Occurrence, Option, Orders}
-use Rattle.node_laws.proofs.Words.{Resets, Role, Running, Sends, Site, Some, Standing, Start, Starts, Step, Takes, Ticks, Turn, Uicc, Work, [], activates}
-use Rattle.node_laws.proofs.Words.{after_controller, after_host, after_planned, aged, aged_entries, all_aged, ap, append-nil, append_assoc, arith, arrival}
-use Rattle.node_laws.proofs.Words.{as_event_begins, as_event_ends, beginning, begins_with, boot_found, boot_writes, boot_written, boots, by_boot, by_coming}
-use Rattle.node_laws.proofs.Words.{by_controller, by_controller_tick, by_host, by_loss, by_memory, by_option, by_power, by_running, by_test, changed_if}
-use Rattle.node_laws.proofs.Words.{comes_at, comes_to, cond, controller_does, controller_ticks, controller_work, counts, end_c, end_h, ending_of, entries_for}
-use Rattle.node_laws.proofs.Words.{entries_in, eqb-true, exchanged, fails_within, false, first_lost, first_verdict, flat_map, flat_map-append, fold-append}
-use Rattle.node_laws.proofs.Words.{found, frame_lost, frames_at, frames_noted, from_start, happenings, happens, host_cut, host_does, host_work, hosts_in}
-use Rattle.node_laws.proofs.Words.{hosts_tick, if_off, inactive, input_of, is_some, length, link_after_controller, link_to, loses_power_at, map, memory_at}
-use Rattle.node_laws.proofs.Words.{near_end_in, near_tick, new_line, new_link, new_link_end, new_site, new_standing, new_uicc, new_world, occurrences_in}
-use Rattle.node_laws.proofs.Words.{of_link, port_at, readiness_of, refl, refusal_in, replicate, same_number, sending, site_at, site_lost, site_ticked}
-use Rattle.node_laws.proofs.Words.{site_unticked, standing, standing_behind, steps, steps_from, subst, sym, taken_of, true, true≢false, turns_at, unwrap_or}
-use Rattle.node_laws.proofs.Words.{wires_for, with_memory, with_node, with_site, work_of, world_after, world_behind, world_step, world_ticks, ℕ, ◌++◌, ◌==◌}
-use Rattle.node_laws.proofs.Words.{◌∙◌, ◌∷◌, ◌≡◌}
+use Rattle.node_laws.proofs.Words.{Activates, AllByRecursion, AreHosts, ArePlayable, Arms, AsksReset, AtController, AtEnd, AtHost, Bare, Bool, Boots, Comes}
+use Rattle.node_laws.proofs.Words.{Controller, CutOff, Deed, Desk, End, Ending, Entry, FollowsNodes, Gives, Happening, HasEnds, Header, Host, IfItRuns, IfOff}
+use Rattle.node_laws.proofs.Words.{Inits, IsCut, IsLine, IsOrderly, IsPlayable, IsUicc, Line, LineStep, Link, LinkInput, List, Loses, Loss, Memory, Message}
+use Rattle.node_laws.proofs.Words.{NextFrame, NoInput, NodeHistory, NodeWorld, None, Noted, NoticesAreUp, NumberedEnd, Occurrence, Option, Resets, Role}
+use Rattle.node_laws.proofs.Words.{Running, Site, Some, Standing, Start, Starts, Step, Takes, Ticks, Turn, Uicc, Work, [], activates, after_controller}
+use Rattle.node_laws.proofs.Words.{after_host, after_planned, aged, aged_entries, all_aged, ap, append-nil, append_assoc, arith, arrival, as_event_begins}
+use Rattle.node_laws.proofs.Words.{as_event_ends, beginning, begins_with, boot_found, boot_writes, boot_written, boots, by_boot, by_coming, by_controller}
+use Rattle.node_laws.proofs.Words.{by_controller_tick, by_host, by_loss, by_memory, by_option, by_power, by_running, by_test, changed_if, comes_at, comes_to}
+use Rattle.node_laws.proofs.Words.{cond, controller_does, controller_ticks, controller_work, counts, end_c, end_h, ending_of, entries_for, entries_in, eqb-true}
+use Rattle.node_laws.proofs.Words.{exchanged, fails_within, false, first_lost, flat_map, flat_map-append, fold-append, found, frame_lost, frames_at}
+use Rattle.node_laws.proofs.Words.{frames_noted, from_start, happenings, happens, host_cut, host_does, host_work, hosts_in, hosts_tick, if_off, inactive}
+use Rattle.node_laws.proofs.Words.{input_of, is_some, length, link_after_controller, link_to, loses_power_at, map, memory_at, near_end_in, near_tick, new_line}
+use Rattle.node_laws.proofs.Words.{new_link, new_link_end, new_site, new_standing, new_uicc, new_world, occurrences_in, of_link, port_at, readiness_of, refl}
+use Rattle.node_laws.proofs.Words.{refusal_in, replicate, same_number, sending, site_at, site_lost, site_ticked, site_unticked, standing, standing_behind}
+use Rattle.node_laws.proofs.Words.{steps, steps_from, subst, sym, taken_of, true, true≢false, turns_at, unwrap_or, wires_for, with_memory, with_node, with_site}
+use Rattle.node_laws.proofs.Words.{work_of, world_after, world_behind, world_step, world_ticks, ℕ, ◌++◌, ◌==◌, ◌∙◌, ◌∷◌, ◌≡◌}
 use Rattle.node_laws.proofs.kept.Events.{hosts_same, hosts_with}
 use Rattle.node_laws.proofs.links.Sites.{here_host}
-use Rattle.node_laws.proofs.links.Worlds.{AreLasting, IsFineSite, MayHappen, damaged, plain_reach, repeated, runs_then, sending_fine, starts_fine, starts_then}
+use Rattle.node_laws.proofs.links.Worlds.{AreLasting, IsFineSite, MayHappen, plain_reach, repeated, runs_then, sending_fine, starts_fine, starts_then}
 use Rattle.node_laws.proofs.links.Worlds.{step_fine, world_fine}
 use Rattle.node_laws.proofs.links.Works.{steps_fine}
 use Rattle.node_laws.proofs.order.Activity.{IsLined}
@@ -27,8 +26,7 @@ use Rattle.node_laws.proofs.order.Events.{memory_each, power_each, was_there}
 use Rattle.node_laws.proofs.order.Wires.{AreEmpty, empty_shown, started_empty, started_unready}
 use Rattle.node_laws.proofs.order.Ticking.{ticks_each}
 use Rattle.node_laws.proofs.order.Marking.{AreUnnoticed, steps_none}
-use Rattle.node_laws.proofs.order.Watches.{WatchedLink, ends_whole, opened, rewatched, since_known, untouched, unwatched, watch_begins, watch_begins_stands}
-use Rattle.node_laws.proofs.order.Watches.{watch_ends, watch_ends_since, watch_ends_stands, watched, watched-append}
+use Rattle.node_laws.proofs.order.Watches.{WatchedLink, ends_whole, opened, rewatched, untouched, unwatched, watch_begins, watch_ends, watched, watched-append}
 use Rattle.node_laws.proofs.readings.Noticed.{event_up, lines_up, numbers}
 use Rattle.node_laws.proofs.telling.Accounts.{AreMute, of-append, of_other}
 use Rattle.node_laws.proofs.telling.Steps.{Away, away_steps, frames_of}
@@ -66,8 +64,7 @@ module _ (w : NodeWorld) (t : List Entry) (X : ℕ → WatchedLink) (a : IsWell 
       (started_empty l power (turns_at v was.site.host) (ending_of v) fine.link.line.clf acts))
 
 begun_at : (b : Bool) (power : ℕ) (x : WatchedLink) → opened (cond b (Starts power) NoInput) x ≡ cond b (unwatched x) x
-begun_at true power x = refl
-begun_at false power x = refl
+begun_at b power x = grind arith
 
 -- how each link stands behind an event
 abbrev pub behind : Happening → (ℕ → WatchedLink) → List Entry → ℕ → WatchedLink
@@ -89,9 +86,7 @@ module _ (w : NodeWorld) (h sync : ℕ) (hosts : (s : Site) → site_at w.sites 
   AreAllUnready z = (v : Site) → site_at z.sites h ≡ Some v → AreUnready v.link
 
   uicc_lined : (r : Role) → IsUicc r → IsLined r
-  uicc_lined (Uicc s) c = refl
-  uicc_lined (Clf s) c = absurd c
-  uicc_lined Bare c = absurd c
+  uicc_lined r c = grind arith
 
   off_unready : (s : Site) → site_at w.sites h ≡ Some s → s.node ≡ None → AreUnready s.link
   off_unready s there none =
@@ -306,8 +301,7 @@ module _ (h : ℕ) (w : NodeWorld) (orderly : IsOrderly w) (strange : IsStrange 
       (λ q. of_other k h (arrival Controller (link_to w.sites k) comes) q)
     where
       empty : (c : Comes) → arrival Controller (new_link Bare Bare) c ≡ []
-      empty NextFrame = refl
-      empty _ = refl
+      empty c = grind arith
 
   controller_none : (k : ℕ) (comes : Comes) (i : LinkInput) → of_link h (controller_does w k comes (steps (AtEnd k i))).1 ≡ []
   controller_none k comes i =
@@ -437,11 +431,7 @@ host_number w h s a found =
 -- ### One thing that happens
 
 sending_unnoticed : (h : ℕ) (m : Message) → AreUnnoticed (sending h m)
-sending_unnoticed h m = go _
-  where
-    go : (b : Bool) → AreUnnoticed (cond b (Orders m.1 ∷ []) (Sends h m ∷ []))
-    go true = (tt, tt)
-    go false = (tt, tt)
+sending_unnoticed h m = grind arith
 
 module _ (known : ℕ → Bool) (hosts : List ℕ) where
   step_each : (w : NodeWorld) (os : List Occurrence) (c : Happening) → MayHappen w c → IsSoSince known hosts os w
@@ -484,11 +474,8 @@ module _ (known : ℕ → Bool) (hosts : List ℕ) where
         up = event_up w c a.well.orderly a.up;
         each = subst (λ (z : List Entry). Each z (watches known (os ++ occurs w c ∷ [])) v) more
             (each_known (entries_in os ++ u) (behind c (watches known os) u) (watches known (os ++ occurs w c ∷ [])) v
-            (λ h. stands h
-            ∙ (ap (λ x. as_event_ends h c (standing h x u)) (sym (watch_begins_stands h c (watches known os h)))
-            ∙ sym (watch_ends_stands h c (watched h (watch_begins h c (watches known os h)) u))))
-            (λ h k. watch_ends_since h c (watched h (watch_begins h c (watches known os h)) u)
-            ∙ since_known h c (standing_behind h os) u (known h) k (leaves h k))
+            (λ h. grind arith)
+            (λ h k. grind arith)
             (λ h k. ends_whole h c (watches known os h) u refl) (step_each w os c m a));
         strange = λ h q.
             ap (of_link h) (sym more)
@@ -513,8 +500,7 @@ pub line_may : (w : NodeWorld) (l : Line) → IsPlayable l → refusal_in w l �
 line_may w (line.Send e pid message) p q = (p, tt)
 line_may w (line.Deliver e count) p q =
     lasting_may (happenings w (line.Deliver e count)) w (repeated (taken_of count (frames_at w e)) (Takes e) (λ v. tt))
-line_may w (line.Damage e places) p q =
-    lasting_may (happenings w (line.Damage e places)) w (damaged e (first_verdict (frames_at w e) places.items))
+line_may w (line.Damage e places) p q = grind arith
 line_may w (line.Tick times) p q = lasting_may (happenings w (line.Tick times)) w (repeated (unwrap_or times 1) Ticks (λ v. tt))
 line_may w (line.Reset e window) p q = (p, tt)
 line_may w (line.Busy e) p q = tt
@@ -532,19 +518,7 @@ new_watch = record { stands = new_standing; since = false; whole = true }
 new_each : (content : List ℕ) (hosts : List ℕ) (h : ℕ) (s : Site) → site_at (map (new_site content) hosts) h ≡ Some s → Knows [] new_watch None h s
 new_each content [] h s q = absurd (cc q)
 new_each content (k ∷ hosts) h s q = by_test (k == h)
-    (λ e. let is : Some (new_site content k) ≡ Some s = rw e at q in
-    let one : new_site content k ≡ s = cc in
-    subst (λ (z : Site). Knows [] new_watch None h z) one (record {
-      told = record { events = []; run = record { allowed = tt; is = refl }; told = refl; stands = refl; stands_from = λ x. refl };
-      shown = record {
-        wires = record { to_controller = refl; to_host = refl };
-        since = λ z. absurd (true≢false (sym z));
-        ready = λ z. record { near = refl; far = refl };
-      };
-      near = refl;
-      far = refl;
-      none = tt;
-    }))
+    (λ e. grind arith)
     (λ e. (new_each content hosts h s) (rw e at q))
 
 new_hosts : (hosts : List ℕ) → hosts_in (new_world hosts).sites ≡ hosts

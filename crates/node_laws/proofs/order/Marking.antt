@@ -4,21 +4,21 @@ use Rattle.node_laws.proofs.Words.{Deliver, Desk, Emit, EndState, FetchMessage, 
 use Rattle.node_laws.proofs.Words.{NodeInput, None, NumberedShdlc, OfHost, OnWire, Option, Orders, Plain, Port, Release, Releases, Restarted, Running, SafeLink}
 use Rattle.node_laws.proofs.Words.{Seen, Sends, Session, SetsErrors, ShdlcEndEvent, ShdlcLink, ShdlcLinkEvent, ShdlcTurn, Some, Tells, TimePasses, Took, Turn}
 use Rattle.node_laws.proofs.Words.{Turns, Up, Waiting, Work, [], act_frame, after_sessions, after_turn, all_changed, all_come, all_done, all_map, all_of_host}
-use Rattle.node_laws.proofs.Words.{all_owed, all_owed_hold, all_synced_hold, anyone, ap, arith, asked_at, body_of, by_option, by_test, commit, commit_writes}
-use Rattle.node_laws.proofs.Words.{deeds_of, done, drop, ended_session, fails_within, false, flat_map, forgets, forgotten, forgotten_hold, frames_of, has_come}
-use Rattle.node_laws.proofs.Words.{if◌then◌else◌, inl, input_at, inr, is_forgotten, is_late, is_over, is_rset, is_some, is_up, is_waiting, length, list_any}
-use Rattle.node_laws.proofs.Words.{ltb-false, ltb-true, map, max, most_frames, nat_lt, new_end, no_session, older, port_at, refl, reset_late, reset_with}
-use Rattle.node_laws.proofs.Words.{runs_on, see, see_all, shdlc_after, shdlc_aged, shdlc_all_at_controller, shdlc_becomes, shdlc_exchanged, shdlc_happens}
-use Rattle.node_laws.proofs.Words.{shdlc_happens_at_controller, shdlc_number_of, shdlc_put, shdlc_put_all, shdlc_session_of, shdlc_silent}
-use Rattle.node_laws.proofs.Words.{shdlc_ticks_at_controller, shdlc_turned, silences, steps, stopped, subst, sym, synced, take_answer, taken, tick_answer}
-use Rattle.node_laws.proofs.Words.{ticked, ticks_if_waiting, ticks_or_cut, times_out, took_with, true, true≢false, turn_at, with_desk, with_older, with_port}
-use Rattle.node_laws.proofs.Words.{with_shdlc_ended, without_notice, ℕ, ◌++◌, ◌+◌, ◌<◌, ◌==◌, ◌∙◌, ◌∷◌, ◌≡◌, ◌≤◌, ◌⊎◌}
+use Rattle.node_laws.proofs.Words.{all_owed, all_owed_hold, all_synced_hold, anyone, ap, arith, asked_at, by_option, by_test, commit, deeds_of, done, drop}
+use Rattle.node_laws.proofs.Words.{ended_session, false, flat_map, forgets, forgotten, forgotten_hold, frames_of, has_come, if◌then◌else◌, inl, input_at, inr}
+use Rattle.node_laws.proofs.Words.{is_forgotten, is_late, is_over, is_rset, is_some, is_up, is_waiting, list_any, ltb-false, ltb-true, map, max, most_frames}
+use Rattle.node_laws.proofs.Words.{nat_lt, new_end, no_session, older, port_at, refl, reset_late, reset_with, runs_on, see, see_all, shdlc_after, shdlc_aged}
+use Rattle.node_laws.proofs.Words.{shdlc_all_at_controller, shdlc_becomes, shdlc_exchanged, shdlc_happens, shdlc_happens_at_controller, shdlc_number_of}
+use Rattle.node_laws.proofs.Words.{shdlc_put, shdlc_put_all, shdlc_session_of, shdlc_silent, shdlc_ticks_at_controller, shdlc_turned, silences, steps, stopped}
+use Rattle.node_laws.proofs.Words.{subst, sym, synced, take_answer, taken, tick_answer, ticked, ticks_if_waiting, ticks_or_cut, times_out, took_with, true}
+use Rattle.node_laws.proofs.Words.{true≢false, turn_at, with_desk, with_older, with_port, with_shdlc_ended, without_notice, ℕ, ◌++◌, ◌+◌, ◌<◌, ◌==◌, ◌∙◌, ◌∷◌}
+use Rattle.node_laws.proofs.Words.{◌≡◌, ◌≤◌, ◌⊎◌}
 use Rattle.link_laws.proofs.sessions.Data.{Base, Below, OnLive, bound}
 use Rattle.link_laws.proofs.sessions.Steps.{safe_event, safe_turns}
 use Rattle.link_laws.proofs.sessions.Wire.{live}
 use Rattle.link_laws.specs.entries.Entries.{End, Entry}
 use Rattle.link_laws.specs.entries.Entries.Entry.{Tick}
-use Rattle.link_laws.specs.entries.Reading.{numbered, taken_first}
+use Rattle.link_laws.specs.entries.Reading.{numbered}
 use Rattle.link_laws.specs.sessions.Losses.{sans}
 use Rattle.link_laws.specs.sessions.Sessions.ShdlcEndEvent.{Cut as CoreCut, Lose, Reset, Stop}
 use Rattle.link_laws.specs.sessions.Sessions.ShdlcLinkEvent.{AtController, AtHost, Tick as CoreTick, TickWithout}
@@ -67,9 +67,7 @@ desk_none : (h : ℕ) (f : Desk → Desk) (w : Work) → ((d : Desk) → d.notic
 desk_none h f w one a = record { host = a.host; none = port_none h (λ p. record p { desk = f p.desk }) (λ p b. one p.desk b) w.ports a.none }
 
 commit_none : (c : Command) (w : Work) → HasNoNotices w → HasNoNotices (commit c w)
-commit_none c w a = by_test (fails_within (length (commit_writes w.core.journal w.core.tables (body_of c))) w.plan)
-    (λ q. rw q (record { host = a.host; none = a.none }))
-    (λ q. rw q (record { host = a.host; none = a.none }))
+commit_none c w a = grind arith
 
 done_none : (h : ℕ) (d : Deed) (w : Work) → IsUnnoticed d → HasNoNotices w → HasNoNotices (done h d w)
 done_none h (Commits c) w u a = commit_none c w a
@@ -111,8 +109,7 @@ none_lasts = record {
 -- ### Steps
 
 come_none : (p : Port) (o : Option LinkInput) → HasNone p → HasNone (has_come p o)
-come_none p None a = a
-come_none p (Some i) a = a
+come_none p o a = grind arith
 
 older_none : (p : Port) → HasNone p → HasNone (with_older p)
 older_none p a = rw a refl
@@ -201,8 +198,7 @@ module _ (n : ℕ) where
   over_push (y ∷ w) x a b = (a.0, over_push w x a.1 b)
 
   over_drop : (w : List OnWire) → AreOver w → AreOver (drop 1 w)
-  over_drop [] a = tt
-  over_drop (x ∷ w) a = a.1
+  over_drop w a = grind arith
 
   over_older : (w : List OnWire) → AreOver w → AreOver (older w)
   over_older [] a = tt
@@ -212,22 +208,10 @@ module _ (n : ℕ) where
   over_new s c r q = rw q (omega (arith, r))
 
   more : (b : Bool) (k : ℕ) → n ≤ k → n ≤ (if b then k + 1 else k)
-  more true k r = omega (arith, r)
-  more false k r = r
-
-  not_new : (b : Bool) (k m : ℕ) → n ≤ k → (m ≡ n → ⊥) → (if b then k + 1 else m) ≡ n → ⊥
-  not_new true k m r d q = absurd (omega (arith, r, q))
-  not_new false k m r d q = d q
-
-  not_taken : (w : List OnWire) (m : ℕ) → AreOver w → (m ≡ n → ⊥) → taken_first m w ≡ n → ⊥
-  not_taken [] m a d q = d q
-  not_taken (x ∷ w) m a d q = by_test (is_rset x.frame)
-      (λ p. let over : n < x.number = a.0 p in let z : max m x.number ≡ n = rw p at q in absurd (omega (arith, over, z)))
-      (λ p. d (let z = q in rw p at z))
+  more b k r = grind arith
 
   see_jumps : (who : End) (s : Seen) (e : Entry) → Jumps who s → Jumps who (see s e)
-  see_jumps Controller s (Emit Controller c) j =
-      record { over = j.over; resets = more (is_rset c) s.resets j.resets; gave = not_new (is_rset c) s.resets s.by_controller j.resets j.gave; took = j.took }
+  see_jumps Controller s (Emit Controller c) j = grind arith
   see_jumps Controller s (Emit Host c) j =
       record {
         over = over_push s.to_controller (numbered s c) j.over (over_new s c j.resets);
@@ -235,8 +219,7 @@ module _ (n : ℕ) where
         gave = j.gave;
         took = j.took;
       }
-  see_jumps Host s (Emit Host c) j =
-      record { over = j.over; resets = more (is_rset c) s.resets j.resets; gave = not_new (is_rset c) s.resets s.by_host j.resets j.gave; took = j.took }
+  see_jumps Host s (Emit Host c) j = grind arith
   see_jumps Host s (Emit Controller c) j =
       record {
         over = over_push s.to_host (numbered s c) j.over (over_new s c j.resets);
@@ -244,14 +227,11 @@ module _ (n : ℕ) where
         gave = j.gave;
         took = j.took;
       }
-  see_jumps Controller s (Took Controller c) j =
-      record { over = over_drop s.to_controller j.over; resets = j.resets; gave = j.gave; took = not_taken s.to_controller s.at_controller j.over j.took }
+  see_jumps Controller s (Took Controller c) j = grind arith
   see_jumps Controller s (Took Host c) j = record { over = j.over; resets = j.resets; gave = j.gave; took = j.took }
-  see_jumps Host s (Took Host c) j =
-      record { over = over_drop s.to_host j.over; resets = j.resets; gave = j.gave; took = not_taken s.to_host s.at_host j.over j.took }
+  see_jumps Host s (Took Host c) j = grind arith
   see_jumps Host s (Took Controller c) j = record { over = j.over; resets = j.resets; gave = j.gave; took = j.took }
-  see_jumps Controller s (Lost Controller c why) j =
-      record { over = over_drop s.to_controller j.over; resets = j.resets; gave = j.gave; took = j.took }
+  see_jumps Controller s (Lost Controller c why) j = grind arith
   see_jumps Controller s (Lost Host c why) j = record { over = j.over; resets = j.resets; gave = j.gave; took = j.took }
   see_jumps Host s (Lost Host c why) j = record { over = over_drop s.to_host j.over; resets = j.resets; gave = j.gave; took = j.took }
   see_jumps Host s (Lost Controller c why) j = record { over = j.over; resets = j.resets; gave = j.gave; took = j.took }
@@ -273,79 +253,17 @@ module _ (n : ℕ) where
 abbrev pub StaysWithin : End → Seen → Type 0
 StaysWithin who s = put_by who s ≤ s.resets
 
-kept_within : (b : Bool) (k m : ℕ) → m ≤ k → (if b then k + 1 else m) ≤ (if b then k + 1 else k)
-kept_within true k m r = omega arith
-kept_within false k m r = r
-
-still_within : (b : Bool) (k m : ℕ) → m ≤ k → m ≤ (if b then k + 1 else k)
-still_within true k m r = omega (arith, r)
-still_within false k m r = r
-
 pub see_within : (who : End) (s : Seen) (e : Entry) → StaysWithin who s → StaysWithin who (see s e)
-see_within Controller s (Emit Controller c) w = kept_within (is_rset c) s.resets s.by_controller w
-see_within Controller s (Emit Host c) w = still_within (is_rset c) s.resets s.by_controller w
-see_within Host s (Emit Host c) w = kept_within (is_rset c) s.resets s.by_host w
-see_within Host s (Emit Controller c) w = still_within (is_rset c) s.resets s.by_host w
-see_within Controller s (Took Controller c) w = w
-see_within Controller s (Took Host c) w = w
-see_within Host s (Took Controller c) w = w
-see_within Host s (Took Host c) w = w
-see_within Controller s (Lost Controller c why) w = w
-see_within Controller s (Lost Host c why) w = w
-see_within Host s (Lost Controller c why) w = w
-see_within Host s (Lost Host c why) w = w
-see_within Controller s Tick w = w
-see_within Host s Tick w = w
-see_within Controller s (Restarted x) w = w
-see_within Host s (Restarted x) w = w
-see_within Controller s (Cut x) w = w
-see_within Host s (Cut x) w = w
-see_within who s _ w = w
-
-more_resets : (b : Bool) (k : ℕ) → k ≤ (if b then k + 1 else k)
-more_resets true k = omega arith
-more_resets false k = omega arith
+see_within who s e w = grind arith
 
 see_resets : (s : Seen) (e : Entry) → s.resets ≤ (see s e).resets
-see_resets s (Emit Controller c) = more_resets (is_rset c) s.resets
-see_resets s (Emit Host c) = more_resets (is_rset c) s.resets
-see_resets s (Took Controller c) = omega arith
-see_resets s (Took Host c) = omega arith
-see_resets s (Lost Controller c why) = omega arith
-see_resets s (Lost Host c why) = omega arith
-see_resets s _ = omega arith
-
-more_given : (b : Bool) (k m t : ℕ) → m ≤ k → max m t ≤ max (if b then k + 1 else m) t
-more_given true k m t r = omega (arith, r)
-more_given false k m t r = omega arith
-
-more_taken : (w : List OnWire) (g m : ℕ) → max g m ≤ max g (taken_first m w)
-more_taken [] g m = omega arith
-more_taken (x ∷ w) g m = by_test (is_rset x.frame) (λ q. rw q (omega arith)) (λ q. rw q (omega arith))
+see_resets s e = grind arith
 
 same : (m : ℕ) → m ≤ m
 same m = omega arith
 
 see_number : (who : End) (s : Seen) (e : Entry) → StaysWithin who s → number_seen who s ≤ number_seen who (see s e)
-see_number Controller s (Emit Controller c) w = more_given (is_rset c) s.resets s.by_controller s.at_controller w
-see_number Controller s (Emit Host c) w = same (max s.by_controller s.at_controller)
-see_number Host s (Emit Host c) w = more_given (is_rset c) s.resets s.by_host s.at_host w
-see_number Host s (Emit Controller c) w = same (max s.by_host s.at_host)
-see_number Controller s (Took Controller c) w = more_taken s.to_controller s.by_controller s.at_controller
-see_number Controller s (Took Host c) w = same (max s.by_controller s.at_controller)
-see_number Host s (Took Host c) w = more_taken s.to_host s.by_host s.at_host
-see_number Host s (Took Controller c) w = same (max s.by_host s.at_host)
-see_number Controller s (Lost Controller c why) w = same (max s.by_controller s.at_controller)
-see_number Controller s (Lost Host c why) w = same (max s.by_controller s.at_controller)
-see_number Host s (Lost Controller c why) w = same (max s.by_host s.at_host)
-see_number Host s (Lost Host c why) w = same (max s.by_host s.at_host)
-see_number Controller s Tick w = same (max s.by_controller s.at_controller)
-see_number Host s Tick w = same (max s.by_host s.at_host)
-see_number Controller s (Restarted x) w = same (max s.by_controller s.at_controller)
-see_number Host s (Restarted x) w = same (max s.by_host s.at_host)
-see_number Controller s (Cut x) w = same (max s.by_controller s.at_controller)
-see_number Host s (Cut x) w = same (max s.by_host s.at_host)
-see_number who s _ w = same (number_seen who s)
+see_number who s e w = grind arith
 
 pub all_resets : (t : List Entry) (s : Seen) → s.resets ≤ (see_all s t).resets
 all_resets [] s = same s.resets
@@ -366,14 +284,7 @@ silenced n who (e ∷ t) s w r q =
     go (silences e) refl (silenced n who t (see s e) (see_within who s e w) (omega (arith, r, r')))
   where
     empty : (who : End) → silences e ≡ true → mail who (see s e) ≡ []
-    empty who p = by who e p
-      where
-        by : (who : End) (e : Entry) → silences e ≡ true → mail who (see s e) ≡ []
-        by Controller (Restarted x) p = refl
-        by Host (Restarted x) p = refl
-        by Controller (Cut x) p = refl
-        by Host (Cut x) p = refl
-        by who _ p = absurd (true≢false (sym p))
+    empty who p = grind arith
 
     over : (w : List OnWire) → w ≡ [] → AreOver n w
     over w p = rw p tt
@@ -383,12 +294,7 @@ silenced n who (e ∷ t) s w r q =
     decide p true z =
         let low : number_seen who (see s e) < n = ltb-true (number_seen who (see s e)) n z in
         let res = see_resets s e in
-        inl (all_jump n who t (see s e) (record {
-          over = over (mail who (see s e)) (empty who p);
-          resets = omega (arith, r, res);
-          gave = λ x. absurd (omega (arith, low, x));
-          took = λ x. absurd (omega (arith, low, x));
-        }))
+        inl (all_jump n who t (see s e) ((grind arith)))
     decide p false z =
         let high : n ≤ number_seen who (see s e) = ltb-false (number_seen who (see s e)) n z in
         let more = all_number who t (see s e) (see_within who s e w) in
@@ -420,12 +326,7 @@ ignored : (l : ShdlcLink) (ts : List ShdlcTurn) (y : OnWire) (ys : List OnWire) 
 ignored l ts y ys x z = rw (x, z) refl
 
 none_first : (l : ShdlcLink) (ts : List ShdlcTurn) → l.to_controller ≡ [] → shdlc_happens_at_controller l (Ignore ts) ≡ l
-none_first l ts z = go l.controller.side.phase refl
-  where
-    go : (s : LinkState) → l.controller.side.phase ≡ s → shdlc_happens_at_controller l (Ignore ts) ≡ l
-    go Down x = rw (x, z) refl
-    go Up x = rw x refl
-    go Waiting x = rw x refl
+none_first l ts z = grind arith
 
 up_first : (l : ShdlcLink) (ts : List ShdlcTurn) → l.controller.side.phase ≡ Up → shdlc_happens_at_controller l (Ignore ts) ≡ l
 up_first l ts x = rw x refl
@@ -446,15 +347,10 @@ module _ (p q : List (ℕ × Session)) where
       ap (λ (k : ShdlcLink). record k { controller = record k.controller { side = after_frames most_frames e } }) (puts_marked (frames_of most_frames e) l)
 
   ended_marked : (l : ShdlcLink) (b : Bool) → with_shdlc_ended (marked p q l) b ≡ marked p q (with_shdlc_ended l b)
-  ended_marked l true = refl
-  ended_marked l false = refl
+  ended_marked l b = grind arith
 
   silent_marked : (l : ShdlcLink) (e : EndState) → shdlc_silent (marked p q l) e ≡ marked p q (shdlc_silent l e)
-  silent_marked l e = go l.controller.side.phase refl
-    where
-      go : (s : LinkState) → l.controller.side.phase ≡ s → shdlc_silent (marked p q l) e ≡ marked p q (shdlc_silent l e)
-      go Up x = rw x refl
-      go _ x = rw x refl
+  silent_marked l e = grind arith
 
   then_becomes : (l k : ShdlcLink) (e : EndState) → k ≡ marked p q l → shdlc_becomes k e ≡ marked p q (shdlc_becomes l e)
   then_becomes l k e x = ap (λ z. shdlc_becomes z e) x ∙ becomes_marked l e
@@ -553,11 +449,7 @@ of_below p h k b = go h.side.phase refl
     go Down x = rw x e
 
 bound_below : (p : List (ℕ × Session)) (h : NumberedShdlc) → bound (below p h) ≡ bound h
-bound_below p h = go h.side.phase refl
-  where
-    go : (s : LinkState) → h.side.phase ≡ s → bound (below p h) ≡ bound h
-    go Up x = rw x refl
-    go _ x = rw x refl
+bound_below p h = grind arith
 
 below_both : (b : ℕ) (past p : List (ℕ × Session)) → Below b past → Below b p → Below b (past ++ p)
 below_both b [] p x y = y

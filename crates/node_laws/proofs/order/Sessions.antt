@@ -1,28 +1,25 @@
 -- Sessions are read off a history, messages are in order at each moment of it, and quiet or still links have delivered all.
-use Rattle.node_laws.proofs.Words.{Acked, Active, AreHosts, ArePlayable, AreReadOff, AreSessionsRead, AreUpTogether, Begins, Bool, Controller, Counts, Cut}
-use Rattle.node_laws.proofs.Words.{Down, Emit, End, Entry, FollowsNodes, GaveUp, Gets, Got, HasSettled, Header, Host, IsLine, IsLinkTold, IsRead, IsReadOff}
-use Rattle.node_laws.proofs.Words.{IsStillInSession, Line, Link, List, Lost, Message, NodeHistory, NodeWorld, None, Noted, NumberedEnd, Occurrence, Option}
-use Rattle.node_laws.proofs.Words.{Puts, Readiness, Restarted, Saying, Sent, Site, Some, Standing, Took, Up as IsUpNow, [], acked-all, acked_after, acked_in}
-use Rattle.node_laws.proofs.Words.{after_power, ap, at_end, becomes_at, begins, by_option, by_test, cond, cons_option, end_c, end_h, end_of, ended_talk}
-use Rattle.node_laws.proofs.Words.{entries, entries_for, entries_in, entry_of, eqb-true, false, filter, filter_map, flat_map, fold, good_of, got-all, got_in}
-use Rattle.node_laws.proofs.Words.{got_in_session, hosts_in, if◌then◌else◌, is_of, law_noted, length, list_any, lpdu_of, made_active, new_line, new_standing}
-use Rattle.node_laws.proofs.Words.{new_world, no_longer_waits, node_entries, number_of, occurrences_in, of_link, one_number, or_none, other_end, read_here}
-use Rattle.node_laws.proofs.Words.{read_there, refl, said, said_far, said_near, said_of, same_end, same_number, same_side, sent-all, sent_by, sent_in}
-use Rattle.node_laws.proofs.Words.{session_at, session_now, silences, since, site_at, standing, standing_by_law, stands_noted, stands_said, subst, sym}
-use Rattle.node_laws.proofs.Words.{talk_now, talk_of, tells_of, true, true≢false, without_power, world_behind, ℕ, ◌&&◌, ◌++◌, ◌==◌, ◌||◌, ◌∙◌, ◌∷◌, ◌≡◌}
-use Rattle.history.proofs.legal.Sessions.{ArePlain, AtEnd, IsOneAtMost, empty, fault-all, front_given, if_said, one_entry, order_at, read_as, same_as}
+use Rattle.node_laws.proofs.Words.{AreHosts, ArePlayable, AreReadOff, AreSessionsRead, AreUpTogether, Bool, Controller, Cut, Down, Emit, End, Entry}
+use Rattle.node_laws.proofs.Words.{FollowsNodes, HasSettled, Header, Host, IsLine, IsLinkTold, IsRead, IsReadOff, IsStillInSession, Line, Link, List, Message}
+use Rattle.node_laws.proofs.Words.{NodeHistory, NodeWorld, None, Noted, NumberedEnd, Occurrence, Option, Restarted, Saying, Site, Some, Standing, Up as IsUpNow}
+use Rattle.node_laws.proofs.Words.{[], acked-all, acked_after, acked_in, ap, arith, at_end, begins, by_option, by_test, cond, cons_option, end_c, end_h, end_of}
+use Rattle.node_laws.proofs.Words.{entries, entries_for, entries_in, entry_of, false, filter, filter_map, flat_map, fold, good_of, got-all, got_in}
+use Rattle.node_laws.proofs.Words.{got_in_session, hosts_in, if◌then◌else◌, is_of, law_noted, length, list_any, new_line, new_standing, new_world, node_entries}
+use Rattle.node_laws.proofs.Words.{number_of, occurrences_in, of_link, one_number, or_none, other_end, read_here, read_there, refl, said, said_far, said_near}
+use Rattle.node_laws.proofs.Words.{said_of, same_end, same_number, sent-all, sent_by, sent_in, session_at, session_now, silences, since, site_at, standing}
+use Rattle.node_laws.proofs.Words.{standing_by_law, stands_noted, subst, sym, talk_now, talk_of, tells_of, true, true≢false, world_behind, ℕ, ◌++◌, ◌==◌, ◌||◌}
+use Rattle.node_laws.proofs.Words.{◌∙◌, ◌∷◌, ◌≡◌}
+use Rattle.history.proofs.legal.Sessions.{ArePlain, AtEnd, IsOneAtMost, empty, fault-all, front_given, if_said, one_entry, order_at, read_as}
 use Rattle.history.proofs.legal.Settled.{no_bytes, or_right, since-all, undisturbed}
 use Rattle.history.specs.Filters.{session_after}
-use Rattle.history.specs.Filters.Saying.{Ends, Loses, Sends, Takes}
+use Rattle.history.specs.Filters.Saying.{Ends}
 use Rattle.history.specs.Legal.{IsDelivered, IsInOrder, begins_on, has_lost, has_rnr, is_chain_fault, loses_on, rejects_on, since_up}
-use Rattle.link_laws.proofs.entries.Books.{up_talk}
 use Rattle.link_laws.proofs.entries.Disturbing.{no_chain_noted}
-use Rattle.link_laws.proofs.entries.Hearing.{controller_heard, host_heard, session_up, up_session}
+use Rattle.link_laws.proofs.entries.Hearing.{controller_heard, host_heard, session_up}
 use Rattle.link_laws.proofs.entries.Running.{at_each_moment}
 use Rattle.link_laws.proofs.entries.Together.{quiet_here, quiet_there}
 use Rattle.link_laws.specs.entries.Entries.{End as Side}
-use Rattle.link_laws.specs.entries.Entries.Entry.{Tick, Up}
-use Rattle.link_laws.specs.entries.Filters.{same_link_end as same_in}
+use Rattle.link_laws.specs.entries.Entries.Entry.{Up}
 use Rattle.link_laws.specs.entries.Order.{InOrderIn}
 use Rattle.link_laws.specs.entries.Quiet.{IsDeliveredOnLink as LinkDelivered, IsQuietSince, disturbs}
 use Rattle.link_laws.specs.entries.Sessions.{hear}
@@ -48,43 +45,11 @@ part Host x = x.host
 
 -- ### What is said of an end
 
-said_own : (who : Side) (s : Saying) (x : Standing)
-    → part who (cond (end_of 0 who).at_host (said_far s x) (said_near s x)) ≡ session_after (part who x) (Some s)
-said_own Controller (Begins n) x = refl
-said_own Controller _ x = refl
-said_own Host (Begins n) x = refl
-said_own Host _ x = refl
-
 near_far : (s : Saying) (x : Standing) → (said_far s x).controller ≡ x.controller
-near_far (Begins n) x = refl
-near_far _ x = refl
+near_far s x = grind arith
 
 far_near : (s : Saying) (x : Standing) → (said_near s x).host ≡ x.host
-far_near (Begins n) x = refl
-far_near _ x = refl
-
--- at the ends of this link
-said_here : (who : Side) (far : Bool) (s : Saying) (x : Standing)
-    → part who (cond far (said_far s x) (said_near s x))
-    ≡ session_after (part who x) (if_said (same_end (record { link = 0; at_host = far }) (end_of 0 who)) s)
-said_here Controller false s x = said_own Controller s x
-said_here Controller true s x = near_far s x
-said_here Host false s x = far_near s x
-said_here Host true s x = said_own Host s x
-
-said_part : (h : ℕ) (who : Side) (x : Standing) (o : Option (End × Saying))
-    → part who (stands_said h x o) ≡ session_after (part who x) (at_end (end_of h who) o)
-said_part h who x None = refl
-said_part h Controller x (Some (f, s)) = by (f.link == h) f.at_host
-  where
-    by : (b far : Bool) → (cond b (cond far (said_far s x) (said_near s x)) x).controller ≡ session_after x.controller (if_said (b && same_side far false) s)
-    by true far = said_here Controller far s x
-    by false far = refl
-said_part h Host x (Some (f, s)) = by (f.link == h) f.at_host
-  where
-    by : (b far : Bool) → (cond b (cond far (said_far s x) (said_near s x)) x).host ≡ session_after x.host (if_said (b && same_side far true) s)
-    by true far = said_here Host far s x
-    by false far = refl
+far_near s x = grind arith
 
 -- ### What a history notes
 
@@ -100,65 +65,15 @@ module _ (e : End) (node : ℕ) where
   after s (entry.Cut n) = if n == node then None else s
   after s _ = s
 
-begins_same : (b : Bool) (k : ℕ) (s : Option ℕ) → session_after s (if_said b (Begins k)) ≡ cond b (Some k) s
-begins_same true k s = refl
-begins_same false k s = refl
-
 ends_same : (b : Bool) (s : Option ℕ) → session_after s (if_said b Ends) ≡ cond b None s
-ends_same true s = refl
-ends_same false s = refl
-
-stays_same : (b : Bool) (x : Saying) (s : Option ℕ) → session_after s (Some x) ≡ s → session_after s (if_said b x) ≡ s
-stays_same true x s q = q
-stays_same false x s q = refl
+ends_same b s = grind arith
 
 module _ (h : ℕ) (who : Side) (host : (h == 0) ≡ false) where
   abbrev e : End
   e = end_of h who
 
-  cut_near : (b c : Bool) (x : Standing) → (cond b (without_power Controller x) (cond c (without_power Host x) x)).controller ≡ cond b None x.controller
-  cut_near true c x = refl
-  cut_near false true x = refl
-  cut_near false false x = refl
-
-  cut_far : (n : ℕ) (b c : Bool) → (n == 0) ≡ b → (n == h) ≡ c → (x : Standing)
-      → (cond b (without_power Controller x) (cond c (without_power Host x) x)).host ≡ cond c None x.host
-  cut_far n true true p q x = absurd (true≢false (sym (ap (λ m. m == 0) (sym (eqb-true n h q)) ∙ p) ∙ host))
-  cut_far n true false p q x = refl
-  cut_far n false true p q x = refl
-  cut_far n false false p q x = refl
-
-  cut_part : (w : Side) (n : ℕ) (x : Standing) → part w (after_power h n x) ≡ cond (n == node_on h w) None (part w x)
-  cut_part Controller n x = cut_near (n == 0) (n == h) x
-  cut_part Host n x = cut_far n (n == 0) (n == h) refl refl x
-
-  -- how ready an end is says nothing of sessions
-  ready_part : (b far : Bool) (f : Readiness → Readiness) (x : Standing) → part who (cond b (becomes_at far f x) x) ≡ part who x
-  ready_part true true f x = either who
-    where
-      either : (w : Side) → part w (becomes_at true f x) ≡ part w x
-      either Controller = refl
-      either Host = refl
-  ready_part true false f x = either who
-    where
-      either : (w : Side) → part w (becomes_at false f x) ≡ part w x
-      either Controller = refl
-      either Host = refl
-  ready_part false far f x = refl
-
   one_read : (x : Standing) (y : Entry) → part who (stands_noted h x y) ≡ after e (node_on h who) (part who x) y
-  one_read x (entry.Up f n) = said_part h who x (Some (f, Begins n)) ∙ begins_same (same_end f e) n (part who x)
-  one_read x (entry.Down f cause) = said_part h who x (Some (f, Ends)) ∙ ends_same (same_end f e) (part who x)
-  one_read x (entry.Cut n) = cut_part who n x
-  one_read x (entry.Sent f n pid m) = said_part h who x (Some (f, Sends n (pid, m))) ∙ stays_same (same_end f e) (Sends n (pid, m)) (part who x) refl
-  one_read x (entry.Got f n pid m) = said_part h who x (Some (f, Gets n (pid, m))) ∙ stays_same (same_end f e) (Gets n (pid, m)) (part who x) refl
-  one_read x (entry.Acked f n count) = said_part h who x (Some (f, Counts n count)) ∙ stays_same (same_end f e) (Counts n count) (part who x) refl
-  one_read x (entry.Emit f lpdu) = said_part h who x (Some (f, Puts lpdu)) ∙ stays_same (same_end f e) (Puts lpdu) (part who x) refl
-  one_read x (entry.Took f lpdu) = said_part h who x (Some (f, Takes lpdu)) ∙ stays_same (same_end f e) (Takes lpdu) (part who x) refl
-  one_read x (entry.Lost f lpdu cause) = said_part h who x (Some (f, Loses lpdu)) ∙ stays_same (same_end f e) (Loses lpdu) (part who x) refl
-  one_read x (entry.Active f) = ready_part (f.link == h) f.at_host made_active x
-  one_read x (entry.GaveUp f tries) = ready_part (f.link == h) f.at_host no_longer_waits x
-  one_read x y = refl
+  one_read x y = grind arith
 
   pub all_read : (t : List Entry) (x : Standing) → part who (standing h x t) ≡ fold (after e (node_on h who)) (part who x) t
   all_read [] x = refl
@@ -166,33 +81,8 @@ module _ (h : ℕ) (who : Side) (host : (h == 0) ≡ false) where
 
   -- ### What the law of one link notes
 
-  begins_law : (w : Side) (k : ℕ) (s : Option ℕ) → session_after s (if_said (same_end (end_of h w) e) (Begins k)) ≡ cond (same_in w who) (Some k) s
-  begins_law w k s = begins_same (same_end (end_of h w) e) k s ∙ ap (λ b. cond b (Some k) s) (same_as h w who)
-
-  ends_law : (w : Side) (s : Option ℕ) → session_after s (if_said (same_end (end_of h w) e) Ends) ≡ cond (same_in w who) None s
-  ends_law w s = ends_same (same_end (end_of h w) e) s ∙ ap (λ b. cond b None s) (same_as h w who)
-
-  cut_law : (w v : Side) (x : Standing) → part v (without_power w x) ≡ cond (same_in w v) None (part v x)
-  cut_law Controller Controller x = refl
-  cut_law Controller Host x = refl
-  cut_law Host Controller x = refl
-  cut_law Host Host x = refl
-
   one_law : (x : Standing) (n : Noted) → part who (law_noted h x n) ≡ hear who (part who x) n
-  one_law x (Up w k) = said_part h who x (Some (end_of h w, Begins k)) ∙ begins_law w k (part who x)
-  one_law x (Down w cause) = said_part h who x (Some (end_of h w, Ends)) ∙ ends_law w (part who x)
-  one_law x (Cut w) = cut_law w who x
-  one_law x (Sent w n m) = said_part h who x (Some (end_of h w, Sends n m)) ∙ stays_same (same_end (end_of h w) e) (Sends n m) (part who x) refl
-  one_law x (Got w n m) = said_part h who x (Some (end_of h w, Gets n m)) ∙ stays_same (same_end (end_of h w) e) (Gets n m) (part who x) refl
-  one_law x (Acked w n count) = said_part h who x (Some (end_of h w, Counts n count)) ∙ stays_same (same_end (end_of h w) e) (Counts n count) (part who x) refl
-  one_law x (Emit w c) = said_part h who x (Some (end_of h w, Puts (lpdu_of c))) ∙ stays_same (same_end (end_of h w) e) (Puts (lpdu_of c)) (part who x) refl
-  one_law x (Took w c) = said_part h who x (Some (end_of h w, Takes (lpdu_of c))) ∙ stays_same (same_end (end_of h w) e) (Takes (lpdu_of c)) (part who x) refl
-  one_law x (Lost w c why) = said_part h who x (Some (end_of h w, Loses (lpdu_of c)))
-      ∙ stays_same (same_end (end_of h w) e) (Loses (lpdu_of c)) (part who x) refl
-  one_law x (Active w) = ready_part ((end_of h w).link == h) (end_of h w).at_host made_active x
-  one_law x (GaveUp w tries) = ready_part ((end_of h w).link == h) (end_of h w).at_host no_longer_waits x
-  one_law x Tick = refl
-  one_law x (Restarted w) = refl
+  one_law x n = grind arith
 
   pub all_law : (notes : List Noted) (x : Standing) → part who (standing_by_law h x notes) ≡ fold (hear who) (part who x) notes
   all_law [] x = refl
@@ -219,10 +109,7 @@ are_read h l t host a =
 -- ### What is said of an end is said of its link
 
 unheard : (h : ℕ) (e : End) (x : Option (End × Saying)) → e.link ≡ h → is_of h x ≡ false → at_end e x ≡ None
-unheard h e None q r = refl
-unheard h e (Some (f, saying)) q r =
-    let off : (f.link == e.link) ≡ false = ap (λ n. f.link == n) q ∙ r in
-    rw off refl
+unheard h e x q r = grind arith
 
 filter_kept : {Y : Type 0} (g : Option Saying → Option Y) → g None ≡ None → (h : ℕ) (e : End) → e.link ≡ h → (t : List Entry)
     → filter_map (λ x. g (said_of e x)) t ≡ filter_map (λ x. g (said_of e x)) (of_link h t)
@@ -264,9 +151,7 @@ end_alike t v e n q a =
 -- ### Fronts of what is noted
 
 one_filtered : (p : Entry → Bool) (xs : List Entry) → IsOneAtMost xs → IsOneAtMost (filter p xs)
-one_filtered p [] a = tt
-one_filtered p (x ∷ []) a = by_test (p x) (λ q. rw q tt) (λ q. rw q tt)
-one_filtered p (x ∷ y ∷ xs) a = absurd a
+one_filtered p xs a = grind arith
 
 of_flat : (h : ℕ) (notes : List Noted) → of_link h (entries_for h notes) ≡ flat_map (λ x. of_link h (entry_of h x)) notes
 of_flat h [] = refl
@@ -302,8 +187,7 @@ none_filtered p q (x ∷ xs) a = by_test (q x)
     (λ r. rw r (none_filtered p q xs (or_right (p x) (list_any p xs) a)))
   where
     both : (c : Bool) → (c || list_any p xs) ≡ false → list_any p (filter q xs) ≡ false → (c || list_any p (filter q xs)) ≡ false
-    both true e z = e
-    both false e z = z
+    both c e z = grind arith
 
 told_chains : (h : ℕ) (l : Link) (t : List Entry) → IsLinkTold h l t → list_any is_chain_fault (of_link h t) ≡ false
 told_chains h l t a =
@@ -418,9 +302,7 @@ module _ (h : ℕ) (l : Link) (t : List Entry) (a : IsLinkTold h l t) where
 
   -- the session that goes on at an end
   talk_up : (k : NumberedEnd) → k.side.shdlc.phase ≡ IsUpNow → talk_of k (number_of k) ≡ talk_now k.side
-  talk_up k up =
-      up_talk k (number_of k) up
-      ∙ ap (λ b. cond b (talk_now k.side) (ended_talk k.past (number_of k))) (same_number (number_of k))
+  talk_up k up = grind arith
 
   numbers : l.controller.side.shdlc.phase ≡ IsUpNow → l.host.side.shdlc.phase ≡ IsUpNow → number_of l.controller ≡ number_of l.host
   numbers =
@@ -465,32 +347,20 @@ module _ (h : ℕ) (l : Link) (t : List Entry) (a : IsLinkTold h l t) where
           let near = near_now q.controller in
           let far = far_now q.controller q.host in
           let all : AllDelivered (talk_now l.controller.side) (talk_now l.host.side) = delivers_to_host l events r q in
-          subst (λ (m : ℕ). IsDelivered t (end_c h) m) (up_near n u).1 (record {
-            got = far.got ∙ (all.got ∙ ap good_of (sym near.sent));
-            acked = near.acked ∙ (all.acked ∙ ap (λ (ms : List Message). length ms) (sym near.sent));
-          });
+          subst (λ (m : ℕ). IsDelivered t (end_c h) m) (up_near n u).1 ((grind arith));
       to_controller = λ n u events r s.
           let q : IsQuiet l (losses_of new_line events) = quiet n (losses_of new_line events) u s in
           let near = near_now q.controller in
           let far = far_now q.controller q.host in
           let all : AllDelivered (talk_now l.host.side) (talk_now l.controller.side) = delivers_to_controller l events r q in
-          subst (λ (m : ℕ). IsDelivered t (end_h h) m) (up_near n u).1 (record {
-            got = near.got ∙ (all.got ∙ ap good_of (sym far.sent));
-            acked = far.acked ∙ (all.acked ∙ ap (λ (ms : List Message). length ms) (sym far.sent));
-          });
+          subst (λ (m : ℕ). IsDelivered t (end_h h) m) (up_near n u).1 ((grind arith));
     }
 
     pub has_settled : HasSettled t h l
     has_settled events r s =
         let both : AreUpTogether l = settles l events r s in
         let read : AreSessionsRead t h l = are_read h l t host a in
-        record {
-          number = number_of l.controller;
-          up = record {
-            controller = read.controller ∙ up_session l.controller both.controller;
-            host = read.host ∙ (up_session l.host both.host ∙ ap (λ n. Some n) (sym both.number));
-          };
-        }
+        grind arith
 
 -- ## A link that is still, as it is read off the events of a history, has delivered all
 
@@ -498,19 +368,13 @@ module _ (h : ℕ) (l : Link) (t : List Entry) (a : IsLinkTold h l t) where
 
 module _ (h : ℕ) where
   begins_of : (n : ℕ) (o : Option (End × Saying)) → is_of h o ≡ false → begins_on h n o ≡ false
-  begins_of n None q = refl
-  begins_of n (Some (e, Begins k)) q = rw q refl
-  begins_of n (Some (e, _)) q = refl
+  begins_of n o q = grind arith
 
   loses_of : (o : Option (End × Saying)) → is_of h o ≡ false → loses_on h o ≡ false
-  loses_of None q = refl
-  loses_of (Some (e, Loses l)) q = q
-  loses_of (Some (e, _)) q = refl
+  loses_of o q = grind arith
 
   rejects_of : (o : Option (End × Saying)) → is_of h o ≡ false → rejects_on h o ≡ false
-  rejects_of None q = refl
-  rejects_of (Some (e, Puts l)) q = rw q refl
-  rejects_of (Some (e, _)) q = refl
+  rejects_of o q = grind arith
 
   since_of : (n : ℕ) (t_of_still : List Entry) → of_link h (since_up h n t_of_still) ≡ since_up h n (of_link h t_of_still)
   since_of n [] = refl
@@ -628,15 +492,8 @@ module _ (h : ℕ) (l : Link) (events : List Occurrence) (host : (h == 0) ≡ fa
 
 -- ### A host that isn't there has no session
 
-cut_none : (b : Bool) (s : Option ℕ) → s ≡ None → (if b then None else s) ≡ None
-cut_none true s q = refl
-cut_none false s q = q
-
 none_after : (h : ℕ) (far : Bool) (node : ℕ) (x : Entry) → is_of h (said x) ≡ false → after (record { link = h; at_host = far }) node None x ≡ None
-none_after h far node (entry.Up f n) q = rw q refl
-none_after h far node (entry.Down f cause) q = rw q refl
-none_after h far node (entry.Cut n) q = cut_none (n == node) None refl
-none_after h far node x q = refl
+none_after h far node x q = grind arith
 
 unread : (h : ℕ) (far : Bool) (node : ℕ) (t_of_still : List Entry) → of_link h t_of_still ≡ []
     → session_now t_of_still (record { link = h; at_host = far }) node ≡ None

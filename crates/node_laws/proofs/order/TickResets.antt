@@ -1,15 +1,14 @@
 -- A tick in which the controller's end of a link is reset is read off what is noted of it.
-use Rattle.node_laws.proofs.Words.{Acked, Act, ActTick, Active, AllByRecursion, Asked, AsksReset, Bool, ByAct, Cause, Clt, Control, Controller, Cut, CutOff}
-use Rattle.node_laws.proofs.Words.{Down, Emit, EndState, Ending, Entry, FindsReady, GaveUp, Give, GoesOut, Got, HasTick, Host, I, IsDown, IsRunOf, IsUpNow}
-use Rattle.node_laws.proofs.Words.{IsWaitingNow, Link, LinkEnd, LinkEvent, LinkInput, LinkState, List, Loss, Lost, Message, Node, None, Noted, OnWire, Option}
-use Rattle.node_laws.proofs.Words.{Refused, Report, Reset, Restarted, Rset, S, Sent, Some, Step, TicksWithout, TooMany, TooOld, Turn, Ua, [], act_answer}
-use Rattle.node_laws.proofs.Words.{after_input, aged, aged_entries, ap, append_assoc, behind_reset_of, by_test, cond, cuts_on, end_c, end_h, end_of, ended_by}
-use Rattle.node_laws.proofs.Words.{ended_by_reset, entries_for, event_entries, exchanged, false, far, first_lost, frames_out, give_refusal, happens}
-use Rattle.node_laws.proofs.Words.{happens_at_controller, if_so, if_up, if◌then◌else◌, is_act, is_open, is_own_reset, is_reset_down, is_rset, is_some, length}
-use Rattle.node_laws.proofs.Words.{list_any, list_any-append, lost_as, lpdu_of, map, nat_lt, not, number_of, of_link, option_to_list, or_none, pushed_out, put}
-use Rattle.node_laws.proofs.Words.{puts_entries, refl, report, reset_refusal, rest_entries, runs_timer, said, same_number, sent_unless, step_entries, sym}
-use Rattle.node_laws.proofs.Words.{tells_of, tick_answer, tick_entries, ticks_at_controller, told, told_of, true, true≢false, turn, turn_entries, turn_entry}
-use Rattle.node_laws.proofs.Words.{turned, whole_acked, wire_with, with_ended, withholds, ℕ, ◌++◌, ◌+◌, ◌||◌, ◌∙◌, ◌∷◌, ◌≡◌}
+use Rattle.node_laws.proofs.Words.{Acked, Act, Active, AllByRecursion, Asked, AsksReset, Bool, Cause, Clt, Control, Controller, Cut, CutOff, Down, Emit, Ending}
+use Rattle.node_laws.proofs.Words.{Entry, FindsReady, GaveUp, GoesOut, Got, HasTick, Host, I, IsRunOf, Link, LinkEnd, LinkEvent, LinkInput, List, Loss, Lost}
+use Rattle.node_laws.proofs.Words.{Message, Node, None, Noted, OnWire, Option, Report, Reset, Restarted, Rset, S, Sent, Some, Step, TicksWithout, TooMany}
+use Rattle.node_laws.proofs.Words.{TooOld, Turn, Ua, [], after_input, aged, aged_entries, ap, append_assoc, arith, behind_reset_of, by_test, cond, cuts_on}
+use Rattle.node_laws.proofs.Words.{end_c, end_h, end_of, ended_by, entries_for, event_entries, exchanged, false, far, first_lost, frames_out, happens}
+use Rattle.node_laws.proofs.Words.{happens_at_controller, if_so, is_act, is_own_reset, is_reset_down, is_rset, is_some, length, list_any, list_any-append}
+use Rattle.node_laws.proofs.Words.{lost_as, lpdu_of, map, nat_lt, not, number_of, of_link, option_to_list, or_none, pushed_out, put, puts_entries, refl, report}
+use Rattle.node_laws.proofs.Words.{reset_refusal, rest_entries, said, same_number, step_entries, sym, tells_of, tick_entries, ticks_at_controller, told}
+use Rattle.node_laws.proofs.Words.{told_of, true, true≢false, turn, turn_entries, turn_entry, turned, whole_acked, wire_with, with_ended, withholds, ℕ, ◌++◌}
+use Rattle.node_laws.proofs.Words.{◌||◌, ◌∙◌, ◌∷◌, ◌≡◌}
 use Rattle.link_laws.specs.entries.Entries.{End, End as Side}
 use Rattle.link_laws.specs.entries.Entries.Entry.{Tick, Up}
 use Rattle.node_laws.specs.order.Resets.{asks_at}
@@ -40,8 +39,7 @@ module _ (D : Noted → Type 0) (who : End) (holds : Holds D who) where
   are-append (x ∷ t) u a b = (a.0, are-append t u a.1 b)
 
   pub are_so : (c : Bool) (x : Noted) → D x → Are (if_so c x)
-  are_so true x a = (a, tt)
-  are_so false x a = tt
+  are_so c x a = grind arith
 
   pub are_mapped : {A : Type 0} (f : A → Noted) (xs : List A) → ((x : A) → D (f x)) → Are (map f xs)
   are_mapped f [] a = tt
@@ -55,21 +53,15 @@ module _ (D : Noted → Type 0) (who : End) (holds : Holds D who) where
       (are-append (if_so (nat_lt 0 r.acked) (Acked who n acked)) _ (are_so (nat_lt 0 r.acked) (Acked who n acked) (holds.acked n acked))
       (are_mapped (Got who n) r.got (holds.got n)))
 
-  are_sent : (o : Option Refused) (n : ℕ) (m : Message) → Are (sent_unless o who n m)
-  are_sent None n m = (holds.sent n m, tt)
-  are_sent (Some why) n m = tt
-
   pub are_turns : (n : ℕ) (e : LinkEnd) (ts : List Turn) → Are (turn_entries who n e ts)
   are_turns n e [] = tt
   are_turns n e (t ∷ ts) = are-append (turn_entry who n e t) (turn_entries who n (turn e t) ts) (one t) (are_turns n (turn e t) ts)
     where
       one : (t : Turn) → Are (turn_entry who n e t)
-      one (Give m) = are_sent (give_refusal e m) n m
-      one _ = tt
+      one t = grind arith
 
   pub are_lost : (w : End) (why : Loss) (xs : List OnWire) → Are (first_lost w why xs)
-  are_lost w why [] = tt
-  are_lost w why (x ∷ xs) = (holds.lost w x.frame why, tt)
+  are_lost w why xs = grind arith
 
   are_pushed : (w : End) (wire : List OnWire) → Are (pushed_out w wire)
   are_pushed w wire = by_test (nat_lt 64 (length wire)) (λ q. rw q (are_lost w TooMany wire)) (λ q. rw q tt)
@@ -105,22 +97,13 @@ any_first : (f : Noted → Bool) (t u : List Noted) → list_any f u ≡ false �
 any_first f t u none some = either (list_any f t) (list_any f u) none (sym (list_any-append f t u) ∙ some)
   where
     either : (a b : Bool) → b ≡ false → (a || b) ≡ true → a ≡ true
-    either true b q r = refl
-    either false b q r = absurd (true≢false (sym r ∙ q))
+    either a b q r = grind arith
 
 abbrev Unasked : Noted → Type 0
 Unasked n = asked n ≡ false
 
 unasked : (who : Side) → Holds Unasked who
-unasked who = record {
-  up = λ n. refl;
-  gave_up = λ tries. refl;
-  acked = λ n count. refl;
-  got = λ n m. refl;
-  sent = λ n m. refl;
-  emit = λ c. refl;
-  lost = λ w c why. refl;
-}
+unasked who = grind arith
 
 -- behind the end of a session
 rest_unasked : (who : Side) (n : ℕ) (r : Report) (acked : ℕ)
@@ -133,9 +116,7 @@ told_asked n r acked q =
     go r.ended (any_first asked (map (Down Controller) (option_to_list r.ended)) _ (none_all asked _ (rest_unasked Controller n r acked)) q)
   where
     go : (o : Option Cause) → list_any asked (map (Down Controller) (option_to_list o)) ≡ true → o ≡ Some Asked
-    go None z = absurd (true≢false (sym z))
-    go (Some Asked) z = refl
-    go (Some _) z = absurd (true≢false (sym z))
+    go o z = grind arith
 
 ending_unasked : (who : Side) (l : Link) (e : LinkEnd) (ts : List Turn) (ending : Ending) → AllByRecursion Unasked (rest_entries who l e ts ending)
 ending_unasked who l e ts GoesOut =
@@ -156,36 +137,11 @@ input_asked l k i ts ending q =
 
 -- a tick ends no session as asked
 tick_unasked : (e : LinkEnd) → ended_by e HasTick ≡ Some Asked → ⊥
-tick_unasked e q = by_test (is_open e.role) (λ o. timed_out e.shdlc (rw o at q)) (λ o. put_out (act_answer e.role ActTick).ended_link (rw o at q))
-  where
-    timed_out : (s : EndState) → (tick_answer s).ended ≡ Some Asked → ⊥
-    timed_out s z = by s.phase (runs_timer s.session) (nat_lt (s.timer + 1) 10) (nat_lt s.tries 5) refl refl refl refl
-      where
-        by : (p : LinkState) (a b c : Bool) → s.phase ≡ p → runs_timer s.session ≡ a → nat_lt (s.timer + 1) 10 ≡ b → nat_lt s.tries 5 ≡ c → ⊥
-        by IsDown a b c p x y w = cc (rw p at z)
-        by IsUpNow false b c p x y w = cc (rw (p, x) at z)
-        by IsUpNow true true c p x y w = cc (rw (p, x, y) at z)
-        by IsUpNow true false true p x y w = cc (rw (p, x, y, w) at z)
-        by IsUpNow true false false p x y w = cc (rw (p, x, y, w) at z)
-        by IsWaitingNow a true c p x y w = cc (rw (p, y) at z)
-        by IsWaitingNow a false true p x y w = cc (rw (p, y, w) at z)
-        by IsWaitingNow a false false p x y w = cc (rw (p, y, w) at z)
-
-    put_out : (b : Bool) → (if b then if_up e.shdlc ByAct else None) ≡ Some Asked → ⊥
-    put_out false z = cc z
-    put_out true z = by e.shdlc.phase refl
-      where
-        by : (p : LinkState) → e.shdlc.phase ≡ p → ⊥
-        by IsUpNow p = cc (rw p at z)
-        by _ p = cc (rw p at z)
+tick_unasked e q = grind arith
 
 -- a reset that does is granted
 reset_granted : (e : LinkEnd) (window : Option ℕ) → ended_by e (Reset window) ≡ Some Asked → reset_refusal e ≡ None
-reset_granted e window q = go (reset_refusal e) q
-  where
-    go : (o : Option Refused) → ended_by_reset e o ≡ Some Asked → o ≡ None
-    go None z = refl
-    go (Some why) z = absurd (cc z)
+reset_granted e window q = grind arith
 
 -- ### A tick
 
@@ -205,9 +161,7 @@ host_unasked k n =
     let r : Report = report e HasTick in
     none_all asked (tick_entries Host k n)
     (are-append Unasked Host (unasked Host) (told_of Host k.controller HasTick) (rest_entries Host m (after_input e HasTick) n.turns n.ending)
-    (are-append Unasked Host (unasked Host) (map (Down Host) (option_to_list r.ended)) _
-    (are_mapped Unasked Host (unasked Host) (Down Host) (option_to_list r.ended) (λ cause. refl))
-    (rest_unasked Host (number_of k.controller) r (whole_acked (after_input e HasTick))))
+    (grind arith)
     (ending_unasked Host m (after_input e HasTick) n.turns n.ending))
 
 -- where such a reset is noted of a tick, the tick had it, and it was granted
@@ -265,15 +219,13 @@ module _ (h : ℕ) where
       kept_behind f off down t ∙ (ap (λ l. list_any f (behind_reset_of (end_c h) l)) q ∙ sym (kept_behind f off down u))
 
   down_off : (e : Entry) → tells_of h e ≡ false → is_reset_down (end_c h) e ≡ false
-  down_off (entry.Down f cause) q = rw q refl
-  down_off e q = refl
+  down_off e q = grind arith
 
   lost_off : (e : Entry) → tells_of h e ≡ false → loses_one_on h e ≡ false
   lost_off e q = (or_none _ _ (spoils_none h (said e) (untold h e q))).0
 
   asks_off : (e : Entry) → tells_of h e ≡ false → asks_at (end_h h) e ≡ false
-  asks_off (entry.Emit f lpdu) q = rw q refl
-  asks_off e q = refl
+  asks_off e q = grind arith
 
   -- notes
   asked_notes : (t : List Noted) → list_any (is_reset_down (end_c h)) (entries_for h t) ≡ list_any asked t
@@ -333,9 +285,7 @@ module _ (h : ℕ) where
   far_notes : (t : List Noted) → list_any (asks_at (end_h h)) (entries_for h t) ≡ false → list_any asks_far t ≡ false
   far_notes [] q = refl
   far_notes (Emit Controller c ∷ t) q = far_notes t (or_none (asks_by Controller c) (list_any (asks_at (end_h h)) (entries_for h t)) q).1
-  far_notes (Emit Host (Rset window caps) ∷ t) q =
-      let z = (or_none (asks_by Host (Rset window caps)) (list_any (asks_at (end_h h)) (entries_for h t)) q).0 in
-      absurd (true≢false (let r = same_number h in rw r at z))
+  far_notes (Emit Host (Rset window caps) ∷ t) q = grind arith
   far_notes (Emit Host (I ns nr info) ∷ t) q = far_notes t (or_none (asks_by Host (I ns nr info)) (list_any (asks_at (end_h h)) (entries_for h t)) q).1
   far_notes (Emit Host (S kind nr) ∷ t) q = far_notes t (or_none (asks_by Host (S kind nr)) (list_any (asks_at (end_h h)) (entries_for h t)) q).1
   far_notes (Emit Host Ua ∷ t) q = far_notes t (or_none (asks_by Host Ua) (list_any (asks_at (end_h h)) (entries_for h t)) q).1
@@ -352,15 +302,7 @@ IsFar (Restarted w) = ⊥
 IsFar _ = Unit {0}
 
 far_holds : Holds IsFar Host
-far_holds = record {
-  up = λ n. tt;
-  gave_up = λ tries. tt;
-  acked = λ n count. tt;
-  got = λ n m. tt;
-  sent = λ n m. tt;
-  emit = λ c. tt;
-  lost = λ w c why. tt;
-}
+far_holds = grind arith
 
 far_ending : (k : Link) (e : LinkEnd) (ts : List Turn) (ending : Ending) → AllByRecursion IsFar (rest_entries Host k e ts ending)
 far_ending k e ts GoesOut =
@@ -375,12 +317,7 @@ far_tick k n =
     let e : LinkEnd = k.controller.side in
     let r : Report = report e HasTick in
     are-append IsFar Host far_holds (told_of Host k.controller HasTick) _
-    (are-append IsFar Host far_holds (map (Down Host) (option_to_list r.ended)) _
-    (are_mapped IsFar Host far_holds (Down Host) (option_to_list r.ended) (λ cause. tt))
-    (are-append IsFar Host far_holds (if_so r.began (Up Host (number_of k.controller))) _
-    (are_so IsFar Host far_holds r.began (Up Host (number_of k.controller)) tt)
-    (are-append IsFar Host far_holds (if_so r.became_active (Active Host)) _ (are_so IsFar Host far_holds r.became_active (Active Host) tt)
-    (are_last IsFar Host far_holds (number_of k.controller) r (whole_acked (after_input e HasTick))))))
+    (grind arith)
     (far_ending (with_ended k (is_some (ended_by e HasTick))) (after_input e HasTick) n.turns n.ending)
 
 left_alone : (h : ℕ) (t : List Noted) → AllByRecursion IsFar t → list_any (is_lost h) t ≡ false → list_any (asks_far h) t ≡ false → list_any is_cut t ≡ false

@@ -2,18 +2,17 @@
 use Rattle.node_laws.proofs.Words.{AllByRecursion, AreSendableTurns, AsksReset, Bool, Clf, CutOff, Desk, Entry, FindsReady, GoesOut, IfDue, IfItRuns}
 use Rattle.node_laws.proofs.Words.{IfNoticedUp, IfOff, IsClf, IsEvent, IsLine, IsLinkTold, IsNoticedUp, IsTimely, IsUicc, Link, LinkEnd, LinkEvent, List}
 use Rattle.node_laws.proofs.Words.{NodeWorld, None, NoneDue, NoticesAreUp, NumberedEnd, OnFirst, Option, Reset, Running, Site, Some, Step, Tick, TimePasses}
-use Rattle.node_laws.proofs.Words.{Turn, Uicc, Up, [], after_input, after_near_tick, aged, all_aged, all_so, ap, by_controller_tick, by_host_tick, by_option}
-use Rattle.node_laws.proofs.Words.{by_test, controller_ticks, ending_of, eqb-true, exchanged, false, find, from_start, host_tick, host_ticks, hosts_tick}
-use Rattle.node_laws.proofs.Words.{is_due, is_late_at, is_open, is_some, is_waiting, link_to, map, near_tick, new_clf, new_line, new_link_end, new_uicc, not}
-use Rattle.node_laws.proofs.Words.{option_map, port_at, port_for, refl, reset_refusal, runs_on, sent_all, site_at, site_ticked, site_unticked, subst, sym}
-use Rattle.node_laws.proofs.Words.{ticked_so, ticks_at_controller, true, true≢false, turned, turns_at, work_of, world_ticks, ℕ, ◌&&◌, ◌++◌, ◌==◌, ◌∙◌, ◌∷◌, ◌≡◌}
+use Rattle.node_laws.proofs.Words.{Turn, Uicc, Up, [], after_input, after_near_tick, aged, all_aged, all_so, ap, arith, by_controller_tick, by_host_tick}
+use Rattle.node_laws.proofs.Words.{by_option, by_test, controller_ticks, ending_of, exchanged, false, find, from_start, host_tick, host_ticks, hosts_tick}
+use Rattle.node_laws.proofs.Words.{is_due, is_late_at, is_open, is_waiting, link_to, map, near_tick, new_clf, new_line, new_link_end, new_uicc, not, option_map}
+use Rattle.node_laws.proofs.Words.{port_at, port_for, refl, reset_refusal, runs_on, sent_all, site_at, site_ticked, site_unticked, subst, sym, ticked_so}
+use Rattle.node_laws.proofs.Words.{ticks_at_controller, true, turned, turns_at, work_of, world_ticks, ℕ, ◌&&◌, ◌++◌, ◌==◌, ◌∙◌, ◌∷◌, ◌≡◌}
 use Rattle.shdlc_core.specs.declared.answers.LinkState.TheVariants.{Down}
 use Rattle.node_laws.proofs.links.Sites.{AreNodes, Clean, here_clf, reset_allowed, tick_allowed, tick_clf, tick_uicc}
 use Rattle.node_laws.proofs.links.Works.{steps_fine}
 use Rattle.node_laws.proofs.links.Worlds.{AreClean, AreFineSites, AreTrueDesks, IsFineNode, IsFineSite, near_clean, ports_fine, turns_fine}
-use Rattle.node_laws.proofs.telling.Events.{link_is, ports_for, site_is}
-use Rattle.node_laws.proofs.telling.WorldTicks.{Ticking, between, between_far, host_turns, near_turns, tick_event, ticking}
-use Rattle.node_laws.proofs.telling.WorldTicks.{ticked_at}
+use Rattle.node_laws.proofs.telling.Events.{ports_for, site_is}
+use Rattle.node_laws.proofs.telling.WorldTicks.{Ticking, between, between_far, host_turns, near_turns, tick_event, ticking, ticked_at}
 use Rattle.node_laws.proofs.readings.Noticed.{host_tick_side}
 use Rattle.node_laws.proofs.order.Marking.{IfNone, runs_none, steps_none}
 use Rattle.node_laws.proofs.order.Events.{Each, IsWell, Knows, WasThere, later, renewed_clf, renewed_uicc, told_more, was_there}
@@ -36,9 +35,7 @@ end_found : (near_ends : ℕ → NumberedEnd) (desks : List Desk) (h : ℕ) (d :
     → port_at (ports_for near_ends desks) h ≡ Some (port_for (near_ends h) d)
 end_found near_ends [] h d q = absurd (cc q)
 end_found near_ends (x ∷ desks) h d q = by_test (x.host == h)
-    (λ e. let is : Some x ≡ Some d = rw e at q in
-    let one : x ≡ d = cc in
-    rw e (ap (λ n. Some (port_for (near_ends n) x)) (eqb-true x.host h e) ∙ ap (λ z. Some (port_for (near_ends h) z)) one))
+    (λ e. grind arith)
     (λ e. rw e (end_found near_ends desks h d (rw e at q)))
 
 -- an end of such a link that is up is active
@@ -51,9 +48,6 @@ up_open h l t a up = by_test (is_open l.controller.side.role) (λ q. q) (λ q. l
     closed : P l
     closed = subst P a.run.is (from_start new_line IsLine a.events a.run.allowed).good.controller.now.closed
 
-due_some : (d : Desk) → is_due d ≡ true → is_some d.notice ≡ true
-due_some d q = by_option d.notice (λ e. let z : false ≡ true = rw e at q in absurd (true≢false (sym z))) (λ n e. rw e refl)
-
 pub timely : (w : NodeWorld) (t : List Entry) (x : WatchedLink) (h : ℕ) (s : Site) → NoticesAreUp w → site_at w.sites h ≡ Some s
     → Knows t x w.controller h s → IsTimely w h s
 timely w t x h s up found a =
@@ -64,8 +58,7 @@ timely w t x h s up found a =
     due (Some r) u = λ d there late.
         let near_ends : ℕ → NumberedEnd = λ j. (link_to w.sites j).controller in
         let here : IsNoticedUp (port_for (near_ends h) d) = subst (OnFirst IsNoticedUp) (end_found near_ends r.desks h d there) (u h) in
-        let is : s.link.controller.side.shdlc.phase ≡ Up =
-        ap (λ (l : Link). l.controller.side.shdlc.phase) (sym (link_is w.sites h s found)) ∙ here (due_some d late) in
+        let is : s.link.controller.side.shdlc.phase ≡ Up = grind arith in
         (up_open h s.link t a.told is, is)
 
 -- ## Turns that may be sent
@@ -75,8 +68,7 @@ aged_clean [] a = tt
 aged_clean (s ∷ sites) a = (a.0.link.line.near, aged_clean sites a.1)
 
 pub some_desks : (o : Option Running) (r : Running) → o ≡ Some r → IsFineNode o → AreTrueDesks r.desks
-some_desks None r e b = absurd (cc e)
-some_desks (Some x) r e b = let one : x ≡ r = cc in let P : Running → Type 0 = λ z. AreTrueDesks z.desks in subst P one b
+some_desks o r e b = grind arith
 
 pub near_sends : (w : NodeWorld) (h : ℕ) (o : Option Running) → AreClean w.sites → IsFineNode o → AreSendableTurns (near_turns w h o)
 near_sends w h None clean a = tt
@@ -130,8 +122,7 @@ near_after w clf off h v q = by_controller_tick (λ p. Goal p.0) w off_goal (λ 
         subst (λ (o : Option Running). IfOff o (new_link_end (Clf new_clf)) v.link.controller.side) (sym none) (subst V was.is
         (ap (λ x. (ticked_so s.link (is_late_at (near_tick w r) s.host) (turns_at (near_tick w r) s.host) x).controller.side) ending
         ∙ near_cut s.link (is_late_at (near_tick w r) s.host) (turns_at (near_tick w r) s.host) (clf h s was.there))))
-        (λ e. let some : runs_on (near_tick w r) ≡ Some (record { core = (near_tick w r).core; desks = map (λ p. p.desk) (near_tick w r).ports }) = rw e refl in
-        subst (λ (o : Option Running). IfOff o (new_link_end (Clf new_clf)) v.link.controller.side) (sym some) tt)
+        (λ e. grind arith)
       where
         was : WasThere (site_ticked (near_tick w r)) w.sites h v
         was = was_there (site_ticked (near_tick w r)) (λ s. refl) w.sites h v here

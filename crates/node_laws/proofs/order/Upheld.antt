@@ -3,15 +3,14 @@ use Rattle.node_laws.proofs.Words.{Activates, AllByRecursion, AreBothUp, AreHost
 use Rattle.node_laws.proofs.Words.{AtHost, Bool, Comes, Controller, CutOff, End, Ending, Entry, FindsReady, FollowsNodes, GoesOut, Happening, Header, Host}
 use Rattle.node_laws.proofs.Words.{IsFew, IsFreeOfLinkFrames, IsLine, IsPlayable, IsRunOf, IsSentByHost, IsUpheld, IsUpheldInTick, IsWindow, Line, Link}
 use Rattle.node_laws.proofs.Words.{LinkEvent, List, NoInput, NodeHistory, NodeWorld, None, Occurrence, Option, Readiness, Refused, Reset, Resets, Running, Site}
-use Rattle.node_laws.proofs.Words.{Some, Standing, Step, Takes, Ticks, Turn, Work, [], after_controller, after_host, ap, append-nil, append_assoc}
+use Rattle.node_laws.proofs.Words.{Some, Standing, Step, Takes, Ticks, Turn, Work, [], after_controller, after_host, ap, append-nil, append_assoc, arith}
 use Rattle.node_laws.proofs.Words.{as_event_begins, as_event_ends, as_noted, behind_reset_of, by_option, by_some, by_test, changed_if, cond, controller_work}
 use Rattle.node_laws.proofs.Words.{cuts_on, end_c, ending_of, entries_in, eqb-true, event_entries, exchanged, false, first_verdict, fold, frames_at, frames_on}
 use Rattle.node_laws.proofs.Words.{happenings, happens, host_does, host_work, hosts_in, if_off, is_open, is_some, is_waiting, link_after_controller, list_any}
-use Rattle.node_laws.proofs.Words.{machine_in, machine_of, new_line, new_standing, new_world, node_at, node_entries, node_of, number_of, occurrences_in}
-use Rattle.node_laws.proofs.Words.{of_link, or_none, other_end, readiness_of, refl, refusal_in, reset_refusal, said, same_number, sans, site_at, standing}
-use Rattle.node_laws.proofs.Words.{standing_behind, stands_noted, steps, steps_from, subst, sym, taken_of, tells_of, true, true≢false, turns_at, unwrap_or}
-use Rattle.node_laws.proofs.Words.{with_site, withholds_in, without_power, world_behind, world_step, world_ticks, ℕ, ◌++◌, ◌==◌, ◌∙◌, ◌∷◌, ◌≡◌}
-use Rattle.link_laws.proofs.entries.Hearing.{up_session}
+use Rattle.node_laws.proofs.Words.{machine_in, machine_of, new_line, new_standing, new_world, node_at, node_entries, node_of, occurrences_in, of_link, or_none}
+use Rattle.node_laws.proofs.Words.{other_end, readiness_of, refl, refusal_in, reset_refusal, same_number, sans, site_at, standing, standing_behind}
+use Rattle.node_laws.proofs.Words.{stands_noted, steps, steps_from, subst, sym, taken_of, tells_of, true, true≢false, turns_at, unwrap_or, with_site}
+use Rattle.node_laws.proofs.Words.{withholds_in, world_behind, world_step, world_ticks, ℕ, ◌++◌, ◌==◌, ◌∙◌, ◌∷◌, ◌≡◌}
 use Rattle.link_laws.proofs.entries.Together.{together}
 use Rattle.node_laws.specs.order.Legal.{CompleteNodes, LegalNodes}
 use Rattle.node_laws.specs.order.Resets.{IsLeftAlone, ResetNodes, TickResetNodes, opens_on, ready_at, withheld_in}
@@ -31,9 +30,8 @@ use Rattle.node_laws.proofs.order.Ticking.{ticked_since}
 use Rattle.node_laws.proofs.order.Marking.{steps_none}
 use Rattle.node_laws.proofs.readings.Noticed.{numbers}
 use Rattle.node_laws.proofs.telling.Accounts.{of-append}
-use Rattle.node_laws.proofs.telling.Events.{host_does_step, link_is, site_host, site_map}
+use Rattle.node_laws.proofs.telling.Events.{host_does_step, site_host, site_map}
 use Rattle.node_laws.proofs.telling.Lasting.{AllMay, EachHolds, behind_push, damaged_may, events_of_steps, front_each, lines_each, occurs, repeated_may}
-use Rattle.node_laws.proofs.telling.Shapes.{other_said}
 use Rattle.node_laws.proofs.turns.Worlds.{in_turn}
 use Rattle.trace_model.specs.declared.entry.Entry.TheVariants as entry
 use Rattle.trace_model.specs.declared.entry.NoCause.TheVariants as no
@@ -74,8 +72,7 @@ AreDone w [] = Unit {0}
 AreDone w (o ∷ events) = ((o.entries ≡ (world_step w o.cause).1) × MayBeAsked w o.cause) × AreDone (world_step w o.cause).0 events
 
 done_push : (os : List Occurrence) (w v : NodeWorld) (c : Happening) → v ≡ world_behind w os → MayBeAsked v c → AreDone w os → AreDone w (os ++ occurs v c ∷ [])
-done_push [] w v c is may a =
-    (subst (λ (z : NodeWorld). ((world_step v c).1 ≡ (world_step z c).1) × MayBeAsked z c) is (refl, may), tt)
+done_push [] w v c is may a = grind arith
 done_push (o ∷ os) w v c is may a = (a.0, done_push os (world_step w o.cause).0 v c is may a.1)
 
 pub done_back : (xs ys : List Occurrence) (w : NodeWorld) → AreDone w (xs ++ ys) → AreDone (world_behind w xs) ys
@@ -133,12 +130,10 @@ module _ (h : ℕ) (l : Link) (window : Option ℕ) (ts : List Turn) (u : List E
 -- ### A reset in a world
 
 on_if : (b : Bool) → (cond b None (Some no.Off)) ≡ None → b ≡ true
-on_if true q = refl
-on_if false q = absurd (cc q)
+on_if b q = grind arith
 
 pub none_refused : (o : Option Refused) → as_noted o ≡ None → o ≡ None
-none_refused None q = refl
-none_refused (Some why) q = absurd (cc q)
+none_refused o q = grind arith
 
 module _ (w : NodeWorld) (t : List Entry) (X : ℕ → WatchedLink) (a : IsWell w) (each : Each t X w) (k : ℕ) (window : Option ℕ) (may : IsWindow window)
     (s : Site)
@@ -216,8 +211,7 @@ module _ (w : NodeWorld) (t : List Entry) (X : ℕ → WatchedLink) (a : IsWell 
   reset_since b none active free = go b (first_none (if_off w (node_of (side b))) (as_noted (reset_refusal (machine_in w (side b)))) none) active free
     where
       granted : (b : Bool) → as_noted (reset_refusal (machine_in w (side b))) ≡ None → reset_refusal (machine_of s.link (side b)) ≡ None
-      granted b q =
-          ap (λ l. reset_refusal (machine_of l (side b))) (sym (link_is w.sites k s there)) ∙ none_refused (reset_refusal (machine_in w (side b))) q
+      granted b q = grind arith
 
       runs : is_some (node_at w k) ≡ true → is_some s.node ≡ true
       runs q =
@@ -243,13 +237,7 @@ brought_up h l t x read a near far to_controller to_host =
     let law : P l = subst P a.run.is (together new_line IsLine a.before a.reset a.behind a.run.allowed a.asked a.undisturbed) in
     let both : AreUpTogether l =
     law (sans_none l.to_controller (subst IsFreeOfLinkFrames near to_controller)) (sans_none l.to_host (subst IsFreeOfLinkFrames far to_host)) in
-    record {
-      number = number_of l.controller;
-      up = record {
-        controller = read.controller ∙ up_session l.controller both.controller;
-        host = read.host ∙ (up_session l.host both.host ∙ ap (λ n. Some n) (sym both.number));
-      };
-    }
+    grind arith
 
 -- ## In each history a reset whose answer nothing withheld has brought both ends of its link up
 
@@ -270,25 +258,14 @@ module _ (k : ℕ) (hosts : List ℕ) where
         up = a.up;
         each = λ h s found.
             let b : Knows (entries_in os) (watches of_none os h) w.controller h s = a.each h s found in
-            record {
-              told = b.told;
-              shown = record {
-                wires = b.shown.wires;
-                since = λ q. let P : ℕ → Type 0 = λ n. site_at w.sites n ≡ Some s in since s (subst P (eqb-true h k q) found);
-                ready = b.shown.ready;
-              };
-              near = b.near;
-              far = b.far;
-              none = b.none;
-            };
+            grind arith;
         strange = a.strange;
       }
 
   -- an event that withholds nothing
   leaves : (c : Happening) (u : List Entry) → opens_on k c ≡ false → list_any (withholds_on k) u ≡ false
       → (watched k (watch_begins k c untouched) u).since ≡ true
-  leaves (Activates j sync power) u p q = rw (p, q) refl
-  leaves c u p q = rw q refl
+  leaves c u p q = grind arith
 
   leaves_known : (w : NodeWorld) (c : Happening) → opens_on k c ≡ false → list_any (withholds_on k) (world_step w c).1 ≡ false
       → LeavesKnown (of_one k) hosts w c
@@ -330,15 +307,7 @@ idle_at e x a = by_test e.at_host (λ q. rw q a.1) (λ q. rw q a.0)
 module _ (k : ℕ) where
   -- entries that tell nothing of a link let none become so
   idle_noted : (x : Standing) (e : Entry) → tells_of k e ≡ false → IsIdle x → IsIdle (stands_noted k x e)
-  idle_noted x (entry.Cut n) q a = go (n == 0) (n == k)
-    where
-      go : (b c : Bool) → IsIdle (cond b (without_power Controller x) (cond c (without_power Host x) x))
-      go true c = (refl, a.1)
-      go false true = (a.0, refl)
-      go false false = a
-  idle_noted x (entry.Active f) q a = rw q a
-  idle_noted x (entry.GaveUp f tries) q a = rw q a
-  idle_noted x e q a = subst IsIdle (sym (other_said k x (said e) q)) a
+  idle_noted x e q a = grind arith
 
   idle_all : (t : List Entry) (x : Standing) → of_link k t ≡ [] → IsIdle x → IsIdle (standing k x t)
   idle_all [] x q a = a
@@ -438,8 +407,7 @@ module _ (header : Header) (lines : List Line) (t : NodeHistory) (follows : Foll
       let ready : ready_at (other_end e) (standing_behind k before) ≡ readiness_of (machine_of s.link (other_end e)) =
       ready_machine s.link (standing_behind k before) ((so.each k s there).shown.ready refl) (other_end e) in
       let may : MayBeAsked w (Resets e window) = subst (λ (c : Happening). MayBeAsked w c) a.cause done.1 in
-      let told : list_any (cuts_on k) (world_step w (Resets e window)).1 ≡ false =
-      ap (λ c. list_any (cuts_on k) (world_step w c).1) (sym a.cause) ∙ (ap (list_any (cuts_on k)) (sym done.0) ∙ a.powered) in
+      let told : list_any (cuts_on k) (world_step w (Resets e window)).1 ≡ false = grind arith in
       let N : Happening → Type 0 = λ c. (x : Site) → site_at (world_step w c).0.sites k ≡ Some x → IsSince x.link in
       let active = ap (λ (r : Readiness). r.active) (sym ready) ∙ a.active in
       let free = ap (λ (r : Readiness). r.waits) (sym ready) ∙ a.free in
@@ -461,8 +429,7 @@ module _ (header : Header) (lines : List Line) (t : NodeHistory) (follows : Foll
       subst (AreBelieved h tick.cause) (sym done.0) (event_believed h w tick.cause) in
       let lossless : list_any (loses_one_on h) (behind_reset_of (end_c h) tick.entries) ≡ false =
       none_lost_behind h tick.cause (end_c h) tick.entries believed a.lossless in
-      let says : IsAnsweredTick h (world_ticks w).1 =
-      subst (IsAnsweredTick h) entries (record { reset = a.reset; powered = a.powered; lossless = lossless; alone = a.alone }) in
+      let says : IsAnsweredTick h (world_ticks w).1 = grind arith in
       let N : Happening → Type 0 = λ c. (x : Site) → site_at (world_step w c).0.sites h ≡ Some x → IsSince x.link in
       let active = ap (λ (r : Readiness). r.active) (sym ready.far) ∙ a.active in
       let free = ap (λ (r : Readiness). r.waits) (sym ready.far) ∙ a.free in

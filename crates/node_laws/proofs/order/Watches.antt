@@ -1,14 +1,13 @@
 -- How a link stands, and whether nothing has withheld the answer to a reset of it, as it is read off entries.
 use Rattle.node_laws.proofs.Words.{Acked, Act, Activates, Active, AllByRecursion, Arms, Begins, Bool, Boots, Clt, Comes, Control, Controller, Counts, Cut}
-use Rattle.node_laws.proofs.Words.{CutOff, Down, Emit, End, Entry, Err, GaveUp, Gets, Gives, Got, Happening, Host, I, Inits, IsCut, IsEvent, IsFreeOfLinkFrames}
-use Rattle.node_laws.proofs.Words.{IsRunOf, Link, LinkEnd, LinkEvent, LinkInput, List, Loses, Loss, Lost, LpduRow, NodeWorld, None, Noted, Ok, Option, Puts}
-use Rattle.node_laws.proofs.Words.{Resets, Restarted, Rset, S, Saying, Sent, Some, Standing, StandsOf, Starts, Stops, Takes, TellOf, Ticks, Took, Turn, Ua, []}
-use Rattle.node_laws.proofs.Words.{after_input, after_link_events, and-false, and_parts, ap, append-nil, append_assoc, arith, as_event_begins, as_event_ends}
-use Rattle.node_laws.proofs.Words.{becomes_at, behind_reset_of, by_loss, by_test, cond, cuts_on, drop, drops_on, end_of, ended_by, entries, entries_for}
-use Rattle.node_laws.proofs.Words.{event_entries, false, find, first_lost, fold-append, frames_on, happens, if◌then◌else◌, inl, input_entries, inr, is_act}
-use Rattle.node_laws.proofs.Words.{is_act_lpdu, is_lost_by_line, is_of, is_reset_down, is_some, is_within, kind_number, law_noted, leb-true, length}
-use Rattle.node_laws.proofs.Words.{length-append, length-replicate, link_to, list_any, list_any-append, lost_as, lpdu_of, made_active, nat_le, nat_lt, new_line}
-use Rattle.node_laws.proofs.Words.{new_standing, no_longer_waits, not, number_of, of_link, or-true, or_none, read_by, refl, replicate, rest_entries, said}
+use Rattle.node_laws.proofs.Words.{CutOff, Down, Emit, End, Entry, GaveUp, Gets, Gives, Got, Happening, Host, I, Inits, IsCut, IsEvent, IsFreeOfLinkFrames}
+use Rattle.node_laws.proofs.Words.{IsRunOf, Link, LinkEnd, LinkEvent, LinkInput, List, Loses, Loss, Lost, LpduRow, NodeWorld, None, Noted, Option, Puts, Resets}
+use Rattle.node_laws.proofs.Words.{Restarted, Rset, S, Saying, Sent, Some, Standing, StandsOf, Starts, Stops, Takes, TellOf, Ticks, Took, Turn, Ua, []}
+use Rattle.node_laws.proofs.Words.{after_input, after_link_events, and-false, and_parts, ap, append-nil, append_assoc, arith, behind_reset_of, by_loss, by_test}
+use Rattle.node_laws.proofs.Words.{cond, cuts_on, drop, drops_on, end_of, ended_by, entries, entries_for, event_entries, false, find, first_lost, fold-append}
+use Rattle.node_laws.proofs.Words.{frames_on, happens, if◌then◌else◌, input_entries, is_act, is_act_lpdu, is_lost_by_line, is_of, is_reset_down, is_some}
+use Rattle.node_laws.proofs.Words.{is_within, kind_number, law_noted, length, length-append, length-replicate, link_to, list_any, list_any-append, lost_as}
+use Rattle.node_laws.proofs.Words.{lpdu_of, new_line, new_standing, not, number_of, of_link, or-true, or_none, read_by, refl, replicate, rest_entries, said}
 use Rattle.node_laws.proofs.Words.{said_far, said_near, sans, slice_index, standing, standing_by_law, stands_noted, stands_said, stands_told, subst, suc, sym}
 use Rattle.node_laws.proofs.Words.{table, tells_of, told_of, true, true≢false, turn_entries, with_empty_wires, with_ended, withholds, withholds_in, world_step}
 use Rattle.node_laws.proofs.Words.{ℕ, ◌&&◌, ◌*◌, ◌++◌, ◌+◌, ◌<◌, ◌==◌, ◌||◌, ◌∙◌, ◌∷◌, ◌≡◌, ◌≤◌, ◌⊎◌}
@@ -20,7 +19,6 @@ use Rattle.link_laws.specs.entries.Entries.{End as Side}
 use Rattle.link_laws.specs.entries.Entries.Entry.{Tick, Up}
 use Rattle.link_laws.specs.entries.Settled.{IsReset, rest_of}
 use Rattle.link_laws.specs.places.Wire.{OnWire}
-use Rattle.swp_lpdu.specs.declared.LpduFault.TheVariants.{Short, TooLong}
 use Rattle.node_laws.specs.order.Resets.{is_act_read, loses_at, loses_one_in, spoils_in}
 use Rattle.node_laws.specs.telling.Standing.{with_inactive_ends}
 use Rattle.node_laws.proofs.links.Sites.{run_of_more}
@@ -55,8 +53,7 @@ AreBelieved h c es = AllByRecursion (IsBelieved h c) es
 lineless_believed : (h : ℕ) (c : Happening) (es : List Entry) → AreLineless es → AreBelieved h c es
 lineless_believed h c [] a = tt
 lineless_believed h c (x ∷ es) a = (
-  ap (λ b. loses_one_on h x && not (loses_at h c || not b)) a.0 ∙ (ap (λ b. loses_one_on h x && not b) (or-true (loses_at h c))
-      ∙ and-false (loses_one_on h x)),
+  ap (λ b. loses_one_on h x && not (loses_at h c || not b)) a.0 ∙ (grind arith),
   lineless_believed h c es a.1,
 )
 
@@ -72,16 +69,11 @@ lost_believed h k who why e loss (x ∷ w) same = (by (e.link == h) refl, tt) wh
   kept = not (is_act_lpdu (lpdu_of x.frame))
 
   link : (end_of k who).link ≡ k
-  link = by_side who where
-    by_side : (s : Side) → (end_of k s).link ≡ k
-    by_side Controller = refl
-    by_side Host = refl
+  link = grind arith
 
   by : (b : Bool) → (e.link == h) ≡ b → IsBelieved h (Loses e loss) lost
   by true q = ap (λ b. loses_one_on h lost && not (b || not (is_lost_by_line lost))) q ∙ and-false (loses_one_on h lost)
-  by false q =
-      let off : loses_one_on h lost ≡ false = ap (λ n. (n == h) && kept) (link ∙ sym same) ∙ ap (λ b. b && kept) q in
-      ap (λ b. b && not (loses_at h (Loses e loss) || not (is_lost_by_line lost))) off
+  by false q = grind arith
 
 -- So it is with each entry of an event.
 pub event_believed : (h : ℕ) (w : NodeWorld) (c : Happening) → AreBelieved h c (world_step w c).1
@@ -103,9 +95,7 @@ event_believed h w (Arms n plan) = lineless_believed h (Arms n plan) (world_step
 -- ### What is read by events and by entries
 
 one_lost : (a b : Bool) → (a && not b) ≡ false → (a && b) ≡ false → a ≡ false
-one_lost true true p q = q
-one_lost true false p q = p
-one_lost false b p q = refl
+one_lost a b p q = grind arith
 
 none_lost : (h : ℕ) (c : Happening) (es : List Entry) → AreBelieved h c es → list_any (loses_one_in h c) es ≡ false → list_any (loses_one_on h) es ≡ false
 none_lost h c [] a q = refl
@@ -143,14 +133,6 @@ none_lost_behind h c e es a q = none_lost h c (behind_reset_of e es) (believed_b
 abbrev IsFree : ℕ → LpduRow → Type 0
 IsFree byte r = (is_within r.first r.last byte ≡ false) ⊎ ((bytes : List ℕ) → is_act (r.says bytes) ≡ false)
 
-free_read : (r : LpduRow) (bytes : List ℕ) → is_act (r.says bytes) ≡ false → is_act_read (read_by (Some r) bytes) ≡ false
-free_read r bytes free = go (nat_lt (length bytes) r.need) (nat_lt r.most (length bytes)) where
-  go : (short long : Bool) → is_act_read (cond short (Err (Short r.need (length bytes)))
-      (cond long (Err (TooLong (length bytes))) (Ok (r.says bytes)))) ≡ false
-  go true long = refl
-  go false true = refl
-  go false false = free
-
 -- the row of a first byte
 row_free : (byte : ℕ) (rows : List LpduRow) → AllByRecursion (IsFree byte) rows → (bytes : List ℕ)
     → is_act_read (read_by (find (λ (r : LpduRow). is_within r.first r.last byte) rows) bytes) ≡ false
@@ -159,15 +141,10 @@ row_free byte (r ∷ rows) a bytes = by_test (is_within r.first r.last byte)
     (λ q. rw q (by q a.0))
     (λ q. rw q (row_free byte rows a.1 bytes)) where
       by : is_within r.first r.last byte ≡ true → IsFree byte r → is_act_read (read_by (Some r) bytes) ≡ false
-      by q (inl other) = absurd (true≢false (sym q ∙ other))
-      by q (inr free) = free_read r bytes (free bytes)
+      by q a = grind arith
 
 low_row : (low high n : ℕ) → high < n → is_within low high n ≡ false
-low_row low high n less = go (nat_le low n) (nat_le n high) refl where
-  go : (a b : Bool) → nat_le n high ≡ b → (a && b) ≡ false
-  go true true q = absurd (let most = leb-true n high q in omega (arith, less, most))
-  go true false q = refl
-  go false b q = refl
+low_row low high n less = grind arith
 
 -- frames of SHDLC have greater first bytes than those of activation
 high_free : (n : ℕ) → 0x80 ≤ n → (bytes : List ℕ) → slice_index bytes 0 ≡ n → is_act_lpdu bytes ≡ false
@@ -178,22 +155,10 @@ high_free n high bytes first =
     apart k less = low_row k k n (omega (arith, high, less))
 
     acts : AllByRecursion (IsFree n) (drop 7 table)
-    acts = (
-      inl (apart 0x60 (omega arith)),
-      (
-        inl (apart 0x68 (omega arith)),
-        (
-          inl (apart 0x61 (omega arith)),
-          (inl (apart 0x69 (omega arith)), (inl (apart 0x62 (omega arith)), (inl (apart 0x6A (omega arith)), (inr (λ b. refl), tt)))),
-        ),
-      ),
-    )
+    acts = grind arith
 
     rows : AllByRecursion (IsFree n) table
-    rows = (
-      inr (λ b. refl),
-      (inr (λ b. refl), (inr (λ b. refl), (inr (λ b. refl), (inr (λ b. refl), (inr (λ b. refl), (inr (λ b. refl), acts)))))),
-    )
+    rows = grind arith
 
 -- what is read as a frame of activation is one
 act_read : (c : Control) → is_act c ≡ false → is_act_lpdu (lpdu_of c) ≡ false
@@ -278,21 +243,7 @@ record IsOneOff (x y : Standing) : Type 0 where
   more : length y.to_host ≤ suc (length x.to_host)
 
 near_same : (x y : Standing) → y.to_host ≡ x.to_host → IsOneOff x y
-near_same x y q =
-    let n : length y.to_host ≡ length x.to_host = ap (λ (w : List (List ℕ)). length w) q in
-    record { less = omega (arith, n); more = omega (arith, n) }
-
-one_less : (w : List (List ℕ)) → (length w ≤ suc (length (drop 1 w))) × (length (drop 1 w) ≤ suc (length w))
-one_less [] = (omega arith, omega arith)
-one_less (f ∷ w) = (omega arith, omega arith)
-
-near_dropped : (x y : Standing) → y.to_host ≡ drop 1 x.to_host → IsOneOff x y
-near_dropped x y q =
-    let n : length y.to_host ≡ length (drop 1 x.to_host) = ap (λ (w : List (List ℕ)). length w) q in
-    let d = one_less x.to_host in
-    let less = d.0 in
-    let more = d.1 in
-    record { less = omega (arith, n, less); more = omega (arith, n, more) }
+near_same x y q = grind arith
 
 near_put : (x y : Standing) (f : List ℕ) → y.to_host ≡ x.to_host ++ f ∷ [] → IsOneOff x y
 near_put x y f q =
@@ -308,12 +259,7 @@ near_said (SayingLoses f) x = near_same x (said_near (SayingLoses f) x) refl
 near_said _ x = near_same x x refl
 
 far_said : (s : Saying) (x : Standing) → IsOneOff x (said_far s x)
-far_said (Begins n) x = near_same x (said_far (Begins n) x) refl
-far_said Ends x = near_same x (said_far Ends x) refl
-far_said (Puts f) x = near_same x (said_far (Puts f) x) refl
-far_said (SayingTakes f) x = near_dropped x (said_far (SayingTakes f) x) refl
-far_said (SayingLoses f) x = near_dropped x (said_far (SayingLoses f) x) refl
-far_said _ x = near_same x x refl
+far_said s x = grind arith
 
 abbrev pub is_cut : Noted → Bool
 is_cut (Cut who) = true
@@ -330,28 +276,13 @@ module _ (h : ℕ) where
       go false c = near_same x x refl
 
   told_one : (x : Standing) (e : Entry) → IsOneOff x (stands_told h x e)
-  told_one x (entry.Active e) = go (e.link == h) e.at_host
-    where
-      go : (b c : Bool) → IsOneOff x (cond b (becomes_at c made_active x) x)
-      go true true = near_same x (becomes_at true made_active x) refl
-      go true false = near_same x (becomes_at false made_active x) refl
-      go false c = near_same x x refl
-  told_one x (entry.GaveUp e tries) = go (e.link == h) e.at_host
-    where
-      go : (b c : Bool) → IsOneOff x (cond b (becomes_at c no_longer_waits x) x)
-      go true true = near_same x (becomes_at true no_longer_waits x) refl
-      go true false = near_same x (becomes_at false no_longer_waits x) refl
-      go false c = near_same x x refl
+  told_one x (entry.Active e) = grind arith
+  told_one x (entry.GaveUp e tries) = grind arith
   told_one x e = one_off x (said e)
 
   -- entries that cut no power of its nodes take at most one frame each
   uncut_one : (x : Standing) (e : Entry) → cuts_on h e ≡ false → length x.to_host ≤ suc (length (stands_noted h x e).to_host)
-  uncut_one x (entry.Cut n) q =
-      let a = or_none (n == 0) (n == h) q in
-      let p = a.0 in
-      let r = a.1 in
-      let same : stands_noted h x (entry.Cut n) ≡ x = rw (p, r) refl in
-      (near_same x (stands_noted h x (entry.Cut n)) (ap (λ (z : Standing). z.to_host) same)).less
+  uncut_one x (entry.Cut n) q = grind arith
   uncut_one x e q = (told_one x e).less
 
   uncut_all : (u : List Entry) (x : Standing) → list_any (cuts_on h) u ≡ false → length x.to_host ≤ length (standing h x u).to_host + length u
@@ -410,10 +341,7 @@ module _ (h : ℕ) where
 
 module _ (h : ℕ) where
   pub spoils_none : (o : Option (End × Saying)) → is_of h o ≡ false → (drops_on h o || resets_on h o) ≡ false
-  spoils_none None q = refl
-  spoils_none (Some (e, Puts f)) q = rw q refl
-  spoils_none (Some (e, SayingLoses f)) q = rw q refl
-  spoils_none (Some (e, _)) q = refl
+  spoils_none o q = grind arith
 
   -- only what says something of the link spoils
   spoils_of : (t : List Entry) → list_any (spoils_on h) t ≡ list_any (spoils_on h) (of_link h t)
@@ -427,8 +355,7 @@ module _ (h : ℕ) where
   spared_of [] q = refl
   spared_of (Emit w (I ns nr info) ∷ t) q = spared_of t (or_none _ _ q).1
   spared_of (Emit w (S kind nr) ∷ t) q = spared_of t (or_none _ _ q).1
-  spared_of (Emit w (Rset window caps) ∷ t) q =
-      let one = link_same h w in absurd (let z : (((end_of h w).link == h) && true) ≡ false = (or_none _ _ q).0 in true≢false (rw one at z))
+  spared_of (Emit w (Rset window caps) ∷ t) q = grind arith
   spared_of (Emit w Ua ∷ t) q = spared_of t (or_none _ _ q).1
   spared_of (Emit w (Act act again) ∷ t) q = spared_of t (or_none _ _ q).1
   spared_of (Emit w Clt ∷ t) q = spared_of t (or_none _ _ q).1
@@ -464,9 +391,7 @@ stands_of h (_ ∷ t) a q = stands_of h t a.1 q
 -- ### One event
 
 kept_both : (a b : Bool) → (a && not b) ≡ true → (a ≡ true) × (b ≡ false)
-kept_both true false q = (refl, refl)
-kept_both true true q = absurd (true≢false (sym q))
-kept_both false b q = absurd (true≢false (sym q))
+kept_both a b q = grind arith
 
 -- an event that may happen, and entries that tell of it
 pub record IsStepOf (h : ℕ) (l : Link) (e : LinkEvent) (u : List Entry) : Type 0 where
@@ -511,9 +436,7 @@ pub kept_left : (a b : Bool) → (a && b) ≡ true → a ≡ true
 kept_left a b q = (and_parts a b q).0
 
 kept_assoc : (a b c : Bool) → ((a && not b) && not c) ≡ (a && not (b || c))
-kept_assoc true true c = refl
-kept_assoc true false c = refl
-kept_assoc false b c = refl
+kept_assoc a b c = grind arith
 
 pub watched-append : (h : ℕ) (x : WatchedLink) (u v : List Entry) → watched h (watched h x u) v ≡ watched h x (u ++ v)
 watched-append h x u v =
@@ -524,49 +447,13 @@ watched-append h x u v =
     ap (λ z. record { stands = z; since = (watched h (watched h x u) v).since; whole = x.whole }) stands
     ∙ ap (λ b. record { stands = standing h x.stands (u ++ v); since = b; whole = x.whole }) since
 
-pub watch_begins_stands : (h : ℕ) (c : Happening) (x : WatchedLink) → (watch_begins h c x).stands ≡ as_event_begins h c x.stands
-watch_begins_stands h (Activates k sync power) x = by_test (h == k) (λ q. rw q refl) (λ q. rw q refl)
-watch_begins_stands h c x = refl
-
-pub watch_ends_stands : (h : ℕ) (c : Happening) (x : WatchedLink) → (watch_ends h c x).stands ≡ as_event_ends h c x.stands
-watch_ends_stands h (Activates k sync power) x = by_test (h == k) (λ q. rw q refl) (λ q. rw q refl)
-watch_ends_stands h c x = refl
-
-pub watch_ends_since : (h : ℕ) (c : Happening) (x : WatchedLink) → (watch_ends h c x).since ≡ x.since
-watch_ends_since h (Activates k sync power) x = by_test (h == k) (λ q. rw q refl) (λ q. rw q refl)
-watch_ends_since h c x = refl
-
 -- a link whose ends were as they are read before an event is so behind it
 pub ends_whole : (h : ℕ) (c : Happening) (x : WatchedLink) (u : List Entry) → x.whole ≡ true → (watch_ends h c (watched h (watch_begins h c x) u)).whole ≡ true
-ends_whole h (Activates k sync power) x u q = by_test (h == k) (λ is. rw is refl) (λ is. rw is q)
-ends_whole h c x u q = q
+ends_whole h c x u q = grind arith
 
 -- nothing was noted yet, and nothing withheld an answer
 abbrev pub untouched : WatchedLink
 untouched = record { stands = new_standing; since = true; whole = true }
-
--- what is known lasts over an event that withholds no answer
-pub since_known : (h : ℕ) (c : Happening) (x : Standing) (u : List Entry) (b : Bool) → b ≡ true
-    → (watched h (watch_begins h c untouched) u).since ≡ true
-    → (watched h (watch_begins h c (record { stands = x; since = b; whole = true })) u).since ≡ true
-since_known h c x u b q leaves = subst P (sym q) (same c leaves)
-  where
-    P : Bool → Type 0
-    P z = (watched h (watch_begins h c (record { stands = x; since = z; whole = true })) u).since ≡ true
-
-    rest : Bool
-    rest = not (list_any (withholds_on h) u)
-
-    go : (b : Bool)
-        → ((cond b (unwatched untouched) untouched).since && rest) ≡ true
-        → ((cond b (unwatched (record { stands = x; since = true; whole = true })) (record { stands = x; since = true; whole = true })).since && rest) ≡ true
-    go true z = z
-    go false z = z
-
-    same : (c : Happening) → (watched h (watch_begins h c untouched) u).since ≡ true
-        → (watched h (watch_begins h c (record { stands = x; since = true; whole = true })) u).since ≡ true
-    same (Activates k sync power) z = go (h == k) z
-    same c z = z
 
 -- ### A link with a reset
 

@@ -1,36 +1,33 @@
 -- The frames on the wires of a link, and how ready its ends are, are read off what is noted of it.
 use Rattle.node_laws.proofs.Words.{Acked, Act, ActStart, Active, AllAllowed, AllByRecursion, AsksReset, AtController, Bare, Begins, Bool, Clf, Comes, Control}
-use Rattle.node_laws.proofs.Words.{Controller, Counts, Cut, CutOff, Down, Emit, EndState, Ending, Entry, FetchMessage, GaveUp, Gets, Give, GoesOut, Good, Got}
-use Rattle.node_laws.proofs.Words.{Hold, Host, I, IsClf, IsDown, IsEvent, IsLine, IsLinkTold, IsRunOf, IsUpNow, Link, LinkEnd, LinkEvent, List, Lost, Node}
-use Rattle.node_laws.proofs.Words.{None, Noted, NumberedEnd, OnWire, PowerMode, Puts, Reached, Readiness, Ready, Release, Reset, Restarted, Role, S, Saying}
-use Rattle.node_laws.proofs.Words.{Seen, Sent, Session, SetAside, Some, Standing, Starts, Step, Stops, SyncId, Took, Turn, Uicc, [], activated_role}
-use Rattle.node_laws.proofs.Words.{after_link_events, aged, aged_entries, all_append, ap, append-nil, append_assoc, arith, aside_refusal, becomes_at, begins}
-use Rattle.node_laws.proofs.Words.{by_option, by_test, core_end, core_event, core_of, drop, end_of, entries, event_entries, event_step, exchanged, false}
-use Rattle.node_laws.proofs.Words.{frames_on, frames_out, happens, happens_at_controller, inactive, inl, inr, is_open, is_rset, is_waiting, kept, law_noted}
-use Rattle.node_laws.proofs.Words.{le-leb, length, list_any, lpdu_of, lpdu_row_of, lt-ltb, ltb-false, ltb-true, made_active, max, most_frames, moved, nat_le}
-use Rattle.node_laws.proofs.Words.{nat_lt, new_line, new_link_end, no_longer_waits, no_session, not, nothing_seen, number_of, older, or_none, put_all}
-use Rattle.node_laws.proofs.Words.{reached_more, readiness_of, refl, renewed, role_after, said_far, said_near, same_number, see, see_all, sent_all, silences}
-use Rattle.node_laws.proofs.Words.{silent, since, slice_index, standing, standing_by_law, stands_said, start_good, start_reached, started, step_entries}
-use Rattle.node_laws.proofs.Words.{stopped, subst, suc, sym, tick_entries, true, true≢false, turn, turned, turned_role, turned_same, with_empty_wires}
-use Rattle.node_laws.proofs.Words.{with_ready, zero, ℕ, ◌&&◌, ◌*◌, ◌++◌, ◌+◌, ◌<◌, ◌∙◌, ◌∷◌, ◌≡◌, ◌≤◌, ◌⊎◌}
+use Rattle.node_laws.proofs.Words.{Controller, Counts, Cut, CutOff, Down, Emit, EndState, Ending, Entry, GaveUp, Gets, GoesOut, Good, Got, Host, I, IsClf}
+use Rattle.node_laws.proofs.Words.{IsDown, IsEvent, IsLine, IsLinkTold, IsRunOf, IsUpNow, Link, LinkEnd, LinkEvent, List, Lost, Node, None, Noted, OnWire}
+use Rattle.node_laws.proofs.Words.{PowerMode, Puts, Reached, Readiness, Ready, Reset, Restarted, Role, S, Saying, Seen, Sent, Some, Standing, Starts, Step}
+use Rattle.node_laws.proofs.Words.{Stops, SyncId, Took, Turn, Uicc, [], activated_role, after_link_events, aged, aged_entries, all_append, ap, append-nil}
+use Rattle.node_laws.proofs.Words.{append_assoc, arith, becomes_at, begins, by_test, core_event, core_of, end_of, entries, event_entries, event_step, exchanged}
+use Rattle.node_laws.proofs.Words.{false, frames_on, frames_out, happens, happens_at_controller, inactive, inl, inr, is_open, is_rset, is_waiting, kept}
+use Rattle.node_laws.proofs.Words.{law_noted, le-leb, list_any, lpdu_of, lpdu_row_of, lt-ltb, made_active, most_frames, moved, nat_le, nat_lt, new_line}
+use Rattle.node_laws.proofs.Words.{new_link_end, no_longer_waits, no_session, not, nothing_seen, number_of, older, or_none, put_all, reached_more, readiness_of}
+use Rattle.node_laws.proofs.Words.{refl, renewed, role_after, said_far, said_near, same_number, see, see_all, sent_all, silences, silent, since, slice_index}
+use Rattle.node_laws.proofs.Words.{standing, standing_by_law, stands_said, start_good, start_reached, started, step_entries, stopped, subst, suc, sym}
+use Rattle.node_laws.proofs.Words.{tick_entries, true, true≢false, turn, turned, turned_role, turned_same, zero, ℕ, ◌&&◌, ◌*◌, ◌++◌, ◌+◌, ◌<◌, ◌∙◌, ◌∷◌, ◌≡◌}
+use Rattle.node_laws.proofs.Words.{◌≤◌, ◌⊎◌}
 use Rattle.history.proofs.legal.Sessions.{out_numbers}
 use Rattle.history.proofs.waits.Histories.{controller_harked, host_harked}
 use Rattle.history.proofs.waits.Harking.{hark, harks, harks-append, waits}
-use Rattle.history.specs.Filters.Saying.{Ends, Loses, Sends, Takes}
+use Rattle.history.specs.Filters.Saying.{Ends, Sends}
 use Rattle.history.specs.Legal.{is_rset_lpdu}
 use Rattle.link_laws.proofs.entries.Seeing.{read_off, see_all-append}
 use Rattle.link_laws.proofs.messages.Project.{frames_alike}
 use Rattle.link_laws.specs.entries.Entries.{End as Side}
 use Rattle.link_laws.specs.entries.Entries.Entry.{Tick, Up}
-use Rattle.shdlc_core.specs.Machine.{frame_due}
 use Rattle.swp_base.specs.declared.control_frames.Kind.TheVariants.{Rej, Rnr, Rr, Srej}
 use Rattle.swp_lpdu.specs.Controls.{HasNumbers, i_frame, lpdu_row}
 use Rattle.node_laws.proofs.links.Sites.{run_of_more}
 use Rattle.node_laws.proofs.order.Activity.{IsLined, acted, acting, acting-append, acts, all_acting, lined_acts}
 use Rattle.node_laws.proofs.order.Gone.{Gone, Hears, HearsNone, event_begins, event_keeps, event_silenced, events_mute, hears_parts}
-use Rattle.node_laws.proofs.order.Marking.{IsPast, all_resets}
-use Rattle.node_laws.proofs.order.Watches.{AreUnstarted, IsSince, IsStepOf, IsUnstarted, WatchedLink, kept_left, opened, since_step, unwatched, watched}
-use Rattle.node_laws.proofs.order.Watches.{withholds_on}
+use Rattle.node_laws.proofs.order.Marking.{all_resets}
+use Rattle.node_laws.proofs.order.Watches.{AreUnstarted, IsSince, IsStepOf, IsUnstarted, WatchedLink, opened, since_step, unwatched, watched}
 use Rattle.node_laws.proofs.telling.Events.{after-append, entries-append}
 use Rattle.node_laws.proofs.telling.Shapes.{AreClear, IsShaped, IsStepShaped, clear_aged, last_of, opened_by, opened_stands, shaped_step, shaped_tick}
 use Rattle.node_laws.proofs.telling.WorldTicks.{between, near_notes, tick_event}
@@ -75,14 +72,7 @@ misnumbered_mute =
     }
 
 pub numbered : (who : Side) (c : Control) → misnumbered (Emit who c) ≡ false → HasNumbers c
-numbered who (I ns nr info) q = go (nat_lt ns 8) (nat_lt nr 8) refl refl
-  where
-    go : (a b : Bool) → nat_lt ns 8 ≡ a → nat_lt nr 8 ≡ b → (ns < 8) × (nr < 8)
-    go true true x y = (ltb-true ns 8 x, ltb-true nr 8 y)
-    go true false x y = absurd (true≢false (rw (x, y) at q))
-    go false b x y = absurd (true≢false (rw x at q))
-numbered who (S kind nr) q = by_test (nat_lt nr 8) (λ x. ltb-true nr 8 x) (λ x. absurd (true≢false (rw x at q)))
-numbered who _ q = tt
+numbered who c q = grind arith
 
 -- ### RSET
 
@@ -98,12 +88,7 @@ each_below P (suc n) a (suc k) low = each_below (λ j. P (suc j)) n a.1 k (omega
 
 -- bytes that are read by the row of information frames
 fragment_read : (bytes : List ℕ) → lpdu_row_of (slice_index bytes 0) ≡ Some (lpdu_row 0x80 0xBF 2 30 i_frame) → is_rset_lpdu bytes ≡ false
-fragment_read bytes q = by (nat_lt (length bytes) 2) (nat_lt 30 (length bytes)) refl refl
-  where
-    by : (short long : Bool) → nat_lt (length bytes) 2 ≡ short → nat_lt 30 (length bytes) ≡ long → is_rset_lpdu bytes ≡ false
-    by true long p r = rw (q, p) refl
-    by false true p r = rw (q, p, r) refl
-    by false false p r = rw (q, p, r) refl
+fragment_read bytes q = grind arith
 
 -- RSET alone is read as RSET
 rset_read : (c : Control) → HasNumbers c → is_rset_lpdu (lpdu_of c) ≡ is_rset c
@@ -181,10 +166,7 @@ module _ (h : ℕ) where
       let a = or_none (misnumbered n) (list_any misnumbered t) m in
       let one = note_read x n u.0 a.0 in
       let more = notes_read t (law_noted h x n) u.1 a.1 in
-      record {
-        near_is = more.near_is ∙ ap (λ r. all_heard Controller r t) one.near_is;
-        far_is = more.far_is ∙ ap (λ r. all_heard Host r t) one.far_is;
-      }
+      grind arith
 
 -- ### Events
 
@@ -223,16 +205,7 @@ ready_more h l e t u x a n plain ready =
     one_more (harks Controller) (harks-append Controller) (λ k. waits k.controller) (controller_harked new_line IsLine) a.events l e n.can a.run in
     let waits_far : harks Host (waits l.host) notes ≡ waits (happens l e).host =
     one_more (harks Host) (harks-append Host) (λ k. waits k.host) (host_harked new_line IsLine) a.events l e n.can a.run in
-    record {
-      near = ap (λ (z : Standing). z.near) (n.stands x)
-          ∙ (read.near_is ∙ (ap (λ r. all_heard Controller r notes) ready.near
-          ∙ (ap (λ b. record { active = b; waits = harks Controller (waits l.controller) notes }) active_near
-          ∙ ap (λ b. record { active = acts (happens l e).controller; waits = b }) waits_near)));
-      far = ap (λ (z : Standing). z.far) (n.stands x)
-          ∙ (read.far_is ∙ (ap (λ r. all_heard Host r notes) ready.far
-          ∙ (ap (λ b. record { active = b; waits = harks Host (waits l.host) notes }) active_far
-          ∙ ap (λ b. record { active = acts (happens l e).host; waits = b }) waits_far)));
-    }
+    grind arith
 
 -- ### Activation begins
 
@@ -248,8 +221,7 @@ started_unready l value ts CutOff a =
     ∙ ap (λ b. record { active = false; waits = b }) (new_free (turned e ts).role)
   where
     new_free : (r : Role) → is_waiting (new_link_end (renewed r)).shdlc ≡ false
-    new_free Bare = refl
-    new_free _ = refl
+    new_free r = grind arith
 started_unready l value ts GoesOut a = go l.controller.side.role refl a
   where
     e : LinkEnd
@@ -373,21 +345,9 @@ watched_of_since n es a =
 
 -- ### Both ends are up
 
--- an end that is up has none that is gone
-jumped_none : (n emitted took : ℕ) → (emitted ≡ n → ⊥) → (took ≡ n → ⊥) → max emitted took ≡ n → ⊥
-jumped_none n emitted took x y q = by_test (nat_lt emitted took)
-    (λ p. let z = ltb-true emitted took p in y (omega (arith, z, q)))
-    (λ p. let z = ltb-false emitted took p in x (omega (arith, z, q)))
-
-past_none : (n : ℕ) (h : NumberedEnd) → h.side.shdlc.phase ≡ IsUpNow → number_of h ≡ n → IsPast n (core_end h) → ⊥
-past_none n h up q p = let z : n < number_of h = rw up at p in absurd (omega (arith, z, q))
-
 up_not_gone : (n : ℕ) (l : Link) → l.controller.side.shdlc.phase ≡ IsUpNow → l.host.side.shdlc.phase ≡ IsUpNow → number_of l.controller ≡ n
     → number_of l.host ≡ n → Gone n l → ⊥
-up_not_gone n l near far p q (inl (inl j)) = jumped_none n l.controller.emitted l.controller.took j.gave j.took p
-up_not_gone n l near far p q (inl (inr x)) = past_none n l.controller near p x
-up_not_gone n l near far p q (inr (inl j)) = jumped_none n l.host.emitted l.host.took j.gave j.took q
-up_not_gone n l near far p q (inr (inr x)) = past_none n l.host far q x
+up_not_gone n l near far p q a = grind arith
 
 pub none_silenced : (n : ℕ) (es : List LinkEvent) → AllAllowed new_line es
     → (let l : Link = after_link_events new_line es in
@@ -414,21 +374,11 @@ pub record Shown (l : Link) (x : WatchedLink) : Type 0 where
 
 -- behind entries that tell nothing of it
 pub shown_same : (h : ℕ) (l : Link) (x : WatchedLink) (u : List Entry) → standing h x.stands u ≡ x.stands → Shown l x → Shown l (watched h x u)
-shown_same h l x u q s =
-    record {
-      wires = subst (ShownBy (kept l)) (sym q) s.wires;
-      since = λ z. s.since (kept_left x.since (not (list_any (withholds_on h) u)) z);
-      ready = λ z. let a = s.ready z in
-          record { near = ap (λ (y : Standing). y.near) q ∙ a.near; far = ap (λ (y : Standing). y.far) q ∙ a.far };
-    }
+shown_same h l x u q s = grind arith
 
 frames_push : (w : List OnWire) (y : OnWire) → frames_on (w ++ y ∷ []) ≡ frames_on w ++ lpdu_of y.frame ∷ []
 frames_push [] y = refl
 frames_push (x ∷ w) y = ap (λ z. lpdu_of x.frame ∷ z) (frames_push w y)
-
-frames_drop : (w : List OnWire) → frames_on (drop 1 w) ≡ drop 1 (frames_on w)
-frames_drop [] = refl
-frames_drop (x ∷ w) = refl
 
 frames_older : (w : List OnWire) → frames_on (older w) ≡ frames_on w
 frames_older [] = refl
@@ -471,18 +421,10 @@ module _ (h : ℕ) where
   note_shown s x (Emit Host c) u a =
       far_so (see s (Emit Host c)) x (Puts (lpdu_of c))
       (record { to_controller = ap (λ z. z ++ lpdu_of c ∷ []) a.to_controller ∙ sym (frames_push s.to_controller _); to_host = a.to_host })
-  note_shown s x (Took Controller c) u a =
-      near_so (see s (Took Controller c)) x (Takes (lpdu_of c))
-      (record { to_controller = ap (λ z. drop 1 z) a.to_controller ∙ sym (frames_drop s.to_controller); to_host = a.to_host })
-  note_shown s x (Took Host c) u a =
-      far_so (see s (Took Host c)) x (Takes (lpdu_of c))
-      (record { to_controller = a.to_controller; to_host = ap (λ z. drop 1 z) a.to_host ∙ sym (frames_drop s.to_host) })
-  note_shown s x (Lost Controller c why) u a =
-      near_so (see s (Lost Controller c why)) x (Loses (lpdu_of c))
-      (record { to_controller = ap (λ z. drop 1 z) a.to_controller ∙ sym (frames_drop s.to_controller); to_host = a.to_host })
-  note_shown s x (Lost Host c why) u a =
-      far_so (see s (Lost Host c why)) x (Loses (lpdu_of c))
-      (record { to_controller = a.to_controller; to_host = ap (λ z. drop 1 z) a.to_host ∙ sym (frames_drop s.to_host) })
+  note_shown s x (Took Controller c) u a = grind arith
+  note_shown s x (Took Host c) u a = grind arith
+  note_shown s x (Lost Controller c why) u a = grind arith
+  note_shown s x (Lost Host c why) u a = grind arith
   note_shown s x Tick u a =
       record { to_controller = a.to_controller ∙ sym (frames_older s.to_controller); to_host = a.to_host ∙ sym (frames_older s.to_host) }
   note_shown s x (Restarted w) u a = absurd u
@@ -501,8 +443,7 @@ clear_unstarted (Restarted w ∷ xs) a = absurd a.0
 clear_unstarted (x ∷ xs) a = (tt, clear_unstarted xs a.1)
 
 last_unstarted : (who : Side) (ending : Ending) → AreUnstarted (last_of who ending)
-last_unstarted who GoesOut = tt
-last_unstarted who CutOff = (tt, tt)
+last_unstarted who ending = grind arith
 
 shaped_unstarted : (who : Side) (ending : Ending) (notes : List Noted) → IsShaped who ending notes → AreUnstarted notes
 shaped_unstarted who ending notes s =
@@ -565,9 +506,7 @@ module _ (h : ℕ) (l : Link) (e : LinkEvent) (t u : List Entry) (x : WatchedLin
       }
     where
       opens : (c : Comes) → ShownBy (see_all (kept l) (opened_by who c)) (opened c x).stands
-      opens (Starts value) = record { to_controller = refl; to_host = refl }
-      opens Stops = record { to_controller = refl; to_host = refl }
-      opens _ = shown.wires
+      opens c = grind arith
 
       rest_unstarted : AreUnstarted s.rest
       rest_unstarted = shaped_unstarted who ending s.rest s.shaped
@@ -598,64 +537,18 @@ record IsBlank (e : LinkEnd) : Type 0 where
   session : e.shdlc.session ≡ no_session
   down : e.shdlc.phase ≡ IsDown
 
-blank_ready : (e : LinkEnd) (r : Bool) → IsBlank e → IsBlank (record e { shdlc = with_ready e.shdlc r })
-blank_ready e r a = go e.shdlc.ready r refl refl
-  where
-    s : EndState
-    s = e.shdlc
-
-    changed : EndState
-    changed = record s { ready = r; session = record s.session { answered_rnr = false } }
-
-    P : EndState → Type 0
-    P z = IsBlank (record e { shdlc = z })
-
-    same : P s
-    same = record { acts = a.acts; due = a.due; session = a.session; down = a.down }
-
-    fine : P changed
-    fine = record {
-      acts = a.acts;
-      due = a.due;
-      session = ap (λ (z : Session). record z { answered_rnr = false }) a.session;
-      down = a.down;
-    }
-
-    quiet : s.session.answered_rnr ≡ false
-    quiet = ap (λ (z : Session). z.answered_rnr) a.session
-
-    go : (b c : Bool) → s.ready ≡ b → r ≡ c → P (with_ready s r)
-    go true true p q = let z : with_ready s r ≡ s = rw (p, q) refl in subst P (sym z) same
-    go false false p q = let z : with_ready s r ≡ s = rw (p, q) refl in subst P (sym z) same
-    go true false p q = let z : with_ready s r ≡ changed = rw (p, q) refl in subst P (sym z) fine
-    go false true p q = let z : with_ready s r ≡ changed = rw (p, q, quiet) refl in subst P (sym z) fine
-
 blank_turn : (e : LinkEnd) (t : Turn) → IsBlank e → IsBlank (turn e t)
-blank_turn e (Give m) a = let q = a.down in let same : turn e (Give m) ≡ e = rw q refl in subst IsBlank (sym same) a
-blank_turn e (Hold held) a = blank_ready e (not held) a
-blank_turn e FetchMessage a = record { acts = a.acts; due = a.due; session = a.session; down = a.down }
-blank_turn e SetAside a = by_option (aside_refusal e) (λ q. rw q (record { acts = a.acts; due = a.due; session = a.session; down = a.down })) (λ why q. rw q a)
-blank_turn e Release a = record { acts = a.acts; due = a.due; session = a.session; down = a.down }
+blank_turn e t a = grind arith
 
 blank_turned : (ts : List Turn) (e : LinkEnd) → IsBlank e → IsBlank (turned e ts)
 blank_turned [] e a = a
 blank_turned (t ∷ ts) e a = blank_turned ts (turn e t) (blank_turn e t a)
 
 blank_out : (e : LinkEnd) → IsBlank e → frames_out e ≡ []
-blank_out e a =
-    let acts = a.acts in
-    let due = a.due in
-    let session = a.session in
-    let none : frame_due e.shdlc ≡ None = rw (due, session) refl in
-    rw (acts, none) refl
+blank_out e a = grind arith
 
 clf_blank : (e : LinkEnd) (value : ℕ) → IsClf e.role → e.acts ≡ [] → IsBlank (started e value)
-clf_blank e value clf acts = go e.role refl clf
-  where
-    go : (r : Role) → e.role ≡ r → IsClf r → IsBlank (started e value)
-    go Bare q c = absurd c
-    go (Uicc s) q c = absurd c
-    go (Clf s) q c = rw q (record { acts = rw acts refl; due = refl; session = refl; down = refl })
+clf_blank e value clf acts = grind arith
 
 -- so both wires are empty as activation has begun there, and the end isn't active
 pub record AreEmpty (l : Link) : Type 0 where
@@ -664,9 +557,7 @@ pub record AreEmpty (l : Link) : Type 0 where
   pub unready : readiness_of l.controller.side ≡ inactive
 
 clf_lined : (r : Role) → IsClf r → IsLined r
-clf_lined (Clf s) c = refl
-clf_lined (Uicc s) c = absurd c
-clf_lined Bare c = absurd c
+clf_lined r c = grind arith
 
 pub started_empty : (l : Link) (value : ℕ) (ts : List Turn) (ending : Ending) → IsClf l.controller.side.role → l.controller.side.acts ≡ []
     → AreEmpty (happens l (AtController (Step (Starts value) ts ending)))
@@ -682,10 +573,4 @@ started_empty l value ts GoesOut clf acts =
     }
 
 pub empty_shown : (l : Link) (x : WatchedLink) → AreEmpty l → Shown l x → x.since ≡ false → x.whole ≡ false → unwatched x ≡ x
-empty_shown l x e s q r =
-    let y : Standing = x.stands in
-    let wires : with_empty_wires y ≡ y =
-    ap (λ w. record y { to_controller = w; to_host = [] }) (sym (s.wires.to_controller ∙ ap frames_on e.to_controller))
-    ∙ ap (λ w. record y { to_host = w }) (sym (s.wires.to_host ∙ ap frames_on e.to_host)) in
-    ap (λ z. record { stands = z; since = false; whole = false }) wires
-    ∙ (ap (λ b. record { stands = y; since = b; whole = false }) (sym q) ∙ ap (λ b. record { stands = y; since = x.since; whole = b }) (sym r))
+empty_shown l x e s q r = grind arith

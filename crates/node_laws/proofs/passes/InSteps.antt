@@ -1,17 +1,15 @@
 -- What a node notes of what comes, of its deeds and before its pass is of a few kinds, and what lasts over these lasts over its steps.
 use Rattle.node_laws.proofs.Words.{AllByRecursion, AreNoTurns, Asks, AtEnd, Bool, Command, Commits, Core, Creation, Cut, Deed, Entry, FetchMessage, Give}
 use Rattle.node_laws.proofs.Words.{GoesOn, Hears, Hold, IsAnswered, IsNoTurn, LinkInput, List, Message, NodeInput, None, OfHost, Option, Plain, Port, Refused}
-use Rattle.node_laws.proofs.Words.{Release, Releases, Report, Reset, Restarted, SetAside, SetsErrors, Some, Sync, Tells, TimePasses, Turn, Work, []}
-use Rattle.node_laws.proofs.Words.{after_input, after_sessions, after_turn, all_append, all_come, all_done, all_flat, all_of_host, all_owed, all_owed_hold}
-use Rattle.node_laws.proofs.Words.{all_synced_hold, answer_of, any_of_controller, anyone, ap, append-nil, append_assoc, beginning, by_test, comes_to_pass}
-use Rattle.node_laws.proofs.Words.{commit, cond, count_of, deeds_hold, deeds_of, done, end_of, end_of_node, entries_for, entry_of, eqb, false, flat_map}
-use Rattle.node_laws.proofs.Words.{forgets, forgotten, forgotten_hold, give_refusal, goes_in, has_come, has_come_so, has_freed, has_synced, hosts_of_ends}
-use Rattle.node_laws.proofs.Words.{input_at, is_command_message, is_late, map, noted_before_pass, noted_by_deed, noted_by_deeds, noted_of, option_map_or}
-use Rattle.node_laws.proofs.Words.{owed_in_step, own_side, passes, port_at, refl, report, reset_late, sending, sent_unless, steps, subst, sym, synced, syncs_in}
-use Rattle.node_laws.proofs.Words.{times_out, told, told_at, told_late, told_of_coming, told_of_late, true, turn_at, unless_cut, whole_acked, with_older}
-use Rattle.node_laws.proofs.Words.{without_notice, ℕ, ◌&&◌, ◌++◌, ◌∙◌, ◌∷◌, ◌≡◌}
+use Rattle.node_laws.proofs.Words.{Release, Releases, Report, Reset, SetAside, SetsErrors, Some, Sync, Tells, TimePasses, Turn, Work, [], after_input}
+use Rattle.node_laws.proofs.Words.{after_sessions, after_turn, all_append, all_come, all_done, all_flat, all_of_host, all_owed, all_owed_hold, all_synced_hold}
+use Rattle.node_laws.proofs.Words.{answer_of, any_of_controller, anyone, ap, append-nil, append_assoc, arith, beginning, by_test, comes_to_pass, commit, cond}
+use Rattle.node_laws.proofs.Words.{deeds_hold, deeds_of, done, end_of_node, entries_for, entry_of, flat_map, forgets, forgotten, forgotten_hold, goes_in}
+use Rattle.node_laws.proofs.Words.{has_come, has_come_so, has_freed, has_synced, hosts_of_ends, input_at, is_late, map, noted_before_pass, noted_by_deed}
+use Rattle.node_laws.proofs.Words.{noted_by_deeds, noted_of, option_map_or, owed_in_step, own_side, passes, port_at, refl, report, reset_late, sending}
+use Rattle.node_laws.proofs.Words.{sent_unless, steps, subst, sym, synced, syncs_in, times_out, told, told_at, told_late, told_of_coming, told_of_late, turn_at}
+use Rattle.node_laws.proofs.Words.{unless_cut, whole_acked, with_older, without_notice, ℕ, ◌++◌, ◌∙◌, ◌∷◌, ◌≡◌}
 use Rattle.link_laws.specs.entries.Entries.{End as Side, Entry as Told}
-use Rattle.link_laws.specs.entries.Entries.Entry.{Tick}
 use Rattle.node_laws.specs.passes.Noting.{noted_at}
 use Rattle.node_laws.proofs.kept.Doing.{hosts_map}
 use Rattle.node_laws.proofs.steps.StepWalks.{Lasts, all_last, come_host, forgets_host, late_host, rest_lasts, unless, without_host}
@@ -42,12 +40,10 @@ module _ (P : Entry → Type 0) (told_one : (h : ℕ) (who : Side) (n acked : �
 
 -- a block that is set aside or released isn't noted
 aside_none : (core : Core) (o : Option Port) → option_map_or (noted_of core SetAside) o [] ≡ []
-aside_none core None = refl
-aside_none core (Some p) = refl
+aside_none core o = grind arith
 
 release_none : (core : Core) (o : Option Port) → option_map_or (noted_of core Release) o [] ≡ []
-release_none core None = refl
-release_none core (Some p) = refl
+release_none core o = grind arith
 
 commit_notes : (c : Command) (w : Work) → (commit c w).entries ≡ w.entries ++ noted_by_deed 0 (Commits c) w
 commit_notes c w = by_test (goes_in c w) (λ q. rw q (append_assoc w.entries (entry.Command w.core.node c ∷ []) (entry.Cut w.core.node ∷ []))) (λ q. rw q refl)
@@ -101,31 +97,20 @@ NotesOnly P d = (h : ℕ) (w : Work) → AllByRecursion P (noted_by_deed h d w)
 
 module _ (P : Entry → Type 0) (of_deed : (x : Entry) → IsOfDeed x → P x) where
   sent : (h n : ℕ) (m : Message) (side : Side) (o : Option Refused) → AllByRecursion P (entries_for h (sent_unless o side n m))
-  sent h n m side None = (of_deed (entry.Sent (end_of h side) n m.0 m.1) tt, tt)
-  sent h n m side (Some why) = tt
+  sent h n m side o = grind arith
 
   given : (core : Core) (m : Message) (o : Option Port) → AllByRecursion P (option_map_or (noted_of core (Give m)) o [])
-  given core m None = tt
-  given core m (Some p) = sent p.desk.host p.session m (own_side core) (give_refusal p.side m)
+  given core m o = grind arith
 
   -- what a turn notes
   turn_notes : (core : Core) (y : Turn) (o : Option Port) → AllByRecursion P (option_map_or (noted_of core y) o [])
-  turn_notes core (Give m) o = given core m o
-  turn_notes core y None = tt
-  turn_notes core _ (Some p) = tt
+  turn_notes core y o = grind arith
 
   cut : (b : Bool) (n : ℕ) → AllByRecursion P (cond b (entry.Cut n ∷ []) [])
-  cut true n = (of_deed (entry.Cut n) tt, tt)
-  cut false n = tt
+  cut b n = grind arith
 
   plain : Plain (NotesOnly P)
-  plain = record {
-    sends = λ to m h w. given w.core m (port_at w.ports to);
-    says_ok = λ h w. (of_deed (entry.AnyOk w.core.node (count_of w.core.journal)) tt, tt);
-    releases = λ asker h w. tt;
-    is_answered = λ h w. tt;
-    drops = λ pid h w. (of_deed (entry.Dropped (end_of_node w.core h) pid) tt, tt);
-  }
+  plain = grind arith
 
   commits : (c : Command) → NotesOnly P (Commits c)
   commits c h w = (of_deed (entry.Command w.core.node c) tt, cut (goes_in c w) w.core.node)
@@ -137,15 +122,7 @@ module _ (P : Entry → Type 0) (of_deed : (x : Entry) → IsOfDeed x → P x) w
   asks to message c h w = (of_deed (entry.Ask to message) tt, given w.core (1, message) (port_at (turn_at c.asker SetAside w).ports to))
 
   own : (core : Core) → OfHost (NotesOnly P) core
-  own core = record {
-    commits = commits;
-    hears = λ h w. tt;
-    goes_on = λ i h w. tt;
-    orders = λ i k order is h w. given w.core (1, order) (port_at w.ports h);
-    same = λ h w. (of_deed (entry.InitSame (end_of_node core core.node)) tt, tt);
-    made = λ count h w. (of_deed (entry.InitMade (end_of_node core core.node) count) tt, tt);
-    failed = λ code h w. (of_deed (entry.InitFailed (end_of_node core core.node) code) tt, tt);
-  }
+  own core = grind arith
 
   -- what a message that a node handles causes
   causes_note : (core : Core) (ports : List Port) (h : ℕ) (m : Message) → AllByRecursion (NotesOnly P) (deeds_of core ports h m)
@@ -165,9 +142,7 @@ module _ (P : Entry → Type 0) (of_deed : (x : Entry) → IsOfDeed x → P x) w
 
   -- what begins at a host
   pub sending_notes : (h : ℕ) (m : Message) → AllByRecursion (NotesOnly P) (sending h m)
-  sending_notes h m = by_test (eqb m.0 1 && is_command_message m.1)
-      (λ q. rw q (((λ k w. given w.core (1, m.1) (port_at w.ports k)), tt)))
-      (λ q. rw q (((λ k w. given w.core m (port_at w.ports h)), tt)))
+  sending_notes h m = grind arith
 
   pub beginning_notes : (identity : List ℕ) (pipes : List (List ℕ)) → AllByRecursion (NotesOnly P) (beginning identity pipes)
   beginning_notes identity pipes = ((λ k w. tt), ((λ k w. given w.core (1, 3 ∷ []) (port_at w.ports k)), tt))
@@ -175,9 +150,7 @@ module _ (P : Entry → Type 0) (of_deed : (x : Entry) → IsOfDeed x → P x) w
 -- ## What deeds note tells of no turn
 
 of_deed : (x : Entry) → IsOfDeed x → IsNoTurn x
-of_deed (entry.Turn e pid message) a = absurd a
-of_deed (entry.Held e need spare) a = absurd a
-of_deed x a = refl
+of_deed x a = grind arith
 
 -- what a deed notes, whatever the node is
 abbrev pub NotesNoTurn : Deed → Type 0
@@ -219,8 +192,7 @@ releases_none [] w = refl
 releases_none (c ∷ cs) w = go w.cut (releases_none cs (turn_at c.asker Release w))
   where
     go : (b : Bool) {es : List Entry} → es ≡ [] → cond b [] es ≡ []
-    go true later = refl
-    go false later = later
+    go b later = grind arith
 
 freed_entries : (input : NodeInput) (w : Work) → (has_freed input w).entries ≡ w.entries ++ told_of_coming input w
 freed_entries input w =
@@ -261,10 +233,7 @@ steps_are input w = refl
 -- ### No turns
 
 one_none : (h : ℕ) (x : Told) → AreNoTurns (entry_of h x)
-one_none h Tick = tt
-one_none h (Restarted who) = tt
-one_none h (Cut who) = tt
-one_none h _ = (refl, tt)
+one_none h x = grind arith
 
 pub links_none : (h : ℕ) (xs : List Told) → AreNoTurns (entries_for h xs)
 links_none h xs = all_flat IsNoTurn (entry_of h) (one_none h) xs
@@ -350,9 +319,7 @@ grown P front es more all a = record {
 module _ (P : Entry → Type 0) (of_step : (x : Entry) → IsOfStep x → P x) where
   -- so is each that deeds note
   pub of_deeds : (x : Entry) → IsOfDeed x → P x
-  of_deeds (entry.Turn e pid message) a = absurd a
-  of_deeds (entry.Held e need spare) a = absurd a
-  of_deeds x a = of_step x a
+  of_deeds x a = grind arith
 
   module _ (front : List Entry) where
     abbrev Has : Work → Type 0

@@ -1,7 +1,7 @@
 -- A fact of a node is carried through its pass, turn by turn; and what the pass leaves at each end.
 use Rattle.node_laws.proofs.Words.{AllByRecursion, AreAlong, AreNoTurns, ArePassed, BeginWithTurn, Bool, ComesTo, Core, Deed, Desk, Entry, FetchMessage}
 use Rattle.node_laws.proofs.Words.{HadTurn, Handles, Hold, Holds, IsBehind, IsNoTurn, IsTurnSo, LastsOverTurns, LetsGo, List, Message, None, Option, Port, Some}
-use Rattle.node_laws.proofs.Words.{Stays, WasHeld, Work, [], after_turn, ap, append-nil, append_assoc, by_list, by_option, by_test, cond, deeds_of, drop}
+use Rattle.node_laws.proofs.Words.{Stays, WasHeld, Work, [], after_turn, ap, append-nil, append_assoc, arith, by_list, by_option, by_test, cond, deeds_of, drop}
 use Rattle.node_laws.proofs.Words.{end_of_node, false, filter_map-append, goes_through_ends, handles, have_turns, holds_back, inl, inr, is_held, is_held_at}
 use Rattle.node_laws.proofs.Words.{lacking, lets_go, link_of_turn, links_of_turns, noted_by_deeds, noted_of, noting, option_map_or, port_at, refl, subst, sym}
 use Rattle.node_laws.proofs.Words.{takes_up, true, true≢false, turn_at, unless_cut, waiting_at, with_desk, ℕ, ◌++◌, ◌==◌, ◌∙◌, ◌∷◌, ◌≡◌, ◌⊎◌}
@@ -30,19 +30,14 @@ record StandsSecond (piece more front back : List Entry) (x : Entry) : Type 0 wh
 either_stands : (piece more front back : List Entry) (x : Entry) → piece ++ more ≡ front ++ (x ∷ back)
     → StandsFirst piece more front back x ⊎ StandsSecond piece more front back x
 either_stands [] more front back x e = inr (record { between = front; before = refl; is = e })
-either_stands (y ∷ piece) more [] back x e =
-    let same : y ≡ x = cc in
-    let left : piece ++ more ≡ back = cc in
-    inl (record { between = piece; is = ap (λ z. z ∷ piece) same; behind = sym left })
+either_stands (y ∷ piece) more [] back x e = grind arith
 either_stands (y ∷ piece) more (z ∷ front) back x e =
     let same : y ≡ z = cc in
     let left : piece ++ more ≡ front ++ (x ∷ back) = cc in go same (either_stands piece more front back x left)
   where
     go : y ≡ z → StandsFirst piece more front back x ⊎ StandsSecond piece more front back x
         → StandsFirst (y ∷ piece) more (z ∷ front) back x ⊎ StandsSecond (y ∷ piece) more (z ∷ front) back x
-    go same (inl s) =
-        inl (record { between = s.between; is = ap (λ l. y ∷ l) s.is ∙ ap (λ v. v ∷ front ++ (x ∷ s.between)) same; behind = s.behind })
-    go same (inr s) = inr (record { between = s.between; before = ap (λ l. z ∷ l) s.before ∙ ap (λ v. v ∷ piece ++ s.between) (sym same); is = s.is })
+    go same a = grind arith
 
 no_links : (es : List Entry) → AreNoTurns es → links_of_turns es ≡ []
 no_links [] a = refl
@@ -63,9 +58,7 @@ stands_none (y ∷ es) (z ∷ front) back x a e = let left : es ≡ front ++ (x 
 
 module _ (J : Work → Type 0) (lasts : LastsOverTurns J) where
   no_turn_passed : (w : Work) (front back : List Entry) (x : Entry) → IsNoTurn x → IsTurnSo J w front x back
-  no_turn_passed w front back (entry.Turn e pid message) n = absurd (cc n)
-  no_turn_passed w front back (entry.Held e need spare) n = absurd (cc n)
-  no_turn_passed w front back x n = tt
+  no_turn_passed w front back x n = grind arith
 
   -- ### Further on
 
@@ -207,8 +200,7 @@ module _ (J : Work → Type 0) (lasts : LastsOverTurns J) where
 -- ### What each thing that a node does leaves
 
 hold_none : (core : Core) (held : Bool) (o : Option Port) → option_map_or (noted_of core (Hold held)) o [] ≡ []
-hold_none core held None = refl
-hold_none core held (Some p) = refl
+hold_none core held o = grind arith
 
 -- what is noted, and whether the power goes
 pub record Notes (w v : Work) (es : List Entry) : Type 0 where
@@ -332,8 +324,7 @@ module _ (J : Work → Type 0) (lasts : LastsOverTurns J) where
         one = entry.Held (end_of_node w.core h) short.0 short.1
 
         begin : (b : Bool) (more : List Entry) → BeginWithTurn more → BeginWithTurn (cond b [] (one ∷ []) ++ more)
-        begin true more a = a
-        begin false more a = refl
+        begin b more a = grind arith
 
         along : (b : Bool) (more : List Entry) → AreAlong hosts (links_of_turns more)
             → AreAlong (h ∷ hosts) (links_of_turns (cond b [] (one ∷ []) ++ more))
@@ -585,8 +576,7 @@ goes_apart : (earlier later : List ℕ) (w : Work) → w.cut ≡ false
     → goes_through_ends (earlier ++ later) w ≡ unless_cut (goes_through_ends later) (goes_through_ends earlier w)
 goes_apart [] later w on = sym (uncut (goes_through_ends later) w on)
 goes_apart (k ∷ earlier) later w on = by_test v.cut
-    (λ off. stays_cut (goes_through_ends (earlier ++ later)) v off
-    ∙ sym (ap (unless_cut (goes_through_ends later)) (stays_cut (goes_through_ends earlier) v off) ∙ stays_cut (goes_through_ends later) v off))
+    (λ off. grind arith)
     (λ o. uncut (goes_through_ends (earlier ++ later)) v o
     ∙ (goes_apart earlier later v o ∙ sym (ap (unless_cut (goes_through_ends later)) (uncut (goes_through_ends earlier) v o))))
   where

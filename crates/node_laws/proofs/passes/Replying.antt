@@ -1,15 +1,13 @@
 -- What deeds note and leave at the ends of a node where each message that they send is taken, and that it is taken where none lacks room.
 use Rattle.node_laws.proofs.Words.{About, AreTables, AreTaken, Asks, Bool, Command, Commits, Core, CountsCommands, Deed, Desk, Drops, Ends, Entry, FetchMessage}
 use Rattle.node_laws.proofs.Words.{Give, GiveOnce, GoesOn, HciTables, Hears, Hold, Init, IsAnswered, IsNoneOf, IsRecordable, IsReplyNoted, Knows, LinkEnd}
-use Rattle.node_laws.proofs.Words.{LinkState, List, MayBeDone, Message, None, Option, Orders, Port, Refused, Release, Releases, Removed, SaysOk, Sends}
-use Rattle.node_laws.proofs.Words.{SetAside, SetsErrors, Some, State, TakesMessage, Tells, Turn, Up, Waiting, Waits, Work, Write, [], after_turn, all_done, ap}
-use Rattle.node_laws.proofs.Words.{append_assoc, apply, arith, aside_refusal, body_of, by_option, by_test, changed_if, commit, commit_writes, committed, cond}
-use Rattle.node_laws.proofs.Words.{count_of, done, end_of_node, entries_of_reply, eq-eqb, eqb-true, false, give_refusal, given, goes_in, handles, in_use}
-use Rattle.node_laws.proofs.Words.{is_held, is_up, keeps, lack, le-ltb, length, lets_go, loses_power, ltb-false, map, nat_lt, need, needs, next_count}
-use Rattle.node_laws.proofs.Words.{noted_by_deed, noted_by_deeds, noted_of, notified, noting, option_and_then, option_map_or, port_at, refl, sent_in_session}
-use Rattle.node_laws.proofs.Words.{session_of_port, spare, subst, sym, takes_up, true, true≢false, turn, turn_at, waiting_at, with_desk, with_port, ℕ, ◌++◌}
-use Rattle.node_laws.proofs.Words.{◌+◌, ◌-◌, ◌/◌, ◌==◌, ◌∙◌, ◌∷◌, ◌≡◌, ◌≤◌}
-use Rattle.link_laws.specs.machine.Machine.{unless}
+use Rattle.node_laws.proofs.Words.{LinkState, List, MayBeDone, Message, None, Option, Orders, Port, Release, Releases, Removed, SaysOk, Sends, SetAside}
+use Rattle.node_laws.proofs.Words.{SetsErrors, Some, State, TakesMessage, Tells, Turn, Up, Waiting, Waits, Work, Write, [], after_turn, all_done, ap}
+use Rattle.node_laws.proofs.Words.{append_assoc, apply, arith, body_of, by_option, by_test, changed_if, commit, commit_writes, committed, cond, count_of, done}
+use Rattle.node_laws.proofs.Words.{end_of_node, entries_of_reply, eq-eqb, eqb-true, false, give_refusal, given, goes_in, handles, in_use, is_held, is_up, keeps}
+use Rattle.node_laws.proofs.Words.{lack, lets_go, loses_power, map, need, needs, next_count, noted_by_deed, noted_by_deeds, noted_of, notified, noting}
+use Rattle.node_laws.proofs.Words.{option_and_then, option_map_or, port_at, refl, sent_in_session, session_of_port, spare, subst, sym, takes_up, true}
+use Rattle.node_laws.proofs.Words.{true≢false, turn, turn_at, waiting_at, with_desk, with_port, ℕ, ◌++◌, ◌+◌, ◌-◌, ◌==◌, ◌∙◌, ◌∷◌, ◌≡◌, ◌≤◌}
 use Rattle.shdlc_core.specs.declared.answers.LinkState.TheVariants.{Down}
 use Rattle.node_laws.proofs.kept.Reckoned.{commit_count}
 use Rattle.node_laws.proofs.links.Noticing.{turn-phase}
@@ -50,25 +48,14 @@ other_stays j k f host ports off = by_option (port_at ports k)
     keeps : (p : Port) → (g p).desk.host ≡ p.desk.host
     keeps p = changed_host (p.desk.host == j) f p host
 
--- a turn that fetches no message leaves those that came
-unless_got : (o : Option Refused) (e f : LinkEnd) → f.got ≡ e.got → (unless o e f).got ≡ e.got
-unless_got None e f q = q
-unless_got (Some why) e f q = refl
-
 got_same : (e : LinkEnd) (t : Turn) → IsNoFetch t → (turn e t).got ≡ e.got
-got_same e (Give m) n = unless_got (give_refusal e m) e (given e m) refl
-got_same e (Hold held) n = refl
-got_same e FetchMessage n = absurd n
-got_same e SetAside n = unless_got (aside_refusal e) e (record e { aside = e.aside + 1 }) refl
-got_same e Release n = refl
+got_same e t n = grind arith
 
 changed_got : (b : Bool) (f : Port → Port) (p : Port) → (f p).side.got ≡ p.side.got → (changed_if b f p).side.got ≡ p.side.got
-changed_got true f p q = q
-changed_got false f p q = refl
+changed_got b f p q = grind arith
 
 changed_holds : (b : Bool) (f : Port → Port) (p : Port) → (f p).desk.holds ≡ p.desk.holds → (changed_if b f p).desk.holds ≡ p.desk.holds
-changed_holds true f p q = q
-changed_holds false f p q = refl
+changed_holds b f p q = grind arith
 
 module _ (k : ℕ) (ms : List Message) (b : Bool) where
   abbrev pub Same : Work → Type 0
@@ -123,12 +110,7 @@ pub record HasFirst (ports : List Port) (h : ℕ) (m : Message) (messages : List
   pub got : port.side.got ≡ m ∷ messages
 
 pub has_first : (ports : List Port) (h : ℕ) (m : Message) (messages : List Message) → waiting_at ports h ≡ m ∷ messages → HasFirst ports h m messages
-has_first ports h m messages e = by_option (port_at ports h)
-    (λ q. let none : [] ≡ m ∷ messages = subst P q e in absurd (cc none))
-    (λ p q. record { port = p; here = q; got = subst P q e })
-  where
-    P : Option Port → Type 0
-    P o = option_map_or (λ (p : Port). p.side.got) o [] ≡ m ∷ messages
+has_first ports h m messages e = grind arith
 
 -- its own end, as it is changed
 pub own_changed : (h : ℕ) (f : Port → Port) → ((p : Port) → (f p).desk.host ≡ p.desk.host) → (ports : List Port) (p : Port) → port_at ports h ≡ Some p
@@ -152,8 +134,7 @@ session_map f host same ports k = by_option (port_at ports k)
 
 changed_session : (b : Bool) (f : Port → Port) (p : Port) → session_in (Some (f p)) ≡ session_in (Some p)
     → session_in (Some (changed_if b f p)) ≡ session_in (Some p)
-changed_session true f p q = q
-changed_session false f p q = refl
+changed_session b f p q = grind arith
 
 pub turn_sessions : (j : ℕ) (t : Turn) (w : Work) (k : ℕ) → session_of_port (turn_at j t w).ports k ≡ session_of_port w.ports k
 turn_sessions j t w k =
@@ -329,19 +310,8 @@ spare_in o = option_map_or (λ (p : Port). spare p.side) o 0
 abbrev spare_of : List Port → ℕ → ℕ
 spare_of ports h = spare_in (port_at ports h)
 
--- an end that is up takes a message for which it has the blocks: none of those is too long
-short_enough : (s n : ℕ) → s ≤ 128 → (n + 31) / 32 ≤ s → n ≤ 4096
-short_enough s n most room = omega arith
-
-takes_it : (e : LinkEnd) (m : Message) → e.shdlc.phase ≡ Up → nat_lt (spare e) (need m.1) ≡ false → give_refusal e m ≡ None
-takes_it e m up room =
-    let most : spare e ≤ 128 = omega arith in
-    rw (up, le-ltb 4096 (length m.1) (short_enough (spare e) (length m.1) most (ltb-false (spare e) (need m.1) room)), room) refl
-
 has_room : (ports : List Port) (h : ℕ) (m : Message) → need m.1 ≤ spare_of ports h → TakesMessage ports h m
-has_room ports h m room p here up =
-    let P : Option Port → Type 0 = λ o. need m.1 ≤ spare_in o in
-    takes_it p.side m up (le-ltb (spare p.side) (need m.1) (subst P here room))
+has_room ports h m room p here up = grind arith
 
 -- ### Blocks as deeds are done
 
@@ -352,8 +322,7 @@ more_spare f host more ports k = by_option (port_at ports k)
     (λ p q. omega (arith, ap spare_in q, ap spare_in (at_map f host ports k p q), more p))
 
 changed_more : (b : Bool) (f : Port → Port) (p : Port) → spare p.side ≤ spare (f p).side → spare p.side ≤ spare (changed_if b f p).side
-changed_more true f p q = q
-changed_more false f p q = omega arith
+changed_more b f p q = grind arith
 
 same_most : (n : ℕ) → n ≤ n
 same_most n = omega arith
@@ -393,12 +362,7 @@ commit_spare : (c : Command) (w : Work) (k : ℕ) → spare_of w.ports k ≤ spa
 commit_spare c w k = by_test (goes_in c w) (λ q. rw q (same_most (spare_of w.ports k))) (λ q. rw q (same_most (spare_of w.ports k)))
 
 lack_first : (ports : List Port) (k n : ℕ) (later : List (ℕ × ℕ)) → lack ports ((k, n) ∷ later) ≡ None → (n ≤ spare_of ports k) × (lack ports later ≡ None)
-lack_first ports k n later none = go (nat_lt (spare_of ports k) n) refl none
-  where
-    go : (b : Bool) → nat_lt (spare_of ports k) n ≡ b → cond b (Some (n, spare_of ports k)) (lack ports later) ≡ None
-        → (n ≤ spare_of ports k) × (lack ports later ≡ None)
-    go true e z = absurd (cc z)
-    go false e z = (ltb-false (spare_of ports k) n e, z)
+lack_first ports k n later none = grind arith
 
 module _ (h : ℕ) (start : List Port) where
   -- the ends to which nothing was given have at least what was spare as the deeds began

@@ -1,6 +1,6 @@
 -- What waits at an end, and whether it was noted as held, is read off what is noted of turns.
 use Rattle.node_laws.proofs.Words.{AreNoTurns, Bool, ComesTo, Deed, Entry, IsNoTurn, IsWaitingRead, LastsOverTurns, List, Message, Work, [], ap, append-nil}
-use Rattle.node_laws.proofs.Words.{append_assoc, by_test, cond, deeds_of, drop, end_of_node, eqb-true, false, handles, holds_back, is_held_at, lets_go}
+use Rattle.node_laws.proofs.Words.{append_assoc, arith, by_test, cond, deeds_of, drop, end_of_node, eqb-true, false, handles, holds_back, is_held_at, lets_go}
 use Rattle.node_laws.proofs.Words.{noted_by_deeds, refl, subst, sym, takes_up, true, waiting_after, waiting_at, waits_behind, ℕ, ◌++◌, ◌==◌, ◌∙◌, ◌∷◌, ◌≡◌}
 use Rattle.trace_model.specs.declared.entry.Entry.TheVariants as entry
 use Rattle.node_laws.proofs.passes.Replying.{SeesAt, lets_see}
@@ -16,9 +16,7 @@ behind-append k s [] more = refl
 behind-append k s (x ∷ es) more = behind-append k (waiting_after k s x) es more
 
 no_turn_same : (k : ℕ) (s : State) (x : Entry) → IsNoTurn x → waiting_after k s x ≡ s
-no_turn_same k s (entry.Turn e pid message) n = absurd (cc n)
-no_turn_same k s (entry.Held e need spare) n = absurd (cc n)
-no_turn_same k s x n = refl
+no_turn_same k s x n = grind arith
 
 no_turns_same : (k : ℕ) (s : State) (es : List Entry) → AreNoTurns es → waits_behind k s es ≡ s
 no_turns_same k s [] a = refl
@@ -73,8 +71,7 @@ module _ (k : ℕ) (w : Work) where
       go false off = other_handles k s.0 s.1 h m deeds v off (sees v a)
       go true e =
           let is : h ≡ k = eqb-true h k e in
-          let rest : messages ≡ drop 1 s.0 =
-          ap (λ l. drop 1 l) (sym waiting ∙ (ap (waiting_at v.ports) is ∙ a.waits)) in
+          let rest : messages ≡ drop 1 s.0 = grind arith in
           subst (λ l. SeesAt k l false u) rest (subst (λ n. SeesAt n messages false u) is (handles_sees h m messages deeds v waiting))
 
   held : (v : Work) (h : ℕ) (m : Message) (messages : List Message) (short : ℕ × ℕ) → Read v → waiting_at v.ports h ≡ m ∷ messages

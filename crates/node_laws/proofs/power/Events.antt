@@ -1,13 +1,13 @@
 -- In each event, and so over histories, nothing of a node stands behind its cut.
 use Rattle.node_laws.proofs.Words.{Activates, AllByRecursion, AreDifferent, AreNotOf, Arms, AsksReset, AtEnd, Bool, Boots, Comes, Controller, CutsEndParts}
 use Rattle.node_laws.proofs.Words.{Deed, End, Entry, FollowsNodes, Gives, Happening, HasEnds, Header, Host, IfItRuns, Inits, IsCut, IsOrderly, Line, Link, List}
-use Rattle.node_laws.proofs.Words.{Loses, Loss, Message, NextFrame, NoInput, NodeHistory, NodeWorld, None, Noted, NumberedEnd, Option, Plan, Port, Resets}
-use Rattle.node_laws.proofs.Words.{Running, Site, Start, Starts, Takes, Ticks, TimePasses, Work, [], aged_entries, all_aged, all_append, ap, append-nil}
-use Rattle.node_laws.proofs.Words.{arrival, beginning, begins_with, boots, by_boot, by_coming, by_controller, by_controller_tick, by_host, by_host_tick}
-use Rattle.node_laws.proofs.Words.{by_loss, by_test, comes_at, comes_to, controller_does, controller_ticks, end_c, end_h, entries_for, eqb-true, exchanged}
-use Rattle.node_laws.proofs.Words.{false, first_lost, flat_map, frame_lost, frames_noted, host_does, host_tick, host_ticks, host_work, hosts_in, hosts_of_ends}
-use Rattle.node_laws.proofs.Words.{hosts_tick, is_command_message, link_to, near_end_in, near_tick, node_of, refl, sending, site_at, steps, subst, sym, true}
-use Rattle.node_laws.proofs.Words.{true≢false, wires_for, work_of, world_step, world_ticks, ℕ, ◌&&◌, ◌++◌, ◌==◌, ◌∙◌, ◌∷◌, ◌≡◌}
+use Rattle.node_laws.proofs.Words.{Loses, Loss, Message, NextFrame, NoInput, NodeHistory, NodeWorld, None, NumberedEnd, Option, Plan, Port, Resets, Running}
+use Rattle.node_laws.proofs.Words.{Site, Start, Starts, Takes, Ticks, TimePasses, Work, [], aged_entries, all_aged, all_append, ap, arith, arrival, beginning}
+use Rattle.node_laws.proofs.Words.{begins_with, boots, by_boot, by_coming, by_controller, by_controller_tick, by_host, by_host_tick, by_test, comes_at}
+use Rattle.node_laws.proofs.Words.{comes_to, controller_does, controller_ticks, end_c, end_h, entries_for, eqb-true, exchanged, false, flat_map, frame_lost}
+use Rattle.node_laws.proofs.Words.{frames_noted, host_does, host_tick, host_ticks, host_work, hosts_in, hosts_of_ends, hosts_tick, is_command_message, link_to}
+use Rattle.node_laws.proofs.Words.{near_end_in, near_tick, node_of, refl, sending, site_at, steps, subst, sym, true, true≢false, wires_for, work_of, world_step}
+use Rattle.node_laws.proofs.Words.{world_ticks, ℕ, ◌&&◌, ◌++◌, ◌==◌, ◌∙◌, ◌∷◌, ◌≡◌}
 use Rattle.node_laws.proofs.power.Steps.{AreEnds, AreOver, AreOwn, Fine, IsEndOf, IsMine, IsOwn, IsPart, Runs, arrival_of_side, deeds_fine, frames_own}
 use Rattle.node_laws.proofs.power.Steps.{links_own, nothing_part, over_front, over_part, over_split, own_not, part_over, part_own, steps_fine, work_part}
 use Rattle.node_laws.proofs.telling.Events.{comes_goes, hosts_same_of_nodes as hosts_same, ports_for, site_host, site_is}
@@ -197,16 +197,8 @@ ticks_over w a =
 boots_over : (w : NodeWorld) (n : ℕ) → AreOver (boots w n).1
 boots_over w n = by_boot (λ p. AreOver p.1) w n (tt, tt) (tt, tt)
 
-uncut_over : (es : List Entry) → AreUncut es → AreOver es
-uncut_over es u = subst AreOver (append-nil es) (over_front es [] u tt)
-
 lost_over : (w : NodeWorld) (e : End) (why : Loss) → AreOver (frame_lost w e why).1
-lost_over w e why =
-    by_loss (λ p. AreOver p.1) w e why (λ q. notes (first_lost Host why (link_to w.sites e.link).to_host))
-    (λ q. notes (first_lost Controller why (link_to w.sites e.link).to_controller))
-  where
-    notes : (es : List Noted) → AreOver (entries_for e.link es)
-    notes es = uncut_over (entries_for e.link es) (entries_uncut e.link es)
+lost_over w e why = grind arith
 
 -- no host has the number of the controller
 pub no_site : (sites : List Site) (h : ℕ) → (h == 0) ≡ true → AllByRecursion (λ (s : Site). (s.host == 0) ≡ false) sites → site_at sites h ≡ None

@@ -1,23 +1,22 @@
 -- What a node notes in a step tells of it alone, and ends with its cut where it loses its power.
 use Rattle.node_laws.proofs.Words.{About, Acked, Active, AllByRecursion, AreNotOf, Asks, AtEnd, Bool, Comes, Command, Commits, Control, Core, Creation, Deed}
 use Rattle.node_laws.proofs.Words.{Desk, Down, Drops, Emit, Ends, Entry, FetchMessage, GaveUp, Give, GoesOn, GoesOut, Got, Hears, Hold, IsAnswered, Link}
-use Rattle.node_laws.proofs.Words.{LinkEnd, LinkInput, List, Loss, Lost, Message, NextFrame, NodeInput, None, Noted, OfHost, OnWire, Option, Orders, Plain}
-use Rattle.node_laws.proofs.Words.{Port, Refused, Release, Releases, Removed, Report, Reset, Response, SaysOk, Sends, Sent, SetAside, SetsErrors, Some, Sync}
-use Rattle.node_laws.proofs.Words.{Tells, TimePasses, TooMany, Took, Turn, Waits, Work, Write, [], after_input, after_sessions, after_turn, all_append}
-use Rattle.node_laws.proofs.Words.{all_come, all_done, all_of_host, all_owed, any_of_controller, ap, append-nil, append_assoc, arrival, asked_at, body_of}
-use Rattle.node_laws.proofs.Words.{by_list, by_option, by_test, changed_if, comes_to_pass, commit, commit_writes, cond, count_of, deeds_of, done, end_of}
-use Rattle.node_laws.proofs.Words.{end_of_node, end_of_number, ending_entries, entries_for, entry_of, eqb-true, false, far, filter, finds_room, first_lost}
-use Rattle.node_laws.proofs.Words.{flat_map, forgets, frames_noted, frames_out, give_refusal, goes_in, goes_through_ends, handles, has_come_so, has_freed}
-use Rattle.node_laws.proofs.Words.{has_synced, have_turns, holds_back, hosts_of_ends, inl, input_at, inr, is_held, is_held_at, is_kept_sync, is_late, keeps}
-use Rattle.node_laws.proofs.Words.{lacking, length, lets_go, loses_power, map, nat_lt, node_of, not, noted_of, notified, noting, option_map_or, owed}
-use Rattle.node_laws.proofs.Words.{owed_in_step, own_side, passes, port_at, pushed_out, put, put_entries, puts_entries, refl, report, sent_unless, steps, subst}
-use Rattle.node_laws.proofs.Words.{sym, synced, syncs_in, takes_up, told, told_at, told_late, told_of_coming, told_of_late, true, turn_at, turn_entry}
-use Rattle.node_laws.proofs.Words.{unless_cut, waiting_at, whole_acked, wire_with, with_desk, with_older, with_port, without_notice, ℕ, ◌&&◌, ◌++◌, ◌==◌, ◌∙◌}
-use Rattle.node_laws.proofs.Words.{◌∷◌, ◌≡◌, ◌⊎◌}
+use Rattle.node_laws.proofs.Words.{LinkEnd, LinkInput, List, Loss, Message, NodeInput, None, Noted, OfHost, OnWire, Option, Orders, Plain, Port, Release}
+use Rattle.node_laws.proofs.Words.{Releases, Removed, Report, Reset, Response, SaysOk, Sends, Sent, SetAside, SetsErrors, Some, Tells, TimePasses, TooMany}
+use Rattle.node_laws.proofs.Words.{Took, Turn, Waits, Work, Write, [], after_input, after_sessions, after_turn, all_append, all_come, all_done, all_of_host}
+use Rattle.node_laws.proofs.Words.{all_owed, any_of_controller, ap, append-nil, append_assoc, arith, arrival, asked_at, body_of, by_option, by_test, changed_if}
+use Rattle.node_laws.proofs.Words.{comes_to_pass, commit, commit_writes, cond, count_of, deeds_of, done, end_of, end_of_node, end_of_number, ending_entries}
+use Rattle.node_laws.proofs.Words.{entries_for, entry_of, eqb-true, false, far, filter, first_lost, flat_map, forgets, frames_noted, frames_out, goes_in}
+use Rattle.node_laws.proofs.Words.{goes_through_ends, handles, has_come_so, has_freed, has_synced, have_turns, holds_back, hosts_of_ends, inl, input_at, inr}
+use Rattle.node_laws.proofs.Words.{is_held, is_held_at, is_late, keeps, lacking, length, lets_go, loses_power, map, nat_lt, node_of, noted_of, notified, noting}
+use Rattle.node_laws.proofs.Words.{option_map_or, owed, owed_in_step, own_side, passes, port_at, pushed_out, put, put_entries, puts_entries, refl, report}
+use Rattle.node_laws.proofs.Words.{steps, subst, sym, synced, syncs_in, takes_up, told, told_at, told_late, told_of_coming, told_of_late, true, turn_at}
+use Rattle.node_laws.proofs.Words.{unless_cut, waiting_at, whole_acked, wire_with, with_desk, with_older, with_port, without_notice, ℕ, ◌++◌, ◌==◌, ◌∙◌, ◌∷◌}
+use Rattle.node_laws.proofs.Words.{◌≡◌, ◌⊎◌}
 use Rattle.link_laws.specs.entries.Entries.{End as Side}
 use Rattle.link_laws.specs.entries.Entries.Entry.{Up}
 use Rattle.node_laws.specs.power.Powers.{node_told}
-use Rattle.node_laws.proofs.kept.Doing.{hosts_map, stays_cut, uncut as on_goes}
+use Rattle.node_laws.proofs.kept.Doing.{hosts_map, uncut as on_goes}
 use Rattle.node_laws.proofs.passes.InSteps.{come_entries, come_hosts, coming_all}
 use Rattle.node_laws.proofs.passes.Passing.{have_handled, have_held}
 use Rattle.node_laws.proofs.steps.StepWalks.{changed_host, come_host, forgets_host, sessions_node, without_host}
@@ -40,8 +39,7 @@ abbrev pub AreOwn : ℕ → List Entry → Type 0
 AreOwn k es = AllByRecursion (IsOwn k) es
 
 at_other : (k n : ℕ) (o : Option ℕ) → (k == n) ≡ false → IsAt k o → option_map_or (λ m. m == n) o false ≡ false
-at_other k n None off a = refl
-at_other k n (Some m) off a = ap (λ j. j == n) a ∙ off
+at_other k n o off a = grind arith
 
 pub own_not : (k n : ℕ) (es : List Entry) → (k == n) ≡ false → AreOwn k es → AreNotOf n es
 own_not k n [] off a = tt
@@ -69,8 +67,7 @@ over_split (x ∷ es) (y ∷ before) behind n a e =
     let rest : es ≡ before ++ (entry.Cut n ∷ behind) = cc in over_split es before behind n a.1 rest
 
 if_uncut : (x : Entry) (es : List Entry) → IsUncut x → IfCut x es
-if_uncut (entry.Cut n) es u = absurd u
-if_uncut x es u = tt
+if_uncut x es u = grind arith
 
 pub over_front : (front es : List Entry) → AreUncut front → AreOver es → AreOver (front ++ es)
 over_front [] es u a = a
@@ -87,9 +84,7 @@ pub record IsPart (k : ℕ) (t : List Entry) : Type 0 where
   pub own : AreOwn k front
 
 pub part_own : (k : ℕ) (t : List Entry) → IsPart k t → AreOwn k t
-part_own k t p = subst (AreOwn k) (sym p.is) (all_append (IsOwn k) p.front (cond p.lost (entry.Cut k ∷ []) []) p.own (by_test p.lost
-    (λ q. rw q ((refl, tt)))
-    (λ q. rw q tt)))
+part_own k t p = subst (AreOwn k) (sym p.is) (all_append (IsOwn k) p.front (cond p.lost (entry.Cut k ∷ []) []) p.own (grind arith))
 
 -- other nodes go on behind it
 pub over_part : (k : ℕ) (t es : List Entry) → IsPart k t → AreNotOf k es → AreOver es → AreOver (t ++ es)
@@ -131,17 +126,7 @@ module _ (k h : ℕ) (who : Side) (own : node_of (end_of h who) ≡ k) where
   at s e = rw e own
 
   one_own : (x : Noted) → IsOfSide who x → AreOwn k (entry_of h x)
-  one_own (Up s n) a = (at s a, tt)
-  one_own (Down s cause) a = (at s a, tt)
-  one_own (Active s) a = (at s a, tt)
-  one_own (GaveUp s tries) a = (at s a, tt)
-  one_own (Acked s n count) a = (at s a, tt)
-  one_own (Got s n m) a = (at s a, tt)
-  one_own (Sent s n m) a = (at s a, tt)
-  one_own (Emit s frame) a = (at s a, tt)
-  one_own (Took s frame) a = (at s a, tt)
-  one_own (Lost s frame why) a = (tt, tt)
-  one_own _ a = tt
+  one_own x a = grind arith
 
   pub links_own : (xs : List Noted) → AreOfSide who xs → AreOwn k (entries_for h xs)
   links_own [] a = tt
@@ -152,17 +137,8 @@ module _ (k h : ℕ) (who : Side) (own : node_of (end_of h who) ≡ k) where
 told_of_side : (who : Side) (n : ℕ) (r : Report) (acked : ℕ) → AreOfSide who (told who n r acked)
 told_of_side who n r acked = told_all (IsOfSide who) who n acked refl refl (λ k. refl) refl (λ m. refl) (λ c. refl) r
 
-sent_of_side : (o : Option Refused) (who : Side) (n : ℕ) (m : Message) → AreOfSide who (sent_unless o who n m)
-sent_of_side None who n m = (refl, tt)
-sent_of_side (Some why) who n m = tt
-
-turn_of_side : (who : Side) (n : ℕ) (e : LinkEnd) (t : Turn) → AreOfSide who (turn_entry who n e t)
-turn_of_side who n e (Give m) = sent_of_side (give_refusal e m) who n m
-turn_of_side who n e _ = tt
-
 lost_of_side : (who s : Side) (why : Loss) (xs : List OnWire) → AreOfSide who (first_lost s why xs)
-lost_of_side who s why [] = tt
-lost_of_side who s why (x ∷ xs) = (tt, tt)
+lost_of_side who s why xs = grind arith
 
 pushed_of_side : (who s : Side) (wire : List OnWire) → AreOfSide who (pushed_out s wire)
 pushed_of_side who s wire = by_test (nat_lt 64 (length wire)) (λ q. rw q (lost_of_side who s TooMany wire)) (λ q. rw q tt)
@@ -177,8 +153,7 @@ out_of_side : (who : Side) (l : Link) (e : LinkEnd) → AreOfSide who (ending_en
 out_of_side who l e = puts_of_side who l (frames_out e)
 
 pub arrival_of_side : (who : Side) (l : Link) (comes : Comes) → AreOfSide who (arrival who l comes)
-arrival_of_side who l NextFrame = by_list l.to_controller (λ q. rw q tt) (λ x xs q. rw q (refl, tt))
-arrival_of_side who l _ = tt
+arrival_of_side who l comes = grind arith
 
 -- ## What a node notes in a step tells of it, and ends with its cut where it loses its power
 
@@ -210,8 +185,7 @@ module _ (k : ℕ) where
   Fine w = Runs w ⊎ HasLost w
 
   then_on : (f : Work → Work) (w : Work) → Fine w → ((v : Work) → Runs v → Fine (f v)) → Fine (unless_cut f w)
-  then_on f w (inl r) later = subst Fine (sym (on_goes f w r.on)) (later w r)
-  then_on f w (inr l) later = subst Fine (sym (stays_cut f w l.off)) (inr l)
+  then_on f w a later = grind arith
 
   -- ### Ends
 
@@ -229,9 +203,7 @@ module _ (k : ℕ) where
   port_end : (ports : List Port) (j : ℕ) (p : Port) → AreEnds ports → port_at ports j ≡ Some p → IsEndOf p.desk.host
   port_end [] j p a q = absurd (cc q)
   port_end (x ∷ ports) j p a q = by_test (x.desk.host == j)
-      (λ e. let same : Some x ≡ Some p = rw e at q in
-      let one : x ≡ p = cc in
-      let P : Port → Type 0 = λ z. IsEndOf z.desk.host in subst P one a.0)
+      (λ e. grind arith)
       (λ e. port_end ports j p a.1 (rw e at q))
 
   -- ### What a node does
@@ -247,14 +219,10 @@ module _ (k : ℕ) where
 
   turn_own : (t : Turn) (w : Work) (o : Option Port) → Runs w → ((p : Port) → o ≡ Some p → IsEndOf p.desk.host)
       → AreOwn k (option_map_or (noted_of w.core t) o [])
-  turn_own t w None r is = tt
-  turn_own t w (Some p) r is =
-      links_own k p.desk.host (own_side w.core) (at_own w.core p.desk.host r.number (is p refl)) (turn_entry (own_side w.core) p.session p.side t)
-      (turn_of_side (own_side w.core) p.session p.side t)
+  turn_own t w o r is = grind arith
 
   turn_uncut : (t : Turn) (core : Core) (o : Option Port) → AreUncut (option_map_or (noted_of core t) o [])
-  turn_uncut t core None = tt
-  turn_uncut t core (Some p) = entries_uncut p.desk.host (turn_entry (own_side core) p.session p.side t)
+  turn_uncut t core o = grind arith
 
   turn_runs : (j : ℕ) (t : Turn) (w : Work) → Runs w → Runs (turn_at j t w)
   turn_runs j t w r = record {
@@ -275,13 +243,7 @@ module _ (k : ℕ) where
   }
 
   beside_runs : (w v : Work) → v.cut ≡ w.cut → v.core.node ≡ w.core.node → v.ports ≡ w.ports → v.entries ≡ w.entries → Runs w → Runs v
-  beside_runs w v cut node ports entries r = record {
-    on = cut ∙ r.on;
-    number = node ∙ r.number;
-    ends = subst AreEnds (sym ports) r.ends;
-    own = subst (AreOwn k) (sym entries) r.own;
-    uncut = subst AreUncut (sym entries) r.uncut;
-  }
+  beside_runs w v cut node ports entries r = grind arith
 
   notified_runs : (j : ℕ) (about : About) (message : List ℕ) (w : Work) → Runs w → Runs (notified j about message w)
   notified_runs j about message w r =
@@ -346,23 +308,11 @@ module _ (k : ℕ) where
 
   -- ### Messages
 
-  -- the end of a node on the link with its own number is its own
-  self_end : (core : Core) → node_of (end_of_node core core.node) ≡ core.node
-  self_end core = by_test (core.node == 0) (λ q. rw q (sym (eqb-true core.node 0 q))) (λ q. rw q refl)
-
   plain_mine : (h : ℕ) → IsEndOf h → Plain (IsMine h)
   plain_mine h is = record { sends = λ to x. tt; says_ok = tt; releases = λ asker. tt; is_answered = tt; drops = λ pid. is }
 
   host_mine : (h : ℕ) (core : Core) → core.node ≡ k → OfHost (IsMine h) core
-  host_mine h core number = record {
-    commits = λ c. tt;
-    hears = tt;
-    goes_on = λ i. tt;
-    orders = λ i n order is. tt;
-    same = (self_end core ∙ number, tt);
-    made = λ count. (self_end core ∙ number, tt);
-    failed = λ code. (self_end core ∙ number, tt);
-  }
+  host_mine h core number = grind arith
 
   reply_mine : (h : ℕ) (m : Message) (w : Work) → IsEndOf h → Runs w → AllByRecursion (IsMine h) (deeds_of w.core w.ports h m)
   reply_mine h m w is r = go (w.core.node == 0) (port_at w.ports h) refl refl
@@ -428,12 +378,10 @@ module _ (k : ℕ) where
 -- ### What comes
 
 come_cut : (input : NodeInput) (w : Work) → (has_come_so input w).cut ≡ w.cut
-come_cut (AtEnd h i) w = refl
-come_cut TimePasses w = refl
+come_cut input w = grind arith
 
 come_core : (input : NodeInput) (w : Work) → (has_come_so input w).core ≡ w.core
-come_core (AtEnd h i) w = refl
-come_core TimePasses w = refl
+come_core input w = grind arith
 
 module _ (k : ℕ) where
   ends_by_hosts : (ps qs : List Port) → hosts_of_ends ps ≡ hosts_of_ends qs → AreEnds k ps → AreEnds k qs
@@ -502,8 +450,7 @@ module _ (k : ℕ) where
   AreMine deeds = AllByRecursion (IsMine k 0) deeds
 
   owed_mine : (r : Response) (o : Option Creation) → AreMine (owed r o)
-  owed_mine r None = tt
-  owed_mine r (Some c) = (tt, (tt, tt))
+  owed_mine r o = grind arith
 
   flat_mine : (f : Port → List Deed) → ((p : Port) → AreMine (f p)) → (ports : List Port) → AreMine (flat_map f ports)
   flat_mine f one [] = tt
@@ -515,15 +462,8 @@ module _ (k : ℕ) where
       (flat_mine (λ p. owed response.NotConnected (asked_at p)) (λ p. owed_mine response.NotConnected (asked_at p)) (filter (λ p. p.ended) ports))
       (flat_mine (λ p. owed response.Timeout (asked_at p)) (λ p. owed_mine response.Timeout (asked_at p)) (filter (λ p. p.late) ports))
 
-  either_mine : (b : Bool) (d : List Deed) → AreMine d → AreMine (cond b d [])
-  either_mine true d a = a
-  either_mine false d a = tt
-
   synced_mine : (core : Core) (input : NodeInput) (p : Port) → AreMine (synced core input p)
-  synced_mine core input p = by_option (input_at input p) (λ q. rw q tt) (λ i q. by_option (report p.side i).sync
-      (λ e. rw (q, e) tt)
-      (λ id e. rw (q, e) (either_mine (not (is_kept_sync core.tables.syncs p.desk.host id) && finds_room core (Sync p.desk.host id))
-      (Commits (Sync p.desk.host id) ∷ []) (tt, tt))))
+  synced_mine core input p = grind arith
 
   -- ### A step
 

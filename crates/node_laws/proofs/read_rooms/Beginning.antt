@@ -1,11 +1,11 @@
 -- What is known of the ends of the controller, and of the end of a host, as it begins to go through them in a step.
 use Rattle.node_laws.proofs.Words.{AtEnd, Before, Bool, Comes, Controller, Deed, Entry, FramesFor, HasEnds, Host, IsLinkTold, IsOrderly, Link, LinkEnd}
 use Rattle.node_laws.proofs.Words.{LinkInput, List, NextFrame, NodeInput, NodeWorld, None, Noted, NumberedEnd, Option, Port, Running, Site, Some, Work, []}
-use Rattle.node_laws.proofs.Words.{after_input, after_sessions, all_come, all_done, all_owed, all_owed_hold, all_synced_hold, ap, arith, arrival, by_list}
-use Rattle.node_laws.proofs.Words.{by_test, comes_to, comes_to_pass, cond, controller_begins, entries_for, eqb-true, exchanged, false, flat_map, forgets}
-use Rattle.node_laws.proofs.Words.{forgotten, forgotten_hold, has_come, host_begins_step, hosts_in, hosts_of_ends, input_at, input_of, link_to, map}
-use Rattle.node_laws.proofs.Words.{near_end_in, number_of, of_link, port_at, refl, report, same_number, site_at, subst, sym, synced, times_out, true}
-use Rattle.node_laws.proofs.Words.{whole_acked, without_notice, without_power, ℕ, ◌++◌, ◌==◌, ◌∙◌, ◌∷◌, ◌≡◌}
+use Rattle.node_laws.proofs.Words.{after_input, after_sessions, all_come, all_done, all_owed, all_owed_hold, all_synced_hold, ap, arith, arrival, by_test}
+use Rattle.node_laws.proofs.Words.{comes_to, comes_to_pass, cond, controller_begins, entries_for, eqb-true, exchanged, false, flat_map, forgets, forgotten}
+use Rattle.node_laws.proofs.Words.{forgotten_hold, has_come, host_begins_step, hosts_in, hosts_of_ends, input_at, input_of, link_to, map, near_end_in}
+use Rattle.node_laws.proofs.Words.{number_of, of_link, port_at, refl, report, same_number, site_at, subst, sym, synced, times_out, true, whole_acked}
+use Rattle.node_laws.proofs.Words.{without_notice, without_power, ℕ, ◌++◌, ◌==◌, ◌∙◌, ◌∷◌, ◌≡◌}
 use Rattle.link_laws.proofs.entries.Running.{frame_facts}
 use Rattle.link_laws.specs.entries.Entries.{End as Side}
 use Rattle.node_laws.proofs.kept.Doing.{hosts_map}
@@ -26,8 +26,7 @@ use Rattle.node_laws.proofs.telling.Shapes.{AreClear, came_uncut, clear-append, 
 -- ### One end
 
 arrival_clear : (who : Side) (l : Link) (comes : Comes) → AreClear (arrival who l comes)
-arrival_clear who l NextFrame = by_list l.to_controller (λ q. rw q tt) (λ x xs q. rw q (tt, tt))
-arrival_clear who l _ = tt
+arrival_clear who l comes = grind arith
 
 coming_clear : (who : Side) (h : NumberedEnd) (o : Option LinkInput) → AreClear (told_coming who h o)
 coming_clear who h None = tt
@@ -170,10 +169,7 @@ module _ (w : NodeWorld) (t : List Entry) (orderly : IsOrderly w) (fine : IsFine
 pub only_end : (ports : List Port) (n h : ℕ) (p : Port) → hosts_of_ends ports ≡ n ∷ [] → port_at ports h ≡ Some p → n ≡ h
 only_end [] n h p e q = absurd (cc q)
 only_end (x ∷ y ∷ ports) n h p e q = absurd (cc e)
-only_end (x ∷ []) n h p e q = by_test (x.desk.host == h) (λ f. sym one ∙ eqb-true x.desk.host h f) (λ f. let is : None ≡ Some p = rw f at q in absurd (cc is))
-  where
-    one : x.desk.host ≡ n
-    one = cc
+only_end (x ∷ []) n h p e q = grind arith
 
 module _ (t : List Entry) (s : Site) (fine : IsFineSite s) (told : IsLinkTold s.host s.link t) (r : Running) (runs : s.node ≡ Some r)
     (number : (s.host == 0) ≡ false) (node : HasEnds s.host (s.host ∷ []) r) where

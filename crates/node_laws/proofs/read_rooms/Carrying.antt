@@ -1,15 +1,15 @@
 -- What is known of the ends of a node lasts over all that comes and over its turns, and is what is read of them.
 use Rattle.node_laws.proofs.Words.{ArePortsRead, AreSendable, AreSendableTurns, AsksReset, Before, Bool, Comes, Controller, Core, Deed, Desk, End, Entry}
 use Rattle.node_laws.proofs.Words.{FramesFor, Good, HoldsInStep, Host, IsLine, IsLinkTold, IsPortRead, IsRead, IsReadOff, IsSendable, LastsOverTurns, Link}
-use Rattle.node_laws.proofs.Words.{LinkEnd, LinkInput, LinkState, List, Message, NextFrame, NoInput, NodeInput, None, Noted, NumberedEnd, OnWire, Option, Port}
-use Rattle.node_laws.proofs.Words.{Reached, Reset, Some, Sounds, Standing, Start, Starts, Stop, Stops, Take, Tick, Took, Turn, Up, Work, Write, [], acked-all}
-use Rattle.node_laws.proofs.Words.{after_input, after_turn, all_append, all_done, ap, append_assoc, arrival, before_here, before_there, by_option, changed_if}
+use Rattle.node_laws.proofs.Words.{LinkEnd, LinkInput, List, Message, NextFrame, NoInput, NodeInput, None, Noted, NumberedEnd, OnWire, Option, Port, Reached}
+use Rattle.node_laws.proofs.Words.{Reset, Some, Sounds, Standing, Start, Starts, Stop, Stops, Take, Tick, Took, Turn, Work, Write, [], acked-all, after_input}
+use Rattle.node_laws.proofs.Words.{after_turn, all_append, all_done, ap, append_assoc, arith, arrival, before_here, before_there, by_option, changed_if}
 use Rattle.node_laws.proofs.Words.{comes_to_pass, core_of, deeds_of, drop, end_of, ended_by, entries, entries_for, exchanged, false, fold-append, from_start}
 use Rattle.node_laws.proofs.Words.{got-all, handles, holds_back, if◌then◌else◌, input_of, is_some, is_up, law_noted, lets_go, loses_power, map, max}
 use Rattle.node_laws.proofs.Words.{near_end_in, new_line, new_standing, node_of, noted_of, noting, number_now, number_of, of_link, option_map_or, own_session}
-use Rattle.node_laws.proofs.Words.{own_side, port_at, reached, read_here, read_there, refl, report, sent-all, session_now, spare, standing, standing_by_law}
-use Rattle.node_laws.proofs.Words.{stands_noted, subst, sym, talk_of, told, told_of, took_with, true, true≢false, turn_at, turn_entries, turn_entry, turned}
-use Rattle.node_laws.proofs.Words.{turned_same, unacknowledged_in, whole_acked, with_desk, ℕ, ◌++◌, ◌==◌, ◌∙◌, ◌∷◌, ◌≡◌}
+use Rattle.node_laws.proofs.Words.{port_at, reached, read_here, read_there, refl, report, sent-all, session_now, spare, standing, standing_by_law, stands_noted}
+use Rattle.node_laws.proofs.Words.{subst, sym, talk_of, told, told_of, took_with, true, true≢false, turn_at, turn_entries, turned, turned_same}
+use Rattle.node_laws.proofs.Words.{unacknowledged_in, whole_acked, with_desk, ℕ, ◌++◌, ◌==◌, ◌∙◌, ◌∷◌, ◌≡◌}
 use Rattle.link_laws.proofs.entries.Books.{Book, Input, Silent, Told, book_of, past_after, read, told_input, told_silent, with_side}
 use Rattle.link_laws.proofs.entries.Hearing.{Passes, controller_heard, heard, heard-append, heard_told, host_heard, passes_turns, same_session, shifted}
 use Rattle.link_laws.proofs.entries.Noting.{Frame, Frames}
@@ -28,7 +28,7 @@ use Rattle.node_laws.proofs.steps.StepWalks.{changed_host}
 use Rattle.node_laws.proofs.telling.Accounts.{Account, AreMute, AreSilent, AreUncut, IsUncut, all_last, any, beside, deeds_mute, desk, handling, holds, lets}
 use Rattle.node_laws.proofs.telling.Accounts.{note, of-append, plainly, turns}
 use Rattle.node_laws.proofs.telling.Steps.{IsStep, after_coming, none_map, notes-append, told_coming}
-use Rattle.node_laws.proofs.telling.Shapes.{AreClear, clear-append, clear_stands, clear_turns, entries_uncut}
+use Rattle.node_laws.proofs.telling.Shapes.{AreClear, clear-append, clear_stands, clear_turns}
 use Rattle.trace_model.specs.declared.entry.Entry.TheVariants as entry
 
 -- ## What is noted of an end says which session it has and what it has of each, also behind what comes to it and what its node does to it
@@ -146,8 +146,7 @@ module _ (h : ℕ) (host : (h == 0) ≡ false) (t : List Entry) (notes : List No
       ∙ (ap (part Host) a.stands ∙ (all_law h Host host notes new_standing ∙ s.session))
 
   told_at : (who : Side) → of_link (end_of h who).link t ≡ of_link (end_of h who).link (entries_for h notes)
-  told_at Controller = a.told
-  told_at Host = a.told
+  told_at who = grind arith
 
   -- what it has of each
   reads_are : (who : Side) (k : NumberedEnd) → Says notes who k → (n : ℕ) → IsReadOff t (end_of h who) n (talk_of k n)
@@ -222,18 +221,7 @@ module _ (t : List Entry) (h : ℕ) (who : Side) (w : Work) (a : Carries t h who
       → (Account h who (number_of a.end) a.end.side (of_link h (entries_for h a.came)) a.late w
       → Account h who (number_of a.end) a.end.side (of_link h (entries_for h a.came)) a.late v)
       → Carries t h who v
-  carries_on v more =
-      record {
-        number = a.number;
-        before = a.before;
-        came = a.came;
-        end = a.end;
-        late = a.late;
-        noted = a.noted;
-        clear = a.clear;
-        says = a.says;
-        account = more a.account;
-      }
+  carries_on v more = grind arith
 
   -- the end as it is now
   abbrev end_now : NumberedEnd
@@ -305,8 +293,7 @@ module _ (t : List Entry) (who : Side) where
       }
 
   turn_uncut : (core : Core) (x : Turn) (o : Option Port) → AreUncut (option_map_or (noted_of core x) o [])
-  turn_uncut core x None = tt
-  turn_uncut core x (Some p) = entries_uncut p.desk.host (turn_entry (own_side core) p.session p.side x)
+  turn_uncut core x o = grind arith
 
   carry_turns : (k : ℕ) (x : Turn) (w : Work) → Of w → Of (turn_at k x w)
   carry_turns k x w a =
@@ -322,14 +309,7 @@ module _ (t : List Entry) (who : Side) where
       }
 
   carry_beside : (w v : Work) → v.cut ≡ w.cut → v.core.node ≡ w.core.node → v.ports ≡ w.ports → v.entries ≡ w.entries → Of w → Of v
-  carry_beside w v cut node ports entries a =
-      record {
-        uncut = λ q. subst AreUncut (sym entries) (a.uncut (sym cut ∙ q));
-        each = λ h p q.
-            let c : Carries t h who w = a.each h p (ap (λ ps. port_at ps h) (sym ports) ∙ q) in
-            carries_on t h who w c v
-            (beside h who (number_of c.end) c.end.side (of_link h (entries_for h c.came)) c.late w v node ports entries);
-      }
+  carry_beside w v cut node ports entries a = grind arith
 
   carry_loses : (writes : List Write) (w : Work) → Of w → Of (loses_power writes w)
   carry_loses writes w a =
@@ -420,15 +400,10 @@ abbrev session_at : LinkEnd → ℕ → Option ℕ
 session_at e n = if is_up e.shdlc.phase then Some n else None
 
 own_is : (k : NumberedEnd) → own_session k ≡ session_at k.side (number_of k)
-own_is k = go k.side.shdlc.phase refl
-  where
-    go : (p : LinkState) → k.side.shdlc.phase ≡ p → own_session k ≡ session_at k.side (number_of k)
-    go Up q = rw q refl
-    go _ q = rw q refl
+own_is k = grind arith
 
 node_is : (h : ℕ) (who : Side) → node_of (end_of h who) ≡ node_on h who
-node_is h Controller = refl
-node_is h Host = refl
+node_is h who = grind arith
 
 port_read : (t : List Entry) (h : ℕ) (who : Side) (w : Work) (a : Carries t h who w) → AreUncut w.entries
     → AreSendableTurns a.account.port.turns → IsPortRead (t ++ w.entries) (end_of h who) a.account.port

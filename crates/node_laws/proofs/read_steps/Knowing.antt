@@ -1,20 +1,19 @@
 -- What a controller keeps and knows as a message has its turn is what is read off all entries until there.
-use Rattle.node_laws.proofs.Words.{About, AllByRecursion, Answer, AreDifferent, AreHosts, Ask, AtEnd, Book, Bool, Commit, Creation, Decision, Deed, End, Entry}
-use Rattle.node_laws.proofs.Words.{Err, ErrorCount, FollowsNodes, HasAsideAt, HasErrorsRead, Header, Hold, IfAwaited, IsFew, IsFresh, IsHost, IsKeptNotice}
-use Rattle.node_laws.proofs.Words.{IsNoticedUp, IsOutside, IsReadSo, IsResponse, IsSameView, IsSentByHost, IsShut, KeepsBetween, KeepsInStep, KnowsAsRead}
-use Rattle.node_laws.proofs.Words.{KnowsTheSame, Line, LinksAreRead, List, Memory, Message, MessageFault, MessageKind, NodeHistory, NodeInput, NodeView}
-use Rattle.node_laws.proofs.Words.{NodeWorld, None, Occurrence, Ok, OnFirst, Option, OwnView, Port, Result, Running, RunsInStep, Some, Tells, TimePasses, Work}
-use Rattle.node_laws.proofs.Words.{[], after_sessions, agreed, all_come, all_done, all_owed, all_owed_hold, all_synced_hold, ap, append-nil, ap₂, arith}
-use Rattle.node_laws.proofs.Words.{aside_in, asked_at, asked_pipes, asking_in, body_in, book_in, by_option, by_test, comes_to_pass, command_deeds, commit_deeds}
-use Rattle.node_laws.proofs.Words.{cond, controller_deeds, creation_deeds, creation_of, creations_at, decided, decision_deeds, deeds_by_relay, deeds_of}
-use Rattle.node_laws.proofs.Words.{desks_of, end_c, end_of_node, entries_in, eq-eqb, eqb, eqb-true, errors_in, event_deeds, false, filter, filter_map, flat_map}
-use Rattle.node_laws.proofs.Words.{forgets, forgotten, forgotten_hold, gate_deeds, goes_through, handles, has, header_of, holds_back, hosts_of_ends}
-use Rattle.node_laws.proofs.Words.{hosts_where, if_notice, inl, inr, is_asked_at, is_asked_pipe, is_connected_at, is_connected_in, is_held, is_of_creation}
-use Rattle.node_laws.proofs.Words.{is_one_of, is_opened, is_over_at, is_some, is_up, kind_deeds, lack, length, lets_go, list_any, map, needs, new_world}
-use Rattle.node_laws.proofs.Words.{no_errors, node_entries, notice_deeds, notice_in, noting, occurrences_in, option_and_then, option_map, option_map_or, owed}
-use Rattle.node_laws.proofs.Words.{own_deeds, own_gate, port_at, refl, relay_deeds, relayed_to, served_at, session_now, subst, sym, synced, tables_in}
-use Rattle.node_laws.proofs.Words.{times_out, true, true≢false, unless_asking, unrelayed, view_at, view_for, view_of, waiting_pipes, with_desk, without_notice}
-use Rattle.node_laws.proofs.Words.{world_behind, ℕ, ◌&&◌, ◌++◌, ◌||◌, ◌∙◌, ◌∷◌, ◌≡◌}
+use Rattle.node_laws.proofs.Words.{AllByRecursion, AreDifferent, AreHosts, AtEnd, Book, Bool, Creation, Decision, Deed, End, Entry, Err, ErrorCount}
+use Rattle.node_laws.proofs.Words.{FollowsNodes, HasAsideAt, HasErrorsRead, Header, Hold, IfAwaited, IsFew, IsFresh, IsHost, IsKeptNotice, IsNoticedUp}
+use Rattle.node_laws.proofs.Words.{IsOutside, IsReadSo, IsResponse, IsSameView, IsSentByHost, IsShut, KeepsBetween, KeepsInStep, KnowsAsRead, KnowsTheSame}
+use Rattle.node_laws.proofs.Words.{Line, LinksAreRead, List, Memory, Message, MessageFault, MessageKind, NodeHistory, NodeInput, NodeView, NodeWorld, None}
+use Rattle.node_laws.proofs.Words.{Occurrence, Ok, OnFirst, Option, OwnView, Port, Result, Running, RunsInStep, Some, TimePasses, Work, [], after_sessions}
+use Rattle.node_laws.proofs.Words.{all_come, all_done, all_owed, all_owed_hold, all_synced_hold, ap, append-nil, ap₂, arith, aside_in, asked_at, asked_pipes}
+use Rattle.node_laws.proofs.Words.{asking_in, body_in, book_in, by_option, by_test, comes_to_pass, command_deeds, cond, controller_deeds, creation_deeds}
+use Rattle.node_laws.proofs.Words.{creations_at, decided, decision_deeds, deeds_by_relay, deeds_of, desks_of, end_c, end_of_node, entries_in, eq-eqb, eqb}
+use Rattle.node_laws.proofs.Words.{eqb-true, errors_in, event_deeds, false, filter, filter_map, flat_map, forgets, forgotten, forgotten_hold, gate_deeds}
+use Rattle.node_laws.proofs.Words.{goes_through, handles, header_of, holds_back, hosts_of_ends, if_notice, inl, inr, is_asked_at, is_asked_pipe}
+use Rattle.node_laws.proofs.Words.{is_connected_at, is_connected_in, is_held, is_of_creation, is_one_of, is_opened, is_over_at, is_some, is_up, kind_deeds}
+use Rattle.node_laws.proofs.Words.{lack, length, lets_go, list_any, map, needs, new_world, no_errors, node_entries, notice_deeds, notice_in, noting}
+use Rattle.node_laws.proofs.Words.{occurrences_in, option_and_then, option_map_or, owed, own_deeds, own_gate, port_at, refl, relay_deeds, relayed_to, served_at}
+use Rattle.node_laws.proofs.Words.{session_now, subst, sym, synced, tables_in, times_out, true, true≢false, unless_asking, view_at, view_for, view_of}
+use Rattle.node_laws.proofs.Words.{waiting_pipes, with_desk, without_notice, world_behind, ℕ, ◌&&◌, ◌++◌, ◌||◌, ◌∙◌, ◌∷◌, ◌≡◌}
 use Rattle.hcp_packet.specs.declared.MessageKind.TheVariants.{Command as IsCommand, Event as IsEvent}
 use Rattle.node_laws.specs.read_steps.Worlds.{KeepsErrorsRead}
 use Rattle.node_laws.proofs.creations.Outcomes.{Asked, asked_of, desks_wait, waits}
@@ -55,8 +54,7 @@ host_ends [] all = tt
 host_ends (p ∷ ports) all = (all.0, host_ends ports all.1)
 
 up_to : (o : Option Port) → OnFirst IsNoticedUp o → UpAt o
-up_to None a = tt
-up_to (Some p) a = λ some. ap is_up (a some)
+up_to o a = grind arith
 
 aside_to : (n : ℕ) (l : List Creation) (o : Option Port) → n ≡ length l → HasAsideAt l o → EndAt n l o
 aside_to n l None same a = (same ∙ ap length a, a)
@@ -287,8 +285,7 @@ found_end P (q ∷ ports) h p here all = by_test (eqb q.desk.host h)
 
 -- a message came there
 pub got_end : (o : Option Port) (m : Message) (rest : List Message) → option_map_or (λ (p : Port). p.side.got) o [] ≡ m ∷ rest → (p : Port) × (o ≡ Some p)
-got_end None m rest got = absurd (cc got)
-got_end (Some p) m rest got = (p, refl)
+got_end o m rest got = grind arith
 
 module _ (hosts : List ℕ) (are : AreHosts hosts) (t : List Entry) where
   abbrev J : Work → Type 0
@@ -299,12 +296,10 @@ module _ (hosts : List ℕ) (are : AreHosts hosts) (t : List Entry) where
   single h far = absurd (true≢false (sym far))
 
   still_on : (x : ℕ) (w : Work) → w.cut ≡ false → Stands x t w → Holds x t IsKeptNotice w
-  still_on x w on (inl a) = a
-  still_on x w on (inr a) = absurd (true≢false (sym a.off ∙ on))
+  still_on x w on a = grind arith
 
   still_made : (x : ℕ) (w : Work) → w.cut ≡ false → Fine x t hosts w → Still x t hosts w
-  still_made x w on (inl a) = a
-  still_made x w on (inr a) = absurd (true≢false (sym a.off ∙ on))
+  still_made x w on a = grind arith
 
   -- ### A message is handled
 
@@ -418,9 +413,7 @@ counted_at : (h n : ℕ) (ports : List Port) (p : Port) → AllByRecursion (λ (
     → port_at ports h ≡ Some p → p.desk.errors ≡ n
 counted_at h n [] p all here = absurd (cc here)
 counted_at h n (q ∷ ports) p all here = by_test (eqb q.desk.host h)
-    (λ is. let found : Some q ≡ Some p = rw is at here in
-    let same : q ≡ p = cc in
-    subst (λ (z : Port). z.desk.errors ≡ n) same (all.0 is))
+    (λ is. grind arith)
     (λ off. (counted_at h n ports p all.1) (rw off at here))
 
 module _ (hosts : List ℕ) (are : AreHosts hosts) (t : List Entry) (w : Work) (a : KeepsInStep hosts t w) where
@@ -483,19 +476,7 @@ module _ (hosts : List ℕ) (are : AreHosts hosts) (t : List Entry) (w : Work) (
   }
 
   pub aside_known : (h : ℕ) (p : Port) → port_at w.ports h ≡ Some p → aside_in now (end_c h) ≡ p.side.aside
-  aside_known h p q =
-      go (asking_in now h) (creations_at (desks_of w.ports) h) (a.creations h)
-      ∙ sym (by (port_at w.ports h) q (a.asides h))
-    where
-      go : (r : Option (List ℕ)) (l : List Creation) → IsReadSo r l → cond (is_some r) 1 0 ≡ length l
-      go None [] k = refl
-      go (Some m) (c ∷ []) k = refl
-      go None (c ∷ l) k = absurd k
-      go (Some m) [] k = absurd k
-      go (Some m) (c ∷ d ∷ l) k = absurd k
-
-      by : (o : Option Port) → o ≡ Some p → HasAsideAt (creations_at (desks_of w.ports) h) o → p.side.aside ≡ length (creations_at (desks_of w.ports) h)
-      by o e b = let c : HasAsideAt (creations_at (desks_of w.ports) h) (Some p) = subst (HasAsideAt (creations_at (desks_of w.ports) h)) e b in c.aside
+  aside_known h p q = grind arith
 
   -- ### REC_ERROR
 
@@ -516,8 +497,7 @@ module _ (hosts : List ℕ) (are : AreHosts hosts) (t : List Entry) (w : Work) (
     by None q = ap (λ b. b && is_connected_in now h) (sym (ap is_some q) ∙ there_is h)
     by (Some p) q =
         let one : is_one_of hosts h ≡ true = sym (there_is h) ∙ ap is_some q in
-        let up : is_up p.side.shdlc.phase ≡ is_some (session_now now (end_c h) 0) =
-        sym (ap (λ o. option_map_or (λ (p : Port). is_up p.side.shdlc.phase) o false) q) ∙ links h one in
+        let up : is_up p.side.shdlc.phase ≡ is_some (session_now now (end_c h) 0) = grind arith in
         let open_is : is_opened w.core.tables p.desk.host 1 ≡ is_opened (tables_in now 0) h 1 =
         ap₂ (λ z n. is_opened z n 1) a.tables (at_host w.ports h p q) in
         ap₂ (λ x y. x && y) up open_is ∙ sym (ap (λ b. b && is_connected_in now h) one)
@@ -563,19 +543,11 @@ by_awaited : OwnView → ℕ → Option (Option Creation) → List Deed
 by_awaited own code None = notice_deeds own code None
 by_awaited own code (Some o) = creation_deeds own code o
 
-by_about : (own : OwnView) (code : ℕ) (o : Option About) → notice_deeds own code o ≡ by_awaited own code (option_map creation_of o)
-unfolding by_awaited
-by_about own code None = refl
-by_about own code (Some about) = refl
-
 module _ (v u : NodeView) (h : ℕ) (a : KnowsTheSame v u h) where
   -- ### Commands
 
   decisions : (pipe : ℕ) (x : Decision) → decision_deeds v.own h pipe x ≡ decision_deeds u.own h pipe x
-  decisions pipe (Answer answer) = refl
-  decisions pipe (Commit x answer tell notice) =
-      ap (λ b. commit_deeds b h pipe x answer.items (map (λ told. Tells told notice.items) (hosts_where (has tell)))) (a.room x)
-  decisions pipe (Ask asked notice x answer) = refl
+  decisions pipe x = grind arith
 
   served : IsSameView (v.links h) (u.links h) → (pipe instruction : ℕ) (body : List ℕ) (o : Option ℕ)
       → served_at v.own (v.links h) h pipe instruction body o ≡ served_at u.own (u.links h) h pipe instruction body o
@@ -598,19 +570,14 @@ module _ (v u : NodeView) (h : ℕ) (a : KnowsTheSame v u h) where
   -- ### Responses
 
   created : (code : ℕ) (o : Option Creation) → creation_deeds v.own code o ≡ creation_deeds u.own code o
-  created code None = refl
-  created code (Some x) = ap (λ b. agreed (eqb code 0 && b) x) (a.room x.command)
+  created code o = grind arith
 
   awaited : (code : ℕ) (o : Option (Option Creation)) → by_awaited v.own code o ≡ by_awaited u.own code o
   unfolding by_awaited
-  awaited code None = refl
-  awaited code (Some o) = created code o
+  awaited code o = grind arith
 
   responses : (m : Message) (code : ℕ) (b : Bool) → if_notice v h m code b ≡ if_notice u h m code b
-  responses m code true =
-      by_about v.own code (v.notice h)
-      ∙ (ap (by_awaited v.own code) a.notice ∙ (awaited code (option_map creation_of (u.notice h)) ∙ sym (by_about u.own code (u.notice h))))
-  responses m code false = refl
+  responses m code b = grind arith
 
   -- ### Messages
 
@@ -626,8 +593,7 @@ module _ (v u : NodeView) (h : ℕ) (a : KnowsTheSame v u h) where
   owns m false down = refl
 
   relays : (m : Message) (to : ℕ) (b : Bool) → relay_deeds v.up h m to b ≡ relay_deeds u.up h m to b
-  relays m to true = refl
-  relays m to false = ap (λ b. unrelayed b h m) (a.links h)
+  relays m to b = grind arith
 
   by_relay : (m : Message) (o : Option ℕ) → deeds_by_relay v h m o ≡ deeds_by_relay u h m o
   by_relay m (Some to) = relays m to (v.up to) ∙ ap (relay_deeds u.up h m to) (a.links to)

@@ -1,24 +1,22 @@
 -- What a controller keeps is what is read as its pass begins and over each turn, and its notices name hosts.
 use Rattle.node_laws.proofs.Words.{Activates, AllByRecursion, AllByRecursion-append, AreDifferent, AreHosts, AreNamed, AreProper, Arms, Asks, AsksReset, AtEnd}
-use Rattle.node_laws.proofs.Words.{Book, Bool, Boots, Comes, Command, Commits, Controller, ControllerReads, Core, Create, Creation, Deed, Desk, Drops, End}
-use Rattle.node_laws.proofs.Words.{Ends, Entry, ErrorCount, FetchMessage, FollowsNodes, Give, Gives, Happening, HasEnds, HciTables, Header, Hold, Host}
-use Rattle.node_laws.proofs.Words.{IfItRuns, IfNoticedUp, IfReads, IfRuns, Inits, IsAllowedFor, IsAllowedStill, IsAnswered, IsCut, IsFew, IsFresh, IsHost}
-use Rattle.node_laws.proofs.Words.{IsKeptNotice, IsNamed, IsNoticeOf, IsOutside, IsPlain, IsReadSo, IsSentByHost, IsShut, KeepsBetween, KeepsInStep, Line}
-use Rattle.node_laws.proofs.Words.{LinkInput, List, Loses, Memory, Message, NextFrame, NodeHistory, NodeInput, NodeWorld, None, Noted, NumberedEnd, Occurrence}
-use Rattle.node_laws.proofs.Words.{Option, Orders, Port, ReadsBetween, ReadsInStep, Refused, Release, Releases, Reset, Resets, Running, RunsInStep, RunsSo}
-use Rattle.node_laws.proofs.Words.{SaysOk, Sends, SetAside, SetsErrors, Site, Some, Starts, Takes, Tells, Ticks, TimePasses, Turn, Work, [], activates}
-use Rattle.node_laws.proofs.Words.{after_input, aged_entries, all_aged, all_come, all_done, all_flat, all_owed, all_so, ap, append-nil, arrival, as_it_ticks}
-use Rattle.node_laws.proofs.Words.{awaited_after, beginning, body_of, book_in, boot_writes, boots, by_coming, by_controller, by_controller_tick, by_cut}
-use Rattle.node_laws.proofs.Words.{by_option, by_test, comes_at, comes_to, comes_to_pass, commit, commit_writes, controller_begins, controller_deeds}
-use Rattle.node_laws.proofs.Words.{controller_does, controller_ticks, controller_work, creations_of, deeds_of, done, end_c, end_h, end_of_node, ended_by}
-use Rattle.node_laws.proofs.Words.{entries_for, entries_in, eq-eqb, eqb, eqb-true, fails_within, false, flat_map, fold, forgotten, frames_noted, give_refusal}
-use Rattle.node_laws.proofs.Words.{goes_through_ends, handles, have_turns, holds_back, hosts_in, hosts_of_ends, hosts_tick, inl, input_at, input_of, inr}
-use Rattle.node_laws.proofs.Words.{instruction_in, is_held, is_late, is_notice, is_one_of, is_response, is_some, lack, length, lets_go, link_to, map, memory_at}
-use Rattle.node_laws.proofs.Words.{near_end_in, near_tick, needs, new_world, no_errors, node_entries, noted_of, notice_in, noting, occurrences_in}
-use Rattle.node_laws.proofs.Words.{option_map_or, own_side, passes, port_at, refl, report, same_end, same_side, sending, sent_unless, slice_index, steps, subst}
-use Rattle.node_laws.proofs.Words.{sym, synced, times_out, told_at, told_late, true, true≢false, turn_at, unless_cut, view_of, whole_acked, wires_for}
-use Rattle.node_laws.proofs.Words.{with_desk, with_older, work_of, world_behind, world_step, ℕ, ◌&&◌, ◌++◌, ◌||◌, ◌∙◌, ◌∷◌, ◌≡◌, ◌⊎◌}
-use Rattle.link_laws.specs.entries.Entries.{End as Side}
+use Rattle.node_laws.proofs.Words.{Book, Bool, Boots, Comes, Command, Commits, Controller, ControllerReads, Core, Creation, Deed, Desk, Drops, End, Ends, Entry}
+use Rattle.node_laws.proofs.Words.{ErrorCount, FetchMessage, FollowsNodes, Give, Gives, Happening, HasEnds, HciTables, Header, Hold, Host, IfItRuns}
+use Rattle.node_laws.proofs.Words.{IfNoticedUp, IfReads, IfRuns, Inits, IsAllowedFor, IsAllowedStill, IsAnswered, IsCut, IsFew, IsFresh, IsHost, IsKeptNotice}
+use Rattle.node_laws.proofs.Words.{IsNamed, IsNoticeOf, IsOutside, IsPlain, IsReadSo, IsSentByHost, IsShut, KeepsBetween, KeepsInStep, Line, LinkInput, List}
+use Rattle.node_laws.proofs.Words.{Loses, Message, NextFrame, NodeHistory, NodeInput, NodeWorld, None, Noted, NumberedEnd, Occurrence, Option, Orders, Port}
+use Rattle.node_laws.proofs.Words.{ReadsBetween, ReadsInStep, Release, Releases, Reset, Resets, Running, RunsInStep, RunsSo, SaysOk, Sends, SetAside}
+use Rattle.node_laws.proofs.Words.{SetsErrors, Site, Some, Starts, Takes, Tells, Ticks, TimePasses, Turn, Work, [], activates, after_input, aged_entries}
+use Rattle.node_laws.proofs.Words.{all_aged, all_come, all_done, all_flat, all_owed, all_so, ap, append-nil, arith, arrival, as_it_ticks, awaited_after}
+use Rattle.node_laws.proofs.Words.{beginning, body_of, book_in, boots, by_coming, by_controller, by_controller_tick, by_cut, by_option, by_test, comes_at}
+use Rattle.node_laws.proofs.Words.{comes_to, comes_to_pass, commit, commit_writes, controller_begins, controller_deeds, controller_does, controller_ticks}
+use Rattle.node_laws.proofs.Words.{controller_work, creations_of, deeds_of, done, end_c, end_h, end_of_node, ended_by, entries_for, entries_in, eq-eqb, eqb}
+use Rattle.node_laws.proofs.Words.{fails_within, false, flat_map, fold, forgotten, frames_noted, goes_through_ends, handles, have_turns, holds_back, hosts_in}
+use Rattle.node_laws.proofs.Words.{hosts_of_ends, hosts_tick, inl, input_at, input_of, instruction_in, is_held, is_late, is_notice, is_one_of, is_some, lack}
+use Rattle.node_laws.proofs.Words.{length, lets_go, link_to, map, near_end_in, near_tick, needs, new_world, no_errors, node_entries, noted_of, notice_in}
+use Rattle.node_laws.proofs.Words.{noting, occurrences_in, option_map_or, own_side, passes, port_at, refl, report, sending, slice_index, steps, subst, sym}
+use Rattle.node_laws.proofs.Words.{synced, times_out, told_at, told_late, true, true≢false, turn_at, unless_cut, view_of, whole_acked, wires_for, with_desk}
+use Rattle.node_laws.proofs.Words.{with_older, work_of, world_behind, world_step, ℕ, ◌&&◌, ◌++◌, ◌||◌, ◌∙◌, ◌∷◌, ◌≡◌}
 use Rattle.node_laws.proofs.creations.Outcomes.{asked_of}
 use Rattle.node_laws.proofs.creations.Doing.{Fine, Good, Still}
 use Rattle.node_laws.proofs.creations.Events.{aged_good, begins_beside, far_beside, lost_beside, near_good}
@@ -55,11 +53,7 @@ NamesHost x None = Unit {0}
 NamesHost x (Some m) = instruction_in m ≡ 18 → slice_index m 3 ≡ x
 
 one_named : (x : ℕ) (e : Entry) (r : Option (List ℕ)) → IsNamed e → NamesHost x r → NamesHost x (awaited_after is_notice (end_c x) 0 r e)
-one_named x (entry.Sent f n pid message) r named a = by_test (same_end f (end_c x) && eqb pid 1 && is_notice message) (λ e. rw e (named x e)) (λ e. rw e a)
-one_named x (entry.Turn f pid message) r named a = by_test (same_end f (end_c x) && eqb pid 1 && is_response message) (λ q. rw q tt) (λ q. rw q a)
-one_named x (entry.Down f cause) r named a = by_test (same_end f (end_c x)) (λ q. rw q tt) (λ q. rw q a)
-one_named x (entry.Cut n) r named a = by_test (eqb n 0) (λ q. rw q tt) (λ q. rw q a)
-one_named x _ r named a = a
+one_named x e r named a = grind arith
 
 all_named : (x : ℕ) (t : List Entry) (r : Option (List ℕ)) → AreNamed t → NamesHost x r → NamesHost x (fold (awaited_after is_notice (end_c x) 0) r t)
 all_named x [] r named a = a
@@ -75,19 +69,8 @@ names_read t named h message is made = let one : NamesHost h (Some message) = su
 
 -- ### Entries
 
-off_end : (a b c d : Bool) → b ≡ true → ((a && same_side b false) && c && d) ≡ true → ⊥
-off_end true true c d q z = true≢false (sym z)
-off_end true false c d q z = true≢false (sym q)
-off_end false b c d q z = true≢false (sym z)
-
-on_end : (a b c d : Bool) → ((a && b) && c && d) ≡ true → (a ≡ true) × ((c && d) ≡ true)
-on_end true true c d z = (refl, z)
-on_end true false c d z = absurd (true≢false (sym z))
-on_end false b c d z = absurd (true≢false (sym z))
-
 one_far : (e : Entry) → IsFar e → IsNamed e
-one_far (entry.Sent e n pid message) far = λ h is. absurd (off_end (eqb e.link h) e.at_host (eqb pid 1) (is_notice message) far is)
-one_far _ far = tt
+one_far e far = grind arith
 
 pub far_named : (es : List Entry) → AreFar es → AreNamed es
 far_named [] far = tt
@@ -97,23 +80,12 @@ far_named (e ∷ es) far = (one_far e far.0, far_named es far.1)
 abbrev pub GoesSo : ℕ → Message → Type 0
 GoesSo k m = (eqb m.0 1 && is_notice m.1) ≡ true → instruction_in m.1 ≡ 18 → slice_index m.1 3 ≡ k
 
-sent_named : (k n : ℕ) (who : Side) (m : Message) (o : Option Refused) → GoesSo k m → AreNamed (entries_for k (sent_unless o who n m))
-sent_named k n who m (Some why) goes = tt
-sent_named k n Controller m None goes = (
-  (λ h is made.
-      let parts = on_end (eqb k h) true (eqb m.0 1) (is_notice m.1) is in
-      goes parts.1 made ∙ eqb-true k h parts.0),
-  tt,
-)
-sent_named k n Host m None goes = ((λ h is. absurd (off_end (eqb k h) true (eqb m.0 1) (is_notice m.1) refl is)), tt)
-
 abbrev GoesBy : ℕ → Turn → Type 0
 GoesBy k (Give m) = GoesSo k m
 GoesBy k _ = Unit {0}
 
 noted_named : (core : Core) (t : Turn) (p : Port) → GoesBy p.desk.host t → AreNamed (noted_of core t p)
-noted_named core (Give m) p goes = sent_named p.desk.host p.session (own_side core) m (give_refusal p.side m) goes
-noted_named core _ p goes = tt
+noted_named core t p goes = grind arith
 
 turn_named : (k : ℕ) (t : Turn) (w : Work) → GoesBy k t → AreNamed w.entries → AreNamed (turn_at k t w).entries
 turn_named k t w goes a = AllByRecursion-append IsNamed w.entries (option_map_or (noted_of w.core t) (port_at w.ports k) []) a
@@ -190,18 +162,10 @@ no_notice : (k : ℕ) (m : Message) → (eqb m.0 1 && is_notice m.1) ≡ false �
 no_notice k m off on = absurd (true≢false (sym on ∙ off))
 
 removal : (k : ℕ) (message : List ℕ) → IsRemoval message → GoesSo k (1, message)
-removal k message r = go r.about where
-  other : (n : ℕ) → eqb n 18 ≡ false → instruction_in message ≡ n → instruction_in message ≡ 18 → slice_index message 3 ≡ k
-  other n off is made = absurd (true≢false (ap (λ j. eqb j 18) (sym made ∙ is) ∙ off))
-
-  go : (instruction_in message ≡ 19) ⊎ (instruction_in message ≡ 21) → GoesSo k (1, message)
-  go (inl is) on made = other 19 refl is made
-  go (inr is) on made = other 21 refl is made
+removal k message r = grind arith
 
 asked_names : (t : HciTables) (to : ℕ) (message : List ℕ) (c : Creation) → IsNoticeOf c message → IsAllowedFor t to c.command → GoesSo to (1, message)
-asked_names t to message c is allowed =
-    let for : IsAllowedFor t to (Create is.row) = subst (IsAllowedFor t to) is.command allowed in
-    λ on made. ap (λ (m : List ℕ). slice_index m 3) is.message_is ∙ for.0
+asked_names t to message c is allowed = grind arith
 
 may_name : (x : ℕ) (F : List ℕ → Type 0) (t : HciTables) (ports : List Port) (deeds : List Deed) → MayTell x F deeds
     → AllByRecursion (IsAllowedStill t ports) deeds → AllByRecursion NamesSo deeds
@@ -277,16 +241,14 @@ ready_named input w syncs owing a =
 -- ### The pass
 
 some_of : (o : Option Port) → is_some o ≡ true → (p : Port) × (o ≡ Some p)
-some_of None e = absurd (true≢false (sym e))
-some_of (Some p) e = (p, refl)
+some_of o e = grind arith
 
 -- each of these is one of them
 each_one : (hosts : List ℕ) → AllByRecursion (λ h. is_one_of hosts h ≡ true) hosts
 each_one [] = tt
 each_one (k ∷ hosts) = (ap (λ b. b || is_one_of hosts k) (eq-eqb k k refl), more hosts (each_one hosts)) where
   either : (b c : Bool) → c ≡ true → (b || c) ≡ true
-  either true c e = refl
-  either false c e = e
+  either b c e = grind arith
 
   more : (hs : List ℕ) → AllByRecursion (λ h. is_one_of hosts h ≡ true) hs → AllByRecursion (λ h. is_one_of (k ∷ hosts) h ≡ true) hs
   more hs all = all_so (λ h. is_one_of hosts h ≡ true) (λ h. is_one_of (k ∷ hosts) h ≡ true) (λ h b. either (eqb k h) (is_one_of hosts h) b) hs all
@@ -482,12 +444,10 @@ module _ (hosts : List ℕ) (are : AreHosts hosts) (t : List Entry) (w : NodeWor
       step_begins : (comes_to_pass input begun).cut ≡ false → KeepsInStep hosts before (comes_to_pass input begun)
       step_begins on = from_parts hosts before (comes_to_pass input begun) on (λ x. by_notice x (noticed x)) (λ x. by_creation x (made x)) errors where
         by_notice : (x : ℕ) → Stands x before (comes_to_pass input begun) → Holds x before IsKeptNotice (comes_to_pass input begun)
-        by_notice x (inl a) = a
-        by_notice x (inr a) = absurd (true≢false (sym a.off ∙ on))
+        by_notice x a = grind arith
 
         by_creation : (x : ℕ) → Fine x before hosts (comes_to_pass input begun) → Still x before hosts (comes_to_pass input begun)
-        by_creation x (inl a) = a
-        by_creation x (inr a) = absurd (true≢false (sym a.off ∙ on))
+        by_creation x a = grind arith
 
       runs_begin : (comes_to_pass input begun).cut ≡ false → RunsInStep hosts before (comes_to_pass input begun)
       runs_begin on =
@@ -579,9 +539,7 @@ module _ (hosts : List ℕ) (are : AreHosts hosts) (t : List Entry) (w : NodeWor
 -- ## Whatever happens to a world, each notice of a creation that the controller sends names the host that it goes to
 
 boots_named : (w : NodeWorld) (n : ℕ) → AreNamed (boots w n).1
-boots_named w n = by_test (fails_within (length (boot_writes m.content)) m.plan) (λ e. rw e (tt, tt)) (λ e. rw e (tt, tt)) where
-  m : Memory
-  m = memory_at w n
+boots_named w n = grind arith
 
 module _ (hosts : List ℕ) (are : AreHosts hosts) (t : List Entry) (w : NodeWorld) (k : KeepsBetween hosts t w) where
   good : AreGood w.sites

@@ -1,14 +1,14 @@
 -- What is read of all hosts as frames are lost and as nodes lose their power and boot, and so over the lines of a schedule.
-use Rattle.node_laws.proofs.Words.{Activates, AllByRecursion, AllRead, AreDifferent, AreHosts, Arms, AsksReset, AtController, AtHost, Bool, Boots, Broken}
-use Rattle.node_laws.proofs.Words.{Controller, CutOff, Desk, End, Entry, FollowsNodes, Gives, Happening, Header, Host, IfHostRuns, IfZero, Inits, IsCut, IsHost}
-use Rattle.node_laws.proofs.Words.{IsInitOfHost, IsSentByHost, IsTrue, Line, Link, List, Lose, Loses, Loss, Memory, Message, NextFrame, NoCause, NoInput}
-use Rattle.node_laws.proofs.Words.{NodeHistory, NodeWorld, None, NotUp, NumberedEnd, Occurrence, Option, Refused, Resets, Running, Site, SiteReads, Some, Step}
-use Rattle.node_laws.proofs.Words.{Takes, Ticks, [], after_planned, all_so, ap, append-nil, boot_writes, boots, by_counts, by_option, by_test, cases_Bool}
-use Rattle.node_laws.proofs.Words.{changed_if, controller_cut, count_of, counts, entries_for, entries_in, eqb, eqb-true, fails_within, false, first_cause}
-use Rattle.node_laws.proofs.Words.{first_lost, first_verdict, found, frame_lost, frames_at, give_refusal, happenings, happens, has_order, host_cut, if_not_sent}
-use Rattle.node_laws.proofs.Words.{if_off, if_waiting, inl, inr, is_command_message, length, link_to, links_of, loses_power_at, machine_in, map, memory_at}
-use Rattle.node_laws.proofs.Words.{new_world, node_at, node_entries, node_of, occurrences_in, order_of, refl, refusal_in, site_at, subst, sym, taken_of, true}
-use Rattle.node_laws.proofs.Words.{unwrap_or, with_memory, with_node, with_site, world_after, world_behind, world_step, ℕ, ◌&&◌, ◌++◌, ◌+◌, ◌∙◌, ◌∷◌, ◌≡◌, ◌⊎◌}
+use Rattle.node_laws.proofs.Words.{Activates, AllByRecursion, AllRead, AreDifferent, AreHosts, Arms, AsksReset, AtController, AtHost, Bool, Boots, Controller}
+use Rattle.node_laws.proofs.Words.{CutOff, End, Entry, FollowsNodes, Gives, Happening, Header, Host, IfHostRuns, IfZero, Inits, IsCut, IsHost, IsInitOfHost}
+use Rattle.node_laws.proofs.Words.{IsSentByHost, IsTrue, Line, Link, List, Lose, Loses, Loss, Memory, Message, NextFrame, NoInput, NodeHistory, NodeWorld, None}
+use Rattle.node_laws.proofs.Words.{NumberedEnd, Occurrence, Option, Resets, Running, Site, SiteReads, Some, Step, Takes, Ticks, [], after_planned, all_so, ap}
+use Rattle.node_laws.proofs.Words.{append-nil, arith, boot_writes, boots, by_counts, by_option, by_test, cases_Bool, changed_if, controller_cut, count_of}
+use Rattle.node_laws.proofs.Words.{counts, entries_for, entries_in, eqb, eqb-true, fails_within, false, first_cause, first_lost, first_verdict, found}
+use Rattle.node_laws.proofs.Words.{frame_lost, frames_at, give_refusal, happenings, happens, host_cut, if_not_sent, if_off, inl, inr, length, link_to, links_of}
+use Rattle.node_laws.proofs.Words.{loses_power_at, map, memory_at, new_world, node_at, node_entries, node_of, occurrences_in, order_of, refl, refusal_in}
+use Rattle.node_laws.proofs.Words.{site_at, subst, sym, taken_of, true, unwrap_or, with_memory, with_node, with_site, world_after, world_behind, world_step, ℕ}
+use Rattle.node_laws.proofs.Words.{◌++◌, ◌∙◌, ◌∷◌, ◌≡◌, ◌⊎◌}
 use Rattle.node_laws.specs.readings.Worlds.{MayBeRead}
 use Rattle.node_laws.proofs.kept.Events.{hosts_same, hosts_with, loses_is, none_found, site_found, with_site_twice}
 use Rattle.node_laws.proofs.links.Sites.{here_host}
@@ -24,28 +24,12 @@ use Rattle.trace_model.specs.declared.line.Line.TheVariants as line
 zero_counts : (why : Loss) (h : ℕ) (o : Option Running) → IfZero o → IfZero (counts why h o)
 zero_counts why h o z = by_counts IfZero why h o z (λ r q. subst IfZero q z)
 
-changed_desk : (b : Bool) (f : Desk → Desk) (d : Desk) (P : Desk → Type 0) → P d → P (f d) → P (changed_if b f d)
-changed_desk true f d P x y = y
-changed_desk false f d P x y = x
-
 -- a frame that is counted leaves the command
 order_counts : (why : Loss) (h : ℕ) (o : Option Running) → order_of (counts why h o) ≡ order_of o
 order_counts why h o = by_counts (λ x. order_of x ≡ order_of o) why h o refl (λ r q. ap order_of (sym q))
 
 runs_counts : (why : Loss) (h n : ℕ) (l : Link) (o : Option Running) → IfHostRuns n l o → IfHostRuns n l (counts why h o)
-runs_counts (Broken fault) h n l None so = tt
-runs_counts (Broken fault) h n l (Some r) so = record {
-  number = so.number;
-  desk = changed_if (eqb so.desk.host h) more so.desk;
-  desks_are = ap (Rattle.node_machine.specs.Node.with_error h) so.desks_are;
-  host = changed_desk (eqb so.desk.host h) more so.desk (λ d. d.host ≡ n) so.host so.host;
-  no_notice = changed_desk (eqb so.desk.host h) more so.desk (λ d. d.notice ≡ None) so.no_notice so.no_notice;
-  short = so.short;
-  up = so.up;
-} where
-  more : Desk → Desk
-  more d = record d { errors = Rattle.std.specs.Prelude.min 65535 (d.errors + 1) }
-runs_counts _ h n l o so = so
+runs_counts why h n l o so = grind arith
 
 each_site : (t es : List Entry) (g : Site → Site) → ((s : Site) → SiteReads t s → SiteReads (t ++ es) (g s)) → (sites : List Site)
     → AllByRecursion (SiteReads t) sites → AllByRecursion (SiteReads (t ++ es)) (map g sites)
@@ -76,8 +60,7 @@ module _ (hosts : List ℕ) (t : List Entry) (w : NodeWorld) (all : AllRead host
     by_side : (b : Bool) → e.at_host ≡ b → (AllRead hosts (t ++ (frame_lost w e why).1) (frame_lost w e why).0)
     by_side false b =
         let es : List Entry = entries_for e.link (first_lost Controller why l.to_controller) in
-        let silent : (k : ℕ) → AreSilent k es =
-        λ k. quiet_silent k e.link (first_lost Controller why l.to_controller) (lost_quiet Controller why l.to_controller) in
+        let silent : (k : ℕ) → AreSilent k es = grind arith in
         rw b (record {
           controller = zero_counts why e.link w.controller all.controller;
           hosts_are = hosts_with e.link near (λ s. refl) w.sites ∙ all.hosts_are;
@@ -158,8 +141,7 @@ module _ (hosts : List ℕ) (are : AreHosts hosts) where
         has s = record s { memory = m }
 
         change : (b : Bool) (s : Site) (P : Site → Type 0) → P s → P (has s) → P (changed_if b has s)
-        change true s P x y = y
-        change false s P x y = x
+        change b s P x y = grind arith
 
         g : Site → Site
         g s = changed_if (eqb s.host n) has s
@@ -241,28 +223,9 @@ module _ (hosts : List ℕ) (are : AreHosts hosts) where
 
 -- ### What a line that isn't refused says
 
--- the second of two causes doesn't apply where none does
-second_none : (a b : Option NoCause) → first_cause a b ≡ None → b ≡ None
-second_none None b e = e
-second_none (Some c) b e = absurd (cc e)
-
-taken_none : (waits : Bool) (why : Option Refused) → if_waiting waits why ≡ None → why ≡ None
-taken_none false None e = refl
-taken_none false (Some NotUp) e = absurd (cc e)
-taken_none false (Some why) e = absurd (cc e)
-taken_none true (Some NotUp) e = absurd (cc e)
-taken_none true _ e = absurd (cc e)
-
--- the machine of a host's end
-host_end : (w : NodeWorld) (e : End) → IsTrue e.at_host → machine_in w e ≡ (link_to w.sites e.link).host.side
-host_end w e side = rw side refl
-
 pub is_taken : (w : NodeWorld) (e : End) (m : Message) → IsTrue e.at_host → first_cause (if_off w (node_of e)) (if_not_sent w e m) ≡ None
     → give_refusal (link_to w.sites e.link).host.side m ≡ None
-is_taken w e m side none =
-    ap (λ k. give_refusal k m) (sym (host_end w e side))
-    ∙ taken_none (eqb m.0 1 && is_command_message m.1 && has_order (node_at w (node_of e))) (give_refusal (machine_in w e) m)
-    (second_none (if_off w (node_of e)) (if_not_sent w e m) none)
+is_taken w e m side none = grind arith
 
 line_may : (w : NodeWorld) (l : Line) → IsSentByHost l → IsInitOfHost l → refusal_in w l ≡ None → AllMay MayBeRead w (happenings w l)
 line_may w (line.Send e pid message) side init none = (is_taken w e (pid, message) side none, tt)

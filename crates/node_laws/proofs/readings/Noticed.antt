@@ -3,20 +3,18 @@ use Rattle.node_laws.proofs.Words.{Activates, AllByRecursion, AreHosts, Arms, As
 use Rattle.node_laws.proofs.Words.{End, EndEvent, EndState, Ending, Entry, Gives, GoesOut, Happening, HasEnds, IfItRuns, IfNoticedUp, Inits, IsBegun, IsComing}
 use Rattle.node_laws.proofs.Words.{IsCut, IsHost, IsNoticedUp, IsOrderly, IsOutside, Line, Link, LinkEnd, LinkInput, LinkState, List, Lose, Loses, Loss, Memory}
 use Rattle.node_laws.proofs.Words.{NextFrame, NoInput, NodeInput, NodeWorld, None, Notice, NoticesAreUp, NumberedEnd, OnFirst, Option, Plan, Port, Reset}
-use Rattle.node_laws.proofs.Words.{Resets, Running, Site, Some, Starts, Step, Takes, Tick, Ticks, TimePasses, Turn, Up, Waiting, Work, [], after_controller}
-use Rattle.node_laws.proofs.Words.{after_host, after_input, after_planned, after_sessions, after_turn, aged, all_aged, all_come, all_owed, all_so, ap, arith}
-use Rattle.node_laws.proofs.Words.{arrival, at, beginning, begins_with, boot_found, boot_writes, boot_written, boots, by_boot, by_coming, by_controller}
-use Rattle.node_laws.proofs.Words.{by_controller_tick, by_host, by_loss, by_memory, by_option, by_power, by_running, by_test, cases_Bool, changed_if, comes_at}
-use Rattle.node_laws.proofs.Words.{comes_to, cond, controller_does, controller_ticks, controller_work, counts, end_c, end_h, ending_of, entries_for, eqb}
-use Rattle.node_laws.proofs.Words.{eqb-true, exchanged, false, flat_map, forgets, forgotten, frame_lost, had_tick, happenings, happens, has_come, has_input}
-use Rattle.node_laws.proofs.Words.{host_cut, host_does, host_ticks, host_work, hosts_in, hosts_tick, inl, input_at, input_of, inr, is_late, is_late_at, is_open}
-use Rattle.node_laws.proofs.Words.{is_some, is_up, is_waiting, link_after_controller, link_to, links_of, loses_power_at, map, memory_at, min, moved_role}
-use Rattle.node_laws.proofs.Words.{nat_le, ne_eqb, near_end_in, new_desk, new_world, not, noting, option_map, option_map_or, port_at, port_for, refl}
-use Rattle.node_laws.proofs.Words.{reset_late, runs_on, sending, site_at, site_lost, site_unticked, steps, steps_at_controller, subst, sym, synced, tick_answer}
-use Rattle.node_laws.proofs.Words.{tick_host, ticked, ticked_so, ticks_at_controller, times_out, true, true≢false, turn_at, turns_at, with_desk, with_error}
-use Rattle.node_laws.proofs.Words.{with_memory, with_older, with_site, without_notice, work_of, world_after, world_step, world_ticks, ℕ, ◌&&◌, ◌+◌, ◌∙◌, ◌∷◌}
-use Rattle.node_laws.proofs.Words.{◌≡◌, ◌⊎◌}
-use Rattle.shdlc_core.specs.declared.answers.LinkState.TheVariants.{Down}
+use Rattle.node_laws.proofs.Words.{Resets, Running, Site, Some, Starts, Step, Takes, Tick, Ticks, TimePasses, Turn, Up, Work, [], after_controller, after_host}
+use Rattle.node_laws.proofs.Words.{after_input, after_planned, after_sessions, after_turn, aged, all_aged, all_come, all_owed, all_so, ap, arith, arrival, at}
+use Rattle.node_laws.proofs.Words.{beginning, begins_with, boot_found, boot_writes, boot_written, boots, by_boot, by_coming, by_controller, by_controller_tick}
+use Rattle.node_laws.proofs.Words.{by_host, by_loss, by_memory, by_option, by_power, by_running, by_test, cases_Bool, changed_if, comes_at, comes_to, cond}
+use Rattle.node_laws.proofs.Words.{controller_does, controller_ticks, controller_work, counts, end_c, end_h, ending_of, entries_for, eqb, eqb-true, exchanged}
+use Rattle.node_laws.proofs.Words.{false, flat_map, forgets, forgotten, frame_lost, happenings, happens, has_come, has_input, host_cut, host_does, host_ticks}
+use Rattle.node_laws.proofs.Words.{host_work, hosts_in, hosts_tick, inl, input_at, input_of, inr, is_late, is_late_at, is_open, is_some, is_up, is_waiting}
+use Rattle.node_laws.proofs.Words.{link_after_controller, link_to, links_of, loses_power_at, map, memory_at, min, nat_le, ne_eqb, near_end_in, new_desk}
+use Rattle.node_laws.proofs.Words.{new_world, not, noting, option_map, option_map_or, port_at, port_for, refl, reset_late, runs_on, sending, site_at, site_lost}
+use Rattle.node_laws.proofs.Words.{site_unticked, steps, steps_at_controller, subst, sym, synced, tick_host, ticked_so, ticks_at_controller, times_out, true}
+use Rattle.node_laws.proofs.Words.{true≢false, turn_at, turns_at, with_desk, with_error, with_memory, with_older, with_site, without_notice, work_of}
+use Rattle.node_laws.proofs.Words.{world_after, world_step, world_ticks, ℕ, ◌&&◌, ◌+◌, ◌∙◌, ◌∷◌, ◌≡◌, ◌⊎◌}
 use Rattle.node_laws.proofs.links.Sites.{here_host}
 use Rattle.node_laws.proofs.links.Noticing.{Sure, UpAt, at_all, at_host, links_after, stays_up, steps_sure, up_at}
 use Rattle.node_laws.proofs.readings.Sites.{comes_outside, near_end_side, sent_phase, stepped_phase}
@@ -32,9 +30,7 @@ use Rattle.node_laws.proofs.telling.WorldTicks.{aged_orderly, tick_host as ticke
 -- ### Phases
 
 pub up_is : (s : LinkState) → is_up s ≡ true → s ≡ Up
-up_is Up e = refl
-up_is Waiting e = absurd (true≢false (sym e))
-up_is Down e = absurd (true≢false (sym e))
+up_is s e = grind arith
 
 input_phase : (l : Link) (i : LinkInput) (ts : List Turn)
     → (has_input l i ts GoesOut).controller.side.shdlc.phase ≡ (after_input l.controller.side i).shdlc.phase
@@ -43,10 +39,6 @@ input_phase l i ts = sent_phase (after_input l.controller.side i) ts
 -- an end that is up isn't waiting
 pub not_waiting : (e : EndState) → e.phase ≡ Up → is_waiting e ≡ false
 not_waiting e up = rw up refl
-
--- an open end keeps its role over a tick
-open_role : (e : LinkEnd) → is_open e.role ≡ true → (had_tick e).role ≡ e.role
-open_role e open_is = rw open_is (moved_role e (is_some (tick_answer e.shdlc).ended) (ticked e.shdlc))
 
 -- an open end that is up waits after a reset
 reset_waits : (e : LinkEnd) → is_open e.role ≡ true → e.shdlc.phase ≡ Up → is_up (after_input e (Reset None)).shdlc.phase ≡ false
@@ -73,9 +65,7 @@ module _ (r : Running) (plan : Option Plan) (near_ends : ℕ → NumberedEnd) (e
   is_start : (desks : List Desk) (x : ℕ) (q : Port) → port_at (starts desks) x ≡ Some q → IsStart x q
   is_start [] x q e = absurd (cc e)
   is_start (d ∷ desks) x q e = by_test (eqb d.host x)
-      (λ is. let found : Some (port_for (near_ends d.host) d) ≡ Some q = rw is at e in
-      let same : port_for (near_ends d.host) d ≡ q = cc in
-      subst (IsStart x) same (record { side = ap (λ n. (near_ends n).side) (eqb-true d.host x is); late = refl }))
+      (λ is. grind arith)
       (λ off. is_start desks x q (rw off at e))
 
   begun_first : (desks : List Desk) (x : ℕ) → OnFirst IsNoticedUp (port_at (starts desks) x) → OnFirst IsBegun (port_at (starts desks) x)
@@ -122,8 +112,7 @@ module _ (r : Running) (plan : Option Plan) (near_ends : ℕ → NumberedEnd) (e
         (λ p q. rw q (late p))
 
     changed_late : (b : Bool) (g : Port → Port) (p : Port) → ((q : Port) → (g q).late ≡ q.late) → (changed_if b g p).late ≡ p.late
-    changed_late true g p same = same p
-    changed_late false g p same = refl
+    changed_late b g p same = grind arith
 
     late_is : (x : ℕ) → is_late_at k x ≡ late_of came x
     late_is x = rest Of note desk turns beside (forgotten came) (flat_map (synced begun.core input) begun.ports) (all_owed left) first_work
@@ -182,8 +171,7 @@ module _ (r : Running) (plan : Option Plan) (near_ends : ℕ → NumberedEnd) (e
           ∙ came_up number noticed (AtEnd h i) coming x p here some
 
       come_is : (q : Port) (b : Bool) → eqb q.desk.host h ≡ b → (come q).side ≡ cond b (after_input q.side i) q.side
-      come_is q true e = rw e refl
-      come_is q false e = rw e refl
+      come_is q b e = grind arith
 
       go : (o : Option Port) → port_at (starts r.desks) x ≡ o
           → CameUp x (cond (eqb x h) (after_input (near_ends x).side i) (near_ends x).side).shdlc.phase
@@ -220,18 +208,13 @@ module _ (r : Running) (plan : Option Plan) (near_ends : ℕ → NumberedEnd) (e
     -- a notice that is late stood there, and its session went on
     has_notice : (q : Port) (o : Option Notice) → q.desk.notice ≡ o
         → option_map_or (λ (n : Notice). nat_le 100 n.age) (with_older q).desk.notice false ≡ true → is_some o ≡ true
-    has_notice q None is e = let z : false ≡ true = rw is at e in absurd (true≢false (sym z))
-    has_notice q (Some n) is e = refl
+    has_notice q o is e = grind arith
 
     both : (a b : Bool) → (a && not b) ≡ true → (a ≡ true) × (b ≡ false)
-    both true false e = (refl, refl)
-    both true true e = absurd (true≢false (sym e))
-    both false b e = absurd (true≢false (sym e))
+    both a b e = grind arith
 
     late_up : (x : ℕ) (q : Port) → port_at (starts r.desks) x ≡ Some q → is_late (with_older (come_tick q)) ≡ true → q.side.shdlc.phase ≡ Up
-    late_up x q e is =
-        let stood : is_some q.desk.notice ≡ true → q.side.shdlc.phase ≡ Up = subst (OnFirst IsNoticedUp) e (noticed x) in
-        stood (has_notice (come_tick q) q.desk.notice refl (both _ (with_older (come_tick q)).ended is).0)
+    late_up x q e is = grind arith
 
     -- an end whose notice is late was up as the step began
     was_up : (x : ℕ) → is_late_at (steps TimePasses begun) x ≡ true → (near_ends x).side.shdlc.phase ≡ Up
@@ -258,18 +241,15 @@ module _ (r : Running) (plan : Option Plan) (near_ends : ℕ → NumberedEnd) (e
       reset_is : l.controller.side.shdlc.phase ≡ Up → is_up (after_input l.controller.side (Reset None)).shdlc.phase ≡ true → Goal true
       reset_is ups is =
           let not_yet : is_waiting l.controller.side.shdlc ≡ false = not_waiting l.controller.side.shdlc ups in
-          let resets : ticked_so l true ts GoesOut ≡ has_input l (Reset None) ts GoesOut =
-          ap (λ b. cond (not b) (has_input l (Reset None) ts GoesOut) (ticks_at_controller l ts GoesOut)) not_yet in
+          let resets : ticked_so l true ts GoesOut ≡ has_input l (Reset None) ts GoesOut = grind arith in
           ap (λ (m : Link). is_up m.controller.side.shdlc.phase) resets ∙ (ap is_up (input_phase l (Reset None) ts) ∙ is)
 
       too_late : (q : Port) → q.side ≡ l.controller.side → q.side.shdlc.phase ≡ Up → (after_input q.side Tick).shdlc.phase ≡ Up
           → is_up (after_input (after_input q.side Tick) (Reset None)).shdlc.phase ≡ true → Goal true
       too_late q same was is after = by_test (is_open q.side.role)
-          (λ opened. let still : is_open (after_input q.side Tick).role ≡ true = ap is_open (open_role q.side opened) ∙ opened in
-          absurd (true≢false (sym after ∙ reset_waits (after_input q.side Tick) still is)))
+          (λ opened. grind arith)
           (λ closed. reset_is (ap (λ (e : LinkEnd). e.shdlc.phase) (sym same) ∙ was)
-          (ap (λ (e : LinkEnd). is_up (after_input e (Reset None)).shdlc.phase) (sym same)
-          ∙ (ap (λ (e : LinkEnd). is_up e.shdlc.phase) (reset_refused q.side closed) ∙ ap is_up was)))
+          (grind arith))
 
       go : (o : Option Port) → port_at (starts r.desks) x ≡ o
           → CameUp x (ticked_so l (is_late_at (steps TimePasses begun) x) ts GoesOut).controller.side.shdlc.phase
@@ -303,8 +283,7 @@ same_sides : (g h : ℕ → NumberedEnd) → ((n : ℕ) → (h n).side ≡ (g n)
     → OnFirst IsNoticedUp (port_at (ports_for h desks) x)
 same_sides g h same [] x a = tt
 same_sides g h same (d ∷ desks) x a = by_test (eqb d.host x)
-    (λ is. let c : IsNoticedUp (port_for (h d.host) d) = λ some. ap (λ (e : LinkEnd). e.shdlc.phase) (same d.host) ∙ (rw is at a) some in
-    rw is c)
+    (λ is. grind arith)
     (λ off. rw off (same_sides g h same desks x (rw off at a)))
 
 -- where the links of a controller have the same ends, it has its notices as before
@@ -316,8 +295,7 @@ kept v w (Some r) same a = λ x. same_sides (λ n. (link_to w n).controller) (λ
 none_noticed : (near_ends : ℕ → NumberedEnd) (hosts : List ℕ) (x : ℕ) → OnFirst IsNoticedUp (port_at (ports_for near_ends (map new_desk hosts)) x)
 none_noticed near_ends [] x = tt
 none_noticed near_ends (h ∷ hosts) x = by_test (eqb h x)
-    (λ is. let b : IsNoticedUp (port_for (near_ends h) (new_desk h)) = λ some. absurd (true≢false (sym some)) in
-    rw is b)
+    (λ is. grind arith)
     (λ off. rw off (none_noticed near_ends hosts x))
 
 -- ### Links
@@ -332,9 +310,7 @@ side_map f host side (s ∷ sites) n = by_test (eqb s.host n)
 pub side_with : (h : ℕ) (f : Site → Site) → ((s : Site) → (f s).host ≡ s.host) → ((s : Site) → (f s).link.controller.side ≡ s.link.controller.side)
     → (sites : List Site) (n : ℕ) → (link_to (with_site h f sites) n).controller.side ≡ (link_to sites n).controller.side
 side_with h f host side sites n =
-    side_map (λ (s : Site). changed_if (eqb s.host h) f s) (λ s. by_test (eqb s.host h) (λ q. rw q (host s)) (λ q. rw q refl)) (λ s. by_test (eqb s.host h)
-    (λ q. rw q (side s))
-    (λ q. rw q refl)) sites n
+    side_map (λ (s : Site). changed_if (eqb s.host h) f s) (λ s. by_test (eqb s.host h) (λ q. rw q (host s)) (λ q. rw q refl)) (λ s. grind arith) sites n
 
 -- what happens at the host's end leaves the controller's
 pub far_side : (l : Link) (e : EndEvent) → (happens l (AtHost e)).controller.side ≡ l.controller.side

@@ -1,17 +1,16 @@
 -- What a node notes in a step, by its kinds; over a step of a host or of another node the unanswered command stays the one that is read.
-use Rattle.node_laws.proofs.Words.{About, Acked, Active, AllByRecursion, AllByRecursion-append, Asks, AtEnd, Bool, Command, Commits, Controller, Core, Cut}
-use Rattle.node_laws.proofs.Words.{Deed, Desk, Down, Drops, Ends, Entry, FetchMessage, Fits, GaveUp, Give, GoesOn, Got, Hears, Hold, Host, IsAnswered, IsComing}
-use Rattle.node_laws.proofs.Words.{IsFresh, IsHost, IsItsEnd, IsOutside, IsSilent, KeepsOrder, LinkInput, LinkState, List, MayDo, Message, NodeInput, None}
-use Rattle.node_laws.proofs.Words.{Noted, OfHost, Option, Orders, Plain, Port, Release, Releases, Removed, Report, Reset, Restarted, SaysOk, Sends, Sent}
-use Rattle.node_laws.proofs.Words.{SetAside, SetsErrors, Some, Sync, Tells, TimePasses, Turn, Up as IsUpNow, Waits, Work, [], after_input, after_sessions}
-use Rattle.node_laws.proofs.Words.{after_turn, all_come, all_done, all_of_host, all_owed, all_owed_hold, all_synced_hold, any_of_controller, anyone, ap}
-use Rattle.node_laws.proofs.Words.{append-nil, begins_with, body_of, by_option, by_test, changed_if, comes_to_pass, commit, commit_writes, cond, cond_both}
-use Rattle.node_laws.proofs.Words.{controller_deeds, count_of, deeds_hold, deeds_of, done, end_h, end_of, end_of_node, end_view, entries_for, entry_of, eqb}
-use Rattle.node_laws.proofs.Words.{fails_within, false, flat_map, forgets, forgotten, forgotten_hold, give_refusal, has_come, host_deeds, inl, input_at}
-use Rattle.node_laws.proofs.Words.{is_command_message, is_late, is_response, is_some, length, map, noted_of, notified, noting, option_map_or, own_side}
-use Rattle.node_laws.proofs.Words.{own_view, passes, port_at, refl, report, reset_late, same_end, steps, subst, sym, synced, times_out, told, told_at}
-use Rattle.node_laws.proofs.Words.{told_late, true, true≢false, turn_at, unless_cut, view_of, whole_acked, with_desk, with_older, with_port, without_notice, ℕ}
-use Rattle.node_laws.proofs.Words.{◌&&◌, ◌++◌, ◌||◌, ◌∙◌, ◌∷◌, ◌≡◌}
+use Rattle.node_laws.proofs.Words.{About, Acked, Active, AllByRecursion, AllByRecursion-append, Asks, AtEnd, Bool, Command, Commits, Core, Cut, Deed, Desk}
+use Rattle.node_laws.proofs.Words.{Down, Drops, Ends, Entry, FetchMessage, Fits, GaveUp, Give, GoesOn, Got, Hears, Hold, IsAnswered, IsComing, IsFresh, IsHost}
+use Rattle.node_laws.proofs.Words.{IsItsEnd, IsOutside, IsSilent, KeepsOrder, LinkInput, LinkState, List, MayDo, Message, NodeInput, None, Noted, OfHost}
+use Rattle.node_laws.proofs.Words.{Option, Orders, Plain, Port, Release, Releases, Removed, Report, Reset, Restarted, SaysOk, Sends, Sent, SetAside, SetsErrors}
+use Rattle.node_laws.proofs.Words.{Some, Tells, TimePasses, Turn, Up as IsUpNow, Waits, Work, [], after_input, after_sessions, after_turn, all_come, all_done}
+use Rattle.node_laws.proofs.Words.{all_of_host, all_owed, all_owed_hold, all_synced_hold, any_of_controller, anyone, ap, append-nil, arith, begins_with}
+use Rattle.node_laws.proofs.Words.{body_of, by_option, by_test, changed_if, comes_to_pass, commit, commit_writes, cond, cond_both, controller_deeds, count_of}
+use Rattle.node_laws.proofs.Words.{deeds_hold, deeds_of, done, end_h, end_of, end_of_node, end_view, entries_for, entry_of, eqb, fails_within, false, flat_map}
+use Rattle.node_laws.proofs.Words.{forgets, forgotten, forgotten_hold, has_come, host_deeds, inl, input_at, is_late, is_response, is_some, length, map}
+use Rattle.node_laws.proofs.Words.{noted_of, notified, noting, option_map_or, own_side, own_view, passes, port_at, refl, report, reset_late, same_end, steps}
+use Rattle.node_laws.proofs.Words.{subst, sym, synced, times_out, told, told_at, told_late, true, true≢false, turn_at, unless_cut, view_of, whole_acked}
+use Rattle.node_laws.proofs.Words.{with_desk, with_older, with_port, without_notice, ℕ, ◌&&◌, ◌++◌, ◌||◌, ◌∙◌, ◌∷◌, ◌≡◌}
 use Rattle.link_laws.specs.entries.Entries.{End as Side}
 use Rattle.link_laws.specs.entries.Entries.Entry.{Tick, Up}
 use Rattle.node_laws.proofs.links.Noticing.{at_host, outside, stays_up}
@@ -79,8 +78,7 @@ all_notes who n acked r = told_all (IsOwnNote who) who n acked refl refl (λ k. 
 
 turn_notes : (core : Core) (who : Side) (t : Turn) (p : Port) → own_side core ≡ who
     → AllByRecursion (IsOwnNote who) (Rattle.link_laws.specs.entries.Entries.turn_entry (own_side core) p.session p.side t)
-turn_notes core who (Give m) p is = by_option (give_refusal p.side m) (λ q. rw q (is, tt)) (λ why q. rw q tt)
-turn_notes core who _ p is = tt
+turn_notes core who t p is = grind arith
 
 -- ### A node
 
@@ -101,12 +99,7 @@ module _ (P : Entry → Type 0) (n : ℕ) (who : Side) (At : ℕ → Type 0) whe
     notes_all h (x ∷ xs) at all = AllByRecursion-append P (entry_of h x) (entries_for h xs) (note h x at all.0) (notes_all h xs at all.1)
 
     with_core : (w : Work) (c : Core) → c.node ≡ w.core.node → Notes w → Notes (record w { core = c })
-    with_core w c same a = record {
-      number = same ∙ a.number;
-      side = ap (λ m. cond (eqb m 0) Controller Host) same ∙ a.side;
-      ends = a.ends;
-      so = a.so;
-    }
+    with_core w c same a = grind arith
 
     notes : (es : List Entry) (w : Work) → AllByRecursion P es → Notes w → Notes (noting es w)
     notes es w more a = record { number = a.number; side = a.side; ends = a.ends; so = AllByRecursion-append P w.entries es a.so more }
@@ -174,8 +167,7 @@ module _ (P : Entry → Type 0) (n : ℕ) (who : Side) (At : ℕ → Type 0) whe
     does h (Drops pid) w q a = notes (entry.Dropped (end_of_node w.core h) pid ∷ []) w (beside (entry.Dropped (end_of_node w.core h) pid) tt, tt) a
     does h (SetsErrors errors) w q a = desks h (λ d. record d { errors = errors }) w (λ d. refl) a
     does h (Orders message) w q a =
-        turns h (Give (1, message)) (record w { core = record w.core { command = Some message } }) (with_core w
-        (record w.core { command = Some message }) refl a)
+        turns h (Give (1, message)) (record w { core = record w.core { command = Some message } }) (grind arith)
     does h Hears w q a = with_core w (record w.core { command = None }) refl a
     does h (GoesOn i) w q a = with_core w (record w.core { init = Some i }) refl a
     does h (Ends e) w q a =
@@ -274,17 +266,6 @@ forgets_same ports q e = rw e refl
 without_same : (q : Port) → q.desk.notice ≡ None → without_notice q ≡ q
 without_same q e = by_test (q.ended || q.late) (λ z. rw z (ap (λ n. record q { desk = record q.desk { notice = n } }) (sym e))) (λ z. rw z refl)
 
-none_forgotten : (q : Port) → q.desk.notice ≡ None → forgotten (q ∷ []) ≡ []
-none_forgotten q e = rw e refl
-
-none_owed : (q : Port) → q.desk.notice ≡ None → all_owed (q ∷ []) ≡ []
-none_owed q e = go q.ended q.late refl refl where
-  go : (a b : Bool) → q.ended ≡ a → q.late ≡ b → all_owed (q ∷ []) ≡ []
-  go true true x y = rw (x, y, e) refl
-  go true false x y = rw (x, y, e) refl
-  go false true x y = rw (x, y, e) refl
-  go false false x y = rw (x, y) refl
-
 -- time passes at an end without a notice, and nothing more comes of it
 times_same : (input : NodeInput) (w : Work) (q : Port) → w.ports ≡ q ∷ [] → q.desk.notice ≡ None → times_out input w ≡ w
 times_same (AtEnd k i) w q is quiet = refl
@@ -321,24 +302,10 @@ behind syncs came =
 pub behind_is : (syncs : List Deed) (w : Work) (q : Port) (more : List Entry) → q.desk.notice ≡ None
     → behind syncs (record w { ports = q ∷ []; entries = w.entries ++ more })
     ≡ unless_cut (all_done 0 []) (all_done 0 syncs (record w { core = after_sessions w.core (q ∷ []); ports = q ∷ []; entries = w.entries ++ more }))
-behind_is syncs w q more quiet =
-    ap (λ l. then_owed (forgotten (q ∷ [])) (all_owed l) (begun (map without_notice l))) (ap (λ x. x ∷ []) (forgets_same (q ∷ []) q quiet))
-    ∙ (ap (λ d. then_owed d (all_owed (q ∷ [])) (begun (map without_notice (q ∷ [])))) (none_forgotten q quiet)
-    ∙ (ap (λ d. then_owed [] d (begun (map without_notice (q ∷ [])))) (none_owed q quiet)
-    ∙ ap (λ x. then_owed [] [] (begun (x ∷ []))) (without_same q quiet))) where
-      begun : List Port → Work
-      begun ports = record w { core = after_sessions w.core (q ∷ []); ports = ports; entries = w.entries ++ more }
-
-      then_owed : List Deed → List Deed → Work → Work
-      then_owed freed owing v = unless_cut (all_done 0 owing) (all_done 0 syncs (all_done 0 freed v))
+behind_is syncs w q more quiet = grind arith
 
 synced_may : (h : ℕ) (F : List ℕ → Type 0) (core : Core) (input : NodeInput) (p : Port) → MayDo h F (synced core input p)
-synced_may h F core input p = by_option (input_at input p)
-    (λ q. rw q tt)
-    (λ i q. by_option (report p.side i).sync (λ e. rw (q, e) tt) (λ id e. rw (q, e) (either _ (Commits (Sync p.desk.host id) ∷ []) tt))) where
-      either : (b : Bool) (d : List Deed) → MayDo h F d → MayDo h F (cond b d [])
-      either true d x = x
-      either false d x = tt
+synced_may h F core input p = grind arith
 
 module _ (h : ℕ) (host : IsHost h) (before : List Entry) where
   -- what came to the end of a host
@@ -351,13 +318,7 @@ module _ (h : ℕ) (host : IsHost h) (before : List Entry) where
 
   came_so : (w : Work) (p : Port) (o : Option LinkInput) → ((i : LinkInput) → o ≡ Some i → IsComing i) → w.core.node ≡ h
       → IsItsEnd h w.core.command p → IsFresh p → HasCome w p (has_come p o) (told_at w.core p o)
-  came_so w p None coming node its fresh = record {
-    at = its.host;
-    quiet = its.no_notice;
-    late = fresh.1;
-    told = λ c. sym (ap (λ b. cond b None c) fresh.0);
-    up = λ some ended. its.up some;
-  }
+  came_so w p None coming node its fresh = grind arith
   came_so w p (Some i) coming node its fresh = record {
     at = its.host;
     quiet = its.no_notice;
@@ -496,9 +457,6 @@ module _ (k : ℕ) where
   abbrev pub Away : Side → ℕ → Type 0
   Away who h = same_end (end_of h who) (end_h k) ≡ false
 
-  off_cond : (b : Bool) (x y : Option (List ℕ)) → b ≡ false → cond b x y ≡ y
-  off_cond b x y e = rw e refl
-
   off_all : (a b c : Bool) (x y : Option (List ℕ)) → a ≡ false → cond (a && b && c) x y ≡ y
   off_all a b c x y e = rw e refl
 
@@ -508,30 +466,13 @@ module _ (k : ℕ) where
     IsAway w = Notes (IsSilent k) n who (Away who) w
 
     noted : (h : ℕ) (x : Noted) → Away who h → IsOwnNote who x → AreSilent k (entry_of h x)
-    noted h (Up side number) away own = ((λ c. refl), tt)
-    noted h (Down side cause) away own =
-        ((λ c. off_cond (same_end (end_of h side) (end_h k)) None c (subst (λ s. Away s h) (sym own) away)), tt)
-    noted h (Active side) away own = ((λ c. refl), tt)
-    noted h (GaveUp side tries) away own = ((λ c. refl), tt)
-    noted h (Acked side number count) away own = ((λ c. refl), tt)
-    noted h (Got side number m) away own = ((λ c. refl), tt)
-    noted h (Sent side number m) away own = (
-      (λ c. off_all (same_end (end_of h side) (end_h k)) (eqb m.0 1) (is_command_message m.1) (Some m.1) c (subst (λ s. Away s h) (sym own) away)),
-      tt,
-    )
-    noted h x away own = absurd own
+    noted h x away own = grind arith
 
     turned : (h pid : ℕ) (message : List ℕ) → Away who h → IsSilent k (entry.Turn (end_of h who) pid message)
     turned h pid message away = λ c. off_all (same_end (end_of h who) (end_h k)) (eqb pid 1) (is_response message) None c away
 
     beside : (x : Entry) → IsBeside n x → IsSilent k x
-    beside (entry.Held e need spare) own = λ c. refl
-    beside (entry.Ask host message) own = λ c. refl
-    beside (entry.Dropped e pid) own = λ c. refl
-    beside (entry.Command node command) own = λ c. refl
-    beside (entry.AnyOk node count) own = λ c. refl
-    beside (entry.Cut node) own = λ c. off_cond (eqb node k) None c (ap (λ m. eqb m k) own ∙ other)
-    beside x own = absurd own
+    beside x own = grind arith
 
     pub all_do_of_elsewhere : (h : ℕ) (deeds : List Deed) (w : Work) → AreHushed k deeds → IsAway w → IsAway (all_done h deeds w)
     all_do_of_elsewhere = all_do (IsSilent k) n who (Away who) noted turned beside (λ core ports h m is. deeds_hushed k core ports h m)

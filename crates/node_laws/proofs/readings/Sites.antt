@@ -5,16 +5,16 @@ use Rattle.node_laws.proofs.Words.{Ending, Entry, Fits, GoesOut, Host, HostRuns,
 use Rattle.node_laws.proofs.Words.{LinkState, List, Loss, MayDo, Memory, Message, NextFrame, NoInput, NodeWorld, None, NumberedEnd, OnWire, Option, Orders}
 use Rattle.node_laws.proofs.Words.{Plan, Port, Reset, Running, Sends, Site, SiteReads, Some, Start, Starts, Step, Stop, Stops, Take, Tick, TimePasses, Turn}
 use Rattle.node_laws.proofs.Words.{Work, [], activates, after_controller, after_host, after_host_step, after_input, after_near_tick, after_tick, aged}
-use Rattle.node_laws.proofs.Words.{aged_entries, all_aged, and-false, and_parts, ap, append-nil, append_assoc, ap₂, arith, arrival, beginning, begins_with}
-use Rattle.node_laws.proofs.Words.{by_coming, by_controller, by_controller_tick, by_host, by_host_tick, by_list, by_option, by_test, cases_Bool, changed_if}
-use Rattle.node_laws.proofs.Words.{comes_at, comes_to, cond, cond-false, cond-true, cond_both, controller_does, controller_ticks, controller_work, end_c, end_h}
-use Rattle.node_laws.proofs.Words.{ended_by, ending_entries, ending_of, entries_for, eq-eqb, eqb, eqb-true, exchanged, false, finished, first_lost, flat_map}
-use Rattle.node_laws.proofs.Words.{found, frames_noted, give_refusal, has_come, host_cut, host_does, host_tick, host_ticks, host_work, hosts_tick, init_of, inl}
+use Rattle.node_laws.proofs.Words.{aged_entries, all_aged, and-false, ap, append-nil, append_assoc, ap₂, arith, arrival, beginning, begins_with, by_coming}
+use Rattle.node_laws.proofs.Words.{by_controller, by_controller_tick, by_host, by_host_tick, by_list, by_option, by_test, cases_Bool, changed_if, comes_at}
+use Rattle.node_laws.proofs.Words.{comes_to, cond, cond-false, cond-true, cond_both, controller_does, controller_ticks, controller_work, end_c, end_h, ended_by}
+use Rattle.node_laws.proofs.Words.{ending_entries, ending_of, entries_for, eq-eqb, eqb, eqb-true, exchanged, false, finished, first_lost, flat_map, found}
+use Rattle.node_laws.proofs.Words.{frames_noted, give_refusal, has_come, host_cut, host_does, host_tick, host_ticks, host_work, hosts_tick, init_of, inl}
 use Rattle.node_laws.proofs.Words.{input_at, input_of, inr, is_command_message, is_late_at, is_some, left_running, link_after_controller, link_to, map}
-use Rattle.node_laws.proofs.Words.{most_frames, ne_eqb, near_end_in, near_tick, new_desk, new_site, new_world, order_in, order_of, port_at, port_for, refl}
-use Rattle.node_laws.proofs.Words.{replicate, runs_left, runs_none, runs_on, sending, sent_all, site_at, site_ticked, site_unticked, steps, steps_at_controller}
-use Rattle.node_laws.proofs.Words.{subst, sym, tick_host, ticks_at_controller, true, true≢false, turn, turned, turns_at, wires_for, with_ended, with_site}
-use Rattle.node_laws.proofs.Words.{work_of, world_ticks, ℕ, ◌&&◌, ◌++◌, ◌∙◌, ◌∷◌, ◌≡◌, ◌⊎◌}
+use Rattle.node_laws.proofs.Words.{most_frames, ne_eqb, near_end_in, near_tick, new_site, new_world, order_in, order_of, port_at, port_for, refl, replicate}
+use Rattle.node_laws.proofs.Words.{runs_left, runs_none, runs_on, sending, sent_all, site_at, site_ticked, site_unticked, steps, steps_at_controller, subst}
+use Rattle.node_laws.proofs.Words.{sym, tick_host, ticks_at_controller, true, turn, turned, turns_at, wires_for, with_ended, with_site, work_of, world_ticks, ℕ}
+use Rattle.node_laws.proofs.Words.{◌&&◌, ◌++◌, ◌∙◌, ◌∷◌, ◌≡◌, ◌⊎◌}
 use Rattle.link_laws.proofs.sessions.Ties.{after_frames-phase}
 use Rattle.link_laws.specs.entries.Entries.{End as Side}
 use Rattle.node_laws.proofs.kept.Events.{hosts_same, hosts_with, site_found}
@@ -82,18 +82,11 @@ stepped_phase l NoInput ts i e = let z : None ≡ Some i = e in absurd (cc z)
 
 -- what comes so comes from outside
 pub comes_outside : (l : Link) (comes : Comes) (i : LinkInput) → input_of l comes ≡ Some i → IsComing i
-comes_outside l NextFrame i e = by_list l.to_controller
-    (λ q. let z : None ≡ Some i = rw q at e in absurd (cc z))
-    (λ x xs q. let z : Some (Take x.frame) ≡ Some i = rw q at e in let is : Take x.frame ≡ i = cc in subst IsComing is tt)
-comes_outside l (AsksReset window) i e = let is : Reset window ≡ i = cc in subst IsComing is tt
-comes_outside l (Starts value) i e = let is : Start value ≡ i = cc in subst IsComing is tt
-comes_outside l Stops i e = let is : Stop ≡ i = cc in subst IsComing is tt
-comes_outside l NoInput i e = let z : None ≡ Some i = e in absurd (cc z)
+comes_outside l comes i e = grind arith
 
 -- hearing of the number of an RSET leaves the machine of an end
 pub near_end_side : (l : Link) (comes : Comes) → (near_end_in l comes).side ≡ l.controller.side
-near_end_side l NextFrame = by_list l.to_controller (λ q. rw q refl) (λ x xs q. rw q refl)
-near_end_side l _ = refl
+near_end_side l comes = grind arith
 
 -- ### A host that runs
 
@@ -131,15 +124,7 @@ done_reads t s host now k l link memory phase stands = by stands where
   by : Stands s.host host t now k → SiteReads (t ++ (k.entries ++ frames)) (record s { link = link; memory = memory; node = runs_on k })
   by (inl r) = record {
     order = order_is (Some (left_running k)) (runs_left k r.on) r.order;
-    runs = subst (IfHostRuns s.host link) (sym (runs_left k r.on)) (record {
-      number = r.node;
-      desk = r.port.desk;
-      desks_are = ap (map (λ (p : Port). p.desk)) r.is;
-      host = r.its.host;
-      no_notice = r.its.no_notice;
-      short = r.short;
-      up = λ some. phase r.on ∙ (sym r.phase ∙ r.its.up some);
-    });
+    runs = subst (IfHostRuns s.host link) (sym (runs_left k r.on)) ((grind arith));
   }
   by (inr r) = record { order = order_is None (runs_none k r.off) r.order; runs = subst (IfHostRuns s.host link) (sym (runs_none k r.off)) tt }
 
@@ -172,8 +157,7 @@ comes_reads t s r comes i host reads_so node input =
       now = (after_input s.link.host.side i).shdlc.phase
 
       came : (p : Port) → p.desk.host ≡ s.host → p.side ≡ s.link.host.side → (has_come p (input_at (AtEnd s.host i) p)).side.shdlc.phase ≡ now
-      came p at side =
-          ap (λ b. (has_come p (cond b (Some i) None)).side.shdlc.phase) (eq-eqb p.desk.host s.host at) ∙ ap (λ e. (after_input e i).shdlc.phase) side
+      came p at side = grind arith
 
       stands : Stands s.host host t now k
       stands =
@@ -213,9 +197,7 @@ acts_reads t s r deeds host reads_so node may =
       first = begun_stands t s host r so (reads_so.order ∙ ap order_of node) NoInput s.link.host [] refl (λ c. refl)
 
       fits : (order : List ℕ) → give_refusal s.link.host.side (1, order) ≡ None → (s.host ≡ s.host) × Fits begun.ports order
-      fits order taken = (refl, λ p is. subst (λ (q : Port). give_refusal q.side (1, order) ≡ None) (same p is) taken) where
-        same : (p : Port) → begun.ports ≡ p ∷ [] → port_for s.link.host so.desk ≡ p
-        same p is = let both : port_for s.link.host so.desk ∷ [] ≡ p ∷ [] = sym (ap (map (λ (d : Desk). port_for s.link.host d)) so.desks_are) ∙ is in cc
+      fits order taken = grind arith
 
       stands : Stands s.host host t now k
       stands = all_stand s.host host t now s.host (λ order. give_refusal s.link.host.side (1, order) ≡ None) deeds begun fits may first
@@ -227,10 +209,7 @@ acts_reads t s r deeds host reads_so node may =
 
 -- what a host sends or begins may be done, where its end takes it
 pub sending_may : (h : ℕ) (e : LinkEnd) (m : Message) → give_refusal e m ≡ None → MayDo h (λ order. give_refusal e (1, order) ≡ None) (sending h m)
-sending_may h e m taken = by_test (eqb m.0 1 && is_command_message m.1)
-    (λ z. rw z (let both = and_parts (eqb m.0 1) (is_command_message m.1) z in
-    (ap (λ n. give_refusal e (n, m.1)) (sym (eqb-true m.0 1 both.0)) ∙ taken, both.1, tt)))
-    (λ z. rw z (z, tt))
+sending_may h e m taken = grind arith
 
 pub beginning_may : (h : ℕ) (e : LinkEnd) (identity : List ℕ) (pipes : List (List ℕ)) → give_refusal e (1, 3 ∷ []) ≡ None
     → AreInitsShort (Some (record { identity = identity; pipes = pipes; answered = 0 }))
@@ -270,8 +249,7 @@ ticks_read t s host reads_so =
       stands : Stands s.host host t now k
       stands =
           subst (λ n. Stands s.host host t n k) (ap (λ (p : Port). (after_input p.side Tick).shdlc.phase) (sym only))
-          (steps_stand s.host host t s.link.host.side.shdlc.phase TimePasses begun tt first (subst (λ (p : Port). (p.ended ≡ false) × (p.late ≡ false)) only
-          (refl, refl)))
+          (steps_stand s.host host t s.link.host.side.shdlc.phase TimePasses begun tt first (grind arith))
 
       phase : k.cut ≡ false → (after_tick s k).0.link.host.side.shdlc.phase ≡ now
       phase on =
@@ -290,15 +268,7 @@ pub boot_reads : (t : List Entry) (s : Site) (m : Memory) (content : List ℕ) (
     → SiteReads (t ++ entry.Booted s.host n ∷ []) (record s { memory = m; node = Some (found s.host (s.host ∷ []) content) })
 boot_reads t s m content n reads_so off = record {
   order = order_more t (entry.Booted s.host n ∷ []) s.host ∙ (reads_so.order ∙ ap order_of off);
-  runs = record {
-    number = refl;
-    desk = new_desk s.host;
-    desks_are = refl;
-    host = refl;
-    no_notice = refl;
-    short = tt;
-    up = λ some. absurd (true≢false (sym some));
-  };
+  runs = grind arith;
 }
 
 -- others act: what is noted tells nothing of this host, and its end and its node stay
@@ -308,18 +278,7 @@ others_read t es s v silent host node side reads_so = record {
   order =
       ap (order_in (t ++ es)) host
       ∙ (order_more t es s.host ∙ (all_silent es (order_in t s.host) silent ∙ (reads_so.order ∙ sym (ap order_of node))));
-  runs = subst (λ n. IfHostRuns n v.link v.node) (sym host) (subst (IfHostRuns s.host v.link) (sym node) (by_option s.node
-      (λ q. rw q tt)
-      (λ r q. rw q (let so = rw q at reads_so.runs in
-      record {
-        number = so.number;
-        desk = so.desk;
-        desks_are = so.desks_are;
-        host = so.host;
-        no_notice = so.no_notice;
-        short = so.short;
-        up = λ some. ap (λ (e : LinkEnd). e.shdlc.phase) side ∙ so.up some;
-      }))));
+  runs = subst (λ n. IfHostRuns n v.link v.node) (sym host) (subst (IfHostRuns s.host v.link) (sym node) (grind arith));
 } where
   all_silent : (es : List Entry) (c : Option (List ℕ)) → AllByRecursion (IsSilent s.host) es → reads s.host es c ≡ c
   all_silent [] c all = refl
@@ -336,10 +295,6 @@ hosts_in sites = map (λ (s : Site). s.host) sites
 -- the controller's ends are no host's
 near_away : (k h : ℕ) → Away k Controller h
 near_away k h = and-false (eqb h k)
-
--- nor is another host's
-far_away : (k h : ℕ) → eqb h k ≡ false → Away k Host h
-far_away k h e = rw e refl
 
 all_ends : (P : ℕ → Type 0) (f : Desk → Port) → ((d : Desk) → (f d).desk.host ≡ d.host) → (desks : List Desk) → ((d : Desk) → P d.host)
     → AllByRecursion (λ (p : Port). P p.desk.host) (map f desks)
@@ -414,13 +369,7 @@ runs_zero k e = by_test k.cut (λ z. rw z tt) (λ z. rw z e)
 -- a host begins a step away from each other one
 host_away : (x : Site) (r : Running) → IsHost x.host → HostRuns x.host x.link r → (k : ℕ) (other : eqb x.host k ≡ false) (near_end : NumberedEnd)
     (es : List Entry) → AreSilent k es → IsAway k x.host other Host (work_of r x.memory.plan (λ n. near_end) es)
-host_away x r host so k other near_end es silent = record {
-  number = so.number;
-  side = ap (λ b. cond b Controller Host) (ne_eqb r.core.node 0 (λ e. omega (arith, e, so.number, host.0)));
-  ends = subst (λ ds. AllByRecursion (λ (p : Port). Away k Host p.desk.host) (map (λ (d : Desk). port_for near_end d) ds)) (sym so.desks_are)
-      (subst (Away k Host) (sym so.host) (far_away k x.host other), tt);
-  so = silent;
-}
+host_away x r host so k other near_end es silent = grind arith
 
 -- ### What comes
 
@@ -503,8 +452,7 @@ module _ (hosts : List ℕ) (are : AreHosts hosts) where
               steps_away n x.host (ap (λ m. eqb m n) same ∙ off) Host (AtEnd h i)
               (work_of r x.memory.plan (λ m. near_end_in (exchanged x.link) comes) (entries_for
               x.host (arrival Host (exchanged x.link) comes)))
-              (host_away x r host (subst (IfHostRuns x.host x.link) e keeps.runs) n (ap (λ m. eqb m n) same ∙ off) (near_end_in
-              (exchanged x.link) comes) (entries_for x.host (arrival Host (exchanged x.link) comes)) (arrival_silent n Host x.host (exchanged x.link) comes))
+              (grind arith)
 
   pub comes_read : (t : List Entry) (w : NodeWorld) (e : End) (comes : Comes) → AllRead hosts t w
       → AllRead hosts (t ++ (comes_at w e comes).1) (comes_at w e comes).0
@@ -569,8 +517,7 @@ module _ (hosts : List ℕ) (are : AreHosts hosts) where
               ++ frames_noted Host n (wires_for (exchanged x.link) NoInput) (host_work x r NoInput (begins_with n deeds)))) (after_host NoInput
               (host_work x r NoInput
               (begins_with n deeds)) x)) same (acts_reads t x r deeds host keeps e
-              (subst (λ n. MayDo n (λ order. give_refusal x.link.host.side (1, order) ≡ None)
-              deeds) (sym same) (may x here)))
+              (grind arith))
 
           away : (n : ℕ) (off : eqb h n ≡ false) → IsAway n x.host (ap (λ m. eqb m n) same ∙ off) Host k
           away n off =
@@ -593,8 +540,7 @@ module _ (hosts : List ℕ) (are : AreHosts hosts) where
       (host_does w h NoInput (begins_with h (beginning identity pipes))).0
   inits_read t w h identity pipes all taken short =
       far_acts t w h (beginning identity pipes) all (λ k. (tt, (tt, tt)))
-      (λ x here. beginning_may h x.link.host.side identity pipes (ap (λ (l : Link). give_refusal l.host.side (1, 3 ∷ [])) (sym (link_is w h x here)) ∙ taken)
-      short)
+      (λ x here. grind arith)
 
   -- ### Ticks
 
@@ -697,8 +643,7 @@ module _ (hosts : List ℕ) (are : AreHosts hosts) where
 
   far_ticks : (t : List Entry) (w : NodeWorld) → AllRead hosts t w → AllRead hosts (t ++ (hosts_tick w.sites).1) (record w { sites = (hosts_tick w.sites).0 })
   far_ticks t w all =
-      let ticks = sites_tick w.sites t (subst AreDifferent (sym all.hosts_are) are.different) (subst (AllByRecursion IsHost)
-      (sym all.hosts_are) are.all) all.sites in
+      let ticks = sites_tick w.sites t (subst AreDifferent (sym all.hosts_are) are.different) (grind arith) all.sites in
       record { controller = all.controller; hosts_are = ticks.0 ∙ all.hosts_are; sites = ticks.1 }
 
   pub ticks_read_all : (t : List Entry) (w : NodeWorld) → AllRead hosts t w → AllRead hosts (t ++ (world_ticks w).1) (world_ticks w).0

@@ -1,24 +1,20 @@
 -- A host does the deeds of a message and has its turns: its unanswered command stays the one that is read.
-use Rattle.node_laws.proofs.Words.{Acked, Active, AllByRecursion, AllByRecursion-get, AreInitsShort, Bool, Clear, Command, Commits, Core, Create, Deed, Delete}
-use Rattle.node_laws.proofs.Words.{Desk, Down as NotedDown, Drops, Ends, Entry, Err, FetchMessage, Fits, GaveUp, Give, GoesOn, Got, Hears, Hold, Host, Init}
-use Rattle.node_laws.proofs.Words.{InitMade, IsHost, IsItsEnd, IsResponse, KeepsOrder, LinkEnd, LinkInput, LinkState, List, MayDo, Message, MessageFault}
-use Rattle.node_laws.proofs.Words.{MessageKind, None, NotUp, Noted, Ok, Option, Orders, Port, Refused, Release, Releases, Report, Result, SaysOk, Sends, Sent}
-use Rattle.node_laws.proofs.Words.{Set, SetsErrors, Some, Turn, Up, Waiting, Work, [], accepts, after_input, after_turn, all_done, answers_on, ap, append_assoc}
-use Rattle.node_laws.proofs.Words.{arith, awaited_after, body_in, body_of, by_option, by_test, cases_Bool, changed_if, commit, commit_writes, cond, cond-true}
-use Rattle.node_laws.proofs.Words.{cond_both, deeds_of, done, end_h, end_of, end_of_node, end_view, ended_by, entries_for, eq-eqb, eqb, fails_within, false}
-use Rattle.node_laws.proofs.Words.{finds_room, fold, fold-append, gate_of_pipe, gates, give_refusal, goes_through_ends, handles, have_turns, header_of}
-use Rattle.node_laws.proofs.Words.{holds_back, host_deeds, identity_served, if_so, init_deeds, init_holds, inl, inr, is_command_message, is_gate, is_held}
-use Rattle.node_laws.proofs.Words.{is_response, is_some, is_up, lack, le-ltb, learned, learned_holds, learns, learns_holds, length, lets_go, link_deeds}
-use Rattle.node_laws.proofs.Words.{link_served, map, nat_lt, ne_eqb, need, needs, noted_of, noting, option_map, option_map_or, option_to_list, order_in}
-use Rattle.node_laws.proofs.Words.{order_of, ordered_deeds, ordered_holds, orders_hold, orders_of, own_side, own_view, passes, port_at, refl, report}
-use Rattle.node_laws.proofs.Words.{response_deeds, runs_left, runs_none, same_end, sent_unless, spare, subst, sym, told_at, true, true≢false, turn_at}
-use Rattle.node_laws.proofs.Words.{unless_cut, unless_off, unless_on, whole_acked, with_desk, with_port, ℕ, ◌&&◌, ◌++◌, ◌+◌, ◌∙◌, ◌∷◌, ◌≡◌, ◌≤◌, ◌⊎◌}
+use Rattle.node_laws.proofs.Words.{Acked, Active, AllByRecursion, AllByRecursion-get, AreInitsShort, Bool, Command, Commits, Core, Deed, Desk}
+use Rattle.node_laws.proofs.Words.{Down as NotedDown, Drops, Ends, Entry, Err, FetchMessage, Fits, GaveUp, Give, GoesOn, Got, Hears, Hold, Host, Init, InitMade}
+use Rattle.node_laws.proofs.Words.{IsHost, IsItsEnd, IsResponse, KeepsOrder, LinkInput, LinkState, List, MayDo, Message, MessageFault, MessageKind, None, Noted}
+use Rattle.node_laws.proofs.Words.{Ok, Option, Orders, Port, Refused, Release, Releases, Report, Result, SaysOk, Sends, Sent, Set, SetsErrors, Some, Turn, Up}
+use Rattle.node_laws.proofs.Words.{Work, [], after_input, after_turn, all_done, ap, append_assoc, arith, awaited_after, body_in, body_of, by_option, by_test}
+use Rattle.node_laws.proofs.Words.{changed_if, commit, commit_writes, cond, cond-true, cond_both, deeds_of, done, end_h, end_of_node, end_view, ended_by}
+use Rattle.node_laws.proofs.Words.{entries_for, eq-eqb, eqb, fails_within, false, fold, fold-append, gate_of_pipe, give_refusal, goes_through_ends, handles}
+use Rattle.node_laws.proofs.Words.{have_turns, header_of, holds_back, host_deeds, if_so, init_deeds, init_holds, inl, inr, is_command_message, is_gate, is_held}
+use Rattle.node_laws.proofs.Words.{is_response, is_some, is_up, lack, learned, learned_holds, learns, learns_holds, length, lets_go, map, nat_lt, ne_eqb, need}
+use Rattle.node_laws.proofs.Words.{needs, noted_of, noting, option_map, option_map_or, option_to_list, order_in, ordered_deeds, orders_hold, orders_of}
+use Rattle.node_laws.proofs.Words.{own_side, own_view, passes, port_at, refl, report, response_deeds, same_end, sent_unless, spare, subst, sym, told_at, true}
+use Rattle.node_laws.proofs.Words.{true≢false, turn_at, unless_cut, whole_acked, with_desk, with_port, ℕ, ◌&&◌, ◌++◌, ◌+◌, ◌∙◌, ◌∷◌, ◌≡◌, ◌≤◌, ◌⊎◌}
 use Rattle.gate_loopback.specs.Loopback.{posts_back}
 use Rattle.hcp_packet.specs.declared.MessageKind.TheVariants.{Command as IsCommand, Event as IsEvent}
 use Rattle.link_laws.specs.entries.Entries.{End as Side}
 use Rattle.link_laws.specs.entries.Entries.Entry.{Up as NotedUp}
-use Rattle.shdlc_core.specs.declared.answers.LinkState.TheVariants.{Down}
-use Rattle.node_laws.proofs.bounds.Turns.{answer_plain}
 use Rattle.node_laws.proofs.links.Noticing.{turn-phase}
 use Rattle.node_laws.proofs.telling.Shapes.{rest_all}
 use Rattle.trace_model.specs.declared.entry.Entry.TheVariants as entry
@@ -80,16 +76,12 @@ told_reads h core p i c side at = rw side (by_option (ended_by p.side i)
 
 -- a message that is no command on pipe 01 reads as nothing
 no_order : (a b c : Bool) (x y : Option (List ℕ)) → (b && c) ≡ false → cond (a && b && c) x y ≡ y
-no_order false b c x y e = refl
-no_order true false c x y e = refl
-no_order true true false x y e = refl
-no_order true true true x y e = cc
+no_order a b c x y e = grind arith
 
 sent_reads : (h k : ℕ) (who : Side) (n : ℕ) (m : Message) (o : Option Refused) (c : Option (List ℕ))
     → (eqb m.0 1 && is_command_message m.1) ≡ false
     → reads h (entries_for k (sent_unless o who n m)) c ≡ c
-sent_reads h k who n m (Some why) c e = refl
-sent_reads h k who n m None c e = no_order (same_end (end_of k who) (end_h h)) (eqb m.0 1) (is_command_message m.1) (Some m.1) c e
+sent_reads h k who n m o c e = grind arith
 
 -- a command on pipe 01 that isn't refused is what is read
 order_reads : (h : ℕ) (n : ℕ) (order : List ℕ) (c : Option (List ℕ)) → is_command_message order ≡ true
@@ -124,39 +116,14 @@ module _ (h : ℕ) (host : IsHost h) (before : List Entry) (now : LinkState) whe
   Stands w = Runs w ⊎ IsOff w
 
   pub stands_keep : (w : Work) → Stands w → KeepsOrder h before w
-  stands_keep w (inl r) = record {
-    node = r.node;
-    port = r.port;
-    ports_are = r.is;
-    its_end = r.its;
-    short = r.short;
-    order = r.order ∙ sym (ap order_of (runs_left w r.on));
-  }
-  stands_keep w (inr r) = record {
-    node = r.node;
-    port = r.port;
-    ports_are = r.is;
-    its_end = r.its;
-    short = r.short;
-    order = r.order ∙ sym (ap order_of (runs_none w r.off));
-  }
+  stands_keep w a = grind arith
 
   pub keeps_stand : (w : Work) → w.cut ≡ false → (k : KeepsOrder h before w) → k.port.side.shdlc.phase ≡ now → Runs w
-  keeps_stand w on k phase = record {
-    on = on;
-    node = k.node;
-    port = k.port;
-    is = k.ports_are;
-    its = k.its_end;
-    phase = phase;
-    short = k.short;
-    order = k.order ∙ ap order_of (runs_left w on);
-  }
+  keeps_stand w on k phase = grind arith
 
   -- one thing after another, unless the power is cut
   pub then : (f : Work → Work) (w : Work) → Stands w → (Runs w → Stands (f w)) → Stands (unless_cut f w)
-  then f w (inl r) next = subst Stands (sym (unless_on f w r.on)) (next r)
-  then f w (inr r) next = subst Stands (sym (unless_off f w r.off)) (inr r)
+  then f w a next = grind arith
 
   pub read_more : (w : Work) (es : List Entry) (c d : Option (List ℕ)) → order_in (before ++ w.entries) h ≡ c → reads h es c ≡ d
       → order_in (before ++ (w.entries ++ es)) h ≡ d
@@ -178,35 +145,19 @@ module _ (h : ℕ) (host : IsHost h) (before : List Entry) (now : LinkState) whe
 
   -- ### Ends
 
-  changed_its : (b : Bool) (f : Port → Port) (c : Option (List ℕ)) (p : Port) → (IsItsEnd h c p → IsItsEnd h c (f p)) → IsItsEnd h c p
-      → IsItsEnd h c (changed_if b f p)
-  changed_its true f c p one its = one its
-  changed_its false f c p one its = its
-
   changed_phase : (b : Bool) (f : Port → Port) (p : Port) → ((p : Port) → (f p).side.shdlc.phase ≡ p.side.shdlc.phase)
       → (changed_if b f p).side.shdlc.phase ≡ p.side.shdlc.phase
-  changed_phase true f p same = same p
-  changed_phase false f p same = refl
+  changed_phase b f p same = grind arith
 
   -- the end is changed
   port_runs : (k : ℕ) (f : Port → Port) (w : Work) → ((p : Port) → IsItsEnd h w.core.command p → IsItsEnd h w.core.command (f p))
       → ((p : Port) → (f p).side.shdlc.phase ≡ p.side.shdlc.phase) → Runs w
       → Runs (record w { ports = with_port k f w.ports })
-  port_runs k f w one same r = record {
-    on = r.on;
-    node = r.node;
-    port = changed_if (eqb r.port.desk.host k) f r.port;
-    is = ap (with_port k f) r.is;
-    its = changed_its (eqb r.port.desk.host k) f w.core.command r.port (one r.port) r.its;
-    phase = changed_phase (eqb r.port.desk.host k) f r.port same ∙ r.phase;
-    short = r.short;
-    order = r.order;
-  }
+  port_runs k f w one same r = grind arith
 
   desk_runs : (k : ℕ) (f : Desk → Desk) (w : Work) → ((d : Desk) → (f d).host ≡ d.host) → ((d : Desk) → (f d).notice ≡ d.notice) → Runs w
       → Runs (with_desk k f w)
-  desk_runs k f w host_is notice_is r = port_runs k (λ p. record p { desk = f p.desk }) w
-      (λ p its. record { host = host_is p.desk ∙ its.host; no_notice = notice_is p.desk ∙ its.no_notice; up = its.up }) (λ p. refl) r
+  desk_runs k f w host_is notice_is r = grind arith
 
   turn_its : (t : Turn) (c : Option (List ℕ)) (p : Port) → IsItsEnd h c p → IsItsEnd h c (after_turn t p)
   turn_its t c p its = record { host = its.host; no_notice = its.no_notice; up = λ some. turn-phase p.side t ∙ its.up some }
@@ -214,12 +165,7 @@ module _ (h : ℕ) (host : IsHost h) (before : List Entry) (now : LinkState) whe
   -- what is noted of a turn of its end
   noted_is : (k : ℕ) (t : Turn) (w : Work) (r : Runs w) (P : List Entry → Type 0) → (eqb r.port.desk.host k ≡ true → P (noted_of w.core t r.port))
       → P [] → P (option_map_or (noted_of w.core t) (port_at w.ports k) [])
-  noted_is k t w r P here none = subst (λ ps. P (option_map_or (noted_of w.core t) (port_at ps k) [])) (sym r.is) (by_host (cases_Bool
-      (eqb r.port.desk.host k)))
-    where
-      by_host : (eqb r.port.desk.host k ≡ true) ⊎ (eqb r.port.desk.host k ≡ false) → P (option_map_or (noted_of w.core t) (port_at (r.port ∷ []) k) [])
-      by_host (inl e) = rw e (here e)
-      by_host (inr e) = rw e none
+  noted_is k t w r P here none = grind arith
 
   turn_runs : (k : ℕ) (t : Turn) (w : Work) → ((p : Port) → reads h (noted_of w.core t p) w.core.command ≡ w.core.command) → Runs w → Runs (turn_at k t w)
   turn_runs k t w silent r =
@@ -234,11 +180,7 @@ module _ (h : ℕ) (host : IsHost h) (before : List Entry) (now : LinkState) whe
 
   -- an end that takes a message is up
   taken_up : (p : Port) (m : Message) → give_refusal p.side m ≡ None → p.side.shdlc.phase ≡ Up
-  taken_up p m fits = by p.side.shdlc.phase refl where
-    by : (s : LinkState) → p.side.shdlc.phase ≡ s → s ≡ Up
-    by Up e = refl
-    by Waiting e = let z : Some NotUp ≡ None = rw e at fits in absurd (cc z)
-    by Down e = let z : Some NotUp ≡ None = rw e at fits in absurd (cc z)
+  taken_up p m fits = grind arith
 
   -- a command is given where it fits
   own_order : (order : List ℕ) (w : Work) → Fits w.ports order → is_command_message order ≡ true → Runs w → Runs (done h (Orders order) w)
@@ -247,8 +189,7 @@ module _ (h : ℕ) (host : IsHost h) (before : List Entry) (now : LinkState) whe
     node = r.node;
     port = changed_if (eqb r.port.desk.host h) (after_turn (Give (1, order))) r.port;
     is = ap (with_port h (after_turn (Give (1, order)))) r.is;
-    its = changed_its (eqb r.port.desk.host h) (after_turn (Give (1, order))) (Some order) r.port (turn_its (Give (1, order)) (Some order) r.port)
-        (record { host = r.its.host; no_notice = r.its.no_notice; up = λ some. taken_up r.port (1, order) (fits r.port r.is) });
+    its = grind arith;
     phase = changed_phase (eqb r.port.desk.host h) (after_turn (Give (1, order))) r.port (λ p. turn-phase p.side (Give (1, order))) ∙ r.phase;
     short = r.short;
     order = read_more w (option_map_or (noted_of told (Give (1, order))) (port_at w.ports h) []) w.core.command (Some order) r.order noted;
@@ -257,16 +198,10 @@ module _ (h : ℕ) (host : IsHost h) (before : List Entry) (now : LinkState) whe
     told = record w.core { command = Some order }
 
     sent : noted_of told (Give (1, order)) r.port ≡ entries_for h (sent_unless None Host r.port.session (1, order))
-    sent =
-        ap (λ o. entries_for r.port.desk.host (sent_unless o (own_side told) r.port.session (1, order))) (fits r.port r.is)
-        ∙ (ap (λ s. entries_for r.port.desk.host (sent_unless None s r.port.session (1, order))) (host_side told h host r.node)
-        ∙ ap (λ k. entries_for k (sent_unless None Host r.port.session (1, order))) r.its.host)
+    sent = grind arith
 
     here : option_map_or (noted_of told (Give (1, order))) (port_at w.ports h) [] ≡ noted_of told (Give (1, order)) r.port
-    here =
-        ap (λ ps. option_map_or (noted_of told (Give (1, order))) (port_at ps h) []) r.is
-        ∙ ap (λ o. option_map_or (noted_of told (Give (1, order))) o []) (cond-true (eqb r.port.desk.host h) (Some r.port) None
-        (eq-eqb r.port.desk.host h r.its.host))
+    here = grind arith
 
     noted : reads h (option_map_or (noted_of told (Give (1, order))) (port_at w.ports h) []) w.core.command ≡ Some order
     noted = ap (λ es. reads h es w.core.command) (here ∙ sent) ∙ order_reads h r.port.session order w.core.command command
@@ -328,16 +263,7 @@ module _ (h : ℕ) (host : IsHost h) (before : List Entry) (now : LinkState) whe
       (λ o. ⊥) deeds (done k (Orders order) w)
       (λ o x. absurd x) may.2)
   all_stand k F (GoesOn i ∷ deeds) w fits may r =
-      then (all_done k deeds) (done k (GoesOn i) w) (inl record {
-        on = r.on;
-        node = r.node;
-        port = r.port;
-        is = r.is;
-        its = r.its;
-        phase = r.phase;
-        short = may.0;
-        order = r.order;
-      }) (all_stand k F deeds (done k (GoesOn i) w) fits may.1)
+      then (all_done k deeds) (done k (GoesOn i) w) (inl (grind arith)) (all_stand k F deeds (done k (GoesOn i) w) fits may.1)
   all_stand k F (Ends e ∷ deeds) w fits may r =
       then (all_done k deeds) (done k (Ends e) w) (inl record {
         on = r.on;
@@ -358,32 +284,12 @@ module _ (h : ℕ) (F : List ℕ → Type 0) where
   May deeds = MayDo h F deeds
 
   either : (b : Bool) (d e : List Deed) → May d → May e → May (cond b d e)
-  either true d e x y = x
-  either false d e x y = y
+  either b d e x y = grind arith
 
   -- ### Answers
 
-  accepts_may : (core : Core) (c : Command) → May (accepts (own_view core) c)
-  accepts_may core c = by_test (finds_room core c) (λ q. rw q (refl, tt)) (λ q. rw q (refl, tt))
-
-  -- an answer on another pipe than 01
-  other_may : (to pipe : ℕ) (answer : List ℕ) → eqb pipe 1 ≡ false → May (answers_on to pipe answer)
-  other_may to pipe answer off = (ap (λ b. b && is_command_message answer) off, tt)
-
-  link_may : (to : ℕ) (o : Option ℕ) (answer : List ℕ) → May (link_deeds to 0 (answer, o))
-  link_may to None answer = (refl, tt)
-  link_may to (Some errors) answer = (refl, tt)
-
   ordered_may : (core : Core) (errors pipe n : ℕ) (body : List ℕ) → May (ordered_deeds (own_view core) errors pipe n body)
-  ordered_may core errors pipe n body = ordered_holds May core errors pipe n body (record {
-    none = tt;
-    refuses = λ r. (answer_plain r [], tt);
-    creates = λ row named welcome. accepts_may core (Create row);
-    deletes = λ pid kept. accepts_may core (Delete pid);
-    clears = λ x host. accepts_may core (Clear x);
-    counts = λ zero. link_may core.node (link_served errors n body).1 (link_served errors n body).0;
-    names = λ off. other_may core.node pipe (identity_served gates n body) off;
-  })
+  ordered_may core errors pipe n body = grind arith
 
   -- an event that is posted back is no command
   posted_may : (core : Core) (m : Message) (b : Bool) → is_command_message m.1 ≡ false → May (cond b (Sends core.node m ∷ []) [])
@@ -438,13 +344,7 @@ HasRoom ports k order = nat_lt (option_map_or (λ (p : Port). spare p.side) (por
 
 pub lack_parts : (ports : List Port) (k n : ℕ) (later : List (ℕ × ℕ)) → lack ports ((k, n) ∷ later) ≡ None
     → (nat_lt (option_map_or (λ (p : Port). spare p.side) (port_at ports k) 0) n ≡ false) × (lack ports later ≡ None)
-lack_parts ports k n later none = go (nat_lt (option_map_or (λ (p : Port). spare p.side) (port_at ports k) 0) n) refl none where
-  there : ℕ
-  there = option_map_or (λ (p : Port). spare p.side) (port_at ports k) 0
-
-  go : (b : Bool) → nat_lt there n ≡ b → cond b (Some (n, there)) (lack ports later) ≡ None → (nat_lt there n ≡ false) × (lack ports later ≡ None)
-  go true e z = absurd (cc z)
-  go false e z = (e, z)
+lack_parts ports k n later none = grind arith
 
 -- where no deed lacks room, each command finds it
 roomy : (h k : ℕ) (F : List ℕ → Type 0) (ports : List Port) (deeds : List Deed) → MayDo h F deeds → lack ports (needs k deeds) ≡ None
@@ -456,16 +356,10 @@ roomy h k F ports (SaysOk ∷ deeds) may none = roomy h k F ports deeds may none
 roomy h k F ports (Releases asker ∷ deeds) may none = may
 roomy h k F ports (Drops pid ∷ deeds) may none = roomy h k F ports deeds may none
 roomy h k F ports (SetsErrors errors ∷ deeds) may none = may
-roomy h k F ports (Orders order ∷ deeds) may none =
-    ((may.0, (lack_parts ports k (need order) (needs k deeds) none).0), may.1, may.2)
+roomy h k F ports (Orders order ∷ deeds) may none = grind arith
 roomy h k F ports (GoesOn i ∷ deeds) may none = (may.0, roomy h k F ports deeds may.1 none)
 roomy h k F ports (Ends e ∷ deeds) may none = (may.0, roomy h k F ports deeds may.1 none)
 roomy h k F ports (_ ∷ deeds) may none = absurd may
-
--- an end that is up takes an order that isn't too long and finds room
-takes_it : (e : LinkEnd) (order : List ℕ) → e.shdlc.phase ≡ Up → NotLong order → nat_lt (spare e) (need order) ≡ false → give_refusal e (1, order) ≡ None
-takes_it e order up short room =
-    let not_long : nat_lt 4096 (length order) ≡ false = le-ltb 4096 (length order) short in rw (up, not_long, room) refl
 
 up_is : (s : LinkState) → s ≡ Up → is_up s ≡ true
 up_is s e = rw e refl
@@ -526,37 +420,7 @@ module _ (h : ℕ) (host : IsHost h) (before : List Entry) (now : LinkState) whe
   -- where each command finds room at its end
   fits_there : (w : Work) (m : Message) (r : Runs_so w) → is_up r.port.side.shdlc.phase ≡ true → (order : List ℕ)
       → NotLong order × HasRoom w.ports h order → Fits (fetched m w).ports order
-  fits_there w m r up order has p is = subst (λ (q : Port). give_refusal q.side (1, order) ≡ None) same_port given where
-    up_now : (s : LinkState) → is_up s ≡ true → s ≡ Up
-    up_now Up e = refl
-    up_now Waiting e = absurd (true≢false (sym e))
-    up_now Down e = absurd (true≢false (sym e))
-
-    first : Port
-    first = changed_if (eqb r.port.desk.host h) (after_turn FetchMessage) r.port
-
-    last : Port
-    last = changed_if (eqb first.desk.host h) (λ p. record p { desk = record p.desk { holds = false } }) first
-
-    ports_are : (fetched m w).ports ≡ last ∷ []
-    ports_are = ap (λ ps. with_port h (λ (p : Port). record p { desk = record p.desk { holds = false } }) (with_port h (after_turn FetchMessage) ps)) r.is
-
-    same_port : last ≡ p
-    same_port = let both : last ∷ [] ≡ p ∷ [] = sym ports_are ∙ is in cc
-
-    taken : give_refusal r.port.side (1, order) ≡ None
-    taken = takes_it r.port.side order (up_now r.port.side.shdlc.phase up) has.0
-        (sym (ap (λ o. nat_lt (option_map_or (λ (p : Port). spare p.side) o 0) (need order)) (port_is w r)) ∙ has.1)
-
-    changed : (b : Bool) (f : Port → Port) (q : Port) → ((q : Port) → give_refusal (f q).side (1, order) ≡ give_refusal q.side (1, order))
-        → give_refusal (changed_if b f q).side (1, order) ≡ give_refusal q.side (1, order)
-    changed true f q one = one q
-    changed false f q one = refl
-
-    given : give_refusal last.side (1, order) ≡ None
-    given =
-        changed (eqb first.desk.host h) (λ p. record p { desk = record p.desk { holds = false } }) first (λ q. refl)
-        ∙ (changed (eqb r.port.desk.host h) (after_turn FetchMessage) r.port (λ q. refl) ∙ taken)
+  fits_there w m r up order has p is = grind arith
 
   -- deeds that hear no answer
   does_stand : (w : Work) (m : Message) (deeds : List Deed) (r : Runs_so w) → is_up r.port.side.shdlc.phase ≡ true
@@ -580,16 +444,13 @@ module _ (h : ℕ) (host : IsHost h) (before : List Entry) (now : LinkState) whe
   same_if b c e = rw e refl
 
   same_none : (b : Bool) (c : Option (List ℕ)) → c ≡ None → cond b None c ≡ c
-  same_none true c e = sym e
-  same_none false c e = refl
+  same_none b c e = grind arith
 
   none_of : (c : Option (List ℕ)) → (is_some c ≡ true → ⊥) → c ≡ None
-  none_of None e = refl
-  none_of (Some x) e = absurd (e refl)
+  none_of c e = grind arith
 
   off_right : (a b : Bool) → b ≡ false → (a && b) ≡ false
-  off_right true b e = e
-  off_right false b e = refl
+  off_right a b e = grind arith
 
   abbrev Handled : Message → Work → List Deed → Type 0
   Handled m w deeds = lack w.ports (needs h deeds) ≡ None → Stands_so (handles h m deeds w)

@@ -4,14 +4,14 @@ use Rattle.node_laws.proofs.Words.{Commits, Core, Create, Creation, Decision, De
 use Rattle.node_laws.proofs.Words.{IfAwaited, IsAbout, IsAnswered, IsAwaited, IsCommand, IsKeptNotice, IsNoneOf, IsNoticeOf, IsReadSo, IsResponse, IsRightAbout}
 use Rattle.node_laws.proofs.Words.{IsRightNotice, IsTrue, JoinTwo, KeepsInStep, List, Message, MessageFault, MessageKind, None, Notice, Ok, Option, Orders}
 use Rattle.node_laws.proofs.Words.{PipeRow, Port, Releases, Removed, Result, SaysOk, Sends, SetsErrors, Some, Tells, Waits, Work, [], about_at, about_read}
-use Rattle.node_laws.proofs.Words.{agreed, answer_of, answers_on, ap, ap₂, asked_at, asking_in, asks_for, body_in, by_option, by_test, cases_Bool, commit_deeds}
-use Rattle.node_laws.proofs.Words.{cond, cond_both, controller_deeds, creation_deeds, creation_in, creation_of, creation_read, decided, decision_deeds}
-use Rattle.node_laws.proofs.Words.{deeds_by_relay, end_c, ends_of, entries_of_reply, eq-eqb, eqb, eqb-true, event_deeds, false, finds_room, gate_deeds, gates}
-use Rattle.node_laws.proofs.Words.{goes_through, has, has_link, header_of, hosts_of_ends, hosts_where, identity_served, if_notice, inl, inr, instruction_in}
-use Rattle.node_laws.proofs.Words.{is_command_message, is_dynamic, is_host, is_one_of, is_up, kind_deeds, link_deeds, link_served, map, next_count, not}
-use Rattle.node_laws.proofs.Words.{notice_deeds, notice_in, option_and_then, option_map, option_map_or, own_deeds, own_gate, own_view, pipe_named_in, port_at}
-use Rattle.node_laws.proofs.Words.{refl, relay_deeds, relayed_to, same_bytes, sent_in_session, served_at, session_now, session_of_port, subst, sym, true}
-use Rattle.node_laws.proofs.Words.{true≢false, unless_asking, unrelayed, view_for, view_of, ℕ, ◌&&◌, ◌++◌, ◌||◌, ◌∙◌, ◌∷◌, ◌≡◌, ◌≤◌, ◌⊎◌}
+use Rattle.node_laws.proofs.Words.{answer_of, ap, ap₂, arith, asked_at, asking_in, asks_for, body_in, by_option, by_test, cases_Bool, commit_deeds, cond}
+use Rattle.node_laws.proofs.Words.{cond_both, controller_deeds, creation_deeds, creation_in, creation_of, creation_read, decided, decision_deeds}
+use Rattle.node_laws.proofs.Words.{deeds_by_relay, end_c, ends_of, entries_of_reply, eq-eqb, eqb, eqb-true, event_deeds, false, finds_room, gate_deeds}
+use Rattle.node_laws.proofs.Words.{goes_through, has, has_link, header_of, hosts_of_ends, hosts_where, if_notice, inl, inr, instruction_in, is_one_of}
+use Rattle.node_laws.proofs.Words.{kind_deeds, map, next_count, notice_deeds, notice_in, option_and_then, option_map, option_map_or, own_deeds, own_gate}
+use Rattle.node_laws.proofs.Words.{own_view, pipe_named_in, port_at, refl, relay_deeds, relayed_to, same_bytes, sent_in_session, served_at, session_now}
+use Rattle.node_laws.proofs.Words.{session_of_port, subst, sym, true, true≢false, unless_asking, view_for, view_of, ℕ, ◌&&◌, ◌++◌, ◌||◌, ◌∙◌, ◌∷◌, ◌≡◌, ◌≤◌}
+use Rattle.node_laws.proofs.Words.{◌⊎◌}
 use Rattle.hcp_packet.specs.declared.MessageKind.TheVariants.{Command as IsCommandKind, Event as IsEvent}
 use Rattle.node_machine.specs.Controller.{about_of}
 use Rattle.node_laws.proofs.creations.Outcomes.{asked_of, desks_wait, one_of, waits}
@@ -66,38 +66,18 @@ module _ (ports : List Port) (h : ℕ) where
   decision_fair up core pipe (Commit c answer tell notice) = commit_fair up (finds_room core c) pipe c answer.items notice.items (hosts_where (has tell))
   decision_fair up core pipe (Ask asked notice c answer) = ((refl, tt), (tt, tt))
 
-  link_fair : has_link ports h ≡ true → (pipe : ℕ) (answer : List ℕ × Option ℕ) → Fair (link_deeds h pipe answer)
-  link_fair up pipe answer = by_option answer.1 (λ q. rw q (((refl, tt), (up, tt)))) (λ errors q. rw q (((refl, tt), (tt, (up, tt)))))
-
   gate_fair : has_link ports h ≡ true → (gate errors pipe instruction : ℕ) (body : List ℕ) → Fair (gate_deeds gate errors h pipe instruction body)
-  gate_fair up gate errors pipe instruction body =
-      cond_both (eqb gate 6) (link_deeds h pipe (link_served errors instruction body)) _ Fair
-      (λ _. link_fair up pipe (link_served errors instruction body))
-      (λ _. cond_both (eqb gate 5) (answers_on h pipe (identity_served gates instruction body))
-      (answers_on h pipe (answer_of response.CommandNotSupported [])) Fair
-      (λ _. ((refl, tt), (up, tt))) (λ _. ((refl, tt), (up, tt))))
+  gate_fair up gate errors pipe instruction body = grind arith
 
   event_fair : has_link ports h ≡ true → (core : Core) (m : Message) → Fair (event_deeds core.tables h m)
   event_fair up core m = cond_both _ (Sends h m ∷ []) (Drops m.0 ∷ []) Fair (λ _. ((refl, tt), (up, tt))) (λ _. (tt, (tt, tt)))
 
-  unrelayed_fair : (m : Message) → Fair (unrelayed (has_link ports h) h m)
-  unrelayed_fair m = by_test (has_link ports h)
-      (λ up. rw up (cond_both (is_command_message m.1) (answers_on h m.0 (answer_of response.NotConnected [])) (Drops m.0 ∷ []) Fair
-      (λ _. ((refl, tt), (up, tt))) (λ _. (tt, (tt, tt)))))
-      (λ down. rw down (tt, (tt, tt)))
-
   relay_fair : (m : Message) (other : ℕ) (up : Bool) → has_link ports other ≡ up → Fair (relay_deeds (has_link ports) h m other up)
-  relay_fair m other true up = ((refl, tt), (up, tt))
-  relay_fair m other false down = unrelayed_fair m
-
-  agreed_fair : (flag : Bool) (c : Creation) → has_link ports c.asker ≡ true → Fair (agreed flag c)
-  agreed_fair true c up = ((refl, tt), (tt, (tt, (tt, (up, (tt, tt))))))
-  agreed_fair false c up = ((refl, tt), (tt, (tt, (up, tt))))
+  relay_fair m other up a = grind arith
 
   creation_fair : (core : Core) (code : ℕ) (o : Option Creation) → ((c : Creation) → o ≡ Some c → has_link ports c.asker ≡ true)
       → Fair (creation_deeds (own_view core) code o)
-  creation_fair core code None askers = (tt, (tt, tt))
-  creation_fair core code (Some c) askers = agreed_fair (eqb code 0 && finds_room core c.command) c (askers c refl)
+  creation_fair core code o askers = grind arith
 
   module _ (core : Core) (askers : (p : Port) (c : Creation) → port_at ports h ≡ Some p → asked_at p ≡ Some c → has_link ports c.asker ≡ true) where
     served_fair : has_link ports h ≡ true → (pipe instruction : ℕ) (body : List ℕ) (gate : Option ℕ)
@@ -141,8 +121,7 @@ module _ (ports : List Port) (h : ℕ) where
 -- ### One message to each end
 
 none_of : (k : ℕ) (given : List ℕ) → given ≡ [] → IsNoneOf k given
-none_of k [] none = tt
-none_of k (j ∷ given) none = absurd (cc none)
+none_of k given none = grind arith
 
 may_apart : (h : ℕ) (deeds : List Deed) (given : List ℕ) (b : Bool) → (b ≡ true → given ≡ []) → (F : ℕ → List ℕ → Type 0)
     → ((x : ℕ) (n : List ℕ) → F x n → IsNoneOf x given) → ((x : ℕ) → MayTell x (F x) deeds) → FirstSent b deeds → GiveOnce h given deeds
@@ -175,9 +154,7 @@ MayFrom x (IsAnswered ∷ deeds) = MayTell x IsShort deeds
 MayFrom x deeds = MayTell x IsShort deeds
 
 may_from : (x : ℕ) (deeds : List Deed) → MayTell x IsShort deeds → MayFrom x deeds
-may_from x [] may = may
-may_from x (IsAnswered ∷ deeds) may = absurd may
-may_from x (_ ∷ deeds) may = may
+may_from x deeds may = grind arith
 
 from_apart : (h : ℕ) (deeds : List Deed) → ((x : ℕ) → MayFrom x deeds) → FirstSent true deeds → GiveOnce h [] deeds
 from_apart h [] may sent = tt
@@ -244,10 +221,6 @@ same_message (x ∷ a) (y ∷ b) e = by_test (eqb x y)
 same_message [] (y ∷ b) e = absurd (true≢false (sym e))
 same_message (x ∷ a) [] e = absurd (true≢false (sym e))
 
-message_same : (a : List ℕ) → same_bytes a a ≡ true
-message_same [] = refl
-message_same (x ∷ a) = ap (λ b. cond b (same_bytes a a) false) (eq-eqb x x refl) ∙ message_same a
-
 row_of : Command → PipeRow → PipeRow
 row_of (Create row) other = row
 row_of _ other = other
@@ -293,8 +266,7 @@ in_waits x (q ∷ ports) k p c found asked own = by_test (eqb q.desk.host k)
     record {
       front = [];
       back = waits x (asked_of ports);
-      is = ap (λ o. one_of x o ++ waits x (asked_of ports)) (ap asked_at one ∙ asked)
-          ∙ ap (λ b. cond b (c ∷ []) [] ++ waits x (asked_of ports)) (eq-eqb c.asker x own);
+      is = grind arith;
     })
     (λ off. in_front c (one_of x (asked_at q)) (waits x (asked_of ports)) (in_waits x ports k p c (rw off at found) asked own))
 
@@ -312,9 +284,7 @@ waits_at_end x all (p ∷ ports) c l found e = go (asked_at p) refl (waits_at_en
   go : (o : Option Creation) → asked_at p ≡ o → (waits x (asked_of ports) ≡ c ∷ l → WaitsAtEnd all c) → WaitsAtEnd all c
   go None q later = later (sym (ap (λ o. one_of x o ++ waits x (asked_of ports)) q) ∙ e)
   go (Some d) q later = by_test (eqb d.asker x)
-      (λ is. let both : d ∷ waits x (asked_of ports) ≡ c ∷ l = rw is at now in
-      let one : d ≡ c = cc in
-      record { host = p.desk.host; port = p; found = found.0; asked = q ∙ ap (λ d. Some d) one })
+      (λ is. grind arith)
       (λ off. later (rw off at now)) where
         now : one_of x (Some d) ++ waits x (asked_of ports) ≡ c ∷ l
         now = sym (ap (λ o. one_of x o ++ waits x (asked_of ports)) q) ∙ e
@@ -331,13 +301,11 @@ joined (Some o) = o
 
 asked_joined : (n : Option Notice) → creation_in n ≡ joined (awaited_in (about_of n))
 unfolding joined
-asked_joined None = refl
-asked_joined (Some n) = refl
+asked_joined n = grind arith
 
 read_joined : (t : List Entry) (r : Option (List ℕ)) → joined (awaited_in (about_read t r)) ≡ creation_read t r
 unfolding joined
-read_joined t None = refl
-read_joined t (Some m) = refl
+read_joined t r = grind arith
 
 pub asked_same : (t : List Entry) (p : Port) (r : Option (List ℕ)) → awaited_in (about_of p.desk.notice) ≡ awaited_in (about_read t r)
     → asked_at p ≡ creation_read t r
@@ -347,23 +315,13 @@ asked_as : (p : Port) (n : Notice) → p.desk.notice ≡ Some n → asked_at p �
 asked_as p n q = ap creation_in q
 
 about_waits : (n : Notice) (c : Creation) → creation_in (Some n) ≡ Some c → n.about ≡ Waits c
-about_waits n c e = go n.about refl where
-  go : (a : About) → n.about ≡ a → n.about ≡ Waits c
-  go (Waits d) q = let s : Some d ≡ Some c = rw q at e in q ∙ (let one : d ≡ c = cc in ap Waits one)
-  go Forgotten q = let s : None ≡ Some c = rw q at e in absurd (cc s)
-  go Removed q = let s : None ≡ Some c = rw q at e in absurd (cc s)
+about_waits n c e = grind arith
 
 second : (a b : Bool) → IsTrue (a && b) → IsTrue b
-second true b both = both
-second false b both = absurd (true≢false (sym both))
+second a b both = grind arith
 
 closed : (row : PipeRow) → IsCommand (Create row) → row.opened ≡ false
-closed row may =
-    go row.opened (second (is_dynamic row.pid && is_host row.creator && is_host row.dest && not (eqb row.creator row.dest)) (not row.opened) may)
-  where
-    go : (o : Bool) → IsTrue (not o) → o ≡ false
-    go false may = refl
-    go true may = absurd (true≢false (sym may))
+closed row may = grind arith
 
 -- an unanswered notice as it is read, of a message
 abbrev read_of : List Entry → List ℕ → Option (Option Creation)
@@ -372,10 +330,7 @@ read_of t m = awaited_in (about_read t (Some m))
 -- one of a creation for which its asker asked so
 waits_read : (t : List Entry) (m : List ℕ) (row : PipeRow) → m ≡ 18 ∷ ends_of row → row.opened ≡ false → asking_in t row.creator ≡ Some m
     → read_of t m ≡ Some (Some (record { asker = row.creator; command = Create row; answer = answer_of response.Ok (ends_of row) }))
-waits_read t m row is off asked =
-    rw (is, asked ∙ ap (λ z. Some z) is, message_same (18 ∷ ends_of row))
-    (ap (λ o. Some (Some (record { asker = row.creator; command = Create (record row { opened = o }); answer = answer_of response.Ok (ends_of row) })))
-    (sym off))
+waits_read t m row is off asked = grind arith
 
 module _ (hosts : List ℕ) (are : AreHosts hosts) (t : List Entry) (w : Work) (a : KeepsInStep hosts t w) (named : AreNamed (t ++ w.entries)) where
   abbrev now : List Entry
@@ -401,12 +356,7 @@ module _ (hosts : List ℕ) (are : AreHosts hosts) (t : List Entry) (w : Work) (
     about_is : IsAbout n.about m
     about_is = go (notice_in now k) p.desk.notice reads there (kept k p found) where
       go : (r : Option (List ℕ)) (o : Option Notice) → r ≡ Some m → o ≡ Some n → IsKeptNotice r o → IsAbout n.about m
-      go None o e f b = absurd (cc e)
-      go (Some x) None e f b = absurd (cc f)
-      go (Some x) (Some z) e f b =
-          let one : x ≡ m = cc in
-          let two : z ≡ n = cc in
-          subst (λ (n : Notice). IsAbout n.about m) two (subst (IsAbout z.about) one b)
+      go r o e f b = grind arith
 
     waiting : (c : Creation) → n.about ≡ Waits c → read_of now m ≡ Some (Some c)
     waiting c about =
@@ -500,9 +450,7 @@ module _ (t : List Entry) (ports : List Port) (ends : EndsAreRead t ports) (h : 
 
   -- an end that is up has the session that is read
   same_session : (k : ℕ) → has_link ports k ≡ true → read_session k ≡ session_of_port ports k
-  same_session k up = by_option (port_at ports k)
-      (λ q. absurd (true≢false (sym up ∙ ap (λ o. option_map_or (λ (p : Port). is_up p.side.shdlc.phase) o false) q)))
-      (λ p q. ends.sessions k p q ∙ sym (ap (λ o. option_and_then (λ (p : Port). cond (is_up p.side.shdlc.phase) (Some p.session) None) o) q))
+  same_session k up = grind arith
 
   same_sent : (k : ℕ) (m : Message) → has_link ports k ≡ true → sent_in_session 0 read_session k m ≡ sent_in_session 0 (session_of_port ports) k m
   same_sent k m up = ap (λ o. option_map_or (λ n. entry.Sent (end_c k) n m.0 m.1 ∷ []) o []) (same_session k up)

@@ -1,14 +1,13 @@
 -- As a pass of a controller leaves an end, the first message that is left there lacks room, as it is read, and goes on to lack it.
-use Rattle.node_laws.proofs.Words.{AllByRecursion, AreAlong, AreHosts, AreNamed, ArePassed, BeginWithTurn, Begins, BeginsPass, Book, Bool, Controller, Counts}
-use Rattle.node_laws.proofs.Words.{End, EndsAreRead, Entry, ErrorCount, Gets, HasErrorsRead, IsBehind, IsKeptNotice, IsNamed, IsProperBook, IsReadSo, IsTurnSo}
-use Rattle.node_laws.proofs.Words.{KeepsBeside, KeepsInStep, LastsOverTurns, List, Message, Moment, None, Option, Port, Puts, ReadsInStep, Saying, Some, Work}
-use Rattle.node_laws.proofs.Words.{[], acked_after, acked_in, all_append, ap, append-nil, append_assoc, ap₂, arith, asking_in, book_in, by_test, cond}
-use Rattle.node_laws.proofs.Words.{creations_at, desks_of, drop, end_c, end_of_node, eqb, errors_after, false, filter_map, filter_map-append, fold, fold-append}
-use Rattle.node_laws.proofs.Words.{goes_through_ends, hosts_of_ends, inl, inr, is_held_at, is_later, is_some, lack_at, lack_of, lacking, le-ltb, links_of_turns}
-use Rattle.node_laws.proofs.Words.{nat_lt, need_of_all, no_errors, notice_at, notice_in, noting, oldest, option_and_then, option_map_or, passes, port_at, refl}
-use Rattle.node_laws.proofs.Words.{said_of, same_end, same_number, sent_by, sent_in, session_now, spare_at, subst, sym, true, unacknowledged_in}
-use Rattle.node_laws.proofs.Words.{unhandled_after, unhandled_in, until, waiting_at, ℕ, ◌++◌, ◌+◌, ◌-◌, ◌==◌, ◌∙◌, ◌∷◌, ◌≡◌, ◌⊎◌}
-use Rattle.history.specs.Filters.Saying.{Ends, Loses, Sends, Takes}
+use Rattle.node_laws.proofs.Words.{AllByRecursion, AreAlong, AreHosts, AreNamed, ArePassed, BeginWithTurn, BeginsPass, Book, Bool, Controller, End, EndsAreRead}
+use Rattle.node_laws.proofs.Words.{Entry, ErrorCount, HasErrorsRead, IsBehind, IsKeptNotice, IsNamed, IsProperBook, IsReadSo, IsTurnSo, KeepsBeside}
+use Rattle.node_laws.proofs.Words.{KeepsInStep, LastsOverTurns, List, Message, Moment, None, Option, Port, ReadsInStep, Saying, Some, Work, [], acked_after}
+use Rattle.node_laws.proofs.Words.{acked_in, all_append, ap, append-nil, append_assoc, ap₂, arith, asking_in, book_in, by_test, cond, creations_at, desks_of}
+use Rattle.node_laws.proofs.Words.{drop, end_c, end_of_node, eqb, errors_after, false, filter_map, filter_map-append, fold, fold-append, goes_through_ends}
+use Rattle.node_laws.proofs.Words.{hosts_of_ends, inl, inr, is_held_at, is_later, is_some, lack_at, lack_of, lacking, le-ltb, links_of_turns, nat_lt}
+use Rattle.node_laws.proofs.Words.{need_of_all, no_errors, notice_at, notice_in, noting, oldest, option_and_then, option_map_or, passes, port_at, refl, said_of}
+use Rattle.node_laws.proofs.Words.{same_number, sent_by, sent_in, session_now, spare_at, subst, sym, true, unacknowledged_in, unhandled_after, unhandled_in}
+use Rattle.node_laws.proofs.Words.{until, waiting_at, ℕ, ◌++◌, ◌+◌, ◌-◌, ◌==◌, ◌∙◌, ◌∷◌, ◌≡◌, ◌⊎◌}
 use Rattle.node_laws.specs.passes.Passing.{Stays as StaysThere}
 use Rattle.node_laws.specs.passes.Passing.ComesTo.{Begins as PassBegins}
 use Rattle.node_laws.proofs.creations.Knowing.{far_fold, far_reading}
@@ -20,7 +19,7 @@ use Rattle.node_laws.proofs.read_rooms.Carrying.{IsCarried}
 use Rattle.node_laws.proofs.read_steps.Reading.{far_named}
 use Rattle.node_laws.proofs.replies.Passes.{lack_so, own_end_is, split_of, walked}
 use Rattle.node_laws.proofs.replies.Waiting.{Stays, all_stays, beside_of}
-use Rattle.node_laws.proofs.views.Doing.{IsRead, Leaves, leaves_all, plainly, reads_append}
+use Rattle.node_laws.proofs.views.Doing.{IsRead, Leaves, leaves_all, reads_append}
 use Rattle.node_laws.proofs.worlds.Resting.{AreIdle, idle_unhandled}
 use Rattle.trace_model.specs.declared.entry.Entry.TheVariants as entry
 
@@ -70,39 +69,17 @@ module _ (k : ℕ) where
 
   module _ (n : ℕ) where
     quiet : (b : Bool) (s : Saying) → sent_by n (Some s) ≡ None → sent_by n (cond b (Some s) None) ≡ None
-    quiet true s q = q
-    quiet false s q = refl
+    quiet b s q = grind arith
 
     sent_one : (x : Entry) → IsFar x → sent_by n (said_of e x) ≡ None
-    sent_one (entry.Up f j) far = quiet (same_end f e) (Begins j) refl
-    sent_one (entry.Down f cause) far = quiet (same_end f e) Ends refl
-    sent_one (entry.Sent f j pid message) far = ap (λ b. sent_by n (cond b (Some (Sends j (pid, message))) None)) (not_near f k far)
-    sent_one (entry.Got f j pid message) far = quiet (same_end f e) (Gets j (pid, message)) refl
-    sent_one (entry.Acked f j count) far = quiet (same_end f e) (Counts j count) refl
-    sent_one (entry.Emit f lpdu) far = quiet (same_end f e) (Puts lpdu) refl
-    sent_one (entry.Took f lpdu) far = quiet (same_end f e) (Takes lpdu) refl
-    sent_one (entry.Lost f lpdu cause) far = quiet (same_end f e) (Loses lpdu) refl
-    sent_one _ far = refl
+    sent_one x far = grind arith
 
     sent_all : (es : List Entry) → AreFar es → AllByRecursion (λ x. sent_by n (said_of e x) ≡ None) es
     sent_all [] far = tt
     sent_all (x ∷ es) far = (sent_one x far.0, sent_all es far.1)
 
-    calm_count : (before : ℕ) (b : Bool) (s : Saying) → acked_after n before (Some s) ≡ before → acked_after n before (cond b (Some s) None) ≡ before
-    calm_count before true s q = q
-    calm_count before false s q = refl
-
     acked_one : (before : ℕ) (x : Entry) → IsFar x → IsUnheard x → acked_after n before (said_of e x) ≡ before
-    acked_one before (entry.Up f j) far heard = calm_count before (same_end f e) (Begins j) refl
-    acked_one before (entry.Down f cause) far heard = calm_count before (same_end f e) Ends refl
-    acked_one before (entry.Sent f j pid message) far heard = calm_count before (same_end f e) (Sends j (pid, message)) refl
-    acked_one before (entry.Got f j pid message) far heard = calm_count before (same_end f e) (Gets j (pid, message)) refl
-    acked_one before (entry.Acked f j count) far heard =
-        ap (λ b. acked_after n before (cond b (Some (Counts j count)) None)) (not_near f k heard)
-    acked_one before (entry.Emit f lpdu) far heard = calm_count before (same_end f e) (Puts lpdu) refl
-    acked_one before (entry.Took f lpdu) far heard = calm_count before (same_end f e) (Takes lpdu) refl
-    acked_one before (entry.Lost f lpdu cause) far heard = calm_count before (same_end f e) (Loses lpdu) refl
-    acked_one before _ far heard = refl
+    acked_one before x far heard = grind arith
 
     abbrev counts : ℕ → Entry → ℕ
     counts before x = acked_after n before (said_of e x)
@@ -278,8 +255,7 @@ module _ (hosts : List ℕ) (are : AreHosts hosts) (t : List Entry) (w : Work) (
   -- its first message is held
   own_calm : (v : Work) → K v → (k : ℕ) (held : Bool) (short : ℕ × ℕ)
       → AreCalm (cond held [] (entry.Held (end_of_node v.core k) short.0 short.1 ∷ []))
-  own_calm v s k true short = calm_none
-  own_calm v s k false short = record { far = (tt, tt); unheard = (tt, tt); leave = λ j. ((λ x n r. plainly (end_c j) x n r), tt) }
+  own_calm v s k held short = grind arith
 
   own_late : (v : Work) → K v → (k : ℕ) (held : Bool) (short : ℕ × ℕ)
       → AllByRecursion (λ x. is_later (end_c k) x ≡ false) (cond held [] (entry.Held (end_of_node v.core k) short.0 short.1 ∷ []))
@@ -327,11 +303,7 @@ module _ (hosts : List ℕ) (are : AreHosts hosts) (t : List Entry) (w : Work) (
         ∙ (lack_calm hosts are t v (beside v c.keeps) (c.own ++ rest) (calm_both c.own rest own calm) at here k m ∙ stays.1))
 
     near_so : (x : Entry) (front rest : List Entry) → IsTurnSo (λ v. KeepsInStep hosts t v × K v) w front x rest → IsNear x
-    near_so (entry.Turn f pid message) front rest u =
-        ap (λ (z : End). z.at_host) (u.its_end ∙ own_end_is u.work.core u.host u.keeps.0.node)
-    near_so (entry.Held f need spare) front rest u =
-        ap (λ (z : End). z.at_host) (u.its_end ∙ own_end_is u.work.core u.host u.keeps.0.node)
-    near_so _ front rest u = tt
+    near_so x front rest u = grind arith
 
     by_waiting : (q : List Message) → waiting_at c.work.ports k ≡ q
         → ((unhandled_in (t ++ (passes w).entries) (end_c k) ≡ []) ⊎ LacksBehind hosts (t ++ (w.entries ++ c.front)) c.own k)

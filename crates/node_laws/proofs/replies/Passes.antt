@@ -7,11 +7,11 @@ use Rattle.node_laws.proofs.Words.{Some, State, StillRuns, Tells, WasHeld, Work,
 use Rattle.node_laws.proofs.Words.{append_cancel_left, ap₂, arith, asked_at, asking_in, before_turn, by_option, by_test, cond, controller_deeds, count_of}
 use Rattle.node_laws.proofs.Words.{creation_of, creations_at, deeds_of, desks_of, end_c, end_of, end_of_node, entries_of_reply, eq-eqb, eqb, false, filter}
 use Rattle.node_laws.proofs.Words.{first_lack, handles, has_link, holds_in, hosts_of_ends, is_answer_of, is_cut_of, is_one_of, is_some, is_turn_of, is_up}
-use Rattle.node_laws.proofs.Words.{is_up_read, lack, lack_at, lack_of, lacking, list_any, nat_lt, needs, next_count, node_of, not, noted_by_deeds}
-use Rattle.node_laws.proofs.Words.{noted_of_deeds, notice_in, oldest, option_and_then, option_map, option_map_or, passes, port_at, prefix_len, refl, reply}
-use Rattle.node_laws.proofs.Words.{sent_in_session, session_now, session_of_port, spare_at, spare_read, spare_with, subst, suc, sym, tables_in, take, takes_up}
-use Rattle.node_laws.proofs.Words.{to_command, true, true≢false, unhandled_in, until, view_at, view_for, view_of, view_read, waiting_at, ℕ, ◌&&◌, ◌++◌, ◌+◌}
-use Rattle.node_laws.proofs.Words.{◌||◌, ◌∙◌, ◌∷◌, ◌≡◌, ◌≤◌}
+use Rattle.node_laws.proofs.Words.{is_up_read, lack, lack_at, lack_of, lacking, list_any, needs, next_count, node_of, not, noted_by_deeds, noted_of_deeds}
+use Rattle.node_laws.proofs.Words.{notice_in, oldest, option_and_then, option_map, option_map_or, passes, port_at, prefix_len, refl, reply, sent_in_session}
+use Rattle.node_laws.proofs.Words.{session_now, session_of_port, spare_at, spare_read, spare_with, subst, sym, tables_in, take, takes_up, to_command, true}
+use Rattle.node_laws.proofs.Words.{true≢false, unhandled_in, until, view_at, view_for, view_of, view_read, waiting_at, ℕ, ◌&&◌, ◌++◌, ◌+◌, ◌||◌, ◌∙◌, ◌∷◌, ◌≡◌}
+use Rattle.node_laws.proofs.Words.{◌≤◌}
 use Rattle.node_laws.proofs.creations.Outcomes.{desks_wait}
 use Rattle.node_laws.proofs.kept.Stepping.{controller_may}
 use Rattle.node_laws.proofs.links.Noticing.{controller_reach}
@@ -104,13 +104,8 @@ cut_until es = list_any (is_cut_of 0) (before_turn 0 es)
 abbrev pub IsSilent : List Entry → Type 0
 IsSilent es = (answers_until es ≡ []) × (cut_until es ≡ false)
 
-one_more_of : (n : ℕ) → 1 + n ≡ suc n
-one_more_of n = omega arith
-
 before_first : (x : Entry) (es : List Entry) → is_turn_of 0 x ≡ false → before_turn 0 (x ∷ es) ≡ x ∷ before_turn 0 es
-before_first x es off =
-    ap (λ b. take (cond (not b) (1 + prefix_len (λ x. not (is_turn_of 0 x)) es) 0) (x ∷ es)) off
-    ∙ ap (λ k. take k (x ∷ es)) (one_more_of (prefix_len (λ x. not (is_turn_of 0 x)) es))
+before_first x es off = grind arith
 
 before_stop : (x : Entry) (es : List Entry) → is_turn_of 0 x ≡ true → before_turn 0 (x ∷ es) ≡ []
 before_stop x es turn = ap (λ b. take (cond (not b) (1 + prefix_len (λ x. not (is_turn_of 0 x)) es) 0) (x ∷ es)) turn
@@ -124,25 +119,10 @@ stop_until : (x : Entry) (es : List Entry) → is_turn_of 0 x ≡ true → IsSil
 stop_until x es turn = (ap (filter (is_answer_of 0)) (before_stop x es turn), ap (list_any (is_cut_of 0)) (before_stop x es turn))
 
 quiet_until : (x : Entry) (es : List Entry) → is_turn_of 0 x ≡ false → is_answer_of 0 x ≡ false → is_cut_of 0 x ≡ false → IsSilent es → IsSilent (x ∷ es)
-quiet_until x es off none kept silent =
-    let one = first_until x es off in (
-      one.0 ∙ (ap (λ b. cond b (x ∷ answers_until es) (answers_until es)) none ∙ silent.0),
-      one.1 ∙ (ap (λ b. b || cut_until es) kept ∙ silent.1),
-    )
-
-one_until : (x : Entry) (es : List Entry) → is_turn_of 0 x ≡ false → is_answer_of 0 x ≡ true → is_cut_of 0 x ≡ false
-    → (answers_until (x ∷ es) ≡ x ∷ answers_until es) × (cut_until (x ∷ es) ≡ cut_until es)
-one_until x es off is kept =
-    let one = first_until x es off in
-    (one.0 ∙ ap (λ b. cond b (x ∷ answers_until es) (answers_until es)) is, one.1 ∙ ap (λ b. b || cut_until es) kept)
+quiet_until x es off none kept silent = grind arith
 
 reply_first : (x : Entry) → IsReplyEntry x → (es : List Entry) → (answers_until (x ∷ es) ≡ x ∷ answers_until es) × (cut_until (x ∷ es) ≡ cut_until es)
-reply_first (entry.Command n c) is es = one_until (entry.Command n c) es refl (eq-eqb n 0 is) refl
-reply_first (entry.Sent e n pid message) is es = one_until (entry.Sent e n pid message) es refl (eq-eqb (node_of e) 0 is) refl
-reply_first (entry.AnyOk n k) is es = one_until (entry.AnyOk n k) es refl (eq-eqb n 0 is) refl
-reply_first (entry.Ask to message) is es = one_until (entry.Ask to message) es refl refl refl
-reply_first (entry.Dropped e pid) is es = one_until (entry.Dropped e pid) es refl (eq-eqb (node_of e) 0 is) refl
-reply_first _ is es = absurd is
+reply_first x is es = grind arith
 
 reply_until : (xs : List Entry) → AreReplyEntries xs → (es : List Entry)
     → (answers_until (xs ++ es) ≡ xs ++ answers_until es) × (cut_until (xs ++ es) ≡ cut_until es)
@@ -281,16 +261,13 @@ module _ (hosts : List ℕ) (are : AreHosts hosts) (t : List Entry) (w : Work) (
 -- ### Ends that are read
 
 pub some_if : (b : Bool) (n : ℕ) → is_some (cond b (Some n) None) ≡ b
-some_if true n = refl
-some_if false n = refl
+some_if b n = grind arith
 
 up_by_ends : (t : List Entry) (ports : List Port) → EndsAreRead t ports → AreUpAsRead t ports
 up_by_ends t ports ends k p e = sym (some_if (is_up p.side.shdlc.phase) p.session) ∙ ap is_some (sym (ends.sessions k p e))
 
 pub lack_alike : (f g : ℕ → ℕ) → ((k : ℕ) → f k ≡ g k) → (ns : List (ℕ × ℕ)) → first_lack f ns ≡ first_lack g ns
-lack_alike f g same [] = refl
-lack_alike f g same (n ∷ ns) =
-    ap₂ (λ s behind. cond (nat_lt s n.1) (Some (n.1, s)) behind) (same n.0) (lack_alike f g same ns)
+lack_alike f g same ns = grind arith
 
 -- ### What a message lacks
 
@@ -367,14 +344,7 @@ module _ (hosts : List ℕ) (are : AreHosts hosts) (t : List Entry) (w : Work) (
       alone = record w.core { command = None; init = None }
 
       same : KnowsTheSame (view_of w.core w.ports) (view_of alone w.ports) h
-      same = record {
-        tables = refl;
-        room = λ c. refl;
-        links = λ k. refl;
-        asks = refl;
-        view = λ up. record { hosts = refl; connected = refl; noticed = refl; asked = refl; waiting = λ pid. refl; errors = refl };
-        notice = refl;
-      }
+      same = grind arith
 
   pub told_so : AreOfReply 1 reply_told
   told_so = reply_entries w.ports (session_of_port w.ports) h (count_of w.core.journal) (Some w.core.journal) None None deeds over may
@@ -451,9 +421,7 @@ module _ (hosts : List ℕ) (are : AreHosts hosts) (t : List Entry) (K : Work �
     -- what the next turn of a pass stands behind
     trails : (later front : List Entry) → p.more ≡ front ++ later → BeginWithTurn later → Trails later
     trails [] front e begin = tt
-    trails (entry.Turn f pid message ∷ later) front e begin =
-        let u : HadTurn J w front f (pid, message) later = p.each front later (entry.Turn f pid message) e in
-        ap node_of (u.its_end ∙ end_so u.work u.keeps u.host)
+    trails (entry.Turn f pid message ∷ later) front e begin = grind arith
     trails (entry.Held f need spare ∷ later) front e begin =
         let u : WasHeld J w front f (need, spare) later = p.each front later (entry.Held f need spare) e in
         trails later (front ++ (entry.Held f need spare ∷ [])) (e ∙ sym (append_assoc front (entry.Held f need spare ∷ []) later)) u.next

@@ -1,24 +1,22 @@
 -- Whether the first message at an end of a node is held is what is read, whatever happens to a world.
 use Rattle.node_laws.proofs.Words.{Activates, AllByRecursion, AllByRecursion-append, AreNoTurns, ArePassed, Arms, AsksReset, AtEnd, Bool, Boots, Broken, Comes}
-use Rattle.node_laws.proofs.Words.{ComesTo, Controller, Core, Cut, Deed, Desk, End, Ends, Entry, Give, Gives, Happening, HasEnds, Host, IfItRuns, Inits, IsCut}
+use Rattle.node_laws.proofs.Words.{ComesTo, Controller, Core, Cut, Deed, Desk, End, Entry, Give, Gives, Happening, HasEnds, Host, IfItRuns, Inits, IsCut}
 use Rattle.node_laws.proofs.Words.{IsNoTurn, IsOrderly, IsTurnSo, IsWaitingRead, Link, LinkInput, List, Loses, Loss, Memory, Message, NextFrame, NoInput}
-use Rattle.node_laws.proofs.Words.{NodeInput, NodeWorld, None, Noted, NumberedEnd, Option, Plan, Port, Resets, Restarted, Running, Sends, Site, Some, Starts}
-use Rattle.node_laws.proofs.Words.{Takes, Ticks, TimePasses, Turn, Work, [], activates, after_controller, after_host_step, after_near_tick, after_sessions}
-use Rattle.node_laws.proofs.Words.{aged, aged_entries, all_aged, all_done, ap, append-nil, append_assoc, append_cancel_left, arrival, asked_at, beginning}
+use Rattle.node_laws.proofs.Words.{NodeInput, NodeWorld, None, Noted, NumberedEnd, Option, Plan, Port, Resets, Running, Site, Some, Starts, Takes, Ticks}
+use Rattle.node_laws.proofs.Words.{TimePasses, Turn, Work, [], activates, after_controller, after_host_step, after_near_tick, after_sessions, aged}
+use Rattle.node_laws.proofs.Words.{aged_entries, all_aged, all_done, ap, append-nil, append_assoc, append_cancel_left, arith, arrival, asked_at, beginning}
 use Rattle.node_laws.proofs.Words.{begins_with, boot_found, boot_written, boots, by_boot, by_coming, by_controller, by_controller_tick, by_host, by_host_tick}
 use Rattle.node_laws.proofs.Words.{by_loss, by_memory, by_option, by_power, by_running, by_test, comes_at, comes_to, comes_to_pass, cond, controller_cut}
 use Rattle.node_laws.proofs.Words.{controller_does, controller_ticks, controller_work, count_of, counts, deeds_of, end_c, end_h, end_of, ending_entries}
 use Rattle.node_laws.proofs.Words.{ending_of, entries_for, entry_of, eqb, exchanged, false, find, first_lost, flat_map, fold-append, forgets, forgotten}
 use Rattle.node_laws.proofs.Words.{frame_lost, frames_noted, has_come, has_come_so, has_freed, has_synced, holds_in, host_cut, host_does, host_tick, host_ticks}
-use Rattle.node_laws.proofs.Words.{host_work, hosts_in, hosts_of_ends, hosts_tick, input_at, is_command_message, is_forgotten, is_held, is_held_at, is_late}
-use Rattle.node_laws.proofs.Words.{is_over, left_running, link_after_controller, link_to, links_of, loses_power_at, map, memory_at, near_end_in, near_tick}
-use Rattle.node_laws.proofs.Words.{new_desk, not, noted_before_pass, noted_by_deed, noted_of, option_map_or, owed_in_step, own_side, passes, port_at, port_for}
-use Rattle.node_laws.proofs.Words.{refl, reset_late, runs_left, runs_none, runs_on, same_end, same_side, sending, site_at, site_ticked, site_unticked, steps}
-use Rattle.node_laws.proofs.Words.{subst, sym, syncs_in, true, true≢false, turn_entry, waiting_after, waiting_at, waits_behind, wires_for, with_error}
-use Rattle.node_laws.proofs.Words.{with_memory, with_node, with_older, with_site, without_notice, work_of, world_step, world_ticks, ℕ, ◌&&◌, ◌++◌, ◌∙◌, ◌∷◌}
-use Rattle.node_laws.proofs.Words.{◌≡◌}
+use Rattle.node_laws.proofs.Words.{host_work, hosts_in, hosts_of_ends, hosts_tick, input_at, is_forgotten, is_held, is_held_at, is_late, is_over, left_running}
+use Rattle.node_laws.proofs.Words.{link_after_controller, link_to, links_of, loses_power_at, map, memory_at, near_end_in, near_tick, new_desk, not}
+use Rattle.node_laws.proofs.Words.{noted_before_pass, noted_by_deed, noted_of, option_map_or, owed_in_step, own_side, passes, port_at, port_for, refl}
+use Rattle.node_laws.proofs.Words.{reset_late, runs_left, runs_none, runs_on, same_end, sending, site_at, site_ticked, site_unticked, steps, subst, sym}
+use Rattle.node_laws.proofs.Words.{syncs_in, true, true≢false, waiting_after, waiting_at, waits_behind, wires_for, with_error, with_memory, with_node}
+use Rattle.node_laws.proofs.Words.{with_older, with_site, without_notice, work_of, world_step, world_ticks, ℕ, ◌++◌, ◌∙◌, ◌∷◌, ◌≡◌}
 use Rattle.link_laws.specs.entries.Entries.{End as Side}
-use Rattle.link_laws.specs.entries.Entries.Entry.{Tick}
 use Rattle.node_laws.specs.passes.Passing.ComesTo.{Begins}
 use Rattle.node_laws.proofs.passes.InSteps.{before_entries, before_none, deeds_note_of_notes as deeds_note, links_none, noted_none, steps_are}
 use Rattle.node_laws.proofs.passes.Replying.{SeesAt, deeds_see}
@@ -27,7 +25,7 @@ use Rattle.node_laws.proofs.passes.Waiting.{waiting_read}
 use Rattle.node_laws.proofs.readings.Noting.{IsBeside, Notes, NotesSo, all_do as notes_do, steps_note}
 use Rattle.node_laws.proofs.steps.StepWalks.{come_host, forgets_host, late_host, unless, without_host}
 use Rattle.node_laws.proofs.telling.Events.{node_is, sending_mute, site_is}
-use Rattle.node_laws.proofs.telling.Accounts.{AreMute, IsMute, IsPlain, all_last, all_owed_mute, all_synced_mute, deeds_mute, forgotten_mute, handling}
+use Rattle.node_laws.proofs.telling.Accounts.{AreMute, IsMute, all_last, all_owed_mute, all_synced_mute, deeds_mute, forgotten_mute, handling}
 use Rattle.node_laws.proofs.telling.Steps.{sessions_side}
 use Rattle.node_laws.proofs.turns.Passing.{map_is}
 use Rattle.node_laws.proofs.views.Events.{AreFine, map_fine, orderly_fine}
@@ -45,30 +43,20 @@ abbrev pub AreNoBoots : List Entry → Type 0
 AreNoBoots es = AllByRecursion IsNoBoot es
 
 note_unbooted : (h : ℕ) (x : Noted) → AreNoBoots (entry_of h x)
-note_unbooted h Tick = tt
-note_unbooted h (Restarted who) = tt
-note_unbooted h (Cut who) = tt
-note_unbooted h _ = (tt, tt)
+note_unbooted h x = grind arith
 
 pub notes_unbooted : (h : ℕ) (xs : List Noted) → AreNoBoots (entries_for h xs)
 notes_unbooted h [] = tt
 notes_unbooted h (x ∷ xs) = AllByRecursion-append IsNoBoot (entry_of h x) (entries_for h xs) (note_unbooted h x) (notes_unbooted h xs)
 
 beside_unbooted : (n : ℕ) (x : Entry) → IsBeside n x → IsNoBoot x
-beside_unbooted n (entry.Booted m k) b = absurd b
-beside_unbooted n x b = tt
-
-plain_unbooted : (x : Entry) → IsPlain x → IsNoBoot x
-plain_unbooted (entry.Booted m k) p = absurd p
-plain_unbooted x p = tt
+beside_unbooted n x b = grind arith
 
 mute_unbooted : (deeds : List Deed) → AreMute deeds → AllByRecursion (NotesSo IsNoBoot) deeds
 mute_unbooted [] all = tt
 mute_unbooted (d ∷ deeds) all = (one d all.0, mute_unbooted deeds all.1) where
   one : (d : Deed) → IsMute d → NotesSo IsNoBoot d
-  one (Sends to m) i = tt
-  one (Ends y) m = plain_unbooted y m
-  one _ m = tt
+  one d i = grind arith
 
 any_ends : (ports : List Port) → AllByRecursion (λ (p : Port). Unit {0}) ports
 any_ends [] = tt
@@ -114,18 +102,14 @@ abbrev pub AreOnSide : Bool → List Entry → Type 0
 AreOnSide b es = AllByRecursion (IsOnSide b) es
 
 quiet_one : (b : Bool) (x : Entry) → IsNoTurn x → IsNoBoot x → IsOnSide b x
-quiet_one b (entry.Turn f pid message) none un = absurd (cc none)
-quiet_one b (entry.Held f need spare) none un = absurd (cc none)
-quiet_one b (entry.Booted n k) none un = absurd un
-quiet_one b x none un = tt
+quiet_one b x none un = grind arith
 
 quiet_sided : (b : Bool) (es : List Entry) → AreNoTurns es → AreNoBoots es → AreOnSide b es
 quiet_sided b [] none un = tt
 quiet_sided b (x ∷ es) none un = (quiet_one b x none.0 un.0, quiet_sided b es none.1 un.1)
 
 side_of_end : (who : Side) (h : ℕ) → (end_of h who).at_host ≡ is_host_side who
-side_of_end Controller h = refl
-side_of_end Host h = refl
+side_of_end who h = grind arith
 
 -- what holds of each entry holds of all
 each_all : (P : Entry → Type 0) (es : List Entry) → ((front back : List Entry) (x : Entry) → es ≡ front ++ (x ∷ back) → P x) → AllByRecursion P es
@@ -142,11 +126,9 @@ module _ (who : Side) where
   pub side_comes : (w v : Work) → IsSide w → ComesTo w v → IsSide v
   side_comes w v side c = comes_so IsSide (record {
     handled = λ v h m messages a on waiting room still.
-        handling IsSide (λ es u s p a. a) (λ k f u host a. a) (λ k t u a. a) (λ x y cut core ports entries a. ap
-        (λ (m : ℕ). cond (eqb m 0) Controller Host) core ∙ a)
+        handling IsSide (λ es u s p a. a) (λ k f u host a. a) (λ k t u a. a) (λ x y cut core ports entries a. grind arith)
         (λ writes u a. a) h m (deeds_of v.core v.ports h m) v (deeds_mute v.core v.ports h m) a;
-    held = λ v h m messages short a on waiting lacks. by_test (option_map_or (λ (p : Port). p.desk.holds) (port_at v.ports h) false) (λ q. rw q a)
-        (λ q. rw q a);
+    held = grind arith;
     let_go = λ v h a on waiting. by_test (option_map_or (λ (p : Port). is_held p.side) (port_at v.ports h) false) (λ q. rw q a) (λ q. rw q a);
   }) w side v c
 
@@ -168,20 +150,10 @@ module _ (who : Side) where
 -- ### What is read of messages that are held
 
 same_by : (f : End) (k : ℕ) (b : Bool) → f.at_host ≡ b → same_end f (record { link = k; at_host = b }) ≡ eqb f.link k
-same_by f k b q = ap (λ c. eqb f.link k && same_side c b) q ∙ right (eqb f.link k) b where
-  right : (a b : Bool) → (a && same_side b b) ≡ a
-  right true true = refl
-  right true false = refl
-  right false true = refl
-  right false false = refl
+same_by f k b q = grind arith
 
 other_by : (f : End) (k : ℕ) (b : Bool) → f.at_host ≡ not b → same_end f (record { link = k; at_host = b }) ≡ false
-other_by f k b q = ap (λ c. eqb f.link k && same_side c b) q ∙ right (eqb f.link k) b where
-  right : (a b : Bool) → (a && same_side (not b) b) ≡ false
-  right true true = refl
-  right true false = refl
-  right false true = refl
-  right false false = refl
+other_by f k b q = grind arith
 
 module _ (k : ℕ) (b : Bool) where
   abbrev e : End
@@ -232,8 +204,7 @@ module _ (who : Side) where
       (λ x y cut core ports entries a. ap (λ (m : ℕ). cond (eqb m 0) Controller Host) core ∙ a) (λ writes u a. a) h deeds v mute a
 
   timed_side : (input : NodeInput) (w : Work) → own_side w.core ≡ who → own_side (has_come_so input w).core ≡ who
-  timed_side (AtEnd h i) w a = a
-  timed_side TimePasses w a = a
+  timed_side input w a = grind arith
 
   pub begun_side : (input : NodeInput) (w : Work) → own_side w.core ≡ who → own_side (comes_to_pass input w).core ≡ who
   begun_side input w a =
@@ -258,8 +229,7 @@ same_held f host holds ports k =
     (λ p q. holds p ∙ sym (ap (λ o. option_map_or (λ (p : Port). p.desk.holds) o false) q))
 
 come_holds : (p : Port) (o : Option LinkInput) → (has_come p o).desk.holds ≡ p.desk.holds
-come_holds p None = refl
-come_holds p (Some i) = refl
+come_holds p o = grind arith
 
 late_holds : (p : Port) → (reset_late p).desk.holds ≡ p.desk.holds
 late_holds p = by_test (is_late p) (λ q. rw q refl) (λ q. rw q refl)
@@ -382,8 +352,7 @@ module _ (n : ℕ) (who : Side) (t : List Entry) (input : NodeInput) (w : Work) 
       ap (λ (u : Work). holds_in (t ++ u.entries) (at_end k)) (on_is on)
       ∙ (ap (λ l. holds_in l (at_end k)) (ap (λ l. t ++ l) p.entries ∙ sym (append_assoc t begun.entries p.more))
       ∙ (told ∙ (ap (λ b. (waits_behind k (waiting_at begun.ports k, b) p.more).1) (begun_read_at k read)
-      ∙ (ap (λ l. (waits_behind k (waiting_at begun.ports k, is_held_at begun.ports k) l).1) (sym same)
-      ∙ (sym a.held ∙ ap (λ (u : Work). is_held_at u.ports k) (sym (on_is on))))))))
+      ∙ (grind arith)))))
 
   ended_read : ended.cut ≡ false → HeldAsRead t w.ports → HeldAsRead (t ++ ended.entries) ended.ports
   ended_read still read k = ended_read_at k still (read k)
@@ -409,10 +378,7 @@ error_held h [] k = refl
 error_held h (d ∷ desks) k = by (eqb d.host h) refl (eqb d.host k) refl (error_held h desks k) where
   by : (c : Bool) → eqb d.host h ≡ c → (b : Bool) → eqb d.host k ≡ b → is_held_among (with_error h desks) k ≡ is_held_among desks k
       → is_held_among (with_error h (d ∷ desks)) k ≡ is_held_among (d ∷ desks) k
-  by true z true q later = rw (z, q) refl
-  by true z false q later = rw (z, q) later
-  by false z true q later = rw (z, q) refl
-  by false z false q later = rw (z, q) later
+  by c z b q later = grind arith
 
 pub new_held : (hosts : List ℕ) (k : ℕ) → is_held_among (map new_desk hosts) k ≡ false
 new_held [] k = refl
@@ -464,8 +430,7 @@ host_leaves h r plan near_ends es input has off none un =
     (all_sided h Host [] input (work_of r plan near_ends es) has.number (host_side h r.core has.number off) none un)
 
 turn_quiet : (core : Core) (x : Turn) (o : Option Port) → AreNoTurns (option_map_or (noted_of core x) o [])
-turn_quiet core x None = tt
-turn_quiet core x (Some p) = links_none p.desk.host (turn_entry (own_side core) p.session p.side x)
+turn_quiet core x o = grind arith
 
 -- what it notes as it begins something of itself
 begins_leave : (h n : ℕ) (r : Running) (plan : Option Plan) (near_ends : ℕ → NumberedEnd) (deeds : List Deed) → r.core.node ≡ n
@@ -477,9 +442,7 @@ begins_leave h n r plan near_ends deeds number mute none =
     (begins_unbooted n (own_side r.core) h deeds w mute number refl tt)
 
 sending_quiet : (h : ℕ) (m : Message) → AllByRecursion (λ (d : Deed). (k : ℕ) (w : Work) → AreNoTurns (noted_by_deed k d w)) (sending h m)
-sending_quiet h m = by_test (eqb m.0 1 && is_command_message m.1)
-    (λ q. rw q ((λ k w. turn_quiet w.core (Give (1, m.1)) (port_at w.ports k)), tt))
-    (λ q. rw q ((λ k w. turn_quiet w.core (Give m) (port_at w.ports h)), tt))
+sending_quiet h m = grind arith
 
 -- ### Sites
 

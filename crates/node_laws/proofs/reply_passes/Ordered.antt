@@ -1,18 +1,17 @@
 -- The messages that wait as a pass begins are those that are read, and they have their turns in the order in which they came.
-use Rattle.node_laws.proofs.Words.{AllByRecursion, AllByRecursion-append, AreDifferent, AreHosts, AreInTurn, AreNoTurns, Asks, AtEnd, Bool, Comes, ComesTo}
-use Rattle.node_laws.proofs.Words.{Commits, Controller, Core, Deed, Desk, Drops, End, Ends, Entry, FollowsNodes, Give, Got, Handles, Happening, HasEnds, Header}
-use Rattle.node_laws.proofs.Words.{Holds, Host, IsComing, IsOutside, LetsGo, Line, Link, LinkEnd, LinkInput, List, MayBoot, Message, MessagesAreRead}
-use Rattle.node_laws.proofs.Words.{NodeHistory, NodeInput, NodeWorld, None, NumberedEnd, Occurrence, Option, Orders, Port, Refused, Reset, Running, SaysOk}
-use Rattle.node_laws.proofs.Words.{Sends, SetAside, Site, Some, Tells, TimePasses, Work, [], after_input, after_sessions, aged, aged_entries, all_aged}
-use Rattle.node_laws.proofs.Words.{all_come, all_done, and-false, ap, append-nil, append_assoc, arrival, as_it_ticks, by_option, by_test, comes_to}
-use Rattle.node_laws.proofs.Words.{comes_to_pass, cond, controller_begins, deeds_of, done, drop, end_c, end_of, end_of_node, entries_for, entries_in, eqb}
-use Rattle.node_laws.proofs.Words.{eqb-true, false, flat_map, fold-append, forgets, forgotten, give_refusal, goes_in, handles, has_come, has_come_so, has_freed}
-use Rattle.node_laws.proofs.Words.{has_synced, holds_back, holds_in, hosts_in, hosts_of_ends, input_at, input_of, is_held_at, is_late, is_one_of, is_some}
-use Rattle.node_laws.proofs.Words.{lets_go, link_to, map, near_end_in, new_world, node_of, noted_before_pass, noted_by_deed, noted_by_deeds, noted_of}
-use Rattle.node_laws.proofs.Words.{occurrences_in, option_map_or, owed_in_step, own_side, port_at, port_for, refl, report, reset_late, same_end, sent_unless}
-use Rattle.node_laws.proofs.Words.{site_at, subst, sym, syncs_in, takes_up, times_out, told, told_at, told_late, told_of_coming, told_of_late, true, true≢false}
-use Rattle.node_laws.proofs.Words.{turn_at, unhandled_after, unhandled_in, waiting_at, whole_acked, with_older, without_notice, work_of, world_behind}
-use Rattle.node_laws.proofs.Words.{world_step, ℕ, ◌&&◌, ◌++◌, ◌||◌, ◌∙◌, ◌∷◌, ◌≡◌}
+use Rattle.node_laws.proofs.Words.{AllByRecursion, AllByRecursion-append, AreDifferent, AreHosts, AreInTurn, AreNoTurns, AtEnd, Bool, Comes, ComesTo}
+use Rattle.node_laws.proofs.Words.{Controller, Core, Deed, Desk, End, Entry, FollowsNodes, Give, Got, Handles, Happening, HasEnds, Header, Holds, Host}
+use Rattle.node_laws.proofs.Words.{IsComing, IsOutside, LetsGo, Line, Link, LinkEnd, LinkInput, List, MayBoot, Message, MessagesAreRead, NodeHistory, NodeInput}
+use Rattle.node_laws.proofs.Words.{NodeWorld, None, NumberedEnd, Occurrence, Option, Port, Refused, Reset, Running, Site, Some, TimePasses, Work, []}
+use Rattle.node_laws.proofs.Words.{after_input, after_sessions, aged, aged_entries, all_aged, all_come, all_done, and-false, ap, append-nil, append_assoc}
+use Rattle.node_laws.proofs.Words.{arith, arrival, as_it_ticks, by_option, by_test, comes_to, comes_to_pass, cond, controller_begins, deeds_of, done, drop}
+use Rattle.node_laws.proofs.Words.{end_c, end_of, end_of_node, entries_for, entries_in, eqb, eqb-true, false, flat_map, fold-append, forgets, forgotten}
+use Rattle.node_laws.proofs.Words.{handles, has_come, has_come_so, has_freed, has_synced, holds_back, holds_in, hosts_in, hosts_of_ends, input_at, input_of}
+use Rattle.node_laws.proofs.Words.{is_held_at, is_late, is_one_of, is_some, lets_go, link_to, map, near_end_in, new_world, node_of, noted_before_pass}
+use Rattle.node_laws.proofs.Words.{noted_by_deed, noted_by_deeds, noted_of, occurrences_in, option_map_or, owed_in_step, own_side, port_at, refl, report}
+use Rattle.node_laws.proofs.Words.{reset_late, same_end, sent_unless, site_at, subst, sym, syncs_in, takes_up, times_out, told, told_at, told_late}
+use Rattle.node_laws.proofs.Words.{told_of_coming, told_of_late, true, true≢false, unhandled_after, unhandled_in, waiting_at, whole_acked, with_older}
+use Rattle.node_laws.proofs.Words.{without_notice, work_of, world_behind, world_step, ℕ, ◌++◌, ◌||◌, ◌∙◌, ◌∷◌, ◌≡◌}
 use Rattle.link_laws.specs.entries.Entries.{End as Side}
 use Rattle.node_laws.specs.passes.Passing.ComesTo.{Begins}
 use Rattle.node_laws.proofs.kept.Events.{hosts_same as sites_same}
@@ -31,9 +30,8 @@ use Rattle.node_laws.proofs.telling.Lasting.{AnyLine, all_lines, boots_may, hist
 use Rattle.node_laws.proofs.telling.Accounts.{AreMute, IsMute, all_owed_mute, all_synced_mute, deeds_mute, forgotten_mute}
 use Rattle.node_laws.proofs.telling.Events.{hosts_same_of_nodes as hosts_same, link_is, node_is, ports_for}
 use Rattle.node_laws.proofs.telling.Ticks.{reset_turns}
-use Rattle.node_laws.proofs.turns.Passing.{AreStill, At, Becomes, Front, Goes, Known, all_do as at_all, all_left, all_still, doing, front_goes, goes-append}
-use Rattle.node_laws.proofs.turns.Passing.{gots_go, gots_still, has_side, input_got, known_map, left_by, notes_still, reset_side, same_is, still_goes}
-use Rattle.node_laws.proofs.turns.Passing.{told_goes}
+use Rattle.node_laws.proofs.turns.Passing.{AreStill, At, Becomes, Front, Goes, Known, all_do as at_all, all_left, doing, front_goes, goes-append, gots_go}
+use Rattle.node_laws.proofs.turns.Passing.{gots_still, has_side, input_got, known_map, left_by, notes_still, reset_side, same_is, still_goes, told_goes}
 use Rattle.node_laws.proofs.turns.Worlds.{AllWait, Waiting, events_move, none_wait}
 use Rattle.node_laws.proofs.turns.Passing.Doing.{Nothing, Takes}
 use Rattle.node_laws.proofs.turns.Nodes.{ByPower, Leaves, Moves, NearWaits, aged_none, arrival_still, end_at, flat_leaves, sites_is, still_leaves}
@@ -45,28 +43,13 @@ use Rattle.trace_model.specs.declared.entry.Entry.TheVariants as entry
 
 module _ (e : End) where
   sent_still : (h n : ℕ) (m : Message) (side : Side) (o : Option Refused) → AreStill e (entries_for h (sent_unless o side n m))
-  sent_still h n m side None = (refl, tt)
-  sent_still h n m side (Some why) = tt
+  sent_still h n m side o = grind arith
 
   given_still : (core : Core) (m : Message) (o : Option Port) → AreStill e (option_map_or (noted_of core (Give m)) o [])
-  given_still core m None = tt
-  given_still core m (Some p) = sent_still p.desk.host p.session m (own_side core) (give_refusal p.side m)
-
-  cut_still : (b : Bool) (n : ℕ) → AreStill e (cond b (entry.Cut n ∷ []) [])
-  cut_still true n = (refl, tt)
-  cut_still false n = tt
+  given_still core m o = grind arith
 
   deed_still : (h : ℕ) (d : Deed) (w : Work) → IsMute d → AreStill e (noted_by_deed h d w)
-  deed_still h (Commits c) w mute = (refl, cut_still (goes_in c w) w.core.node)
-  deed_still h (Sends to m) w mute = given_still w.core m (port_at w.ports to)
-  deed_still h SaysOk w mute = (refl, tt)
-  deed_still h (Asks to message c) w mute =
-      (refl, given_still (turn_at c.asker SetAside w).core (1, message) (port_at (turn_at c.asker SetAside w).ports to))
-  deed_still h (Tells to message) w mute = given_still w.core (1, message) (port_at w.ports to)
-  deed_still h (Drops pid) w mute = (refl, tt)
-  deed_still h (Orders message) w mute = given_still w.core (1, message) (port_at w.ports h)
-  deed_still h (Ends x) w mute = all_still e (x ∷ []) (mute, tt)
-  deed_still h _ w mute = tt
+  deed_still h d w mute = grind arith
 
   pub deeds_still : (h : ℕ) (deeds : List Deed) (w : Work) → AreMute deeds → AreStill e (noted_by_deeds h deeds w)
   deeds_still h [] w mute = tt
@@ -98,10 +81,7 @@ module _ (t : List Entry) (who : Side) (k : ℕ) (z : List Message) where
       subst (λ l. Goes e (waiting_at v.ports k ++ z) es (l ++ z)) (sym is) (still_goes e es (waiting_at v.ports k ++ z) still)
 
   its_side : has_side who e ≡ true
-  its_side = by who where
-    by : (s : Side) → has_side s (record { link = k; at_host = is_host_side s }) ≡ true
-    by Controller = refl
-    by Host = refl
+  its_side = grind arith
 
   handled_runs : (v : Work) (h : ℕ) (m : Message) (messages : List Message) → own_side v.core ≡ who → waiting_at v.ports h ≡ m ∷ messages → Runs v
       → Runs (handles h m (deeds_of v.core v.ports h m) v)
@@ -186,9 +166,6 @@ module _ (t : List Entry) (who : Side) (f : End) (off : has_side who f ≡ false
       subst (λ l. Goes f [] l z) (append_assoc t v.entries es ∙ ap (λ l. t ++ l) (sym is))
       (goes-append f (t ++ v.entries) es [] z z a (still_goes f es z still))
 
-  off_end : (h : ℕ) → same_end (end_of h who) f ≡ false
-  off_end h = same_is who h f ∙ (ap (λ b. eqb h f.link && b) off ∙ and-false (eqb h f.link))
-
   apart_comes : (w v : Work) → own_side w.core ≡ who → Apart w → ComesTo w v → Apart v
   apart_comes w v side a c = (comes_so (λ u. (own_side u.core ≡ who) × Apart u) (record {
     handled = λ u h m messages b on waiting room still. (
@@ -207,8 +184,7 @@ module _ (t : List Entry) (who : Side) (f : End) (off : has_side who f ≡ false
     handled_apart : (u : Work) (h : ℕ) (m : Message) → own_side u.core ≡ who → Apart u → Apart (handles h m (deeds_of u.core u.ports h m) u)
     handled_apart u h m own b =
         let deeds : List Deed = deeds_of u.core u.ports h m in
-        let quiet : doing f (entry.Turn (end_of_node u.core h) m.0 m.1) ≡ Nothing =
-        ap (λ s. doing f (entry.Turn (end_of h s) m.0 m.1)) own ∙ rw (off_end h) refl in
+        let quiet : doing f (entry.Turn (end_of_node u.core h) m.0 m.1) ≡ Nothing = grind arith in
         apart_more u (handles h m deeds u) (entry.Turn (end_of_node u.core h) m.0 m.1 ∷ noted_by_deeds h deeds (takes_up h m u))
         (handles_entries h m deeds u) (quiet, deeds_still f h deeds (takes_up h m u) (deeds_mute u.core u.ports h m)) b
 
@@ -239,8 +215,7 @@ module _ (f : End) (who : Side) where
   lates_told core (p ∷ ports) q =
       goes-append f (told_late core p) (flat_map (told_late core) ports) q q q (by (is_late p)) (lates_told core ports q) where
         by : (b : Bool) → Goes f q (cond b (told_at core p (Some (Reset None))) []) q
-        by true = told_goes f p.desk.host (own_side core) p.session (whole_acked (after_input p.side (Reset None))) (report p.side (Reset None)) q q refl
-        by false = refl
+        by b = grind arith
 
   late_told : (input : NodeInput) (w : Work) (q : List Message) → Goes f q (told_of_late input w) q
   late_told (AtEnd h i) w q = refl
@@ -303,8 +278,7 @@ IfComing None = Unit {0}
 IfComing (Some i) = IsComing i
 
 comes_outside_of_came : (input : NodeInput) (p : Port) → IsOutside input → IfComing (input_at input p)
-comes_outside_of_came (AtEnd h i) p a = by_test (eqb p.desk.host h) (λ q. rw q a) (λ q. rw q tt)
-comes_outside_of_came TimePasses p a = tt
+comes_outside_of_came input p a = grind arith
 
 -- an end of a node on this side
 module _ (k : ℕ) (who : Side) where
@@ -312,10 +286,7 @@ module _ (k : ℕ) (who : Side) where
   its_end = record { link = k; at_host = is_host_side who }
 
   pub mine : true ≡ true → has_side who its_end ≡ true
-  mine q = by who where
-    by : (s : Side) → has_side s (record { link = k; at_host = is_host_side s }) ≡ true
-    by Controller = refl
-    by Host = refl
+  mine q = grind arith
 
   here_on : (h : ℕ) → eqb h k ≡ true → same_end (end_of h who) its_end ≡ true
   here_on h q = let there : has_side who its_end ≡ true = mine refl in same_is who h its_end ∙ rw (q, there) refl
@@ -370,9 +341,7 @@ module _ (k : ℕ) (who : Side) where
   late_goes core (p ∷ ports) q =
       goes-append its_end (told_late core p) (flat_map (told_late core) ports) q q q (go (is_late p)) (late_goes core ports q) where
         go : (b : Bool) → Goes its_end q (cond b (told_at core p (Some (Reset None))) []) q
-        go true =
-            told_goes its_end p.desk.host (own_side core) p.session (whole_acked (after_input p.side (Reset None))) (report p.side (Reset None)) q q refl
-        go false = refl
+        go b = grind arith
 
   -- ### A pass begins
 
@@ -411,8 +380,7 @@ module _ (k : ℕ) (who : Side) where
           first = all_come input w
 
     come_side : (i : NodeInput) → own_side (has_come_so i w).core ≡ who
-    come_side (AtEnd h i) = side
-    come_side TimePasses = side
+    come_side i = grind arith
 
     pub begun_at : At its_end who true mine p.side.got ms ms (comes_to_pass input w)
     begun_at =
@@ -509,11 +477,7 @@ pub port_begins : (near_ends : ℕ → NumberedEnd) (desks : List Desk) (k : ℕ
     → (p.turns ≡ []) × (p.side ≡ (near_ends k).side)
 port_begins near_ends [] k p here = absurd (cc here)
 port_begins near_ends (d ∷ desks) k p here = by_test (eqb d.host k)
-    (λ q. let same : Some (port_for (near_ends d.host) d) ≡ Some p = rw q at here in
-    let is : port_for (near_ends d.host) d ≡ p = cc in (
-      ap (λ (x : Port). x.turns) (sym is),
-      ap (λ (x : Port). x.side) (sym is) ∙ ap (λ n. (near_ends n).side) (eqb-true d.host k q),
-    ))
+    (λ q. grind arith)
     (λ q. port_begins near_ends desks k p (rw q at here))
 
 -- what waits at an end of a controller that runs
@@ -522,8 +486,7 @@ near_read : (t : List Entry) (w : NodeWorld) → AllWait t w → (r : Running) �
 near_read t w a r runs k s here =
     let all : Waiting t w false k = a.waiting false k in
     let power : ByPower (is_some w.controller) all.messages s.link.controller.side.got = subst (NearWaits w.controller all.messages) here all.waits in
-    let is : all.messages ≡ s.link.controller.side.got =
-    subst (λ (o : Option Running). ByPower (is_some o) all.messages s.link.controller.side.got) runs power in
+    let is : all.messages ≡ s.link.controller.side.got = grind arith in
     goes_read (end_c k) [] t [] all.messages refl all.goes ∙ is
 
 module _ (t : List Entry) (w : NodeWorld) (r : Running) (number : r.core.node ≡ 0) (ends : map (λ (d : Desk). d.host) r.desks ≡ hosts_in w.sites)
@@ -549,10 +512,7 @@ module _ (t : List Entry) (w : NodeWorld) (r : Running) (number : r.core.node �
         let begins = port_begins near_ends r.desks k p.0 p.1 in
         let site : HasSite w.sites k = site_for start.ports w.sites k p.0 hosts_are p.1 in
         came_read k Controller input outside start side (subst AreDifferent (sym hosts_are) different) p.0 p.1 begins.0 (still k) t
-        (waits k site.site site.there
-        ∙ ap (λ (e : LinkEnd). e.got)
-        (ap (λ (l : Link). l.controller.side) (sym (link_is w.sites k site.site site.there))
-        ∙ (sym (same k) ∙ sym begins.1))) q there;
+        (grind arith) q there;
     held = λ k q there.
         begun_read 0 Controller t input start number side none un (λ j. holds j ∙ sym (ports_held near_ends r.desks j)) k
         ∙ ap (λ o. option_map_or (λ (p : Port). p.desk.holds) o false) there;
@@ -612,8 +572,7 @@ pub near_goes : (t : List Entry) (w : NodeWorld) → AllWait t w → (r : Runnin
 near_goes t w a r runs k s here =
     let all : Waiting t w false k = a.waiting false k in
     let power : ByPower (is_some w.controller) all.messages s.link.controller.side.got = subst (NearWaits w.controller all.messages) here all.waits in
-    let is : all.messages ≡ s.link.controller.side.got =
-    subst (λ (o : Option Running). ByPower (is_some o) all.messages s.link.controller.side.got) runs power in
+    let is : all.messages ≡ s.link.controller.side.got = grind arith in
     subst (Goes (end_c k) [] t) is all.goes
 
 module _ (t : List Entry) (w : NodeWorld) (r : Running) (number : r.core.node ≡ 0) (ends : map (λ (d : Desk). d.host) r.desks ≡ hosts_in w.sites)

@@ -6,22 +6,22 @@ use Rattle.node_laws.proofs.Words.{Entry, FetchMessage, FindsRoom, FollowsNodes,
 use Rattle.node_laws.proofs.Words.{IsCommand, IsCut, IsFew, IsNodeLineOf, IsNodeNumber, IsPlain, IsRecordable, IsSentByHost, IsUnformatted, Journal, Knows}
 use Rattle.node_laws.proofs.Words.{Line, Link, LinkInput, List, Loses, Loss, Memory, Message, MessagesAreRead, NextFrame, NoInput, NodeHistory, NodeInput}
 use Rattle.node_laws.proofs.Words.{NodeWorld, None, NumberedEnd, Occurrence, OnWire, Option, Orders, Plan, Port, Release, Releases, Removed, Resets, Running}
-use Rattle.node_laws.proofs.Words.{RunsSo, Same, SaysOk, Sends, SetAside, Side, Site, Some, Starts, State, StillRuns, Takes, Tells, Ticks, TimePasses, Turn}
-use Rattle.node_laws.proofs.Words.{Verdict, Waits, Work, Write, [], activates, after_controller, after_near_tick, after_planned, after_sessions, after_writes}
-use Rattle.node_laws.proofs.Words.{all_aged, all_come, all_done, all_happen, anyone, ap, append-nil, append_assoc, append_writes, apply, arith, arrival}
-use Rattle.node_laws.proofs.Words.{as_it_ticks, beginning, begins_with, body_of, boot_found, boot_writes, boot_written, boots, by_boot, by_coming}
-use Rattle.node_laws.proofs.Words.{by_controller, by_controller_tick, by_host, by_loss, by_memory, by_option, by_power, by_running, by_test, can_happen}
-use Rattle.node_laws.proofs.Words.{cases_Bool, cases_eq, comes_at, comes_to, comes_to_pass, commands_by_events, commit, commit_writes, committed}
-use Rattle.node_laws.proofs.Words.{compact_writes, cond, controller_begins, controller_does, controller_ticks, controller_work, count_of, current, deeds_of}
-use Rattle.node_laws.proofs.Words.{done, end_c, end_h, end_of_node, entries_for, entries_in, eqb, exchanged, fails_within, false, finds_room, first_verdict}
-use Rattle.node_laws.proofs.Words.{flat_map, forgets, forgotten, format_writes, frame_lost, frames_at, frames_noted, fresh, goes_on, happenings, happens_by}
-use Rattle.node_laws.proofs.Words.{has_come_so, has_freed, has_synced, host_does, hosts_tick, inl, input_of, inr, is_opened_gate, is_over, journal, last_place}
-use Rattle.node_laws.proofs.Words.{length, length-append, length-replicate, line_step, link_to, list_any, loses_power_at, lt-ltb, map, memory_at, near_end_in}
-use Rattle.node_laws.proofs.Words.{near_tick, new_world, no_journal, node_at, node_entries, noted_before_pass, notified, noting, occurrences_in, occurrences_of}
-use Rattle.node_laws.proofs.Words.{opens_gate, option_map_or, owed_in_step, record_fits, refl, refusal_in, replicate, room_writes, sending, site_at}
-use Rattle.node_laws.proofs.Words.{slice_index, snapshot_bodies, state_of, steps, steps_from, subst, sym, syncs_in, tables_told, taken_of, true, true≢false}
-use Rattle.node_laws.proofs.Words.{turn_at, wires_for, with_room, without_notice, work_of, world_behind, world_step, world_ticks, ℕ, ◌&&◌, ◌*◌, ◌++◌, ◌+◌, ◌<◌}
-use Rattle.node_laws.proofs.Words.{◌∙◌, ◌∷◌, ◌≡◌, ◌≤◌, ◌⊎◌}
+use Rattle.node_laws.proofs.Words.{RunsSo, SaysOk, Sends, SetAside, Side, Site, Some, Starts, State, StillRuns, Takes, Tells, Ticks, TimePasses, Turn, Verdict}
+use Rattle.node_laws.proofs.Words.{Waits, Work, Write, [], activates, after_controller, after_near_tick, after_planned, after_sessions, after_writes, all_aged}
+use Rattle.node_laws.proofs.Words.{all_come, all_done, all_happen, anyone, ap, append-nil, append_assoc, append_writes, apply, arith, arrival, as_it_ticks}
+use Rattle.node_laws.proofs.Words.{beginning, begins_with, body_of, boot_found, boot_writes, boot_written, boots, by_boot, by_coming, by_controller}
+use Rattle.node_laws.proofs.Words.{by_controller_tick, by_host, by_loss, by_memory, by_option, by_power, by_running, by_test, can_happen, cases_Bool, cases_eq}
+use Rattle.node_laws.proofs.Words.{comes_at, comes_to, comes_to_pass, commands_by_events, commit, commit_writes, committed, compact_writes, cond}
+use Rattle.node_laws.proofs.Words.{controller_begins, controller_does, controller_ticks, controller_work, count_of, current, deeds_of, done, end_c, end_h}
+use Rattle.node_laws.proofs.Words.{end_of_node, entries_for, entries_in, eqb, exchanged, fails_within, false, finds_room, first_verdict, flat_map, forgets}
+use Rattle.node_laws.proofs.Words.{forgotten, format_writes, frame_lost, frames_at, frames_noted, fresh, goes_on, happenings, happens_by, has_come_so}
+use Rattle.node_laws.proofs.Words.{has_freed, has_synced, host_does, hosts_tick, inl, input_of, inr, is_opened_gate, is_over, journal, last_place, length}
+use Rattle.node_laws.proofs.Words.{length-append, length-replicate, line_step, link_to, list_any, loses_power_at, map, memory_at, near_end_in, near_tick}
+use Rattle.node_laws.proofs.Words.{new_world, no_journal, node_entries, noted_before_pass, notified, noting, occurrences_in, occurrences_of, opens_gate}
+use Rattle.node_laws.proofs.Words.{option_map_or, owed_in_step, record_fits, refl, refusal_in, replicate, room_writes, sending, site_at, slice_index}
+use Rattle.node_laws.proofs.Words.{snapshot_bodies, state_of, steps, steps_from, subst, sym, syncs_in, taken_of, true, true≢false, turn_at, wires_for}
+use Rattle.node_laws.proofs.Words.{with_room, without_notice, work_of, world_behind, world_step, world_ticks, ℕ, ◌&&◌, ◌*◌, ◌++◌, ◌+◌, ◌<◌, ◌∙◌, ◌∷◌, ◌≡◌, ◌≤◌}
+use Rattle.node_laws.proofs.Words.{◌⊎◌}
 use Rattle.journal_laws.proofs.Opening.{format_is_cut, format_state}
 use Rattle.node_laws.specs.passes.Passing.ComesTo.{Begins}
 use Rattle.node_laws.specs.reply_passes.Counts.{commands_noted as commits}
@@ -179,10 +179,7 @@ module _ (t : List Entry) where
 
 -- where few commands were noted, any command finds room
 pub few_find_room : (t : List Entry) (w : Work) → Grows t w → commits (t ++ w.entries) ≤ 4000000000 → (c : Command) → finds_room w.core c ≡ true
-few_find_room t w a few c = by_test (record_fits w.core.journal (body_of c)) (λ q. rw q refl) (λ q. rw q (lt-ltb w.core.journal.generation 4294967295 low))
-  where
-    low : w.core.journal.generation < 4294967295
-    low = omega (arith, a, few)
+few_find_room t w a few c = grind arith
 
 -- ## The generation that a memory says grows by one at most where a commit is written to it, whole or cut
 
@@ -283,8 +280,7 @@ module _ (n : ℕ) (node : IsNodeNumber n) (hosts : List ℕ) (are : AreHosts ho
   node_begun = work_of r m.plan near_ends es
 
   pub node_begins_grown : Grows t node_begun
-  node_begins_grown =
-      omega (arith, known_generation m.content r.core.journal r.core.tables runs.knows, commits-append t es, few)
+  node_begins_grown = omega (arith, known_generation m.content r.core.journal r.core.tables runs.knows, commits-append t es, few)
 
   still : StillRuns n hosts m t node_begun
   still = runs_begun n hosts t m r near_ends es plain runs
@@ -637,17 +633,13 @@ frames_few w e few = by_side (link_to w.sites e.link) (by_option (site_at w.site
     (λ here. rw here (record { to_controller = omega arith; to_host = omega arith }))
     (λ s here. rw here (site_is (λ (x : Site). IsFewWires x.link) w.sites e.link s few here))) e.at_host where
       by_side : (l : Link) → IsFewWires l → (b : Bool) → length (cond b (exchanged l) l).to_controller ≤ 64
-      by_side l a true = a.to_host
-      by_side l a false = a.to_controller
+      by_side l a b = grind arith
 
 taken_few : (count : Option ℕ) (wire : List OnWire) → length wire ≤ 64 → taken_of count wire ≤ 64
-taken_few None wire few = few
-taken_few (Some n) wire few = omega (arith, few)
+taken_few count wire few = grind arith
 
 damage_few : (e : End) (v : Option Verdict) → length (happens_by e v) ≤ 100
-damage_few e None = omega arith
-damage_few e (Some Same) = omega arith
-damage_few e (Some _) = omega arith
+damage_few e v = grind arith
 
 -- a line causes 100 events at most
 causes_few : (header : Header) (w : NodeWorld) (l : Line) → AreFewWires w.sites → IsNodeLineOf header l → length (happenings w l) ≤ 100
@@ -666,13 +658,8 @@ happen_long : (causes : List Happening) (w : NodeWorld) → length (all_happen w
 happen_long [] w = omega arith
 happen_long (c ∷ causes) w = by_test (can_happen w c) (λ q. rw q (omega (arith, happen_long causes (world_step w c).0))) (λ q. rw q (omega arith))
 
-none_long : (n : ℕ) (o : Option Running) → length (occurrences_of (tables_told n o)) ≤ 100
-none_long n None = omega arith
-none_long n (Some r) = omega arith
-
 on_long : (w : NodeWorld) (l : Line) → length (all_happen w (happenings w l)).1 ≤ 100 → length (occurrences_of (goes_on w l).1) ≤ 100
-on_long w (line.Tables n) a = none_long n (node_at w n)
-on_long w _ a = a
+on_long w l a = grind arith
 
 line_long : (header : Header) (w : NodeWorld) (l : Line) → AreFewWires w.sites → IsNodeLineOf header l → length (occurrences_of (line_step w l).1) ≤ 100
 line_long header w l few is = by_option (refusal_in w l)

@@ -1,15 +1,12 @@
 -- The messages of an end that aren't acknowledged whole are those that are read to be so, and so is what both ends have to spare.
 use Rattle.node_laws.proofs.Words.{AllAllowed, AreReadOff, AreSessionsRead, AsidesAreRead, End, Entry, Good, IsLine, IsLinkTold, IsReadOff, Link, LinkEvent}
-use Rattle.node_laws.proofs.Words.{LinkState, List, Message, NodeWorld, None, NumberedEnd, Occurrence, Reached, Site, Some, Sounds, Up, Waiting, []}
-use Rattle.node_laws.proofs.Words.{after_link_events, ap, ap₂, aside_in, cond, core_event, core_of, drop, end_c, end_h, ended_talk, entries_in, eqb}
-use Rattle.node_laws.proofs.Words.{event_entries, event_step, false, happens, new_line, node_of, number_of, own_session, reached_more, refl, same_number}
-use Rattle.node_laws.proofs.Words.{session_now, site_at, start_good, start_reached, subst, sym, talk_now, talk_of, unacknowledged_in, whole_acked, whole_among}
-use Rattle.node_laws.proofs.Words.{ℕ, ◌++◌, ◌∙◌, ◌∷◌, ◌≡◌}
-use Rattle.link_laws.proofs.entries.Books.{up_talk}
+use Rattle.node_laws.proofs.Words.{List, NodeWorld, NumberedEnd, Occurrence, Reached, Site, Some, Sounds, Up, [], after_link_events, ap, arith, aside_in}
+use Rattle.node_laws.proofs.Words.{core_event, core_of, end_c, end_h, entries_in, eqb, event_entries, event_step, false, happens, new_line, node_of, number_of}
+use Rattle.node_laws.proofs.Words.{own_session, reached_more, session_now, site_at, start_good, start_reached, subst, sym, talk_now, talk_of, ℕ, ◌++◌, ◌∙◌, ◌∷◌}
+use Rattle.node_laws.proofs.Words.{◌≡◌}
 use Rattle.link_laws.proofs.entries.Running.{Noted, note_event, start_noted}
 use Rattle.link_laws.proofs.machine.Runs.{Sound}
 use Rattle.link_laws.specs.entries.Entries.{Entry as Note, first_entries}
-use Rattle.shdlc_core.specs.declared.answers.LinkState.TheVariants.{Down}
 use Rattle.node_laws.specs.notices.Spares.{IsEndRead}
 use Rattle.node_laws.specs.rooms.Rooms.{AreHeldRead, AreSparesRead, IsHeldRead}
 use Rattle.node_laws.proofs.notices.Steps.{spare_is}
@@ -41,29 +38,13 @@ told_sounds h l t a = subst Sounds a.run.is (run_sounds a.events a.run.allowed)
 
 module _ (t : List Entry) (e : End) (k : NumberedEnd) (reads : (n : ℕ) → IsReadOff t e n (talk_of k n)) (sound : Sound k.side) where
   now : k.side.shdlc.phase ≡ Up → IsReadOff t e (number_of k) (talk_now k.side)
-  now up =
-      let is : talk_of k (number_of k) ≡ talk_now k.side =
-      up_talk k (number_of k) up ∙ ap (λ b. cond b (talk_now k.side) (ended_talk k.past (number_of k))) (same_number (number_of k)) in
-      subst (IsReadOff t e (number_of k)) is (reads (number_of k))
+  now up = grind arith
 
   none : (k.side.shdlc.phase ≡ Up → ⊥) → k.side.sent ≡ []
   none down = sound.is.forgot down
 
   pub held_is : IsHeldRead t e k
-  held_is = go k.side.shdlc.phase refl where
-    nothing : (k.side.shdlc.phase ≡ Up → ⊥) → drop (whole_acked k.side) k.side.sent ≡ []
-    nothing down = ap (λ (ms : List Message). drop (whole_among ms k.side.shdlc.session.acked) ms) (none down)
-
-    go : (p : LinkState) → k.side.shdlc.phase ≡ p → IsHeldRead t e k
-    go Up q =
-        let is : own_session k ≡ Some (number_of k) = rw q refl in
-        ap (unacknowledged_in t e) is ∙ ap₂ (λ n (ms : List Message). drop n ms) (now q).acked (now q).sent
-    go Waiting q =
-        let is : own_session k ≡ None = rw q refl in
-        ap (unacknowledged_in t e) is ∙ sym (nothing (λ up. let z : Waiting ≡ Up = sym q ∙ up in cc))
-    go Down q =
-        let is : own_session k ≡ None = rw q refl in
-        ap (unacknowledged_in t e) is ∙ sym (nothing (λ up. let z : Down ≡ Up = sym q ∙ up in cc))
+  held_is = grind arith
 
   -- with its session and the block that is set aside all of it is read
   pub end_is : session_now t e (node_of e) ≡ own_session k → aside_in t e ≡ k.side.aside → IsEndRead t e k

@@ -1,9 +1,8 @@
 -- What happens in a world, and its rounds, are on each link the events that are said of them, and these may happen there.
-use Rattle.std.proofs.lemmas.Bool.{not-true}
 use Rattle.node_laws.proofs.Words.{AllAllowed, AllByRecursion, AreDifferent, AreSendableTurns, AsksReset, AtController, AtEnd, AtHost, Bool, Controller, End}
 use Rattle.node_laws.proofs.Words.{EndEvent, FetchMessage, GoesOnLink, GoesOut, Happening, Host, IsEvent, Link, LinkEnd, LinkEvent, LinkInput, List, NextFrame}
 use Rattle.node_laws.proofs.Words.{Node, NodeWorld, None, NumberedEnd, Option, Running, Site, Some, Step, Takes, Ticks, TicksWithout, TimePasses, TimePassing}
-use Rattle.node_laws.proofs.Words.{Work, [], after_controller, after_host, after_link_events, aged, all_aged, all_happen, and_parts, ap, append_assoc, arrival}
+use Rattle.node_laws.proofs.Words.{Work, [], after_controller, after_host, after_link_events, aged, all_aged, all_happen, ap, append_assoc, arith, arrival}
 use Rattle.node_laws.proofs.Words.{by_option, by_test, can_happen, changed_if, comes_to, cond, controller_takes, controller_tick_on, controller_ticks}
 use Rattle.node_laws.proofs.Words.{controller_work, end_c, end_h, end_of, end_takes_all, ending_of, ends_events, ends_in_order, ends_take_all, entries_for}
 use Rattle.node_laws.proofs.Words.{eq-eqb, eqb-true, event_of, events_on, exchanged, false, flat_map, frames_at, happenings, happens, host_ticks, host_work}
@@ -136,8 +135,7 @@ pub site_map : (f : Site → Site) → ((s : Site) → (f s).host ≡ s.host) �
     → (site_at (map f sites) h ≡ Some (f s)) × (s.host ≡ h)
 site_map f keeps [] h s q = cc
 site_map f keeps (x ∷ sites) h s q = by_test (x.host == h)
-    (λ p. let same : x ≡ s = (let z : Some x ≡ Some s = rw p at q in cc) in
-    (rw (ap (λ (k : ℕ). k == h) (keeps x) ∙ p) (ap (λ (y : Site). Some (f y)) same), ap (λ (y : Site). y.host) (sym same) ∙ eqb-true x.host h p))
+    (λ p. grind arith)
     (λ p. let r = site_map f keeps sites h s (rw p at q) in
     (rw (ap (λ (k : ℕ). k == h) (keeps x) ∙ p) r.0, r.1))
 
@@ -176,8 +174,7 @@ goes_as w v h s es fs p g = subst (GoesOnLink v h s) (sym p) g
 
 -- a site is changed where it is this one, and keeps its host
 changed-host : (b : Bool) (f : Site → Site) (s : Site) → ((x : Site) → (f x).host ≡ x.host) → (changed_if b f s).host ≡ s.host
-changed-host true f s keeps = keeps s
-changed-host false f s keeps = refl
+changed-host b f s keeps = grind arith
 
 pub changed_site : (k : ℕ) (f : Site → Site) → ((x : Site) → (f x).host ≡ x.host) → (sites : List Site) (h : ℕ) (s : Site) → site_at sites h ≡ Some s
     → site_at (with_site k f sites) h ≡ Some (changed_if (s.host == k) f s)
@@ -193,12 +190,8 @@ host_took_own w s q = go (input_of (exchanged s.link) NextFrame) s.node refl ref
 
     go : (i : Option LinkInput) (c : Option Running) → input_of (exchanged s.link) NextFrame ≡ i → s.node ≡ c
         → GoesOnLink (world_step w (Takes (end_h s.host))).0 s.host s (site_takes s)
-    go None c p r =
-        goes_as w (world_step w (Takes (end_h s.host))).0 s.host s (site_takes s) [] (rw p refl)
-        (stays w (world_step w (Takes (end_h s.host))).0 s.host s (rw (link, p) refl) q)
-    go (Some i) None p r =
-        goes_as w (world_step w (Takes (end_h s.host))).0 s.host s (site_takes s) [] (rw (p, r) refl)
-        (stays w (world_step w (Takes (end_h s.host))).0 s.host s (rw (link, p, q, r) refl) q)
+    go None c p r = grind arith
+    go (Some i) None p r = grind arith
     go (Some i) (Some r) p t =
         let work : Work = host_work s r NextFrame (steps (AtEnd s.host i)) in
         let v : NodeWorld = record w { sites = with_site s.host (after_host NextFrame work) w.sites } in
@@ -495,8 +488,7 @@ module _ (w : NodeWorld) (h : ℕ) (s : Site) (fine : IsFineWorld w) (q : site_a
   tick_so_allowed : (late : Bool) (c d : Node) → AreNodes c d → IsEvent s.link (tick_so s.link late c d)
   tick_so_allowed late c d sends = by_test (late && not (is_waiting s.link.controller.side.shdlc))
       (λ r. let is : tick_so s.link late c d ≡ TicksWithout (Step (AsksReset None) c.turns c.ending ∷ []) d = rw r refl in
-      let waits : is_waiting s.link.controller.side.shdlc ≡ false =
-      not-true (is_waiting s.link.controller.side.shdlc) (and_parts late (not (is_waiting s.link.controller.side.shdlc)) r).1 in
+      let waits : is_waiting s.link.controller.side.shdlc ≡ false = grind arith in
       subst (IsEvent s.link) (sym is) (reset_allowed s.link c d sends here.link.line waits))
       (λ r. let is : tick_so s.link late c d ≡ LinkTicks c [] d = rw r refl in
       subst (IsEvent s.link) (sym is) (tick_allowed s.link c d sends here.link.line))

@@ -1,18 +1,18 @@
 -- Few RSETs are put on the links of a world: two at most in each tick, and one where a reset is asked for.
 use Rattle.node_laws.proofs.Words.{Activates, Arms, AsksReset, AtController, AtEnd, AtHost, Bool, Boots, Comes, CutOff, End, Ending, Gives, GoesOut, Happening}
-use Rattle.node_laws.proofs.Words.{Inits, IsCut, Link, LinkEvent, List, Lose, Loses, Loss, Memory, NextFrame, NoInput, NodeWorld, None, Occurrence, Resets}
-use Rattle.node_laws.proofs.Words.{Running, Site, Some, Starts, Step, Takes, Ticks, Turn, Work, [], activates, after_host, aged, all_aged, all_happen, arith}
-use Rattle.node_laws.proofs.Words.{beginning, begins_with, boot_found, boot_written, boots, by_boot, by_coming, by_controller, by_controller_tick, by_host}
-use Rattle.node_laws.proofs.Words.{by_host_tick, by_list, by_loss, by_memory, by_power, by_running, by_test, can_happen, changed_if, comes_at, comes_to}
-use Rattle.node_laws.proofs.Words.{controller_does, controller_ticks, controller_work, counts, end_c, end_h, ending_of, exchanged, false, frame_lost, happens}
-use Rattle.node_laws.proofs.Words.{host_cut, host_does, host_tick, host_ticks, host_work, hosts_tick, is_late_at, is_waiting, link_after_controller}
-use Rattle.node_laws.proofs.Words.{loses_power_at, map, memory_at, near_end_in, near_tick, new_site, new_world, not, number_of, refl, replicate, sending}
-use Rattle.node_laws.proofs.Words.{site_lost, site_ticked, steps, ticked_so, ticks_at_controller, true, turns_at, with_memory, with_node, with_site}
-use Rattle.node_laws.proofs.Words.{world_behind, world_step, world_ticks, ℕ, ◌&&◌, ◌+◌, ◌==◌, ◌∷◌, ◌≡◌, ◌≤◌}
-use Rattle.link_laws.specs.messages.Rsets.{FewRsets, WireIsLow, resets_in_coming, rset_causes}
+use Rattle.node_laws.proofs.Words.{Inits, IsCut, Link, LinkEvent, List, Loses, Loss, Memory, NextFrame, NoInput, NodeWorld, None, Occurrence, Resets, Running}
+use Rattle.node_laws.proofs.Words.{Site, Some, Starts, Step, Takes, Ticks, Turn, Work, [], activates, after_host, aged, all_aged, all_happen, arith, beginning}
+use Rattle.node_laws.proofs.Words.{begins_with, boot_found, boot_written, boots, by_boot, by_coming, by_controller, by_controller_tick, by_host, by_host_tick}
+use Rattle.node_laws.proofs.Words.{by_loss, by_memory, by_power, by_running, by_test, can_happen, changed_if, comes_at, comes_to, controller_does}
+use Rattle.node_laws.proofs.Words.{controller_ticks, controller_work, counts, end_c, end_h, ending_of, exchanged, frame_lost, happens, host_cut, host_does}
+use Rattle.node_laws.proofs.Words.{host_tick, host_ticks, host_work, hosts_tick, is_late_at, is_waiting, link_after_controller, loses_power_at, map, memory_at}
+use Rattle.node_laws.proofs.Words.{near_end_in, near_tick, new_site, new_world, not, number_of, refl, replicate, sending, site_lost, site_ticked, steps}
+use Rattle.node_laws.proofs.Words.{ticked_so, ticks_at_controller, turns_at, with_memory, with_node, with_site, world_behind, world_step, world_ticks, ℕ, ◌&&◌}
+use Rattle.node_laws.proofs.Words.{◌+◌, ◌==◌, ◌∷◌, ◌≡◌, ◌≤◌}
+use Rattle.link_laws.specs.messages.Rsets.{FewRsets, resets_in_coming, rset_causes}
 use Rattle.node_laws.specs.rsets.Causes.{FewRsetsOnEach, NumbersWithinOnEach, happened_in, world_ticks_in, resets_among, others_among, rsets_by, rsets_by_all}
 use Rattle.link_laws.proofs.messages.RsetNumbers.{aged_numbered, event_numbered, exchanged_numbered, made_by_event, made_in_tick, made_in_tick_there}
-use Rattle.link_laws.proofs.messages.RsetNumbers.{number_low, numbers_within, tick_numbered, tick_there_numbered, took_low}
+use Rattle.link_laws.proofs.messages.RsetNumbers.{numbers_within, tick_numbered, tick_there_numbered}
 
 -- ## A link
 
@@ -44,22 +44,12 @@ few_ticked_so n l late ts ending f = by_test (late && not (is_waiting l.controll
     (λ q. rw q (few_by_event n l (AtController (Step (AsksReset None) ts ending)) f))
     (λ q. rw q (few_ticked n l ts ending f))
 
-near_stays : (n : ℕ) (l : Link) → FewRsets n l → number_of l.controller ≤ n
-near_stays n l f = let z = number_low l.resets l.controller f.numbered.controller in let a = f.made in omega (arith, z, a)
-
 pub few_exchanged : (n : ℕ) (l : Link) → FewRsets n l → FewRsets n (exchanged l)
 few_exchanged n l f = record { made = let a = f.made in omega (arith, a); numbered = exchanged_numbered l f.numbered }
 
 -- an end as it has heard of the number of an RSET that comes has no session with a greater number
 pub near_low : (n : ℕ) (l : Link) (comes : Comes) → FewRsets n l → number_of (near_end_in l comes) ≤ n
-near_low n l NextFrame f = by_list l.to_controller
-    (λ q. rw q (let z = number_low l.resets l.controller f.numbered.controller in omega (arith, z, few)))
-    (λ x xs q. rw q (let wire : WireIsLow l.resets (x ∷ xs) = rw q at f.numbered.to_controller in
-    omega (arith, took_low l.resets l.controller.took x f.numbered.controller.took wire.0, f.numbered.controller.emitted, few)))
-  where
-    few : l.resets ≤ n
-    few = let z = f.made in omega (arith, z)
-near_low n l _ f = near_stays n l f
+near_low n l comes f = grind arith
 
 -- ## Sites
 
@@ -70,8 +60,7 @@ each m n f one (s ∷ sites) a = (one s a.0, each m n f one sites a.1)
 
 changed : (m n : ℕ) (b : Bool) (f : Site → Site) → m ≤ n → ((s : Site) → FewRsets m s.link → FewRsets n (f s).link) → (s : Site) → FewRsets m s.link
     → FewRsets n (changed_if b f s).link
-changed m n true f q one s a = one s a
-changed m n false f q one s a = few_longer m n s.link q a
+changed m n b f q one s a = grind arith
 
 one_of : (m n h : ℕ) (f : Site → Site) → m ≤ n → ((s : Site) → FewRsets m s.link → FewRsets n (f s).link) → (sites : List Site)
     → FewRsetsOnEach m sites → FewRsetsOnEach n (with_site h f sites)
@@ -132,9 +121,7 @@ few_begun n w h f a =
 -- ## Power and losses
 
 few_cut : (n : ℕ) (s : Site) → FewRsets n s.link → FewRsets n (happens s.link (AtController (Step NoInput [] CutOff)))
-few_cut n s b =
-    few_longer (n + 0) n (happens s.link (AtController (Step NoInput [] CutOff))) (omega arith)
-    (few_by_event n s.link (AtController (Step NoInput [] CutOff)) b)
+few_cut n s b = grind arith
 
 few_host_cut : (n : ℕ) (s : Site) → FewRsets n s.link → FewRsets n (host_cut s).link
 few_host_cut n s b = few_longer (n + 0) n (host_cut s).link (omega arith) (few_by_event n s.link (AtHost (Step NoInput [] CutOff)) b)
@@ -161,9 +148,7 @@ few_behind_boot n w node a =
     by_boot (λ p. FewRsetsOnEach n p.0.sites) w node (few_behind_cut n node v b) (few_with_node n node (boot_found w node) v b)
 
 lost_here : (n : ℕ) (e : End) (why : Loss) (s : Site) → FewRsets n s.link → FewRsets n (site_lost e why s).link
-lost_here n e why s a = by_test e.at_host
-    (λ q. rw q (few_longer (n + 0) n (happens s.link (AtHost (Lose why))) (omega arith) (few_by_event n s.link (AtHost (Lose why)) a)))
-    (λ q. rw q (few_longer (n + 0) n (happens s.link (AtController (Lose why))) (omega arith) (few_by_event n s.link (AtController (Lose why)) a)))
+lost_here n e why s a = grind arith
 
 few_behind_loss : (n : ℕ) (w : NodeWorld) (e : End) (why : Loss) → FewRsetsOnEach n w.sites → FewRsetsOnEach n (frame_lost w e why).0.sites
 few_behind_loss n w e why a =
@@ -224,8 +209,7 @@ few_behind_step n w c a = go c
     go (Arms node plan) = same (Arms node plan) refl (few_with_memory n node (record (memory_at w node) { plan = Some plan }) w a)
 
 by_one_more : (c : Happening) (causes : List Happening) → rsets_by_all (c ∷ causes) ≡ rsets_by c + rsets_by_all causes
-by_one_more (Boots node) causes = omega arith
-by_one_more _ causes = omega arith
+by_one_more c causes = grind arith
 
 pub few_behind_all : (causes : List Happening) (n : ℕ) (w : NodeWorld) → FewRsetsOnEach n w.sites
     → FewRsetsOnEach (n + rsets_by_all causes) (all_happen w causes).0.sites
@@ -251,15 +235,7 @@ few_behind_events (o ∷ events) n w a =
 few_at_first : (content hosts : List ℕ) → FewRsetsOnEach 0 (map (new_site content) hosts)
 few_at_first content [] = tt
 few_at_first content (h ∷ hosts) = (
-  record {
-    made = omega arith;
-    numbered = record {
-      controller = record { emitted = omega arith; took = omega arith };
-      host = record { emitted = omega arith; took = omega arith };
-      to_controller = tt;
-      to_host = tt;
-    };
-  },
+  (grind arith),
   few_at_first content hosts,
 )
 
@@ -298,11 +274,7 @@ resets_are_others (_ ∷ causes) = let z = resets_are_others causes in omega (ar
 numbers_longer : (m n : ℕ) (sites : List Site) → m ≤ n → NumbersWithinOnEach m sites → NumbersWithinOnEach n sites
 numbers_longer m n [] q a = tt
 numbers_longer m n (s ∷ sites) q a = (
-  record {
-    resets = let z = a.0.resets in omega (arith, q, z);
-    controller = let z = a.0.controller in omega (arith, q, z);
-    host = let z = a.0.host in omega (arith, q, z);
-  },
+  (grind arith),
   numbers_longer m n sites q a.1,
 )
 

@@ -1,9 +1,7 @@
 -- A schedule whose lines have every form of nodes, and lines that are outside the ranges.
-use Rattle.node_laws.proofs.Words.{All, AreNodeLinesOf, Contains, End, Header, IsHost, IsNodeHeader, IsNodeLineOf, Line, List, None, Some, [], arith, end_c}
-use Rattle.node_laws.proofs.Words.{end_h, length, refl, suc, sym, true, true≢false, zero, ℕ, ◌∷◌, ◌≡◌}
+use Rattle.node_laws.proofs.Words.{AreNodeLinesOf, Contains, End, Header, IsNodeHeader, IsNodeLineOf, Line, List, None, Some, [], arith, end_c, end_h, refl}
+use Rattle.node_laws.proofs.Words.{suc, sym, true, true≢false, zero, ℕ, ◌∷◌}
 use Rattle.std.specs.List.Sorted.{IsStrictlyIncreasing}
-use Rattle.std.proofs.lemmas.List.Elements.{All-from_recursion}
-use Rattle.swp_base.specs.Bits.{IsByte}
 use Rattle.trace_model.specs.declared.line.Line.TheVariants as line
 
 -- `swp 1 hci 01 02`
@@ -15,12 +13,7 @@ rising zero within = omega arith
 rising (suc k) within = absurd (omega (arith, within))
 
 header_in_range : IsNodeHeader two_hosts
-header_in_range = record {
-  nodes = refl;
-  some = omega arith;
-  hosts = All-from_recursion IsHost (1 ∷ 2 ∷ []) ((omega arith, omega arith), ((omega arith, omega arith), tt));
-  rising = rising;
-}
+header_in_range = grind arith
 
 second : Contains two_hosts.hosts.items 2
 second = (1, omega arith, refl)
@@ -30,25 +23,14 @@ abbrev sends : Line
 sends = line.Send (end_h 2) 1 (3 ∷ [])
 
 sent : IsNodeLineOf two_hosts sends
-sent = record {
-  known = second;
-  sender = λ h. refl;
-  pipe = omega arith;
-  some = omega arith;
-  bytes = All-from_recursion IsByte (3 ∷ []) (omega arith, tt);
-}
+sent = grind arith
 
 -- `arm 00 1 13`
 abbrev arms : Line
 arms = line.Arm 0 1 (record { items = 19 ∷ [] })
 
 armed : IsNodeLineOf two_hosts arms
-armed = record {
-  known = refl;
-  which = (omega arith, omega arith);
-  long = (omega arith, omega arith);
-  bytes = All-from_recursion IsByte (19 ∷ []) (omega arith, tt);
-}
+armed = grind arith
 
 -- `init 02h 0102030405060708 200004`
 abbrev identity : List ℕ
@@ -61,16 +43,7 @@ abbrev inits : Line
 inits = line.Init (end_h 2) identity (record { items = triple ∷ [] })
 
 begun : IsNodeLineOf two_hosts inits
-begun = record {
-  known = second;
-  host = refl;
-  long = refl;
-  bytes = All-from_recursion IsByte identity
-      (omega arith, (omega arith, (omega arith, (omega arith, (omega arith, (omega arith, (omega arith, (omega arith, tt))))))));
-  few = omega arith;
-  each = All-from_recursion (λ pipe. (length pipe ≡ 3) × All IsByte pipe) (triple ∷ [])
-      ((refl, All-from_recursion IsByte triple (omega arith, (omega arith, (omega arith, tt)))), tt);
-}
+begun = grind arith
 
 -- `boot 00`, `boot 02`, `activate 02 1A2B 01`, `deliver 02c`, these three, `tables 00`, `cut 02`, `tick 100`
 abbrev many_lines : List Line
@@ -82,8 +55,7 @@ activated : IsNodeLineOf two_hosts (line.Activate 2 6699 1)
 activated = record { known = second; identifier = omega arith; code = omega arith }
 
 lines_in_range : AreNodeLinesOf two_hosts many_lines
-lines_in_range =
-    (refl, (refl, (activated, ((second, tt), (sent, (armed, (begun, (refl, (refl, ((omega arith, omega arith), tt))))))))))
+lines_in_range = grind arith
 
 -- no end of a world of nodes is made busy by a line
 busy_is_outside : (e : End) → IsNodeLineOf two_hosts (line.Busy e) → ⊥

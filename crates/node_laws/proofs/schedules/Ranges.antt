@@ -9,12 +9,12 @@ use Rattle.std.specs.declared.cmp.Ordering.TheVariants.{Less}
 use Rattle.node_laws.proofs.Words.{Activate, All, AllByRecursion, AreDifferent, AreHosts, AreInitsShort, AreNodeLinesOf, ArePlayable, AsksReset, AtController}
 use Rattle.node_laws.proofs.Words.{AtHost, Bool, Comes, Control, CutOff, End, EndEvent, Ending, GoesOut, Header, IsHost, IsInitOfHost, IsNodeHeader}
 use Rattle.node_laws.proofs.Words.{IsNodeLineOf, IsPlayable, IsRun, IsSentByHost, Line, Link, LinkEnd, LinkEvent, LinkInput, List, Lose, NextFrame, NoInput}
-use Rattle.node_laws.proofs.Words.{None, OnWire, Reset, Some, Starts, Step, Stops, Take, Tick, TicksWithout, Turn, [], after_input, after_link_events, aged}
-use Rattle.node_laws.proofs.Words.{aged_wire, all_at_controller, all_so, and_parts, ap, ap₂, arith, by_test, deactivated, ended_by, eqb-true, exchanged, false}
-use Rattle.node_laws.proofs.Words.{finished, fits, frames_out, happens, happens_at_controller, has_input, has_restarted, has_taken, init_of, is_rset, is_some}
-use Rattle.node_laws.proofs.Words.{length, length-append, ltb-false, map, nat_lt, ne_eqb, new_line, put, put_all, refl, same_end, same_end_itself, same_side}
-use Rattle.node_laws.proofs.Words.{silent, started, steps_at_controller, subst, sym, ticks_at_controller, took_with, true, turned, with_ended, ℕ, ◌++◌, ◌+◌}
-use Rattle.node_laws.proofs.Words.{◌<◌, ◌==◌, ◌∷◌, ◌≡◌, ◌≤◌}
+use Rattle.node_laws.proofs.Words.{OnWire, Reset, Some, Starts, Step, Stops, Take, Tick, TicksWithout, Turn, [], after_input, after_link_events, aged}
+use Rattle.node_laws.proofs.Words.{aged_wire, all_at_controller, all_so, ap, arith, by_test, deactivated, ended_by, exchanged, false, finished, fits}
+use Rattle.node_laws.proofs.Words.{frames_out, happens, happens_at_controller, has_input, has_restarted, has_taken, init_of, is_rset, is_some, length}
+use Rattle.node_laws.proofs.Words.{length-append, ltb-false, map, nat_lt, ne_eqb, new_line, put, put_all, same_end, same_end_itself, silent, started}
+use Rattle.node_laws.proofs.Words.{steps_at_controller, subst, sym, ticks_at_controller, took_with, true, turned, with_ended, ℕ, ◌++◌, ◌+◌, ◌<◌, ◌==◌, ◌∷◌, ◌≡◌}
+use Rattle.node_laws.proofs.Words.{◌≤◌}
 use Rattle.link_laws.specs.messages.Links.LinkEvent.{Ticks}
 use Rattle.trace_model.specs.Lines.{MayFollow}
 use Rattle.trace_model.specs.declared.line.Line.TheVariants as line
@@ -30,16 +30,8 @@ abbrev pub count : End → List End → ℕ
 count e [] = 0
 count e (f ∷ fs) = one_at (same_end f e) + count e fs
 
-side_true : (a b : Bool) → same_side a b ≡ true → a ≡ b
-side_true true b e = sym e
-side_true false true e = absurd (cc e)
-side_true false false e = refl
-
 pub ends_same : (e f : End) → same_end e f ≡ true → e ≡ f
-ends_same e f is =
-    let parts = and_parts (e.link == f.link) (same_side e.at_host f.at_host) is in
-    ap₂ (λ (n : ℕ) (b : Bool). let made : End = record { link = n; at_host = b } in made) (eqb-true e.link f.link parts.0)
-    (side_true e.at_host f.at_host parts.1)
+ends_same e f is = grind arith
 
 -- a list in which an end stands, without it
 record Without (x : End) (ys : List End) : Type 0 where
@@ -109,8 +101,7 @@ few (x ∷ xs) hosts sorted =
     omega (arith, rest, hosts.0.0)
 
 pub hosts_few : (header : Header) → IsNodeHeader header → length header.hosts.items ≤ 7
-hosts_few header is =
-    few header.hosts.items (recursion_from_All IsHost header.hosts.items is.hosts) (sorted_from_strictly_increasing header.hosts.items is.rising)
+hosts_few header is = grind arith
 
 -- ### Lines
 
@@ -119,27 +110,16 @@ each_line P Q one lines a = all_so P Q one lines a
 
 -- what may be said below a header is in these ranges, but for settling, which no world of nodes does yet
 pub in_range : (header : Header) (l : Line) → MayFollow header l → ((rounds : ℕ) → l ≡ line.Settle rounds → ⊥) → IsNodeLineOf header l
-in_range header (line.Boot node) is other = is.1
-in_range header (line.Cut node) is other = is.1
-in_range header (line.Activate host sync power) is other = is.1
-in_range header (line.Arm node nth fill) is other = is.1
-in_range header (line.Init e identity pipes) is other = is.1
-in_range header (line.Tables node) is other = is.1
-in_range header (line.Settle rounds) is other = absurd (other rounds refl)
-in_range header _ is other = is
+in_range header l is other = grind arith
 
 playable_line : (header : Header) (l : Line) → IsNodeLineOf header l → IsPlayable l
-playable_line header (line.Send e pid message) is = (is.pipe, is.some)
-playable_line header (line.Reset e None) is = tt
-playable_line header (line.Reset e (Some w)) is = let low = is.1.0 in (omega (arith, low), is.1.1)
-playable_line header _ is = tt
+playable_line header l is = grind arith
 
 pub playable : (header : Header) (lines : List Line) → AreNodeLinesOf header lines → ArePlayable lines
 playable header lines are = each_line (IsNodeLineOf header) IsPlayable (playable_line header) lines are
 
 sent_line : (header : Header) → IsNodeHeader header → (l : Line) → IsNodeLineOf header l → IsSentByHost l
-sent_line header nodes (line.Send e pid message) is = is.sender nodes.nodes
-sent_line header nodes _ is = tt
+sent_line header nodes l is = grind arith
 
 pub sent_by_hosts : (header : Header) (lines : List Line) → IsNodeHeader header → AreNodeLinesOf header lines → AllByRecursion IsSentByHost lines
 sent_by_hosts header lines nodes are = each_line (IsNodeLineOf header) IsSentByHost (sent_line header nodes) lines are
@@ -193,8 +173,7 @@ puts_few l (c ∷ cs) a = puts_few (put l c) cs (put_few l c a)
 -- ### Steps of one end
 
 ended_few : (l : Link) (b : Bool) → IsFewWires l → IsFewWires (with_ended l b)
-ended_few l true a = record { to_controller = a.to_controller; to_host = a.to_host }
-ended_few l false a = a
+ended_few l b a = grind arith
 
 silent_few : (l : Link) (e : LinkEnd) → IsFewWires (silent l e)
 silent_few l e = record { to_controller = omega arith; to_host = omega arith }
@@ -238,8 +217,7 @@ step_few l NoInput ts ending a = finished_few l (turned l.controller.side ts) en
 
 here_few : (l : Link) (e : EndEvent) → IsFewWires l → IsFewWires (happens_at_controller l e)
 here_few l (Step comes ts ending) a = step_few l comes ts ending a
-here_few l (Lose why) a =
-    record { to_controller = omega (arith, length-drop 1 l.to_controller, a.to_controller); to_host = a.to_host }
+here_few l (Lose why) a = grind arith
 
 all_few : (l : Link) (es : List EndEvent) → IsFewWires l → IsFewWires (all_at_controller l es)
 all_few l [] a = a

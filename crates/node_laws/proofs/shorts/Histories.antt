@@ -1,13 +1,11 @@
 -- Lines let a host take frames that are there, and behind each event the first message that is left at a host lacks room.
 use Rattle.node_laws.proofs.Words.{AllByRecursion, AreHosts, ArePlayable, AtEachOccurrence, AtEnd, End, Ending, Entry, FollowsNodes, GoesOut, Happening, Header}
-use Rattle.node_laws.proofs.Words.{IsBegunByHost, IsFew, IsHost, IsInitOfHost, IsNodeOf, IsSentByHost, Line, Link, LinkInput, List, LostFor, NextFrame}
-use Rattle.node_laws.proofs.Words.{NodeHistory, NodeWorld, None, Occurrence, OnWire, Same, Site, Some, Takes, Ticks, Undetected, Verdict, Work, [], after_host}
-use Rattle.node_laws.proofs.Words.{ap, append_assoc, ap₂, arith, by_coming, by_host, by_option, by_test, end_h, ending_of, entries_in, eqb, exchanged, false}
-use Rattle.node_laws.proofs.Words.{first_verdict, frames_at, happenings, happens_by, host_does, host_work, inl, inr, is_left_short, is_some, length, list_any}
-use Rattle.node_laws.proofs.Words.{lpdu_of, ne_eqb, new_world, node_at, node_entries, occurrences_in, refl, refusal_in, replicate, runs_on, same_number}
-use Rattle.node_laws.proofs.Words.{site_at, steps, steps_at_controller, subst, suc, sym, taken_of, true, true≢false, turns_at, unwrap_or, verdict_on}
-use Rattle.node_laws.proofs.Words.{world_behind, world_step, zero, ℕ, ◌++◌, ◌||◌, ◌∙◌, ◌∷◌, ◌≡◌, ◌≤◌}
-use Rattle.history.specs.Follows.{frames_to}
+use Rattle.node_laws.proofs.Words.{IsBegunByHost, IsFew, IsHost, IsInitOfHost, IsNodeOf, IsSentByHost, Line, LinkInput, List, NextFrame, NodeHistory, NodeWorld}
+use Rattle.node_laws.proofs.Words.{None, Occurrence, OnWire, Site, Some, Takes, Ticks, Work, [], after_host, ap, append_assoc, ap₂, arith, by_coming, by_host}
+use Rattle.node_laws.proofs.Words.{by_option, by_test, end_h, ending_of, entries_in, eqb, exchanged, false, first_verdict, frames_at, happenings, happens_by}
+use Rattle.node_laws.proofs.Words.{host_does, host_work, inl, inr, is_left_short, is_some, length, list_any, ne_eqb, new_world, node_at, node_entries}
+use Rattle.node_laws.proofs.Words.{occurrences_in, refl, refusal_in, replicate, same_number, site_at, steps, steps_at_controller, subst, suc, sym, taken_of}
+use Rattle.node_laws.proofs.Words.{true, true≢false, turns_at, unwrap_or, world_behind, world_step, zero, ℕ, ◌++◌, ◌||◌, ◌∙◌, ◌∷◌, ◌≡◌, ◌≤◌}
 use Rattle.node_laws.specs.reply_passes.Counts.{commands_noted as commits}
 use Rattle.node_laws.proofs.cuts.Ticking.{node_far, with_here}
 use Rattle.node_laws.proofs.hosts.Events.{E, IsMissing, event_parted, short_so}
@@ -15,7 +13,6 @@ use Rattle.node_laws.proofs.hosts.Histories.{low, so, stands}
 use Rattle.node_laws.proofs.order.Lines.{IsSo}
 use Rattle.node_laws.proofs.shorts.Left.{AreCalmAt, runs_calm}
 use Rattle.node_laws.proofs.telling.Lasting.{AllMay, AreCaused, events_of_steps, lines_caused, repeated_may}
-use Rattle.node_laws.proofs.telling.Events.{link_is}
 use Rattle.node_laws.proofs.worlds.Short.{each_steps, off_read, short_off, short_still}
 use Rattle.node_laws.proofs.worlds.Due.{step_near, taken_most}
 use Rattle.trace_model.specs.declared.line.Line.TheVariants as line
@@ -42,8 +39,7 @@ far_stand w h i n many =
     let same : Some (after_host NextFrame k s) ≡ Some x = sym (with_here (after_host NextFrame k) (λ y. refl) w.sites h s found) ∙ there in
     let one : after_host NextFrame k s ≡ x = cc in
     subst (λ (y : Site). n ≤ length y.link.to_host) one (by_test k.cut
-    (λ off. let none : runs_on k ≡ None = rw off refl in
-    absurd (true≢false (sym (ap (λ (y : Site). is_some y.node) one ∙ on) ∙ ap is_some none)))
+    (λ off. grind arith)
     (λ still. let out : ending_of k ≡ GoesOut = rw still refl in
     subst (λ (g : Ending). n ≤ length (steps_at_controller (exchanged s.link) NextFrame (turns_at k s.host) g).to_controller) (sym out)
     (step_near (exchanged s.link) (turns_at k s.host) n (many s found (ap is_some q))))))
@@ -54,8 +50,7 @@ take_stands w e n far many =
     (λ i z seen. absurd (true≢false (sym far ∙ z)))
 
 frames_far : (w : NodeWorld) (e : End) (s : Site) → e.at_host ≡ true → site_at w.sites e.link ≡ Some s → frames_at w e ≡ s.link.to_host
-frames_far w e s far found =
-    let is : frames_to s.link e ≡ s.link.to_host = rw far refl in ap (λ (l : Link). frames_to l e) (link_is w.sites e.link s found) ∙ is
+frames_far w e s far found = grind arith
 
 takes_may : (n : ℕ) (w : NodeWorld) (e : End) → e.at_host ≡ true → Stand w e.link n → AllMay MayTake w (replicate n (Takes e))
 takes_may zero w e far many = tt
@@ -67,12 +62,7 @@ takes_may (suc n) w e far many = (
 
 damage_may : (w : NodeWorld) (e : End) (places : List ℕ) (wire : List OnWire) → frames_at w e ≡ wire
     → AllMay MayTake w (happens_by e (first_verdict wire places))
-damage_may w e places [] here = tt
-damage_may w e places (x ∷ xs) here = by (verdict_on (lpdu_of x.frame) places) where
-  by : (v : Verdict) → AllMay MayTake w (happens_by e (Some v))
-  by Same = ((λ far s found on none. let no : x ∷ xs ≡ [] = sym here ∙ none in cc no), tt)
-  by (LostFor why) = (tt, tt)
-  by (Undetected read) = tt
+damage_may w e places wire here = grind arith
 
 line_takes : (w : NodeWorld) (l : Line) → IsSentByHost l → refusal_in w l ≡ None → AllMay MayTake w (happenings w l)
 line_takes w (line.Deliver e count) is none = by_test e.at_host

@@ -1,22 +1,19 @@
 -- Behind a step of a host that runs on, the first message that is left at its end lacks room, as it is read, and goes on to lack it.
-use Rattle.node_laws.proofs.Words.{AllByRecursion, AreAlong, AreNotOf, BeginWithTurn, Begins, Book, Bool, ComesTo, Counts, Cut, Emit, End, Entry, ErrorCount}
-use Rattle.node_laws.proofs.Words.{Gets, Happening, HciTables, Init, IsBehind, IsHost, IsSilent, LeavesInit, Link, List, Lost, Message, Moment, NodeInput, None}
-use Rattle.node_laws.proofs.Words.{Noted, Occurrence, Option, Puts, Saying, Some, Stays, Took, Work, [], acked_after, acked_in, all_append, ap, append-nil}
-use Rattle.node_laws.proofs.Words.{append_assoc, ap₂, arith, as_left, book_after, book_in, by_list, by_option, by_test, comes_to_pass, cond, drop, end_h}
-use Rattle.node_laws.proofs.Words.{end_of_node, end_of_number, end_read, ending_entries, ending_of, entries_for, entries_in, eqb, eqb-true, errors_in, false}
-use Rattle.node_laws.proofs.Words.{filter_map, filter_map-append, first_lack, fold, fold-append, frames_noted, goes_through_ends, host_deeds, hosts_of_ends}
-use Rattle.node_laws.proofs.Words.{init_begun, init_in, inl, inr, is_held_at, is_later, is_left_short, is_of_node, is_some, is_up_read, lack_of, lacking}
-use Rattle.node_laws.proofs.Words.{links_of_turns, need_of_all, needs, no_errors, not, oldest, option_and_then, order_in, own_read, passes, port_at, refl}
-use Rattle.node_laws.proofs.Words.{reply, runs_in, said_of, same_end, sent_by, sent_in, session_now, spare_at, spare_read, steps, subst, sym, tables_in}
-use Rattle.node_laws.proofs.Words.{take_while, take_while-cons, through, true, true≢false, unacknowledged_in, unhandled_after, unhandled_in, until, waiting_at}
-use Rattle.node_laws.proofs.Words.{ℕ, ◌++◌, ◌+◌, ◌-◌, ◌∙◌, ◌∷◌, ◌≡◌, ◌≤◌, ◌⊎◌}
-use Rattle.history.specs.Filters.Saying.{Ends, Loses, Sends, Takes}
+use Rattle.node_laws.proofs.Words.{AllByRecursion, AreAlong, AreNotOf, BeginWithTurn, Book, Bool, ComesTo, Cut, Emit, End, Entry, ErrorCount, Happening}
+use Rattle.node_laws.proofs.Words.{HciTables, Init, IsBehind, IsHost, IsSilent, LeavesInit, Link, List, Lost, Message, Moment, NodeInput, None, Noted}
+use Rattle.node_laws.proofs.Words.{Occurrence, Option, Saying, Some, Stays, Took, Work, [], acked_after, acked_in, all_append, ap, append-nil, append_assoc}
+use Rattle.node_laws.proofs.Words.{ap₂, arith, as_left, book_after, book_in, by_list, by_option, comes_to_pass, cond, drop, end_h, end_of_node, end_of_number}
+use Rattle.node_laws.proofs.Words.{end_read, ending_entries, ending_of, entries_for, entries_in, eqb, errors_in, false, filter_map, filter_map-append}
+use Rattle.node_laws.proofs.Words.{first_lack, fold, fold-append, frames_noted, goes_through_ends, host_deeds, hosts_of_ends, init_begun, init_in, inl, inr}
+use Rattle.node_laws.proofs.Words.{is_held_at, is_later, is_left_short, is_of_node, is_some, lack_of, lacking, links_of_turns, need_of_all, needs, no_errors}
+use Rattle.node_laws.proofs.Words.{not, oldest, option_and_then, order_in, own_read, passes, port_at, refl, reply, runs_in, said_of, sent_by, sent_in}
+use Rattle.node_laws.proofs.Words.{session_now, spare_at, spare_read, steps, subst, sym, tables_in, take_while, take_while-cons, through, true}
+use Rattle.node_laws.proofs.Words.{unacknowledged_in, unhandled_after, unhandled_in, until, waiting_at, ℕ, ◌++◌, ◌+◌, ◌-◌, ◌∙◌, ◌∷◌, ◌≡◌, ◌≤◌, ◌⊎◌}
 use Rattle.link_laws.specs.entries.Entries.{End as Side}
 use Rattle.node_laws.specs.passes.Passing.ComesTo.{Begins as PassBegins}
 use Rattle.node_laws.specs.reply_passes.Counts.{commands_noted as commits}
 use Rattle.node_laws.proofs.hosts.Knowing.{HostKnows, comes_none}
-use Rattle.node_laws.proofs.hosts.Passes.{BeginsSo, errors_behind, far_reply, known, lack_is, linked_far, room_at, waits_read, zero}
-use Rattle.node_laws.proofs.hosts.Beginning.{not_book, not_init, not_silent}
+use Rattle.node_laws.proofs.hosts.Passes.{BeginsSo, errors_behind, known, lack_is, room_at, waits_read, zero}
 use Rattle.node_laws.proofs.kept.Doing.{book_more}
 use Rattle.node_laws.proofs.passes.InSteps.{steps_are}
 use Rattle.node_laws.proofs.passes.Passing.{comes_lasts, leaves_behind}
@@ -27,7 +24,7 @@ use Rattle.node_laws.proofs.reply_passes.Roomy.{commits-append}
 use Rattle.node_laws.proofs.reply_passes.Held.{AreNoBoots}
 use Rattle.node_laws.proofs.telling.Ticks.{ending_all}
 use Rattle.node_laws.proofs.views.Going.{init_append, reads_init}
-use Rattle.node_laws.proofs.views.Doing.{IsRead, Leaves, leaves_all, plainly, reads, reads_append}
+use Rattle.node_laws.proofs.views.Doing.{IsRead, Leaves, leaves_all, reads, reads_append}
 use Rattle.node_laws.proofs.worlds.Late.{IsFrame}
 use Rattle.node_laws.proofs.worlds.Short.{short_lacks, short_none, short_off}
 use Rattle.node_laws.proofs.worlds.Resting.{cut_off, idle_unhandled, other_end, others_idle}
@@ -50,11 +47,7 @@ module _ (n : ℕ) where
   AreCalmAt es = AllByRecursion IsCalmAt es
 
   other_calm : (x : Entry) → is_of_node n x ≡ false → IsCalmAt x
-  other_calm (entry.Held f need spare) off = tt
-  other_calm (entry.Emit f lpdu) off = tt
-  other_calm (entry.Took f lpdu) off = tt
-  other_calm (entry.Lost f lpdu cause) off = tt
-  other_calm _ off = off
+  other_calm x off = grind arith
 
   pub others_calm : (es : List Entry) → AreNotOf n es → AreCalmAt es
   others_calm [] a = tt
@@ -87,32 +80,20 @@ module _ (n : ℕ) where
   -- ### Tables, commands and inits
 
   book_one : (b : Book) (x : Entry) → IsCalmAt x → book_after n b x ≡ b
-  book_one b (entry.Held f need spare) calm = refl
-  book_one b (entry.Emit f lpdu) calm = refl
-  book_one b (entry.Took f lpdu) calm = refl
-  book_one b (entry.Lost f lpdu cause) calm = refl
-  book_one b x calm = not_book n b x calm
+  book_one b x calm = grind arith
 
   tables_calm : (t es : List Entry) → AreCalmAt es → tables_in (t ++ es) n ≡ tables_in t n
   tables_calm t es calm =
       ap (λ (b : Book). b.tables) (book_more t es n ∙ fold_calm (book_after n) book_one (book_in t n) es calm)
 
   order_one : (x : Entry) → IsCalmAt x → IsSilent n x
-  order_one (entry.Held f need spare) calm = λ waits. refl
-  order_one (entry.Emit f lpdu) calm = λ waits. refl
-  order_one (entry.Took f lpdu) calm = λ waits. refl
-  order_one (entry.Lost f lpdu cause) calm = λ waits. refl
-  order_one x calm = not_silent n x calm
+  order_one x calm = grind arith
 
   order_calm : (t es : List Entry) → AreCalmAt es → order_in (t ++ es) n ≡ order_in t n
   order_calm t es calm = order_more t es n ∙ fold_calm _ (λ a x c. order_one x c a) (order_in t n) es calm
 
   init_one : (x : Entry) → IsCalmAt x → LeavesInit n x
-  init_one (entry.Held f need spare) calm = λ i. refl
-  init_one (entry.Emit f lpdu) calm = λ i. refl
-  init_one (entry.Took f lpdu) calm = λ i. refl
-  init_one (entry.Lost f lpdu cause) calm = λ i. refl
-  init_one x calm = not_init n x calm
+  init_one x calm = grind arith
 
   init_calm : (es : List Entry) (i : Option Init) → AreCalmAt es → reads_init n es i ≡ i
   init_calm es i calm = fold_calm _ (λ a x c. init_one x c a) i es calm
@@ -156,19 +137,10 @@ module _ (n : ℕ) where
 
   module _ (j : ℕ) where
     quiet : (b : Bool) (s : Saying) → sent_by j (Some s) ≡ None → sent_by j (cond b (Some s) None) ≡ None
-    quiet true s q = q
-    quiet false s q = refl
+    quiet b s q = grind arith
 
     sent_one : (x : Entry) → IsCalmAt x → sent_by j (said_of e x) ≡ None
-    sent_one (entry.Up f k) calm = quiet (same_end f e) (Begins k) refl
-    sent_one (entry.Down f cause) calm = quiet (same_end f e) Ends refl
-    sent_one (entry.Sent f k pid message) calm = ap (λ b. sent_by j (cond b (Some (Sends k (pid, message))) None)) (other_end e f calm)
-    sent_one (entry.Got f k pid message) calm = quiet (same_end f e) (Gets k (pid, message)) refl
-    sent_one (entry.Acked f k count) calm = quiet (same_end f e) (Counts k count) refl
-    sent_one (entry.Emit f lpdu) calm = quiet (same_end f e) (Puts lpdu) refl
-    sent_one (entry.Took f lpdu) calm = quiet (same_end f e) (Takes lpdu) refl
-    sent_one (entry.Lost f lpdu cause) calm = quiet (same_end f e) (Loses lpdu) refl
-    sent_one _ calm = refl
+    sent_one x calm = grind arith
 
     none_sent : (es : List Entry) → AreCalmAt es → filter_map (λ x. sent_by j (said_of e x)) es ≡ []
     none_sent [] calm = refl
@@ -178,21 +150,8 @@ module _ (n : ℕ) where
     sent_calm t es calm =
         filter_map-append (λ x. sent_by j (said_of e x)) t es ∙ (ap (λ l. sent_in t e j ++ l) (none_sent es calm) ∙ append-nil (sent_in t e j))
 
-    calm_count : (before : ℕ) (b : Bool) (s : Saying) → acked_after j before (Some s) ≡ before → acked_after j before (cond b (Some s) None) ≡ before
-    calm_count before true s q = q
-    calm_count before false s q = refl
-
     acked_one : (before : ℕ) (x : Entry) → IsCalmAt x → acked_after j before (said_of e x) ≡ before
-    acked_one before (entry.Up f k) calm = calm_count before (same_end f e) (Begins k) refl
-    acked_one before (entry.Down f cause) calm = calm_count before (same_end f e) Ends refl
-    acked_one before (entry.Sent f k pid message) calm = calm_count before (same_end f e) (Sends k (pid, message)) refl
-    acked_one before (entry.Got f k pid message) calm = calm_count before (same_end f e) (Gets k (pid, message)) refl
-    acked_one before (entry.Acked f k count) calm =
-        ap (λ b. acked_after j before (cond b (Some (Counts k count)) None)) (other_end e f calm)
-    acked_one before (entry.Emit f lpdu) calm = calm_count before (same_end f e) (Puts lpdu) refl
-    acked_one before (entry.Took f lpdu) calm = calm_count before (same_end f e) (Takes lpdu) refl
-    acked_one before (entry.Lost f lpdu cause) calm = calm_count before (same_end f e) (Loses lpdu) refl
-    acked_one before _ calm = refl
+    acked_one before x calm = grind arith
 
     acked_calm : (t es : List Entry) → AreCalmAt es → acked_in (t ++ es) e j ≡ acked_in t e j
     acked_calm t es calm = fold-append _ 0 t es ∙ fold_calm _ acked_one (acked_in t e j) es calm
@@ -213,34 +172,18 @@ module _ (hosts : List ℕ) (n : ℕ) (off : eqb n 0 ≡ false) (t s : List Entr
   at_end : end_of_number n n ≡ end_h n
   at_end = rw off refl
 
-  up_same : is_up_read s n n ≡ is_up_read t n n
-  up_same = ap is_some (subst (λ z. session_now s z n ≡ session_now t z n) (sym at_end) session)
-
   errors_same : errors_in s (end_of_number n n) ≡ errors_in t (end_of_number n n)
   errors_same = subst (λ z. errors_in s z ≡ errors_in t z) (sym at_end) errors
 
-  end_same : end_read s n n ≡ end_read t n n
-  end_same = λ i. record { up = up_same i; errors = errors_same i }
-
   spares_same : (j : ℕ) → spare_read hosts s n j ≡ spare_read hosts t n j
-  spares_same j =
-      ap (λ b. cond b (spare_at s (end_of_number n j)) 0) (linked_far hosts n off j)
-      ∙ (by_test (eqb n j)
-      (λ z. ap (λ x. cond (eqb n j) x 0)
-      (subst (λ x. spare_at s (end_of_number n x) ≡ spare_at t (end_of_number n x)) (eqb-true n j z)
-      (subst (λ z. spare_at s z ≡ spare_at t z) (sym at_end) spares)))
-      (λ z. ap (λ b. cond b (spare_at s (end_of_number n j)) 0) z ∙ sym (ap (λ b. cond b (spare_at t (end_of_number n j)) 0) z)) ∙ sym
-      (ap (λ b. cond b (spare_at t (end_of_number n j)) 0) (linked_far hosts n off j)))
+  spares_same j = grind arith
 
   lack_same : (m l : Moment) → until m ≡ s → until l ≡ t → own_read m n ≡ own_read l n → (message : Message)
       → lack_of hosts m (end_h n) message ≡ lack_of hosts l (end_h n) message
   lack_same m l here there kept message =
-      let one : reply hosts m (end_h n) message ≡ host_deeds (own_read m n) (end_read s n n) message =
-      far_reply hosts n off m message ∙ ap (λ u. host_deeds (own_read m n) (end_read u n n) message) here in
-      let two : reply hosts l (end_h n) message ≡ host_deeds (own_read l n) (end_read t n n) message =
-      far_reply hosts n off l message ∙ ap (λ u. host_deeds (own_read l n) (end_read u n n) message) there in
-      let same : reply hosts m (end_h n) message ≡ reply hosts l (end_h n) message =
-      one ∙ (ap₂ (λ o e. host_deeds o e message) kept end_same ∙ sym two) in
+      let one : reply hosts m (end_h n) message ≡ host_deeds (own_read m n) (end_read s n n) message = grind arith in
+      let two : reply hosts l (end_h n) message ≡ host_deeds (own_read l n) (end_read t n n) message = grind arith in
+      let same : reply hosts m (end_h n) message ≡ reply hosts l (end_h n) message = grind arith in
       ap₂ (λ u d. first_lack (spare_read hosts u n) (needs n d)) here same
       ∙ (lack_alike (spare_read hosts s n) (spare_read hosts t n) spares_same (needs n (reply hosts l (end_h n) message))
       ∙ ap (λ u. first_lack (spare_read hosts u n) (needs n (reply hosts l (end_h n) message))) (sym there))
@@ -271,10 +214,7 @@ abbrev IsLeftAt : ℕ → Work → Type 0
 IsLeftAt n w = NoneLeft n w ⊎ ((m : Message) × (messages : List Message) × LeftAt n w m messages)
 
 no_turns : (back : List Entry) → AreAlong [] (links_of_turns back) → BeginWithTurn back → back ≡ []
-no_turns [] along begin = refl
-no_turns (entry.Turn f pid message ∷ back) along begin = absurd along
-no_turns (entry.Held f need spare ∷ back) along begin = absurd along
-no_turns (_ ∷ back) along begin = absurd (true≢false (sym begin))
+no_turns back along begin = grind arith
 
 module _ (n : ℕ) (w : Work) (is : hosts_of_ends w.ports ≡ n ∷ []) (on : w.cut ≡ false) (still : (passes w).cut ≡ false) where
   abbrev last : Work
@@ -287,15 +227,11 @@ module _ (n : ℕ) (w : Work) (is : hosts_of_ends w.ports ≡ n ∷ []) (on : w.
   c = leaves_behind (ComesTo w) (comes_lasts w) [] n [] w PassBegins on tt (ap (λ (u : Work). u.cut) whole ∙ still)
 
   split : (passes w).entries ≡ c.work.entries ++ c.own
-  split =
-      ap (λ (u : Work). u.entries) (sym whole)
-      ∙ (c.all ∙ (ap (λ l. (w.entries ++ c.front) ++ (c.own ++ l)) (no_turns c.back c.behind c.next)
-      ∙ ap₂ (λ a b. a ++ b) (sym c.entries) (append-nil c.own)))
+  split = grind arith
 
   own_calm : (held : Bool) (f : End) (short : ℕ × ℕ) → AreCalmAt n (cond held [] (entry.Held f short.0 short.1 ∷ []))
       × AllByRecursion (Leaves (end_h n)) (cond held [] (entry.Held f short.0 short.1 ∷ []))
-  own_calm true f short = (tt, tt)
-  own_calm false f short = ((tt, tt), ((λ x k r. plainly (end_h n) x k r), tt))
+  own_calm held f short = grind arith
 
   left_at : IsLeftAt n w
   left_at = by_list (waiting_at c.work.ports n)
@@ -459,9 +395,7 @@ module _ (hosts : List ℕ) (n : ℕ) (host : IsHost n) (past : List Occurrence)
         let five = commits-append (entries_in past) lead in omega (arith, one, two, three, four, five, few)
 
     by_begun : (b : Bool) → v.cut ≡ b → last.cut ≡ false → IsShort last.entries
-    by_begun true q on =
-        let is : last ≡ v = steps_are input start ∙ rw q refl in
-        absurd (true≢false (sym (ap (λ (u : Work). u.cut) is ∙ q) ∙ on))
+    by_begun true q on = grind arith
     by_begun false q on =
         let is : last ≡ passes v = steps_are input start ∙ rw q refl in
         let b = begins q in

@@ -1,21 +1,16 @@
 -- What lasts over each thing that a node does lasts over its step: so do whitelists while a host is asked, and creations that wait allowed.
-use Rattle.std.proofs.lemmas.Bool.{or_left, or_right}
 use Rattle.std.proofs.lemmas.List.Sums.{sum_by-cons}
-use Rattle.node_laws.proofs.Words.{About, AllByRecursion, Answer, AreTables, Ask, Asks, AsksAsAllowed, Bool, Clear, Command, Commit, Commits, Core, Create}
-use Rattle.node_laws.proofs.Words.{Creation, Decision, Deed, FetchMessage, Forgotten, HciTables, Hold, IsAllowedBy, IsAllowedFor, IsAllowedStill, IsAskedFor}
-use Rattle.node_laws.proofs.Words.{IsCommand, IsTrue, LinkInput, LinkView, List, MayWait, Message, None, Notice, OfDecision, Option, Plain, Port, Removed, Set}
-use Rattle.node_laws.proofs.Words.{Some, Sync, Tells, Waits, Work, [], after_sessions, all_done, all_false, all_of_controller, and_from, and_parts}
-use Rattle.node_laws.proofs.Words.{answers_and_passes, anyone, ap, apply, arith, asked_at, body_in, by_option, by_test, changed_if, cond, cond_both}
-use Rattle.node_laws.proofs.Words.{controller_deeds, creation_in, decided, decided_as_allowed, decided_holds, deeds_of, done, end_of_node, eq-eqb, eqb}
-use Rattle.node_laws.proofs.Words.{eqb-true, false, filter, forgets, goes_through_ends, handles, has, has_come, have_turns, holds_back, inl, inr, is_asked_at}
-use Rattle.node_laws.proofs.Words.{is_forgotten, is_held, is_kept, is_kept_sync, is_late, is_over, lack, le-leb, leb, leb-true, lets_go, list_any, mask_of}
-use Rattle.node_laws.proofs.Words.{needs, not, noting, option_map_or, param_in, passes, port_at, refl, reset_late, subst, suc, sym, tests_to_clear}
-use Rattle.node_laws.proofs.Words.{tests_to_set_it, true, true≢false, turn_at, unless_cut, value_at, view_for, view_of, with_desk, without_notice, zero, ℕ, ◌%◌}
-use Rattle.node_laws.proofs.Words.{◌&&◌, ◌*◌, ◌+◌, ◌/◌, ◌^◌, ◌∙◌, ◌∷◌, ◌≡◌, ◌≤◌, ◌⊎◌}
+use Rattle.node_laws.proofs.Words.{AllByRecursion, Answer, AreTables, Ask, Asks, AsksAsAllowed, Bool, Command, Commit, Commits, Core, Decision, Deed}
+use Rattle.node_laws.proofs.Words.{FetchMessage, HciTables, Hold, IsAllowedBy, IsAllowedFor, IsAllowedStill, IsAskedFor, IsCommand, IsTrue, LinkInput, LinkView}
+use Rattle.node_laws.proofs.Words.{List, MayWait, Message, OfDecision, Option, Plain, Port, Some, Sync, Tells, Work, [], after_sessions, all_done, all_false}
+use Rattle.node_laws.proofs.Words.{all_of_controller, answers_and_passes, anyone, ap, apply, arith, asked_at, body_in, by_option, by_test, changed_if}
+use Rattle.node_laws.proofs.Words.{cond_both, controller_deeds, decided, decided_as_allowed, decided_holds, deeds_of, done, end_of_node, eqb, false, filter}
+use Rattle.node_laws.proofs.Words.{forgets, goes_through_ends, handles, has, has_come, have_turns, holds_back, inl, inr, is_asked_at, is_forgotten, is_held}
+use Rattle.node_laws.proofs.Words.{is_kept, is_late, is_over, lack, lets_go, list_any, mask_of, needs, noting, option_map_or, param_in, passes, port_at, refl}
+use Rattle.node_laws.proofs.Words.{reset_late, subst, suc, sym, tests_to_clear, tests_to_set_it, true, turn_at, unless_cut, value_at, view_for, view_of}
+use Rattle.node_laws.proofs.Words.{with_desk, without_notice, zero, ℕ, ◌%◌, ◌&&◌, ◌*◌, ◌+◌, ◌/◌, ◌^◌, ◌∙◌, ◌∷◌, ◌≡◌, ◌≤◌, ◌⊎◌}
 use Rattle.gate_admin.proofs.CreationLemmas.{AllFalse}
-use Rattle.gate_admin.specs.Decide.{allows}
 use Rattle.gate_admin.specs.View.{hosts_where, is_asked}
-use Rattle.registry.specs.Values.{default_of}
 use Rattle.tables_laws.proofs.tables.Values.{values-apply}
 use Rattle.tables_laws.specs.gate.Rules.{EndsAtController}
 use Rattle.tables_laws.specs.tables.Changes.{told_value}
@@ -27,8 +22,7 @@ use Rattle.trace_model.specs.declared.entry.Entry.TheVariants as entry
 -- ## What an input leaves of a port of a node, and of its core
 
 pub come_host : (p : Port) (o : Option LinkInput) → (has_come p o).desk.host ≡ p.desk.host
-come_host p None = refl
-come_host p (Some i) = refl
+come_host p o = grind arith
 
 pub forgets_host : (ports : List Port) (p : Port) → (forgets ports p).desk.host ≡ p.desk.host
 forgets_host ports p = cond_both (is_forgotten ports (asked_at p)) _ p (λ q. q.desk.host ≡ p.desk.host) (λ _. refl) (λ _. refl)
@@ -40,8 +34,7 @@ pub without_host : (p : Port) → (without_notice p).desk.host ≡ p.desk.host
 without_host p = cond_both (is_over p) _ p (λ q. q.desk.host ≡ p.desk.host) (λ _. refl) (λ _. refl)
 
 pub changed_host : (b : Bool) (g : Port → Port) (p : Port) → ((q : Port) → (g q).desk.host ≡ q.desk.host) → (changed_if b g p).desk.host ≡ p.desk.host
-changed_host true g p keeps = keeps p
-changed_host false g p keeps = refl
+changed_host b g p keeps = grind arith
 
 pub sessions_node : (core : Core) (ports : List Port) → (after_sessions core ports).node ≡ core.node
 sessions_node core ports = by_test (list_any is_over ports) (λ q. rw q refl) (λ q. rw q refl)
@@ -75,20 +68,13 @@ controller_fine core ports h m =
 -- ## A command that neither sets nor clears the whitelist of a host leaves it as it is
 
 synced : (t : HciTables) (h id x : ℕ) → told_value t (Sync h id) x 3 ≡ value_at t.values x 0 3
-synced t h id x = by_test (eqb h x)
-    (λ same. ap (λ b. cond (b && false && not (is_kept_sync t.syncs h id)) (default_of 1) (value_at t.values x 0 3)) same)
-    (λ other. ap (λ b. cond (b && false && not (is_kept_sync t.syncs h id)) (default_of 1) (value_at t.values x 0 3)) other)
+synced t h id x = grind arith
 
 left : (t : HciTables) (c : Command) (x : ℕ) → LeavesWhitelist x c → told_value t c x 3 ≡ value_at t.values x 0 3
-left t (Set h gate p value) x leaves = ap (λ b. cond b value.items (value_at t.values x 0 3)) leaves
-left t (Clear h) x leaves = ap (λ b. cond b (default_of 3) (value_at t.values x 0 3)) leaves
-left t (Sync h id) x leaves = synced t h id x
-left t _ x leaves = refl
+left t c x leaves = grind arith
 
 kept : (x : ℕ) → 1 ≤ x → x ≤ 7 → IsTrue (is_kept x 0 3)
-kept x some most =
-    let host = and_from (leb 1 x) (leb x 7) (le-leb 1 x some) (le-leb x 7 most) in
-    and_from (leb 1 x && leb x 7 && true) true (and_from (leb 1 x && leb x 7) true host refl) refl
+kept x some most = grind arith
 
 pub whitelist_left : (t : HciTables) (c : Command) (x : ℕ) → AreTables t → IsCommand c → 1 ≤ x → x ≤ 7 → LeavesWhitelist x c
     → value_at (apply t c).values x 0 3 ≡ value_at t.values x 0 3
@@ -103,13 +89,11 @@ bit false = 0
 
 bit_one : (b : Bool) → b ≡ true → bit b ≡ 1
 unfolding bit
-bit_one true e = refl
-bit_one false e = absurd (cc e)
+bit_one b e = grind arith
 
 pub bit_most : (b : Bool) → bit b ≤ 1
 unfolding bit
-bit_most true = omega arith
-bit_most false = omega arith
+bit_most b = grind arith
 
 once : (p s : ℕ) → p + s ≡ 1 * p + s
 once p s = omega arith
@@ -119,8 +103,7 @@ never p s = omega arith
 
 pub bit_none : (b : Bool) → b ≡ false → bit b ≡ 0
 unfolding bit
-bit_none true e = absurd (cc e)
-bit_none false e = refl
+bit_none b e = grind arith
 
 more : (test : ℕ → Bool) (x : ℕ) (xs : List ℕ) → mask_of (filter test (x ∷ xs)) ≡ bit (test x) * 2 ^ x + mask_of (filter test xs)
 more test x xs =
@@ -252,16 +235,10 @@ Leaves x (Ask host notice command answer) = Unit {0}
 
 -- a test that the host x is asked and sends the command itself refuses what it would do to itself
 own_one : (v : LinkView) (h x : ℕ) (b : Bool) → is_asked v x ≡ true → (b && is_asked v h) ≡ false → (eqb h x && b) ≡ false
-own_one v h x b asked refused = by_test (eqb h x) (λ same. by_param b refused same) (λ other. ap (λ c. c && b) other) where
-  by_param : (b : Bool) → (b && is_asked v h) ≡ false → eqb h x ≡ true → (eqb h x && b) ≡ false
-  by_param false refused same = ap (λ c. c && false) same
-  by_param true refused same =
-      absurd (true≢false (sym asked ∙ (ap (is_asked v) (sym (eqb-true h x same)) ∙ refused)))
+own_one v h x b asked refused = grind arith
 
 own_all : (v : LinkView) (h x : ℕ) → is_asked v x ≡ true → is_asked v h ≡ false → eqb h x ≡ false
-own_all v h x asked free = by_test (eqb h x)
-    (λ same. absurd (true≢false (sym asked ∙ (ap (is_asked v) (sym (eqb-true h x same)) ∙ free))))
-    (λ other. other)
+own_all v h x asked free = grind arith
 
 decided_leaves : (t : HciTables) (v : LinkView) (h pipe instruction x : ℕ) (body : List ℕ) → is_asked v x ≡ true
     → Leaves x (decided t v h pipe instruction body)
@@ -281,9 +258,7 @@ decided_leaves t v h pipe instruction x body asked =
 -- ### Deeds
 
 making : (x : ℕ) (c : Command) → IsMaking c → LeavesWhitelist x c
-making x (Clear host) is = absurd is
-making x (Set host gate param value) is = absurd is
-making x _ is = tt
+making x c is = grind arith
 
 plain_of_whitelists : (x : ℕ) → Plain (DeedLeavesWhitelist x)
 plain_of_whitelists x = record { sends = λ to x. tt; says_ok = tt; releases = λ asker. tt; is_answered = tt; drops = λ pid. tt }
@@ -314,45 +289,23 @@ whitelists_stay core ports h m x asked waits =
 -- ### One command
 
 making_of_waits : (t : HciTables) (h : ℕ) (c : Command) → IsAllowedFor t h c → IsMaking c
-making_of_waits t h (Create row) is = tt
-making_of_waits t h _ is = absurd is
+making_of_waits t h c is = grind arith
 
 -- the host is one from 01 to 07
 pub within : (t : HciTables) (h : ℕ) (c : Command) → IsAllowedFor t h c → (1 ≤ h) × (h ≤ 7)
-within t h (Create row) is =
-    let both = and_parts (leb 1 h) (leb h 7) (and_parts (leb 1 h && leb h 7) (holds (value_at t.values h 0 3) row.creator) is.1).0 in
-    (leb-true 1 h both.0, leb-true h 7 both.1)
-within t h _ is = absurd is
+within t h c is = grind arith
 
 -- tables with the same whitelist allow the same
 pub same_list : (t u : HciTables) (h : ℕ) (c : Command) → value_at u.values h 0 3 ≡ value_at t.values h 0 3 → IsAllowedFor t h c → IsAllowedFor u h c
-same_list t u h (Create row) same is = (is.0, ap (λ l. leb 1 h && leb h 7 && holds l row.creator) same ∙ is.1)
-same_list t u h _ same is = absurd is
-
-allowed_by : (t : HciTables) (h : ℕ) (c : Command) → IsAllowedFor t h c → IsAllowedBy t c
-allowed_by t h (Create row) is =
-    or_right (eqb row.dest 0) (allows t row.dest row.creator) (ap (λ x. allows t x row.creator) is.0 ∙ is.1)
-allowed_by t h _ is = tt
+same_list t u h c same is = grind arith
 
 at_once : (t : HciTables) (c : Command) → EndsAtController c → IsAllowedBy t c
-at_once t (Create row) ends = or_left (eqb row.dest 0) (allows t row.dest row.creator) (eq-eqb row.dest 0 ends)
-at_once t _ ends = tt
+at_once t c ends = grind arith
 
 asked_for : (t : HciTables) (v : LinkView) (h to : ℕ) (c : Command) → IsAskedFor t v h to c → IsAllowedFor t to c
-asked_for t v h to (Create row) is = (is.asked, ap (allows t to) is.creator ∙ is.allowed)
-asked_for t v h to _ is = absurd is
+asked_for t v h to c is = grind arith
 
 -- ### Hosts that are asked
-
-is_asked_of_waits : (p : Port) (c : Creation) → asked_at p ≡ Some c → is_asked_at p ≡ true
-is_asked_of_waits p c e = by_notice p.desk.notice refl e where
-  by_notice : (o : Option Notice) → p.desk.notice ≡ o → creation_in o ≡ Some c → is_asked_at p ≡ true
-  by_notice None is e = absurd (cc e)
-  by_notice (Some n) is e = by_about n.about refl (sym (ap creation_in is) ∙ (ap creation_in is ∙ e)) where
-    by_about : (a : About) → n.about ≡ a → creation_in (Some n) ≡ Some c → is_asked_at p ≡ true
-    by_about (Waits d) about e = rw is (rw about refl)
-    by_about Forgotten about e = rw is (rw about refl)
-    by_about Removed about e = let none : None ≡ Some c = rw about at e in absurd (cc none)
 
 waits_for_pipes : (t : HciTables) (ports : List Port) (h : ℕ) → MayWait t ports → WaitsForPipes ports h
 waits_for_pipes t ports h may p c here asked = making_of_waits t h c.command (may h p c here asked)
@@ -373,18 +326,13 @@ module _ (core : Core) (ports : List Port) (h : ℕ) (sorted : AreTables core.ta
   one : (d : Deed) → IsAllowedDeed core.tables ports h d → ((x : Asked ports) → DeedLeavesWhitelist x.host d) → IsAllowedStill core.tables ports d
   one (Commits c) allowed leaves = (by_way allowed, kept) where
     by_way : EndsAtController c ⊎ IsWaitedFor ports h c → IsAllowedBy core.tables c
-    by_way (inl ends) = at_once core.tables c ends
-    by_way (inr waited) =
-        allowed_by core.tables h c (subst (IsAllowedFor core.tables h) waited.command (may h waited.port waited.creation waited.here waited.asked))
+    by_way a = grind arith
 
     kept : IsCommand c → MayWait (apply core.tables c) ports
     kept command x p made here asked =
         let now = may x p made here asked in
         let host = within core.tables x made.command now in
-        let seen : Asked ports = record {
-          host = x;
-          asked = record { some = host.0; most = host.1; port = p; here = here; asked = is_asked_of_waits p made asked };
-        } in
+        let seen : Asked ports = grind arith in
         same_list core.tables (apply core.tables c) x made.command (whitelist_left core.tables c x sorted command host.0 host.1 (leaves seen)) now
   one (Asks to message creation) allowed leaves = asked_for core.tables (view_for core.tables ports h) h to creation.command allowed.0
   one _ allowed leaves = tt
@@ -409,14 +357,7 @@ got_at h w = option_map_or (λ (p : Port). p.side.got) (port_at w.ports h) []
 
 module _ (J : Work → Type 0) where
   pub unless : (f : Work → Work) (w : Work) → ((v : Work) → J v → J (f v)) → J w → J (unless_cut f w)
-  unless f w one a = go w.cut where
-    by : Bool → Work
-    by true = w
-    by false = f w
-
-    go : (b : Bool) → J (by b)
-    go true = a
-    go false = one w a
+  unless f w one a = grind arith
 
   -- ### Deeds
 
@@ -456,8 +397,7 @@ module _ (J : Work → Type 0) where
         → J (answers_and_passes freed syncs owing w)
     rest freed syncs owing w f s o a =
         unless passes (unless_cut (all_done 0 owing) (all_done 0 syncs (all_done 0 freed w))) (λ v b. going _ v b)
-        (unless (all_done 0 owing) (all_done 0 syncs (all_done 0 freed w)) (λ v b. all 0 owing v o b)
-        (all 0 syncs (all_done 0 freed w) s (all 0 freed w f a)))
+        (grind arith)
 
   -- ### All of it
 

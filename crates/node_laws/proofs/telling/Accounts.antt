@@ -1,14 +1,14 @@
 -- A fact of a node is carried through its step, and what the node notes of the end of a link there is what the law of one link notes.
-use Rattle.node_laws.proofs.Words.{About, Acked, Active, AllByRecursion, Asks, Bool, Command, Commits, Controller, Core, Deed, Desk, Down, Drops, Emit, Ends}
-use Rattle.node_laws.proofs.Words.{Entry, FetchMessage, GaveUp, Give, GoesOn, Got, Hears, Hold, Host, IsAnswered, LinkEnd, List, Lost, Message, NodeInput, None}
-use Rattle.node_laws.proofs.Words.{Noted, OfHost, Option, Orders, Plain, Port, Release, Releases, Removed, SaysOk, Sends, Sent, SetAside, SetsErrors, Some}
-use Rattle.node_laws.proofs.Words.{Tells, Took, Turn, Waits, Work, Write, [], after_turn, all_done, all_of_host, all_owed, all_owed_hold, all_synced_hold}
-use Rattle.node_laws.proofs.Words.{answers_and_passes, any_of_controller, anyone, ap, append-nil, append_assoc, body_of, by_test, changed_if, commit}
+use Rattle.node_laws.proofs.Words.{About, Acked, Active, AllByRecursion, Asks, Bool, Command, Commits, Core, Deed, Desk, Down, Drops, Emit, Ends, Entry}
+use Rattle.node_laws.proofs.Words.{FetchMessage, GaveUp, Give, GoesOn, Got, Hears, Hold, IsAnswered, LinkEnd, List, Lost, Message, NodeInput, None, Noted}
+use Rattle.node_laws.proofs.Words.{OfHost, Option, Orders, Plain, Port, Release, Releases, Removed, SaysOk, Sends, Sent, SetAside, SetsErrors, Some, Tells}
+use Rattle.node_laws.proofs.Words.{Took, Turn, Waits, Work, Write, [], after_turn, all_done, all_of_host, all_owed, all_owed_hold, all_synced_hold}
+use Rattle.node_laws.proofs.Words.{answers_and_passes, any_of_controller, anyone, ap, append-nil, append_assoc, arith, body_of, by_test, changed_if, commit}
 use Rattle.node_laws.proofs.Words.{commit_writes, count_of, deeds_hold, deeds_of, done, end_of, end_of_node, entries_for, entry_of, eqb-true, fails_within}
-use Rattle.node_laws.proofs.Words.{false, flat_map, flat_map-append, forgotten, forgotten_hold, handles, holds_back, if◌then◌else◌, is_of, keeps, length}
-use Rattle.node_laws.proofs.Words.{lets_go, loses_power, ne_eqb, noted_of, notified, noting, of_link, option_map_or, own_side, port_at, refl, said, same_number}
-use Rattle.node_laws.proofs.Words.{subst, sym, synced, tells_of, true, true≢false, turn, turn_at, turn_entries, turn_entry, turned, with_desk, with_port, ℕ}
-use Rattle.node_laws.proofs.Words.{◌++◌, ◌==◌, ◌∙◌, ◌∷◌, ◌≡◌}
+use Rattle.node_laws.proofs.Words.{false, flat_map, flat_map-append, forgotten, forgotten_hold, handles, holds_back, is_of, keeps, length, lets_go, loses_power}
+use Rattle.node_laws.proofs.Words.{ne_eqb, noted_of, notified, noting, of_link, option_map_or, own_side, port_at, refl, said, same_number, subst, sym, synced}
+use Rattle.node_laws.proofs.Words.{tells_of, true, true≢false, turn, turn_at, turn_entries, turn_entry, turned, with_desk, with_port, ℕ, ◌++◌, ◌==◌, ◌∙◌, ◌∷◌}
+use Rattle.node_laws.proofs.Words.{◌≡◌}
 use Rattle.link_laws.specs.entries.Entries.{End as Side}
 use Rattle.link_laws.specs.entries.Entries.Entry.{Up}
 use Rattle.node_laws.proofs.steps.StepWalks.{Lasts, all_do as all_done_so, changed_host, got_at, handled, holds_of_step_walks as holds_as, lets as lets_as}
@@ -31,15 +31,7 @@ IsPlain _ = ⊥
 
 -- it tells of no link
 plain_untold : (x : Entry) → IsPlain x → (h : ℕ) → tells_of h x ≡ false
-plain_untold (entry.Held e need spare) p h = refl
-plain_untold (entry.Ask host message) p h = refl
-plain_untold (entry.Dropped e pid) p h = refl
-plain_untold (entry.Command node command) p h = refl
-plain_untold (entry.AnyOk node count) p h = refl
-plain_untold (entry.InitSame e) p h = refl
-plain_untold (entry.InitMade e count) p h = refl
-plain_untold (entry.InitFailed e code) p h = refl
-plain_untold x p h = absurd p
+plain_untold x p h = grind arith
 
 -- what is noted as an init ends is so
 abbrev pub IsMute : Deed → Type 0
@@ -95,8 +87,7 @@ abbrev pub AreUncut : List Entry → Type 0
 AreUncut t = AllByRecursion IsUncut t
 
 one_uncut : (x : Entry) → IsPlain x → IsUncut x
-one_uncut (entry.Cut node) p = p
-one_uncut x p = tt
+one_uncut x p = grind arith
 
 plain_uncut : (t : List Entry) → ArePlain t → AreUncut t
 plain_uncut [] a = tt
@@ -147,14 +138,10 @@ module _ (Of : Work → Type 0)
   does k IsAnswered w i a = desk k (λ d. record d { notice = None }) w (λ d. refl) a
   does k (Drops pid) w i a = note (entry.Dropped (end_of_node w.core k) pid ∷ []) w (tt, tt) a
   does k (SetsErrors errors) w i a = desk k (λ d. record d { errors = errors }) w (λ d. refl) a
-  does k (Orders message) w i a =
-      let v : Work = record w { core = record w.core { command = Some message } } in
-      turns k (Give (1, message)) v tt (beside w v refl refl refl refl a)
+  does k (Orders message) w i a = grind arith
   does k Hears w i a = beside w (record w { core = record w.core { command = None } }) refl refl refl refl a
   does k (GoesOn x) w i a = beside w (record w { core = record w.core { init = Some x } }) refl refl refl refl a
-  does k (Ends x) w i a =
-      let v : Work = record w { core = record w.core { init = None } } in
-      note (x ∷ []) v (i, tt) (beside w v refl refl refl refl a)
+  does k (Ends x) w i a = grind arith
 
   pub every_do : (k : ℕ) (deeds : List Deed) (w : Work) → AreMute deeds → Of w → Of (all_done k deeds w)
   every_do k deeds w i a = all_done_so Of IsMute does k deeds w i a
@@ -221,9 +208,7 @@ module _ (Of : Work → Type 0)
     (turns : (k : ℕ) (t : Turn) (w : Work) → Of w → Of (turn_at k t w))
     (beside : (w v : Work) → v.core.node ≡ w.core.node → v.ports ≡ w.ports → v.entries ≡ w.entries → Of w → Of v) where
   lost : (writes : List Write) (w : Work) → Of w → Of (loses_power writes w)
-  lost writes w a =
-      let v : Work = record w { writes = w.writes ++ writes; plan = None; cut = true } in
-      note (entry.Cut w.core.node ∷ []) v ((λ h. refl), tt) (beside w v refl refl refl a)
+  lost writes w a = grind arith
 
   pub all_do : (k : ℕ) (deeds : List Deed) (w : Work) → AreMute deeds → Of w → Of (all_done k deeds w)
   all_do k deeds w i a =
@@ -244,17 +229,14 @@ of-append h (x ∷ a) b = by_test (tells_of h x) (λ q. rw q (ap (λ z. x ∷ z)
 
 -- what tells nothing of it says nothing of it
 pub untold : (h : ℕ) (x : Entry) → tells_of h x ≡ false → is_of h (said x) ≡ false
-untold h (entry.Active e) q = refl
-untold h (entry.GaveUp e tries) q = refl
-untold h x q = q
+untold h x q = grind arith
 
 pub of_silent : (h : ℕ) (t : List Entry) → AreSilent t → of_link h t ≡ []
 of_silent h [] a = refl
 of_silent h (x ∷ t) a = let none = a.0 h in rw none (of_silent h t a.1)
 
 other_end : (k h : ℕ) (w : Side) → (k == h) ≡ false → ((end_of k w).link == h) ≡ false
-other_end k h Controller q = q
-other_end k h Host q = q
+other_end k h w q = grind arith
 
 -- what is noted of another link
 pub of_other : (k h : ℕ) (t : List Noted) → (k == h) ≡ false → of_link h (entries_for k t) ≡ []
@@ -277,10 +259,7 @@ pub at_changed : (ports : List Port) (h k : ℕ) (g : Port → Port) (p : Port) 
     → port_at (with_port k g ports) h ≡ Some (changed_if (p.desk.host == k) g p)
 at_changed [] h k g p keeps q = cc
 at_changed (x ∷ ports) h k g p keeps q = by_test (x.desk.host == h)
-    (λ e. let is : Some x ≡ Some p = rw e at q in
-    let one : x ≡ p = cc in
-    let passes : (y.desk.host == h) ≡ true = same ∙ e in
-    rw passes (ap (λ (z : Port). Some (changed_if (z.desk.host == k) g z)) one))
+    (λ e. grind arith)
     (λ e. let rest : port_at ports h ≡ Some p = rw e at q in
     let fails : (y.desk.host == h) ≡ false = same ∙ e in
     rw fails (at_changed ports h k g p keeps rest))
@@ -294,9 +273,7 @@ at_changed (x ∷ ports) h k g p keeps q = by_test (x.desk.host == h)
 pub at_host : (ports : List Port) (h : ℕ) (p : Port) → port_at ports h ≡ Some p → (p.desk.host == h) ≡ true
 at_host [] h p q = cc
 at_host (x ∷ ports) h p q = by_test (x.desk.host == h)
-    (λ e. let is : Some x ≡ Some p = rw e at q in
-    let one : x ≡ p = cc in
-    let P : Port → Type 0 = λ z. (z.desk.host == h) ≡ true in subst P one e)
+    (λ e. grind arith)
     (λ e. at_host ports h p (rw e at q))
 
 -- ### Turns
@@ -349,15 +326,13 @@ module _ (h : ℕ) (who : Side) (n : ℕ) (e : LinkEnd) (before : List Entry) (l
       }
 
   changed_same : (b : Bool) (g : Port → Port) (p : Port) → ((q : Port) → SameEnd q (g q)) → SameEnd p (changed_if b g p)
-  changed_same true g p one = one p
-  changed_same false g p one = record { session = refl; late = refl; side = refl; turns = refl }
+  changed_same b g p one = grind arith
 
   pub desk : (k : ℕ) (f : Desk → Desk) (w : Work) → ((d : Desk) → (f d).host ≡ d.host) → Of w → Of (with_desk k f w)
   desk k f w keeps a =
       let g : Port → Port = λ p. record p { desk = f p.desk } in
       let b : Bool = a.port.desk.host == k in
-      let same : SameEnd a.port (changed_if b g a.port) =
-      changed_same b g a.port (λ q. record { session = refl; late = refl; side = refl; turns = refl }) in
+      let same : SameEnd a.port (changed_if b g a.port) = grind arith in
       record {
         side = a.side;
         port = changed_if b g a.port;
@@ -394,11 +369,7 @@ module _ (h : ℕ) (who : Side) (n : ℕ) (e : LinkEnd) (before : List Entry) (l
       mine q =
           let one : (p.desk.host == k) ≡ true = let z = at_host w.ports h p a.here in let P : ℕ → Type 0 = λ x. (p.desk.host == x) ≡ true in subst P q z in
           let found : port_at w.ports k ≡ Some p = ap (port_at w.ports) (sym q) ∙ a.here in
-          let noted : new ≡ entries_for h (turn_entry who n (turned e p.turns) t) =
-          ap (λ o. option_map_or (noted_of w.core t) o []) found
-          ∙ (ap (λ x. entries_for x (turn_entry (own_side w.core) p.session p.side t)) p_host
-          ∙ (ap (λ x. entries_for h (turn_entry x p.session p.side t)) a.side
-          ∙ (ap (λ x. entries_for h (turn_entry who x p.side t)) a.session ∙ ap (λ x. entries_for h (turn_entry who n x t)) a.is))) in
+          let noted : new ≡ entries_for h (turn_entry who n (turned e p.turns) t) = grind arith in
           let more : old ++ of_link h (entries_for h (turn_entry who n (turned e p.turns) t))
           ≡ of_link h (entries_for h (turn_entries who n e (p.turns ++ t ∷ []))) =
           sym (ap (λ z. of_link h (entries_for h z)) (turn_entries-append who n e p.turns t)
@@ -442,13 +413,4 @@ module _ (h : ℕ) (who : Side) (n : ℕ) (e : LinkEnd) (before : List Entry) (l
 
   -- what is no end and no entry may change
   pub beside : (w v : Work) → v.core.node ≡ w.core.node → v.ports ≡ w.ports → v.entries ≡ w.entries → Of w → Of v
-  beside w v core ports entries a =
-      record {
-        side = ap (λ (x : ℕ). if x == 0 then Controller else Host) core ∙ a.side;
-        port = a.port;
-        here = ap (λ ps. port_at ps h) ports ∙ a.here;
-        session = a.session;
-        late_is = a.late_is;
-        is = a.is;
-        told = ap (of_link h) entries ∙ a.told;
-      }
+  beside w v core ports entries a = grind arith

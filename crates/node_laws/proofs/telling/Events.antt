@@ -4,7 +4,7 @@ use Rattle.node_laws.proofs.Words.{Controller, CutOff, Deed, Desk, EachGoesSo, E
 use Rattle.node_laws.proofs.Words.{IsOrderly, IsUntimed, Link, LinkEvent, LinkInput, List, Lose, Loses, Loss, Memory, Message, NextFrame, NoInput, NodeWorld}
 use Rattle.node_laws.proofs.Words.{None, NumberedEnd, Option, Port, Resets, Running, Site, Some, Standing, StandsOf, Starts, Step, Takes, TellOf, Ticks, Work}
 use Rattle.node_laws.proofs.Words.{[], activates, after_controller, after_host, after_host_step, after_link_events, after_planned, after_power, ap, append-nil}
-use Rattle.node_laws.proofs.Words.{append_assoc, arrival, beginning, begins_with, boot_found, boot_writes, boot_written, boots, by_boot, by_coming}
+use Rattle.node_laws.proofs.Words.{append_assoc, arith, arrival, beginning, begins_with, boot_found, boot_writes, boot_written, boots, by_boot, by_coming}
 use Rattle.node_laws.proofs.Words.{by_controller, by_host, by_loss, by_memory, by_power, by_running, by_test, changed_if, comes_at, comes_to, cond}
 use Rattle.node_laws.proofs.Words.{controller_does, controller_work, count_of, counts, end_c, end_h, ending_of, entries, entries_for, eqb-true, event_entries}
 use Rattle.node_laws.proofs.Words.{exchanged, false, first_lost, flat_map, found, frame_lost, frames_noted, happens, host_cut, host_does, host_work, hosts_in}
@@ -32,9 +32,7 @@ swapped h k q = ne_eqb k h (λ z. true≢false (sym (ap (λ y. h == y) z ∙ sam
 pub site_host : (sites : List Site) (h : ℕ) (s : Site) → site_at sites h ≡ Some s → s.host ≡ h
 site_host [] h s q = cc
 site_host (x ∷ sites) h s q = by_test (x.host == h)
-    (λ e. let is : Some x ≡ Some s = rw e at q in
-    let one : s ≡ x = cc in
-    ap (λ (z : Site). z.host) one ∙ eqb-true x.host h e)
+    (λ e. grind arith)
     (λ e. site_host sites h s (rw e at q))
 
 pub link_is : (sites : List Site) (h : ℕ) (s : Site) → site_at sites h ≡ Some s → link_to sites h ≡ s.link
@@ -72,8 +70,7 @@ stands near_ends (d ∷ desks) (x ∷ sites) h s e q = by_test (x.host == h)
     others = cc
 
 pub is_step : (comes : Comes) (i : LinkInput) → IsStep comes (Some i)
-is_step NextFrame i = tt
-is_step _ i = tt
+is_step comes i = grind arith
 
 -- ### The controller
 
@@ -91,10 +88,7 @@ module _ (w : NodeWorld) (r : Running) (k : ℕ) (comes : Comes) (h : ℕ) (s : 
 
   arrives : of_link h (entries_for k (arrival Controller (link_to w.sites k) comes))
       ≡ of_link h (entries_for h (arrival Controller s.link (comes_to k comes h)))
-  arrives = by_test (h == k)
-      (λ e. rw e (ap (λ z. of_link h (entries_for z (arrival Controller (link_to w.sites z) comes))) (sym (eqb-true h k e))
-      ∙ ap (λ l. of_link h (entries_for h (arrival Controller l comes))) link))
-      (λ e. rw e (of_other k h (arrival Controller (link_to w.sites k) comes) (swapped h k e)))
+  arrives = grind arith
 
   pub opened : Opening h Controller s.link (comes_to k comes h) Start
   opened =
@@ -129,12 +123,10 @@ module _ (w : NodeWorld) (r : Running) (k : ℕ) (comes : Comes) (h : ℕ) (s : 
   -- what comes to its end of the link
   pub given : (i : LinkInput) → input_of (link_to w.sites k) comes ≡ Some i → (b : Bool) → (h == k) ≡ b
       → input_of s.link (cond b comes NoInput) ≡ cond b (Some i) None
-  given i q true e = ap (λ l. input_of l comes) (sym link ∙ ap (link_to w.sites) (eqb-true h k e)) ∙ q
-  given i q false e = refl
+  given i q b e = grind arith
 
   pub is_so : (i : LinkInput) (b : Bool) → IsStep (cond b comes NoInput) (cond b (Some i) None)
-  is_so i true = is_step comes i
-  is_so i false = tt
+  is_so i b = grind arith
 
   pub controller_tells : (i : LinkInput) → input_of (link_to w.sites k) comes ≡ Some i
       → TellOf h s.link (AtController (Step (comes_to k comes h) (turns_at (controller_work w r k comes (steps (AtEnd k i))) h)
@@ -207,10 +199,7 @@ module _ (s : Site) (r : Running) (comes : Comes) (host : (s.host == 0) ≡ fals
       none : (desks : List Desk) → map (λ (d : Desk). d.host) desks ≡ s.host ∷ []
           → port_at (ports_for (λ j. near_end_in (exchanged s.link) comes) desks) h ≡ None
       none [] e = refl
-      none (d ∷ []) e =
-          let one : d.host ≡ s.host = cc in
-          let passed : (d.host == h) ≡ false = ap (λ n. n == h) one ∙ q in
-          rw passed refl
+      none (d ∷ []) e = grind arith
       none (d ∷ x ∷ desks) e = absurd (cc e)
 
   away_closed : (h : ℕ) (v : Work) → (s.host == h) ≡ false → Away h v
@@ -291,14 +280,11 @@ host_begins s r host node deeds m =
 pub site_is : (P : Site → Type 0) (sites : List Site) (h : ℕ) (s : Site) → AllByRecursion P sites → site_at sites h ≡ Some s → P s
 site_is P [] h s a q = absurd (cc q)
 site_is P (x ∷ sites) h s a q = by_test (x.host == h)
-    (λ e. let is : Some x ≡ Some s = rw e at q in
-    let one : x ≡ s = cc in
-    subst P one a.0)
+    (λ e. grind arith)
     (λ e. site_is P sites h s a.1 (rw e at q))
 
 pub node_is : (n : ℕ) (hosts : List ℕ) (o : Option Running) (r : Running) → IfItRuns n hosts o → o ≡ Some r → HasEnds n hosts r
-node_is n hosts None r a q = absurd (cc q)
-node_is n hosts (Some x) r a q = let one : x ≡ r = cc in let P : Running → Type 0 = λ z. HasEnds n hosts z in subst P one a
+node_is n hosts o r a q = grind arith
 
 -- what a host notes is told of its own link as it does this, and of no other one
 pub record HostDoes (w : NodeWorld) (k : ℕ) (comes : Comes) (f : Work → Work) (s : Site) (r : Running) : Type 0 where
@@ -395,10 +381,7 @@ pub site_map : (f : Site → Site) → ((s : Site) → (f s).host ≡ s.host) �
     → site_at (map f sites) h ≡ Some (f s)
 site_map f keeps [] h s q = absurd (cc q)
 site_map f keeps (x ∷ sites) h s q = by_test (x.host == h)
-    (λ e. let is : Some x ≡ Some s = rw e at q in
-    let one : x ≡ s = cc in
-    let passes : ((f x).host == h) ≡ true = same ∙ e in
-    rw passes (ap (λ z. Some (f z)) one))
+    (λ e. grind arith)
     (λ e. let fails : ((f x).host == h) ≡ false = same ∙ e in
     rw fails (site_map f keeps sites h s (rw e at q)))
   where
@@ -453,8 +436,7 @@ module _ (w : NodeWorld) (memory : Memory) (controller : Option Running) (k : �
       (λ s node. node_here s node (s.host == k) refl) (λ h s found. here h s found (s.host == k) refl)
     where
       node_here : (s : Site) → IfItRuns s.host (s.host ∷ []) s.node → (b : Bool) → (s.host == k) ≡ b → IfItRuns s.host (s.host ∷ []) (changed_if b g s).node
-      node_here s node true q = nodes s (eqb-true s.host k q) node
-      node_here s node false q = node
+      node_here s node b q = grind arith
 
       here : (h : ℕ) (s : Site) → site_at w.sites h ≡ Some s → (b : Bool) → (s.host == k) ≡ b → Tells h s.link (changed_if b g s).link t
       here h s found true q =
@@ -543,10 +525,7 @@ lost_goes_nothing w k g t keeps nodes links q a =
 pub memory_goes : (n : ℕ) (m : Memory) (w : NodeWorld) → IsOrderly w → EachGoesSo w (with_memory n m w) []
 memory_goes n m w a =
     by_memory (λ v. EachGoesSo w v []) n w m
-    (λ z. record {
-      orderly = record { different = a.different; hosts = a.hosts; controller = a.controller; nodes = a.nodes };
-      each = λ h s found. record { site = s; there = found; tells = tells_nothing h s.link [] refl };
-    })
+    (λ z. (grind arith))
     (λ z. lost_goes_nothing w n (λ s. record s { memory = m }) [] (λ s. refl) (λ s e node. node) (λ s. refl) (λ h. refl) a)
 
 power_goes : (n : ℕ) (w : NodeWorld) → IsOrderly w → EachGoesSo w (loses_power_at n w) (entry.Cut n ∷ [])
@@ -562,12 +541,7 @@ node_goes : (n : ℕ) (r : Running) (w : NodeWorld) (t : List Entry) → r.core.
 node_goes n r w t number ends q a =
     by_running (λ v. EachGoesSo w v t) n w r
     (λ e. record {
-      orderly = record {
-        different = a.different;
-        hosts = a.hosts;
-        controller = record { number = number ∙ eqb-true n 0 e; ends = ends ∙ ap links e };
-        nodes = a.nodes;
-      };
+      orderly = grind arith;
       each = λ h s found. record { site = s; there = found; tells = tells_nothing h s.link t (q h) };
     })
     (λ e.

@@ -1,13 +1,13 @@
 -- What lasts over each event lasts over schedules and histories: worlds stay orderly, and histories without ticks tell of each link.
 use Rattle.node_laws.proofs.Words.{Activates, AllByRecursion, AreDifferent, Arms, Boots, EachGoesSo, End, Entry, FollowsNodes, Gives, Happening, HasEnds}
-use Rattle.node_laws.proofs.Words.{Header, IfItRuns, Inits, IsCut, IsOrderly, IsUntimed, Line, LineStep, List, Loses, Loss, LostFor, MayBoot, NodeHistory}
-use Rattle.node_laws.proofs.Words.{NodeWorld, None, NumberedEnd, Occurrence, Option, Resets, Running, Same, Site, Some, Takes, Ticks, Undetected, Verdict, Work}
-use Rattle.node_laws.proofs.Words.{[], after_planned, all_aged, all_happen, ap, append-nil, append_assoc, by_controller_tick, by_host_tick, by_option, by_test}
-use Rattle.node_laws.proofs.Words.{can_happen, controller_ticks, entries_in, false, first_verdict, flat_map, flat_map-append, frames_at, goes_on, happenings}
-use Rattle.node_laws.proofs.Words.{happens_by, host_tick, host_ticks, hosts_in, hosts_tick, is_some, line_step, link_to, map, near_tick, new_site, new_world}
-use Rattle.node_laws.proofs.Words.{node_at, occurrences_in, occurrences_of, refl, refusal_in, replicate, runs_on, site_ticked, site_unticked, steps_from, subst}
-use Rattle.node_laws.proofs.Words.{suc, sym, tables_told, taken_of, unwrap_or, work_of, world_after, world_behind, world_step, world_ticks, zero, ℕ, ◌++◌, ◌==◌}
-use Rattle.node_laws.proofs.Words.{◌∙◌, ◌∷◌, ◌≡◌}
+use Rattle.node_laws.proofs.Words.{Header, IfItRuns, Inits, IsCut, IsOrderly, IsUntimed, Line, LineStep, List, Loses, Loss, MayBoot, NodeHistory, NodeWorld}
+use Rattle.node_laws.proofs.Words.{None, NumberedEnd, Occurrence, Option, Resets, Running, Site, Takes, Ticks, Verdict, Work, [], after_planned, all_aged}
+use Rattle.node_laws.proofs.Words.{all_happen, ap, append-nil, append_assoc, arith, by_controller_tick, by_host_tick, by_option, by_test, can_happen}
+use Rattle.node_laws.proofs.Words.{controller_ticks, entries_in, false, first_verdict, flat_map, flat_map-append, frames_at, goes_on, happenings, happens_by}
+use Rattle.node_laws.proofs.Words.{host_tick, host_ticks, hosts_in, hosts_tick, is_some, line_step, link_to, map, near_tick, new_site, new_world, node_at}
+use Rattle.node_laws.proofs.Words.{occurrences_in, occurrences_of, refl, refusal_in, replicate, runs_on, site_ticked, site_unticked, steps_from, subst, suc}
+use Rattle.node_laws.proofs.Words.{sym, tables_told, taken_of, unwrap_or, work_of, world_after, world_behind, world_step, world_ticks, zero, ℕ, ◌++◌, ◌==◌, ◌∙◌}
+use Rattle.node_laws.proofs.Words.{◌∷◌, ◌≡◌}
 use Rattle.node_machine.specs.world.Lines.{if_true}
 use Rattle.node_laws.specs.telling.Telling.{AreUntimed, IsUntimedLine}
 use Rattle.node_laws.proofs.telling.Events.{goes_not, goes_then, hosts_same_of_nodes as hosts_same, orderly_map, untimed_goes}
@@ -32,10 +32,7 @@ repeated_may May c one (suc n) w = (one w, repeated_may May c one n (world_step 
 -- a damaged frame is taken or lost
 pub damaged_may : (May : NodeWorld → Happening → Type 0) (w : NodeWorld) (e : End) → May w (Takes e) → ((why : Loss) → May w (Loses e why))
     → (o : Option Verdict) → AllMay May w (happens_by e o)
-damaged_may May w e takes loses None = tt
-damaged_may May w e takes loses (Some Same) = (takes, tt)
-damaged_may May w e takes loses (Some (LostFor why)) = (loses why, tt)
-damaged_may May w e takes loses (Some (Undetected read)) = tt
+damaged_may May w e takes loses o = grind arith
 
 -- any event, and any line
 abbrev pub Any : NodeWorld → Happening → Type 0
@@ -53,8 +50,7 @@ all_lines [] = tt
 all_lines (l ∷ lines) = (tt, all_lines lines)
 
 pub stands_none : (o : Option Running) → if_true (is_some o) cause.Running ≡ None → o ≡ None
-stands_none None e = refl
-stands_none (Some r) e = absurd (cc e)
+stands_none o e = grind arith
 
 -- a line that isn't refused boots a node only while it doesn't run
 pub boots_may : (w : NodeWorld) (l : Line) → AnyLine l → refusal_in w l ≡ None → AllMay MayBoot w (happenings w l)
@@ -86,17 +82,14 @@ behind_all [] w = refl
 behind_all (c ∷ causes) w = by_test (can_happen w c) (λ q. rw q (behind_all causes (world_step w c).0)) (λ q. rw q refl)
 
 pub told_nothing : (n : ℕ) (o : Option Running) → occurrences_of (tables_told n o) ≡ []
-told_nothing n None = refl
-told_nothing n (Some r) = refl
+told_nothing n o = grind arith
 
 -- what a line that isn't refused causes is what happens
 caused_is : (w : NodeWorld) (l : Line) → occurrences_of (goes_on w l).1 ≡ (all_happen w (happenings w l)).1
-caused_is w (line.Tables n) = told_nothing n (node_at w n)
-caused_is w _ = refl
+caused_is w l = grind arith
 
 left_is : (w : NodeWorld) (l : Line) → (goes_on w l).0 ≡ (all_happen w (happenings w l)).0
-left_is w (line.Tables n) = refl
-left_is w _ = refl
+left_is w l = grind arith
 
 behind_line : (w : NodeWorld) (l : Line) → world_behind w (occurrences_of (line_step w l).1) ≡ (line_step w l).0
 behind_line w l = by_option (refusal_in w l)
@@ -276,9 +269,7 @@ module _ (P K : List Entry → NodeWorld → Type 0)
   fronts_last done [] back is caused now = subst (λ l. P (entries_in l) (world_behind first l)) (sym (append-nil done)) now
   fronts_last done (o ∷ front) back is caused now =
       let w : NodeWorld = world_behind first done in
-      let next : P (entries_in done ++ o.entries) (world_step w o.cause).0 =
-      subst (λ l. P (entries_in done ++ l) (world_step w o.cause).0) (sym caused.0)
-      (lasts (entries_in done) w o.cause now (keeps done (o ∷ (front ++ back)) is)) in
+      let next : P (entries_in done ++ o.entries) (world_step w o.cause).0 = grind arith in
       subst (λ l. P (entries_in l) (world_behind first l)) (append_assoc done (o ∷ []) front)
       (fronts_last (done ++ o ∷ []) front back (is ∙ sym (append_assoc done (o ∷ []) (front ++ back)))
       (subst (λ v. AreCaused Any v (front ++ back)) (sym (behind_push done o first)) caused.2)
@@ -412,17 +403,13 @@ repeated zero c u = tt
 repeated (suc n) c u = (u, repeated n c u)
 
 damaged : (e : End) (v : Option Verdict) → AllByRecursion IsUntimed (happens_by e v)
-damaged e None = tt
-damaged e (Some Same) = (tt, tt)
-damaged e (Some (LostFor why)) = (tt, tt)
-damaged e (Some (Undetected read)) = tt
+damaged e v = grind arith
 
 line_untimed : (w : NodeWorld) (l : Line) → IsUntimedLine l → refusal_in w l ≡ None → AllMay MayBeUntimed w (happenings w l)
 line_untimed w (line.Tick times) u q = absurd u
 line_untimed w (line.Deliver e count) u q =
     all_untimed (happenings w (line.Deliver e count)) w (repeated (taken_of count (frames_at w e)) (Takes e) tt)
-line_untimed w (line.Damage e places) u q =
-    all_untimed (happenings w (line.Damage e places)) w (damaged e (first_verdict (frames_at w e) places.items))
+line_untimed w (line.Damage e places) u q = grind arith
 line_untimed w (line.Busy e) u q = tt
 line_untimed w (line.Ready e) u q = tt
 line_untimed w (line.Tables n) u q = tt

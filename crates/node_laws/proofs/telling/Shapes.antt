@@ -1,20 +1,18 @@
 -- How a link stands as it is read off a step of a node, also where the node loses its power.
-use Rattle.node_laws.proofs.Words.{Acked, Active, AllByRecursion, AsksReset, AtEnd, Bool, Cause, Comes, Control, Controller, Core, Cut, CutOff, Deed, Desk}
-use Rattle.node_laws.proofs.Words.{Down, End, Ending, Entry, GaveUp, Give, GoesOut, Got, HasTick, Host, Link, LinkEnd, LinkInput, List, Loss, Message}
-use Rattle.node_laws.proofs.Words.{NextFrame, NoInput, Node, NodeInput, None, Noted, NumberedEnd, OnWire, Option, Port, Refused, Report, Reset, Restarted}
-use Rattle.node_laws.proofs.Words.{Saying, Site, Some, Standing, Start, Starts, Stop, Stops, Take, TimePasses, TooMany, Took, Turn, Work, Write, []}
-use Rattle.node_laws.proofs.Words.{after_input, after_power, after_sessions, aged_entries, all_append, all_come, all_owed, ap, append-nil, append_assoc}
-use Rattle.node_laws.proofs.Words.{begins_with, by_option, by_test, cond, end_of, ended_by, ending_entries, ending_of, entries_for, entry_of, false, far}
-use Rattle.node_laws.proofs.Words.{first_lost, flat_map, fold, fold-append, forgets, forgotten, frames_noted, frames_out, give_refusal, if_so, input_at}
-use Rattle.node_laws.proofs.Words.{input_entries, input_of, is_late, is_of, is_some, law_noted, left_after, length, loses_power, map, nat_lt, noted_of, noting}
-use Rattle.node_laws.proofs.Words.{number_of, of_link, option_map_or, option_to_list, own_side, port_at, pushed_out, put, puts_entries, refl, report}
-use Rattle.node_laws.proofs.Words.{rest_entries, said, said_far, said_near, sent_unless, silent, standing, standing_by_law, stands_noted, stands_said}
-use Rattle.node_laws.proofs.Words.{stands_told, step_entries, steps, sym, synced, tells_of, tick_entries, times_out, told, told_at, told_late, told_of}
-use Rattle.node_laws.proofs.Words.{took_with, true, turn, turn_at, turn_entries, turn_entry, turned, whole_acked, wire_with, with_desk, with_ended, with_older}
-use Rattle.node_laws.proofs.Words.{without_notice, without_power, ℕ, ◌++◌, ◌==◌, ◌∙◌, ◌∷◌, ◌≡◌}
-use Rattle.history.specs.Filters.Saying.{Sends}
+use Rattle.node_laws.proofs.Words.{Acked, Active, AllByRecursion, AsksReset, AtEnd, Bool, Cause, Comes, Control, Core, Cut, CutOff, Deed, Desk, Down, Ending}
+use Rattle.node_laws.proofs.Words.{Entry, GaveUp, GoesOut, Got, HasTick, Link, LinkEnd, LinkInput, List, Loss, Message, NextFrame, NoInput, Node, NodeInput}
+use Rattle.node_laws.proofs.Words.{None, Noted, NumberedEnd, OnWire, Option, Port, Report, Reset, Restarted, Site, Some, Standing, Start, Starts, Stop, Stops}
+use Rattle.node_laws.proofs.Words.{Take, TimePasses, TooMany, Took, Turn, Work, Write, [], after_input, after_power, after_sessions, aged_entries, all_append}
+use Rattle.node_laws.proofs.Words.{all_come, all_owed, ap, append-nil, append_assoc, arith, begins_with, by_option, by_test, cond, ended_by, ending_entries}
+use Rattle.node_laws.proofs.Words.{ending_of, entries_for, entry_of, false, far, first_lost, flat_map, fold, fold-append, forgets, forgotten, frames_noted}
+use Rattle.node_laws.proofs.Words.{frames_out, if_so, input_at, input_entries, input_of, is_late, is_some, law_noted, left_after, length, loses_power, map}
+use Rattle.node_laws.proofs.Words.{nat_lt, noted_of, noting, number_of, of_link, option_map_or, option_to_list, own_side, port_at, pushed_out, put}
+use Rattle.node_laws.proofs.Words.{puts_entries, refl, report, rest_entries, silent, standing, standing_by_law, stands_noted, stands_told, step_entries, steps}
+use Rattle.node_laws.proofs.Words.{sym, synced, tells_of, tick_entries, times_out, told, told_at, told_late, told_of, took_with, true, turn, turn_at}
+use Rattle.node_laws.proofs.Words.{turn_entries, turn_entry, turned, whole_acked, wire_with, with_desk, with_ended, with_older, without_notice, without_power}
+use Rattle.node_laws.proofs.Words.{ℕ, ◌++◌, ◌∙◌, ◌∷◌, ◌≡◌}
 use Rattle.link_laws.specs.entries.Entries.{End as Side}
-use Rattle.link_laws.specs.entries.Entries.Entry.{Tick, Up}
+use Rattle.link_laws.specs.entries.Entries.Entry.{Up}
 use Rattle.node_laws.proofs.steps.StepWalks.{sessions_node}
 use Rattle.node_laws.proofs.telling.Accounts.{AreMute, AreSilent, AreUncut, IsUncut, all_last, all_owed_mute, all_synced_mute, forgotten_mute, rest_lasts}
 use Rattle.node_laws.proofs.telling.Steps.{IsStep}
@@ -29,22 +27,14 @@ abbrev pub standing_said : ℕ → Standing → List Entry → Standing
 standing_said h x t = fold (stands_told h) x t
 
 one_uncut : (h : ℕ) (x : Standing) (e : Entry) → IsUncut e → stands_noted h x e ≡ stands_told h x e
-one_uncut h x (entry.Cut n) u = absurd u
-one_uncut h x e u = refl
+one_uncut h x e u = grind arith
 
 uncut_said : (h : ℕ) (t : List Entry) → AreUncut t → (x : Standing) → standing h x t ≡ standing_said h x t
 uncut_said h [] u x = refl
 uncut_said h (e ∷ t) u x = ap (λ y. standing h y t) (one_uncut h x e u.0) ∙ uncut_said h t u.1 (stands_told h x e)
 
--- what is said of other links says nothing of this one
-pub other_said : (h : ℕ) (x : Standing) (o : Option (End × Saying)) → is_of h o ≡ false → stands_said h x o ≡ x
-other_said h x None q = refl
-other_said h x (Some (e, s)) q = rw q refl
-
 other_told : (h : ℕ) (x : Standing) (e : Entry) → tells_of h e ≡ false → stands_told h x e ≡ x
-other_told h x (entry.Active e) q = rw q refl
-other_told h x (entry.GaveUp e tries) q = rw q refl
-other_told h x e q = other_said h x (said e) q
+other_told h x e q = grind arith
 
 said_of_link : (h : ℕ) (t : List Entry) (x : Standing) → standing_said h x t ≡ standing_said h x (of_link h t)
 said_of_link h [] x = refl
@@ -64,8 +54,7 @@ abbrev pub AreClear : List Noted → Type 0
 AreClear notes = AllByRecursion IsClear notes
 
 one_clear : (h : ℕ) (x : Standing) (n : Noted) → IsClear n → law_noted h x n ≡ standing_said h x (entry_of h n)
-one_clear h x (Cut who) c = absurd c
-one_clear h x n c = refl
+one_clear h x n c = grind arith
 
 clear_said : (h : ℕ) (notes : List Noted) → AreClear notes → (x : Standing) → standing_by_law h x notes ≡ standing_said h x (entries_for h notes)
 clear_said h [] c x = refl
@@ -79,10 +68,7 @@ uncut_flat f one [] = tt
 uncut_flat f one (x ∷ xs) = all_append IsUncut (f x) (flat_map f xs) (one x) (uncut_flat f one xs)
 
 entry_uncut : (h : ℕ) (n : Noted) → AreUncut (entry_of h n)
-entry_uncut h Tick = tt
-entry_uncut h (Restarted w) = tt
-entry_uncut h (Cut w) = tt
-entry_uncut h _ = (tt, tt)
+entry_uncut h n = grind arith
 
 pub entries_uncut : (h : ℕ) (notes : List Noted) → AreUncut (entries_for h notes)
 entries_uncut h notes = uncut_flat (entry_of h) (entry_uncut h) notes
@@ -94,10 +80,6 @@ clear_stands h t notes u c told x =
     uncut_said h t u x
     ∙ (said_of_link h t x
     ∙ (ap (standing_said h x) told ∙ (sym (said_of_link h (entries_for h notes) x) ∙ sym (clear_said h notes c x))))
-
--- what tells nothing of it leaves it
-pub away_stands : (h : ℕ) (t : List Entry) → AreUncut t → of_link h t ≡ [] → (x : Standing) → standing h x t ≡ x
-away_stands h t u none x = uncut_said h t u x ∙ (said_of_link h t x ∙ ap (standing_said h x) none)
 
 -- ### A step of a node
 
@@ -112,25 +94,8 @@ silent_said h (e ∷ t) s x = ap (λ y. standing_said h y t) (other_told h x e (
 silent_neutral : (h : ℕ) (t : List Entry) → AreSilent t → AreUncut t → IsNeutral h t
 silent_neutral h t s u x = (uncut_said h t u x ∙ silent_said h t s x, silent_said h t s x)
 
--- a message that is sent changes neither sessions nor wires
-sends_same : (b c : Bool) (n : ℕ) (m : Message) (x : Standing) → cond b (cond c (said_far (Sends n m) x) (said_near (Sends n m) x)) x ≡ x
-sends_same true true n m x = refl
-sends_same true false n m x = refl
-sends_same false c n m x = refl
-
-sent_neutral : (h k n : ℕ) (who : Side) (m : Message) (o : Option Refused) → IsNeutral h (entries_for k (sent_unless o who n m))
-sent_neutral h k n who m None x =
-    let e : End = end_of k who in
-    (sends_same (e.link == h) e.at_host n m x, sends_same (e.link == h) e.at_host n m x)
-sent_neutral h k n who m (Some why) x = (refl, refl)
-
-turn_neutral : (h : ℕ) (core : Core) (t : Turn) (p : Port) → IsNeutral h (noted_of core t p)
-turn_neutral h core (Give m) p x = sent_neutral h p.desk.host p.session (own_side core) m (give_refusal p.side m) x
-turn_neutral h core _ p x = (refl, refl)
-
 at_neutral : (h : ℕ) (core : Core) (t : Turn) (o : Option Port) → IsNeutral h (option_map_or (noted_of core t) o [])
-at_neutral h core t None x = (refl, refl)
-at_neutral h core t (Some p) x = turn_neutral h core t p x
+at_neutral h core t o x = grind arith
 
 -- where the loss of power of the node n changes how the link with this host stands so
 module _ (h n : ℕ) (off : Standing → Standing) (powers : (x : Standing) → after_power h n x ≡ off x) (twice : (x : Standing) → off (off x) ≡ off x) where
@@ -147,9 +112,7 @@ module _ (h n : ℕ) (off : Standing → Standing) (powers : (x : Standing) → 
         node = node ∙ a.node;
         stands = λ x.
             ap (standing h x) entries ∙ (fold-append (stands_noted h) x w.entries es
-            ∙ ((z (standing h x w.entries)).0
-            ∙ (a.stands x
-            ∙ (ap (λ y. cond w.cut (off y) y) (sym (same x)) ∙ ap (λ b. cond b (off (standing_said h x v.entries)) (standing_said h x v.entries)) (sym cut)))));
+            ∙ (grind arith));
       }
 
   note : (es : List Entry) (w : Work) → AreSilent es → AreUncut es → Powered w → Powered (noting es w)
@@ -163,15 +126,7 @@ module _ (h n : ℕ) (off : Standing → Standing) (powers : (x : Standing) → 
       more (option_map_or (noted_of w.core t) (port_at w.ports k) []) w (turn_at k t w) (at_neutral h w.core t (port_at w.ports k)) refl refl refl a
 
   beside : (w v : Work) → v.cut ≡ w.cut → v.core.node ≡ w.core.node → v.ports ≡ w.ports → v.entries ≡ w.entries → Powered w → Powered v
-  beside w v cut node ports entries a =
-      record {
-        node = node ∙ a.node;
-        stands = λ x.
-            ap (standing h x) entries
-            ∙ (a.stands x
-            ∙ (ap (λ t. cond w.cut (off (standing_said h x t)) (standing_said h x t)) (sym entries)
-            ∙ ap (λ b. cond b (off (standing_said h x v.entries)) (standing_said h x v.entries)) (sym cut)));
-      }
+  beside w v cut node ports entries a = grind arith
 
   loses : (writes : List Write) (w : Work) → Powered w → Powered (loses_power writes w)
   loses writes w a =
@@ -187,8 +142,7 @@ module _ (h n : ℕ) (off : Standing → Standing) (powers : (x : Standing) → 
       }
     where
       gone : (b : Bool) (y : Standing) → off (cond b (off y) y) ≡ off y
-      gone true y = twice y
-      gone false y = refl
+      gone b y = grind arith
 
   -- a node as a step begins
   fresh : (w : Work) → w.core.node ≡ n → w.cut ≡ false → AreUncut w.entries → Powered w
@@ -223,12 +177,10 @@ module _ (h n : ℕ) (off : Standing → Standing) (powers : (x : Standing) → 
       (uncut_flat (told_late w.core) (late_uncut w.core) (map with_older (all_come TimePasses w).ports))
 
   came_cut : (input : NodeInput) (w : Work) → (times_out input (all_come input w)).cut ≡ w.cut
-  came_cut (AtEnd k i) w = refl
-  came_cut TimePasses w = refl
+  came_cut input w = grind arith
 
   came_core : (input : NodeInput) (w : Work) → (times_out input (all_come input w)).core ≡ w.core
-  came_core (AtEnd k i) w = refl
-  came_core TimePasses w = refl
+  came_core input w = grind arith
 
   pub steps_powered : (input : NodeInput) (w : Work) → w.core.node ≡ n → w.cut ≡ false → AreUncut w.entries → Powered (steps input w)
   steps_powered input w node cut uncut =
@@ -245,8 +197,7 @@ module _ (h n : ℕ) (off : Standing → Standing) (powers : (x : Standing) → 
 module _ (P : Noted → Type 0) (who : Side) (n acked : ℕ) (up : P (Up who n)) (active : P (Active who)) (gave_up : (tries : ℕ) → P (GaveUp who tries))
     (some_acked : P (Acked who n acked)) (got : (m : Message) → P (Got who n m)) where
   so : (b : Bool) (x : Noted) → P x → AllByRecursion P (if_so b x)
-  so true x a = (a, tt)
-  so false x a = tt
+  so b x a = grind arith
 
   each : {X : Type 0} (f : X → Noted) → ((x : X) → P (f x)) → (xs : List X) → AllByRecursion P (map f xs)
   each f one [] = tt
@@ -280,21 +231,15 @@ clear-append (x ∷ xs) ys a b = (a.0, clear-append xs ys a.1 b)
 pub clear_told : (who : Side) (n : ℕ) (r : Report) (acked : ℕ) → AreClear (told who n r acked)
 clear_told who n r acked = told_all IsClear who n acked tt tt (λ k. tt) tt (λ m. tt) (λ c. tt) r
 
-clear_sent : (o : Option Refused) (who : Side) (n : ℕ) (m : Message) → AreClear (sent_unless o who n m)
-clear_sent None who n m = (tt, tt)
-clear_sent (Some why) who n m = tt
-
 clear_turn : (who : Side) (n : ℕ) (e : LinkEnd) (t : Turn) → AreClear (turn_entry who n e t)
-clear_turn who n e (Give m) = clear_sent (give_refusal e m) who n m
-clear_turn who n e _ = tt
+clear_turn who n e t = grind arith
 
 pub clear_turns : (who : Side) (n : ℕ) (e : LinkEnd) (ts : List Turn) → AreClear (turn_entries who n e ts)
 clear_turns who n e [] = tt
 clear_turns who n e (t ∷ ts) = clear-append (turn_entry who n e t) (turn_entries who n (turn e t) ts) (clear_turn who n e t) (clear_turns who n (turn e t) ts)
 
 pub clear_lost : (who : Side) (why : Loss) (xs : List OnWire) → AreClear (first_lost who why xs)
-clear_lost who why [] = tt
-clear_lost who why (x ∷ xs) = (tt, tt)
+clear_lost who why xs = grind arith
 
 clear_pushed : (who : Side) (wire : List OnWire) → AreClear (pushed_out who wire)
 clear_pushed who wire = by_test (nat_lt 64 (length wire)) (λ q. rw q (clear_lost who TooMany wire)) (λ q. rw q tt)
@@ -410,19 +355,11 @@ shaped_step who l NoInput ts ending o q c = record { rest = _; shaped = shaped_r
 
 opened_same : (h : ℕ) (who : Side) (comes : Comes) (notes rest : List Noted) → notes ≡ opened_by who comes ++ rest
     → of_link h (entries_for h notes) ≡ of_link h (entries_for h rest)
-opened_same h who comes notes rest q = ap (λ z. of_link h (entries_for h z)) q ∙ by comes
-  where
-    by : (c : Comes) → of_link h (entries_for h (opened_by who c ++ rest)) ≡ of_link h (entries_for h rest)
-    by NextFrame = refl
-    by _ = refl
+opened_same h who comes notes rest q = grind arith
 
 pub opened_stands : (h : ℕ) (who : Side) (comes : Comes) (notes rest : List Noted) → notes ≡ opened_by who comes ++ rest → (x : Standing)
     → standing_by_law h x notes ≡ standing_by_law h x rest
-opened_stands h who comes notes rest q x = ap (standing_by_law h x) q ∙ by comes
-  where
-    by : (c : Comes) → standing_by_law h x (opened_by who c ++ rest) ≡ standing_by_law h x rest
-    by NextFrame = refl
-    by _ = refl
+opened_stands h who comes notes rest q x = grind arith
 
 -- ### Nodes
 
@@ -440,8 +377,7 @@ body_said h who ending notes s x =
     ∙ sym (clear_said h s.body s.clear x))
   where
     silent_last : (e : Ending) → entries_for h (last_of who e) ≡ []
-    silent_last GoesOut = refl
-    silent_last CutOff = refl
+    silent_last e = grind arith
 
     split : (b : List Noted) (e : Ending) → entries_for h (b ++ last_of who e) ≡ entries_for h b
     split [] e = silent_last e
@@ -451,8 +387,7 @@ body_said h who ending notes s x =
     flat e = ap (standing_said h x) (split s.body e)
 
 pub twice : (who : Side) (x : Standing) → without_power who (without_power who x) ≡ without_power who x
-twice Controller x = refl
-twice Host x = refl
+twice who x = grind arith
 
 -- a node in a step at whose end of this link power is lost so
 abbrev pub IsAtEnd : (h n : ℕ) (who : Side) → ((x : Standing) → after_power h n x ≡ without_power who x) → Work → Type 0
@@ -509,8 +444,7 @@ step_away h n powers w frames a uncut none x =
     ∙ (said_of_link h (w.entries ++ frames) x ∙ ap (standing_said h x) none))))
   where
     same : (b : Bool) (y : Standing) → cond b y y ≡ y
-    same true y = refl
-    same false y = refl
+    same b y = grind arith
 
 -- ### Frames
 
@@ -518,10 +452,7 @@ pub frames_uncut : (who : Side) (h : ℕ) (l : Link) (w : Work) → AreUncut (fr
 frames_uncut who h l w = by_option (port_at w.ports h) (λ q. rw q tt) (λ p q. rw q (entries_uncut h (ending_entries who l p.side (ending_of w))))
 
 pub frames_none : (who : Side) (h : ℕ) (l : Link) (w : Work) → w.cut ≡ true → frames_noted who h l w ≡ []
-frames_none who h l w q = by_option (port_at w.ports h) (λ is. rw is refl) (λ p is. rw is (ap (out p.side) q))
-  where
-    out : LinkEnd → Bool → List Entry
-    out e b = entries_for h (ending_entries who l e (cond b CutOff GoesOut))
+frames_none who h l w q = grind arith
 
 pub own_frames : (who : Side) (h : ℕ) (l : Link) (w : Work) → AreUncut (frames_noted who h l w) × (w.cut ≡ true → frames_noted who h l w ≡ [])
 own_frames who h l w = (frames_uncut who h l w, frames_none who h l w)

@@ -2,14 +2,13 @@
 use Rattle.node_laws.proofs.Words.{AllByRecursion, AreDifferent, AsksReset, AtEnd, Bool, Comes, Control, Core, CutOff, Deed, Desk, Emit, Ending, Entry, GoesOut}
 use Rattle.node_laws.proofs.Words.{IfItRuns, Link, LinkEnd, LinkInput, List, NextFrame, NoInput, Node, NodeInput, None, Noted, NumberedEnd, OnWire, Option}
 use Rattle.node_laws.proofs.Words.{Port, Reset, Some, Start, Starts, Stop, Stops, Take, Tick, TimePasses, Turn, Work, [], after_input, after_sessions}
-use Rattle.node_laws.proofs.Words.{after_turn, all_come, all_owed, ap, append-nil, append_assoc, arrival, asked_at, begins_with, by_option, by_test, changed_if}
+use Rattle.node_laws.proofs.Words.{after_turn, all_come, all_owed, ap, append-nil, append_assoc, arith, arrival, begins_with, by_option, by_test, changed_if}
 use Rattle.node_laws.proofs.Words.{ended_by, ending_entries, ending_of, entries_for, entry_of, eqb-true, false, far, find, flat_map, flat_map-append, forgets}
-use Rattle.node_laws.proofs.Words.{forgotten, frames_noted, frames_out, has_come, hosts_of_ends, if◌then◌else◌, input_at, input_of, is_forgotten, is_over}
-use Rattle.node_laws.proofs.Words.{is_rset, is_some, is_up, left_after, list_any, map, max, near_end_in, noted_of, noting, number_of, of_link, option_map_or}
-use Rattle.node_laws.proofs.Words.{own_side, port_at, pushed_out, put, put_entries, puts_entries, refl, report, reset_late, rest_entries, runs_on, silent}
-use Rattle.node_laws.proofs.Words.{step_entries, steps, subst, sym, synced, tick_entries, times_out, told, told_at, told_of, took_with, true, turn_at}
-use Rattle.node_laws.proofs.Words.{turn_entries, turn_entry, turned, turns_at, whole_acked, wire_with, wires_for, with_desk, with_ended, with_older}
-use Rattle.node_laws.proofs.Words.{without_notice, ℕ, ◌++◌, ◌+◌, ◌==◌, ◌∙◌, ◌∷◌, ◌≡◌}
+use Rattle.node_laws.proofs.Words.{forgotten, frames_noted, frames_out, has_come, hosts_of_ends, input_at, input_of, is_over, is_some, is_up, left_after}
+use Rattle.node_laws.proofs.Words.{list_any, map, near_end_in, noted_of, noting, number_of, of_link, option_map_or, own_side, port_at, pushed_out, put}
+use Rattle.node_laws.proofs.Words.{put_entries, puts_entries, refl, report, reset_late, rest_entries, runs_on, silent, step_entries, steps, subst, sym, synced}
+use Rattle.node_laws.proofs.Words.{tick_entries, times_out, told, told_at, told_of, turn_at, turn_entries, turn_entry, turned, turns_at, whole_acked, wire_with}
+use Rattle.node_laws.proofs.Words.{wires_for, with_desk, with_ended, with_older, without_notice, ℕ, ◌++◌, ◌==◌, ◌∙◌, ◌∷◌, ◌≡◌}
 use Rattle.link_laws.proofs.entries.Noting.{ended_number}
 use Rattle.link_laws.specs.entries.Entries.{End as Side}
 use Rattle.node_laws.proofs.kept.Doing.{hosts_map}
@@ -23,10 +22,7 @@ pub at_map : (f : Port → Port) → ((p : Port) → (f p).desk.host ≡ p.desk.
     → port_at (map f ports) h ≡ Some (f p)
 at_map f keeps [] h p q = cc
 at_map f keeps (x ∷ ports) h p q = by_test (x.desk.host == h)
-    (λ e. let is : Some x ≡ Some p = rw e at q in
-    let one : x ≡ p = cc in
-    let found : ((f x).desk.host == h) ≡ true = same ∙ e in
-    rw found (ap (λ z. Some (f z)) one))
+    (λ e. grind arith)
     (λ e. let passed : ((f x).desk.host == h) ≡ false = same ∙ e in
     rw passed (at_map f keeps ports h p (rw e at q)))
   where
@@ -50,9 +46,7 @@ none_is [] h k x q r = absurd (cc r)
 none_is (y ∷ ports) h k x q r = by_test (y.desk.host == h)
     (λ e. let is : Some y ≡ None = rw e at q in absurd (cc is))
     (λ e. by_test (y.desk.host == k)
-    (λ f. let is : Some y ≡ Some x = rw f at r in
-    let one : y ≡ x = cc in
-    subst (λ (z : Port). (z.desk.host == h) ≡ false) one e)
+    (λ f. grind arith)
     (λ f. none_is ports h k x (rw e at q) (rw f at r)))
 
 -- the node has no end on the link with this host, and noted nothing of it
@@ -100,22 +94,10 @@ pub record AreAlike (l m : Link) : Type 0 where
   pub resets : l.resets ≡ m.resets
 
 put_alike : (l m : Link) (c : Control) → AreAlike l m → AreAlike (put l c) (put m c)
-put_alike l m c a =
-    let to : List OnWire → ℕ → Link = λ w n. put (record l { to_host = w; resets = n }) c in
-    let last : AreAlike (to m.to_host m.resets) (put m c) = go (is_rset c) refl in
-    record {
-      to_host = ap (λ w. (to w l.resets).to_host) a.to_host ∙ (ap (λ n. (to m.to_host n).to_host) a.resets ∙ last.to_host);
-      resets = ap (λ w. (to w l.resets).resets) a.to_host ∙ (ap (λ n. (to m.to_host n).resets) a.resets ∙ last.resets);
-    }
-  where
-    go : (b : Bool) → is_rset c ≡ b → AreAlike (put (record l { to_host = m.to_host; resets = m.resets }) c) (put m c)
-    go true q = rw q (record { to_host = refl; resets = refl })
-    go false q = rw q (record { to_host = refl; resets = refl })
+put_alike l m c a = grind arith
 
 wire_alike : (l m : Link) (c : Control) → AreAlike l m → wire_with l c ≡ wire_with m c
-wire_alike l m c a =
-    let wire : ℕ → List OnWire → List OnWire = λ n w. w ++ record { frame = c; age = 0; number = if is_rset c then n + 1 else 0 } ∷ [] in
-    ap (wire l.resets) a.to_host ∙ ap (λ n. wire n m.to_host) a.resets
+wire_alike l m c a = grind arith
 
 puts_alike : (who : Side) (cs : List Control) (l m : Link) → AreAlike l m → puts_entries who l cs ≡ puts_entries who m cs
 puts_alike who [] l m a = refl
@@ -136,8 +118,7 @@ rest_is who k l n e turns ending q a =
 -- ### A session that ended
 
 ended_alike : (l : Link) (b : Bool) → AreAlike (with_ended l b) l
-ended_alike l true = record { to_host = refl; resets = refl }
-ended_alike l false = record { to_host = refl; resets = refl }
+ended_alike l b = grind arith
 
 -- ### A step
 
@@ -188,8 +169,7 @@ module _ (h : ℕ) (who : Side) (turns : List Turn) (ending : Ending) where
       let is : f ≡ i = cc in
       let b : Bool = is_some (ended_by l.controller.side f) in
       let m : Link = record l { to_controller = xs } in
-      let number : number_of (left_after k x xs).controller ≡ number_of (near_end_in k NextFrame) =
-      ap (λ z. max z (took_with l.controller.took x)) (emitted m b) in
+      let number : number_of (left_after k x xs).controller ≡ number_of (near_end_in k NextFrame) = grind arith in
       let all : IsParts NextFrame (Some f) k =
       ap (λ z. entries_for h (arrival who k NextFrame ++ (told_of who (near_end_in k NextFrame) f ++ z)))
       (rest_is who (left_after k x xs) k (number_of (near_end_in k NextFrame)) (after_input l.controller.side f) turns ending number
@@ -197,8 +177,7 @@ module _ (h : ℕ) (who : Side) (turns : List Turn) (ending : Ending) where
       subst (λ (j : LinkInput). IsParts NextFrame (Some j) k) is all
     where
       emitted : (m : Link) (b : Bool) → (with_ended m b).controller.emitted ≡ m.controller.emitted
-      emitted m true = refl
-      emitted m false = refl
+      emitted m b = grind arith
 
   step_is : (l : Link) (comes : Comes) (o : Option LinkInput) → input_of l comes ≡ o → IsStep comes o → IsParts comes o l
   step_is l NextFrame o q c = next_is l o l.to_controller q c
@@ -344,30 +323,22 @@ four h a t u f =
 -- ### What a step keeps of an end
 
 pub without_same : (p : Port) → SameEnd p (without_notice p)
-without_same p = by_test (is_over p)
-    (λ q. rw q (record { session = refl; late = refl; side = refl; turns = refl }))
-    (λ q. rw q (record { session = refl; late = refl; side = refl; turns = refl }))
+without_same p = grind arith
 
 pub forgets_same : (ports : List Port) (p : Port) → SameEnd p (forgets ports p)
-forgets_same ports p = by_test (is_forgotten ports (asked_at p))
-    (λ q. rw q (record { session = refl; late = refl; side = refl; turns = refl }))
-    (λ q. rw q (record { session = refl; late = refl; side = refl; turns = refl }))
+forgets_same ports p = grind arith
 
 pub come_session : (p : Port) (o : Option LinkInput) → (has_come p o).session ≡ p.session
-come_session p None = refl
-come_session p (Some i) = refl
+come_session p o = grind arith
 
 come_late : (p : Port) (o : Option LinkInput) → (has_come p o).late ≡ p.late
-come_late p None = refl
-come_late p (Some i) = refl
+come_late p o = grind arith
 
 pub come_turns : (p : Port) (o : Option LinkInput) → (has_come p o).turns ≡ p.turns
-come_turns p None = refl
-come_turns p (Some i) = refl
+come_turns p o = grind arith
 
 come_side : (p : Port) (o : Option LinkInput) → (has_come p o).side ≡ after_coming p.side o
-come_side p None = refl
-come_side p (Some i) = refl
+come_side p o = grind arith
 
 pub sessions_side : (core : Core) (ports : List Port) → own_side (after_sessions core ports) ≡ own_side core
 sessions_side core ports = by_test (list_any is_over ports) (λ q. rw q refl) (λ q. rw q refl)
@@ -450,9 +421,7 @@ module _ (h : ℕ) (who : Side) (l : Link) (comes : Comes) (o : Option LinkInput
       one (Some j) =
           ap (λ n. entries_for n (told (own_side w.core) p.session (report p.side j) (whole_acked (after_input p.side j)))) (eqb-true p.desk.host h
           (at_host w.ports h p a.here))
-          ∙ (ap (λ z. entries_for h (told z p.session (report p.side j) (whole_acked (after_input p.side j)))) a.side
-          ∙ (ap (λ n. entries_for h (told who n (report p.side j) (whole_acked (after_input p.side j)))) a.session
-          ∙ ap (λ z. entries_for h (told who (number_of (near_end_in l comes)) (report z j) (whole_acked (after_input z j)))) a.is))
+          ∙ (grind arith)
 
       others : (x : Port) → (x.desk.host == h) ≡ false → of_link h (told_at w.core x (input_at input x)) ≡ []
       others x z = by_option (input_at input x)
@@ -490,18 +459,7 @@ module _ (h : ℕ) (who : Side) (l : Link) (comes : Comes) (o : Option LinkInput
   begun k deeds w m a q =
       let n : ℕ = number_of (near_end_in l comes) in
       let e : LinkEnd = after_coming (near_end_in l comes).side o in
-      let first : Goes w = record {
-        side = a.side;
-        port = a.port;
-        here = a.here;
-        session = a.session;
-        late_is = a.late;
-        is = a.is ∙ (sym (ap (after_coming (near_end_in l comes).side) q) ∙ ap (turned e) (sym a.turns));
-        told = a.told
-            ∙ (sym (append-nil (of_link h (entries_for h (arrival who l comes))))
-            ∙ (ap (λ x. of_link h (entries_for h (arrival who l comes)) ++ of_link h (entries_for h (told_coming who (near_end_in l comes) x))) (sym q)
-            ∙ (sym (append-nil before) ∙ ap (λ ts. before ++ of_link h (entries_for h (turn_entries who n e ts))) (sym a.turns))));
-      } in
+      let first : Goes w = grind arith in
       all_do Goes (note h who n e before false) (desk h who n e before false) (turns h who n e before false) (beside h who n e before false) k deeds w m first
 
   -- with the frames that go out it is all that is noted of the step
@@ -512,8 +470,7 @@ module _ (h : ℕ) (who : Side) (l : Link) (comes : Comes) (o : Option LinkInput
       let e : LinkEnd = after_coming (near_end_in l comes).side o in
       let ts : List Turn = a.port.turns in
       let out : LinkEnd → List Noted = λ z. ending_entries who (wires_for l comes) z (ending_of w) in
-      let frames : frames_noted who h (wires_for l comes) w ≡ entries_for h (out (turned e ts)) =
-      ap (λ z. option_map_or (λ (p : Port). entries_for h (out p.side)) z []) a.here ∙ ap (λ z. entries_for h (out z)) a.is in
+      let frames : frames_noted who h (wires_for l comes) w ≡ entries_for h (out (turned e ts)) = grind arith in
       let turns : turns_at w h ≡ ts = ap (λ z. option_map_or (λ (p : Port). p.turns) z []) a.here in
       ap (λ t. t ++ of_link h (frames_noted who h (wires_for l comes) w)) a.told
       ∙ (ap (λ t. (before ++ of_link h (entries_for h (turn_entries who n e ts))) ++ of_link h t) frames

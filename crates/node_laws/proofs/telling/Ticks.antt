@@ -1,20 +1,14 @@
 -- What a node notes of a link in its tick, of frames that come, go out, are lost and grow old, and of a reset there.
-use Rattle.node_laws.proofs.Words.{Acked, ActOut, Active, AllByRecursion, AreDifferent, Asked, AsksReset, Bool, Cause, Comes, Control, Core, Cut, CutOff, Down}
-use Rattle.node_laws.proofs.Words.{Emit, EndState, Ending, Entry, GaveUp, GoesOut, Link, LinkEnd, LinkInput, List, Loss, Lost, NextFrame, NoAnswer, NoInput}
-use Rattle.node_laws.proofs.Words.{None, Noted, Notice, OnWire, Option, Port, Reset, Some, Tick, TimePasses, Timed, TooMany, TooOld, Took, Up, Waiting, Work}
-use Rattle.node_laws.proofs.Words.{[], act_event, act_out, after_input, after_sessions, aged_entries, all_append, all_come, all_owed, ap, append-nil, arith}
-use Rattle.node_laws.proofs.Words.{arrival, by_list, by_option, by_test, cond, ended_by, ending_entries, entries_for, eqb-true, false, far, first_lost}
-use Rattle.node_laws.proofs.Words.{flat_map, forgets, forgotten, frames_out, has_come, if_so, in_front, is_due, is_late, is_open, is_some, length, map, nat_le}
-use Rattle.node_laws.proofs.Words.{nat_lt, no_act_out, no_session, nothing_ticked, number_of, of_link, option_to_list, own_side, port_at, pushed_out, put}
-use Rattle.node_laws.proofs.Words.{put_entries, puts_entries, refl, report, reset_late, runs_timer, steps, subst, sym, synced, tick_answer, ticked, timed}
-use Rattle.node_laws.proofs.Words.{times_out, told, told_at, told_late, told_of, true, turn_entries, turned, whole_acked, whole_among, wire_with, with_older}
-use Rattle.node_laws.proofs.Words.{without_notice, ℕ, ◌&&◌, ◌++◌, ◌+◌, ◌-◌, ◌==◌, ◌∙◌, ◌∷◌, ◌≡◌}
+use Rattle.node_laws.proofs.Words.{AllByRecursion, AreDifferent, Asked, AsksReset, Bool, Cause, Comes, Control, Core, Cut, CutOff, Down, Emit, EndState, Ending}
+use Rattle.node_laws.proofs.Words.{Entry, GoesOut, Link, LinkEnd, LinkInput, List, Loss, Lost, NoInput, None, Noted, OnWire, Option, Port, Reset, Some, Tick}
+use Rattle.node_laws.proofs.Words.{TimePasses, TooMany, TooOld, Took, Up, Waiting, Work, [], after_input, after_sessions, aged_entries, all_append, all_come}
+use Rattle.node_laws.proofs.Words.{all_owed, ap, append-nil, arith, arrival, by_option, by_test, ended_by, ending_entries, entries_for, eqb-true, false, far}
+use Rattle.node_laws.proofs.Words.{first_lost, flat_map, forgets, forgotten, frames_out, has_come, in_front, is_due, is_late, is_open, is_some, map, nat_le}
+use Rattle.node_laws.proofs.Words.{nat_lt, no_session, number_of, of_link, own_side, port_at, pushed_out, put, put_entries, puts_entries, refl, report}
+use Rattle.node_laws.proofs.Words.{reset_late, steps, subst, sym, synced, tick_answer, ticked, times_out, told, told_at, told_late, told_of, true, turn_entries}
+use Rattle.node_laws.proofs.Words.{whole_acked, whole_among, wire_with, with_older, without_notice, ℕ, ◌++◌, ◌+◌, ◌-◌, ◌==◌, ◌∙◌, ◌∷◌, ◌≡◌}
 use Rattle.link_laws.specs.entries.Entries.{End as Side}
-use Rattle.link_laws.specs.entries.Entries.Entry.{Up as IsUpNow}
-use Rattle.link_laws.specs.machine.Machine.{gave_up_by}
-use Rattle.shdlc_core.specs.Machine.Timed.{Over, Runs, Spent}
 use Rattle.shdlc_core.specs.declared.answers.Due.TheVariants.{Rset as Rset_due}
-use Rattle.shdlc_core.specs.declared.answers.Ticked.{Ticked}
 use Rattle.node_laws.proofs.kept.Doing.{hosts_map}
 use Rattle.node_laws.proofs.steps.StepWalks.{forgets_host, late_host, without_host}
 use Rattle.node_laws.proofs.telling.Accounts.{SameEnd, all_owed_mute, all_synced_mute, at_host, beside, desk, forgotten_mute, note, of-append, of_other, rest}
@@ -29,13 +23,11 @@ module _ (P : Noted → Type 0) where
   All notes = AllByRecursion P notes
 
   pub lost_all : ((who : Side) (c : Control) (why : Loss) → P (Lost who c why)) → (who : Side) (why : Loss) (xs : List OnWire) → All (first_lost who why xs)
-  lost_all lost who why [] = tt
-  lost_all lost who why (x ∷ xs) = (lost who x.frame why, tt)
+  lost_all lost who why xs = grind arith
 
   module _ (took : (who : Side) (c : Control) → P (Took who c)) where
     pub arrival_all : (who : Side) (l : Link) (comes : Comes) → All (arrival who l comes)
-    arrival_all who l NextFrame = by_list l.to_controller (λ q. rw q tt) (λ x xs q. rw q (took who x.frame, tt))
-    arrival_all who l _ = tt
+    arrival_all who l comes = grind arith
 
   module _ (old : (who : Side) (c : Control) → P (Lost who c TooOld)) where
     aged_all : (who : Side) (xs : List OnWire) → All (aged_entries who xs)
@@ -49,11 +41,7 @@ module _ (P : Noted → Type 0) where
   module _ (emit : (who : Side) (c : Control) → P (Emit who c)) (full : (who : Side) (c : Control) → P (Lost who c TooMany))
       (cut : (who : Side) → P (Cut who)) where
     pushed_all : (who : Side) (wire : List OnWire) → All (pushed_out who wire)
-    pushed_all who wire = go (nat_lt 64 (length wire)) wire where
-      go : (b : Bool) (xs : List OnWire) → All (cond b (first_lost who TooMany xs) [])
-      go true [] = tt
-      go true (x ∷ xs) = (full who x.frame, tt)
-      go false xs = tt
+    pushed_all who wire = grind arith
 
     puts_all : (who : Side) (l : Link) (cs : List Control) → All (puts_entries who l cs)
     puts_all who l [] = tt
@@ -80,30 +68,8 @@ record IsLeft (s t : EndState) : Type 0 where
   ready : t.ready ≡ s.ready
   acked : t.session.acked ≡ s.session.acked
 
-none_given_up : (s : EndState) → s.phase ≡ Up → (tick_answer s).gave_up ≡ None
-none_given_up s up = ap (λ (z : Ticked). z.gave_up) answer ∙ go (runs_timer s.session) (timed s)
-  where
-    by : Timed → Ticked
-    by Spent = record nothing_ticked { ended = Some NoAnswer }
-    by Runs = nothing_ticked
-    by Over = nothing_ticked
-
-    answer : tick_answer s ≡ cond (runs_timer s.session) (by (timed s)) nothing_ticked
-    answer = rw up refl
-
-    go : (b : Bool) (t : Timed) → (cond b (by t) nothing_ticked).gave_up ≡ None
-    go true Runs = refl
-    go true _ = refl
-    go false t = refl
-
 left_of_late : (s : EndState) → s.phase ≡ Up → is_some (tick_answer s).ended ≡ false → IsLeft s (ticked s)
-left_of_late s up lasts = go (runs_timer s.session) (timed s) refl refl
-  where
-    go : (b : Bool) (t : Timed) → runs_timer s.session ≡ b → timed s ≡ t → IsLeft s (ticked s)
-    go false t q r = rw (up, q) (record { phase = refl; window = refl; ready = refl; acked = refl })
-    go true Runs q r = rw (up, q, r) (record { phase = refl; window = refl; ready = refl; acked = refl })
-    go true Over q r = rw (up, q, r) (record { phase = refl; window = refl; ready = refl; acked = refl })
-    go true Spent q r = let z : true ≡ false = rw (up, q, r) at lasts in absurd (cc z)
+left_of_late s up lasts = grind arith
 
 -- the end of a link that was up and waits after a reset with its own window
 abbrev waits_so : LinkEnd → ℕ → Bool → LinkEnd
@@ -125,21 +91,13 @@ waits_so e w ready = record e {
 reset_is : (e : LinkEnd) → is_open e.role ≡ true → e.shdlc.phase ≡ Up → after_input e (Reset None) ≡ waits_so e e.shdlc.own_window e.shdlc.ready
 reset_is e on up = rw (on, up) refl
 
-minus_self : (n : ℕ) → n - n ≡ 0
-minus_self n = omega arith
-
 none_left : (n : ℕ) → 0 - n ≡ 0
 none_left n = omega arith
 
 -- the session of an end that is up ends by a reset, and no more is told
 reset_tells : (who : Side) (n : ℕ) (e : LinkEnd) → is_open e.role ≡ true → e.shdlc.phase ≡ Up
     → told who n (report e (Reset None)) (whole_acked (after_input e (Reset None))) ≡ Down who Asked ∷ []
-reset_tells who n e on up =
-    let so : Option Cause → ℕ → List Noted = λ ended acked.
-    map (Down who) (option_to_list ended) ++ (if_so (nat_lt 0 acked) (Acked who n (whole_acked (after_input e (Reset None)))) ++ []) in
-    let ended : ended_by e (Reset None) ≡ Some Asked = rw (on, up) refl in
-    ap (λ c. so c (whole_acked (after_input e (Reset None)) - whole_acked e)) ended
-    ∙ ap (so (Some Asked)) (ap (λ z. whole_acked z - whole_acked e) (reset_is e on up) ∙ none_left (whole_acked e))
+reset_tells who n e on up = grind arith
 
 module _ (e : LinkEnd) (a : IsLasting e) where
   answer : is_some (tick_answer e.shdlc).ended ≡ false
@@ -152,44 +110,25 @@ module _ (e : LinkEnd) (a : IsLasting e) where
   tick_is = let on = a.active in let lasts = answer in rw (on, lasts) refl
 
   pub reset_same : after_input (after_input e Tick) (Reset None) ≡ after_input e (Reset None)
-  reset_same =
-      let f : LinkEnd = record e { shdlc = ticked e.shdlc } in
-      ap (λ z. after_input z (Reset None)) tick_is
-      ∙ (reset_is f a.active is_left.phase
-      ∙ (ap (λ w. waits_so e w (ticked e.shdlc).ready) is_left.window
-      ∙ (ap (λ r. waits_so e e.shdlc.own_window r) is_left.ready ∙ sym (reset_is e a.active a.up))))
+  reset_same = grind arith
 
   -- ### What is told
 
   none_of : (o : Option Cause) → is_some o ≡ false → o ≡ None
-  none_of None q = refl
-  none_of (Some c) q = cc
+  none_of o q = grind arith
 
   acked_is : whole_acked (after_input e Tick) ≡ whole_acked e
   acked_is = ap whole_acked tick_is ∙ ap (λ n. whole_among e.sent n) is_left.acked
 
   -- of the tick nothing is told
   tick_told : (who : Side) (n : ℕ) → told who n (report e Tick) (whole_acked (after_input e Tick)) ≡ []
-  tick_told who n =
-      let so : Option Cause → ActOut → Option ℕ → ℕ → List Noted = λ ended out tries acked.
-      map (Down who) (option_to_list ended) ++ (if_so false (IsUpNow who n) ++ (if_so out.became_active (Active who)
-      ++ (map (GaveUp who) (option_to_list tries) ++ (if_so (nat_lt 0 acked) (Acked who n (whole_acked (after_input e Tick))) ++ [])))) in
-      let out : ActOut = act_out e.role (act_event e Tick) in
-      let event : act_event e Tick ≡ None = let on = a.active in rw on refl in
-      let tries : gave_up_by e Tick ≡ None = let on = a.active in rw on (none_given_up e.shdlc a.up) in
-      ap (λ c. so c out (gave_up_by e Tick) (whole_acked (after_input e Tick) - whole_acked e)) (none_of (ended_by e Tick) a.goes_on)
-      ∙ (ap (λ o. so None (act_out e.role o) (gave_up_by e Tick) (whole_acked (after_input e Tick) - whole_acked e)) event
-      ∙ (ap (λ t. so None no_act_out t (whole_acked (after_input e Tick) - whole_acked e)) tries
-      ∙ ap (so None no_act_out None) (ap (λ k. k - whole_acked e) acked_is ∙ minus_self (whole_acked e))))
+  tick_told who n = grind arith
 
   -- and of the reset behind it what is told of a reset in its place
   reset_told : (who : Side) (n : ℕ)
       → told who n (report (after_input e Tick) (Reset None)) (whole_acked (after_input (after_input e Tick) (Reset None)))
       ≡ told who n (report e (Reset None)) (whole_acked (after_input e (Reset None)))
-  reset_told who n =
-      let f : LinkEnd = record e { shdlc = ticked e.shdlc } in
-      ap (λ z. told who n (report z (Reset None)) (whole_acked (after_input z (Reset None)))) tick_is
-      ∙ (reset_tells who n f a.active is_left.phase ∙ sym (reset_tells who n e a.active a.up))
+  reset_told who n = grind arith
 
 -- ## What a node notes of a link in its tick
 
@@ -208,22 +147,7 @@ pub record IsLate (p : Port) : Type 0 where
   pub goes_on : is_some (ended_by p.side Tick) ≡ false
 
 pub late_parts : (p : Port) → is_late (older p) ≡ true → IsLate p
-late_parts p late = go p.desk.notice (is_some (ended_by p.side Tick)) refl refl
-  where
-    go : (o : Option Notice) (b : Bool) → p.desk.notice ≡ o → is_some (ended_by p.side Tick) ≡ b → IsLate p
-    go None b r q = let z : false ≡ true = rw r at late in absurd (cc z)
-    go (Some n) true r q = let z : (nat_le 100 (n.age + 1) && false) ≡ true = rw (r, q) at late in absurd (never (nat_le 100 (n.age + 1)) z)
-      where
-        never : (c : Bool) → (c && false) ≡ true → ⊥
-        never true e = cc
-        never false e = cc
-    go (Some n) false r q =
-        let z : (nat_le 100 (n.age + 1) && true) ≡ true = rw (r, q) at late in
-        record { due = rw r (left_is (nat_le 100 (n.age + 1)) z); goes_on = q }
-      where
-        left_is : (c : Bool) → (c && true) ≡ true → c ≡ true
-        left_is true e = refl
-        left_is false e = e
+late_parts p late = grind arith
 
 reset_same_end : (p : Port) → is_late p ≡ false → SameEnd p (reset_late p)
 reset_same_end p q = rw q (record { session = refl; late = refl; side = refl; turns = refl })
@@ -292,11 +216,7 @@ module _ (h : ℕ) (who : Side) (l : Link) where
     -- what is told of an input to its end
     one : (i : LinkInput) (q : Port) (e : LinkEnd) → q.desk.host ≡ h → q.session ≡ number_of l.controller → q.side ≡ e
         → told_at w.core q (Some i) ≡ entries_for h (told who (number_of l.controller) (report e i) (whole_acked (after_input e i)))
-    one i q e host session side =
-        ap (λ n. entries_for n (told (own_side w.core) q.session (report q.side i) (whole_acked (after_input q.side i)))) host
-        ∙ (ap (λ z. entries_for h (told z q.session (report q.side i) (whole_acked (after_input q.side i)))) a.side
-        ∙ (ap (λ n. entries_for h (told who n (report q.side i) (whole_acked (after_input q.side i)))) session
-        ∙ ap (λ z. entries_for h (told who (number_of l.controller) (report z i) (whole_acked (after_input z i)))) side))
+    one i q e host session side = grind arith
 
     p_host : p.desk.host ≡ h
     p_host = eqb-true p.desk.host h (at_host w.ports h p a.here)
@@ -339,8 +259,7 @@ module _ (h : ℕ) (who : Side) (l : Link) where
           here = last_here;
           session = session_is;
           late_is = (without_same left).late ∙ ((forgets_same ports come).late ∙ (same.late ∙ a.late));
-          is = (without_same left).side ∙ ((forgets_same ports come).side
-              ∙ (same.side ∙ (ap (λ z. after_input z Tick) a.is ∙ ap (turned e) (sym turns_are))));
+          is = (without_same left).side ∙ (grind arith);
           told = noted_all ∙ (ap (λ z. t ++ of_link h z) none ∙ (append-nil t ∙ begins_with_turns e t));
         }
 
@@ -348,11 +267,7 @@ module _ (h : ℕ) (who : Side) (l : Link) where
     too_late q up =
         let late : IsLate p = late_parts p q in
         let side : LinkEnd = l.controller.side in
-        let lasting : IsLasting side = record {
-          active = up.0;
-          up = up.1;
-          goes_on = subst (λ (z : LinkEnd). is_some (ended_by z Tick) ≡ false) a.is late.goes_on;
-        } in
+        let lasting : IsLasting side = grind arith in
         let e : LinkEnd = after_input side (Reset None) in
         let n : ℕ = number_of l.controller in
         let t : List Entry = of_link h (entries_for h (told_of who l.controller (Reset None))) in
@@ -370,8 +285,7 @@ module _ (h : ℕ) (who : Side) (l : Link) where
           here = last_here;
           session = session_is;
           late_is = (without_same left).late ∙ ((forgets_same ports come).late ∙ come_late);
-          is = (without_same left).side ∙ ((forgets_same ports come).side ∙ (come_side
-              ∙ (ap (λ z. after_input (after_input z Tick) (Reset None)) a.is ∙ (reset_same side lasting ∙ ap (turned e) (sym turns_are)))));
+          is = (without_same left).side ∙ ((forgets_same ports come).side ∙ (grind arith));
           told = noted_all ∙ (ap (λ z. z ++ of_link h (told_late w.core (older p))) first ∙ (second ∙ begins_with_turns e t));
         }
 

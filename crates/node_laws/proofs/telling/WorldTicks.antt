@@ -2,14 +2,14 @@
 use Rattle.node_laws.proofs.Words.{AllByRecursion, AreDifferent, AsksReset, Bool, Clf, Controller, Desk, Ending, Entry, GoesOut, GoesSo, HasEnds, Host, IfDue}
 use Rattle.node_laws.proofs.Words.{IfItRuns, IfOff, IsOrderly, IsTimely, Link, LinkEnd, LinkEvent, LinkInput, List, NoInput, Node, NodeWorld, None, NoneDue}
 use Rattle.node_laws.proofs.Words.{Noted, NumberedEnd, Option, Port, Reset, Running, Site, Some, Standing, StandsOf, Step, TellOf, Tick, TicksWithout}
-use Rattle.node_laws.proofs.Words.{TimePasses, Turn, Uicc, Work, [], after_input, after_tick, aged, aged_entries, all_aged, ap, append-nil, append_assoc}
+use Rattle.node_laws.proofs.Words.{TimePasses, Turn, Uicc, Work, [], after_input, after_tick, aged, aged_entries, all_aged, ap, append-nil, append_assoc, arith}
 use Rattle.node_laws.proofs.Words.{by_controller_tick, by_host_tick, by_test, controller_ticks, ended_by, ending_of, entries_for, eqb-true, event_entries}
-use Rattle.node_laws.proofs.Words.{exchanged, false, find, flat_map, fold-append, frames_noted, frames_out, happens, has_input, host_ended, host_finished}
-use Rattle.node_laws.proofs.Words.{host_tick, host_ticks, hosts_in, hosts_tick, if◌then◌else◌, is_due, is_late, is_late_at, is_some, is_waiting, law_noted}
-use Rattle.node_laws.proofs.Words.{link_to, near_tick, new_clf, new_link_end, new_uicc, number_of, of_link, option_map, option_map_or, port_at, port_for}
-use Rattle.node_laws.proofs.Words.{puts_entries, refl, report, site_at, site_ticked, site_unticked, standing, standing_by_law, stands_noted, step_entries}
-use Rattle.node_laws.proofs.Words.{steps_at_controller, subst, sym, tick_entries, ticked_so, ticks_at_controller, told, true, turned, turns_at, whole_acked}
-use Rattle.node_laws.proofs.Words.{with_ended, without_power, work_of, world_ticks, ℕ, ◌++◌, ◌==◌, ◌∙◌, ◌∷◌, ◌≡◌}
+use Rattle.node_laws.proofs.Words.{exchanged, false, find, flat_map, fold-append, frames_noted, happens, has_input, host_ended, host_finished, host_tick}
+use Rattle.node_laws.proofs.Words.{host_ticks, hosts_in, hosts_tick, if◌then◌else◌, is_due, is_late, is_late_at, is_some, is_waiting, law_noted, link_to}
+use Rattle.node_laws.proofs.Words.{near_tick, new_clf, new_link_end, new_uicc, number_of, of_link, option_map, port_at, port_for, refl, site_at, site_ticked}
+use Rattle.node_laws.proofs.Words.{site_unticked, standing, standing_by_law, stands_noted, step_entries, steps_at_controller, subst, sym, tick_entries}
+use Rattle.node_laws.proofs.Words.{ticked_so, ticks_at_controller, told, true, turned, turns_at, with_ended, without_power, work_of, world_ticks, ℕ, ◌++◌, ◌==◌}
+use Rattle.node_laws.proofs.Words.{◌∙◌, ◌∷◌, ◌≡◌}
 use Rattle.link_laws.specs.messages.Links.LinkEvent.{Ticks}
 use Rattle.link_laws.specs.entries.Entries.{End as Side}
 use Rattle.node_laws.specs.telling.Telling.{Tells}
@@ -25,9 +25,7 @@ pub young_ports : (near_ends : ℕ → NumberedEnd) (desks : List Desk) (h : ℕ
     → port_at (ports_for near_ends desks) h ≡ Some p → is_due p.desk ≡ false
 young_ports near_ends [] h p a q = absurd (cc q)
 young_ports near_ends (d ∷ desks) h p a q = by_test (d.host == h)
-    (λ e. let is : Some (port_for (near_ends d.host) d) ≡ Some p = rw e at q in
-    let one : port_for (near_ends d.host) d ≡ p = cc in
-    let P : Port → Type 0 = λ z. is_due z.desk ≡ false in subst P one a.0)
+    (λ e. grind arith)
     (λ e. young_ports near_ends desks h p a.1 (rw e at q))
 
 -- the desk of an end
@@ -35,9 +33,7 @@ desk_found : (near_ends : ℕ → NumberedEnd) (desks : List Desk) (h : ℕ) (p 
     → find (λ d. d.host == h) desks ≡ Some p.desk
 desk_found near_ends [] h p q = absurd (cc q)
 desk_found near_ends (d ∷ desks) h p q = by_test (d.host == h)
-    (λ e. let is : Some (port_for (near_ends d.host) d) ≡ Some p = rw e at q in
-    let one : port_for (near_ends d.host) d ≡ p = cc in
-    rw e (ap (λ (z : Port). Some z.desk) one))
+    (λ e. grind arith)
     (λ e. rw e (desk_found near_ends desks h p (rw e at q)))
 
 -- what a node did to an end in its tick
@@ -142,16 +138,10 @@ host_turns x (Some n) = turns_at (host_tick x n) x.host
 
 -- an end that is new has nothing to tell of a tick
 still_near : (who : Side) (l : Link) → l.controller.side ≡ new_link_end (Clf new_clf) → tick_entries who l (record { turns = []; ending = GoesOut }) ≡ []
-still_near who l q =
-    let P : LinkEnd → Type 0 = λ e. told who (number_of l.controller) (report e Tick) (whole_acked (after_input e Tick))
-    ++ puts_entries who l (frames_out (after_input e Tick)) ≡ [] in
-    tick_is who l (record { turns = []; ending = GoesOut }) ∙ subst P (sym q) refl
+still_near who l q = grind arith
 
 still_far : (who : Side) (l : Link) → l.controller.side ≡ new_link_end (Uicc new_uicc) → tick_entries who l (record { turns = []; ending = GoesOut }) ≡ []
-still_far who l q =
-    let P : LinkEnd → Type 0 = λ e. told who (number_of l.controller) (report e Tick) (whole_acked (after_input e Tick))
-    ++ puts_entries who l (frames_out (after_input e Tick)) ≡ [] in
-    tick_is who l (record { turns = []; ending = GoesOut }) ∙ subst P (sym q) refl
+still_far who l q = grind arith
 
 -- what a host does and notes in its tick
 pub record Far (x : Site) : Type 0 where
@@ -270,8 +260,7 @@ module _ (w : NodeWorld) (h : ℕ) (s : Site) (orderly : IsOrderly w) (found : s
     done b q = ticked h Controller s.link b Begun opened q (up_late b q)
 
     late_is : (b : Bool) → Ticked h Controller s.link b k → is_late_at k h ≡ b
-    late_is true a = ap (λ o. option_map_or (λ (p : Port). p.late) o false) a.here ∙ a.late_is
-    late_is false a = ap (λ o. option_map_or (λ (p : Port). p.late) o false) a.here ∙ a.late_is
+    late_is b a = grind arith
 
     noted_is : (t : List Noted) → of_link h k.entries ++ of_link h (frames_noted Controller h s.link k) ≡ of_link h (entries_for h t)
         → of_link h (k.entries ++ flat_map (λ (x : Site). frames_noted Controller x.host x.link k) w.sites) ≡ of_link h (entries_for h t)
@@ -313,12 +302,10 @@ module _ (w : NodeWorld) (h : ℕ) (s : Site) (orderly : IsOrderly w) (found : s
 
     -- an end that is up doesn't wait
     ready_is : (b : Bool) → IfLate b s.link.controller.side → b ≡ true → is_waiting s.link.controller.side.shdlc ≡ false
-    ready_is true up q = let u = up.1 in rw u refl
-    ready_is false up q = absurd (cc q)
+    ready_is b up q = grind arith
 
     so_is : (b : Bool) → IfLate b s.link.controller.side → ticked_so s.link b (turns_at k h) (ending_of k) ≡ between b s.link (had k h)
-    so_is true up = let z = ready_is true up refl in rw z refl
-    so_is false up = refl
+    so_is b up = grind arith
 
     runs_so : Near w h s
     runs_so = go (is_late (older opened.port)) refl
@@ -513,8 +500,7 @@ module _ (w : NodeWorld) (h : ℕ) (s : Site) (orderly : IsOrderly w) (found : s
 
   happens_is : (b : Bool) (l : Link) (c n : Node)
       → happens l (tick_event b c n) ≡ exchanged (ticks_at_controller (exchanged (between b (aged l) c)) n.turns n.ending)
-  happens_is true l c n = refl
-  happens_is false l c n = refl
+  happens_is b l c n = grind arith
 
   pub ticking : Ticking w h s
   ticking = record {

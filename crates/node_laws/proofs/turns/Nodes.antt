@@ -1,21 +1,20 @@
 -- What waits at the ends of a world as a node of it has a step, the controller or a host.
 use Rattle.std.proofs.Math.Bool.{and-false}
-use Rattle.node_laws.proofs.Words.{AreDifferent, AtEnd, Bool, Comes, Controller, CutOff, Deed, Desk, End, Entry, GoesOut, HasEnds, Host, IsOutside, Link}
-use Rattle.node_laws.proofs.Words.{LinkEnd, LinkInput, List, Loss, Memory, Message, NoInput, NodeInput, NodeWorld, None, NumberedEnd, OnWire, Option, Port}
-use Rattle.node_laws.proofs.Words.{Running, Site, Some, Step, TimePasses, Work, [], after_controller, after_host, after_input, after_planned, after_tick}
-use Rattle.node_laws.proofs.Words.{aged_entries, ap, arrival, begins_with, by_option, by_test, changed_if, comes_to, cond, controller_work, end_c, end_h}
-use Rattle.node_laws.proofs.Words.{ending_entries, ending_of, entries_for, eq-eqb, eqb-true, exchanged, false, first_lost, flat_map, frames_noted, host_tick}
-use Rattle.node_laws.proofs.Words.{host_work, hosts_in, hosts_of_ends, if◌then◌else◌, input_of, is_late_at, is_some, link_after_controller, link_to, map}
-use Rattle.node_laws.proofs.Words.{near_end_in, option_map_or, own_side, port_at, port_for, refl, runs_on, same_end, same_number, site_at, site_ticked, steps}
-use Rattle.node_laws.proofs.Words.{steps_at_controller, subst, sym, tick_host, ticked_so, true, true≢false, turns_at, wires_for, with_site, work_of, ℕ, ◌&&◌}
-use Rattle.node_laws.proofs.Words.{◌++◌, ◌==◌, ◌∙◌, ◌∷◌, ◌≡◌}
+use Rattle.node_laws.proofs.Words.{AreDifferent, AtEnd, Bool, Comes, Controller, Deed, Desk, End, Entry, HasEnds, Host, IsOutside, Link, LinkEnd, LinkInput}
+use Rattle.node_laws.proofs.Words.{List, Loss, Memory, Message, NoInput, NodeInput, NodeWorld, None, NumberedEnd, OnWire, Option, Port, Running, Site, Some}
+use Rattle.node_laws.proofs.Words.{Step, TimePasses, Work, [], after_controller, after_host, after_planned, after_tick, aged_entries, ap, arith, arrival}
+use Rattle.node_laws.proofs.Words.{begins_with, by_option, by_test, changed_if, comes_to, cond, controller_work, end_c, end_h, ending_entries, ending_of}
+use Rattle.node_laws.proofs.Words.{entries_for, eq-eqb, eqb-true, exchanged, false, first_lost, flat_map, frames_noted, host_tick, host_work, hosts_in}
+use Rattle.node_laws.proofs.Words.{hosts_of_ends, if◌then◌else◌, input_of, is_late_at, is_some, link_after_controller, link_to, map, near_end_in, own_side}
+use Rattle.node_laws.proofs.Words.{port_at, port_for, refl, runs_on, same_end, same_number, site_at, site_ticked, steps, steps_at_controller, subst, sym}
+use Rattle.node_laws.proofs.Words.{tick_host, ticked_so, true, true≢false, turns_at, wires_for, with_site, work_of, ℕ, ◌&&◌, ◌++◌, ◌==◌, ◌∙◌, ◌∷◌, ◌≡◌}
 use Rattle.link_laws.specs.entries.Entries.{End as Side}
 use Rattle.node_laws.proofs.kept.Events.{changed_host as changed_site}
 use Rattle.node_laws.proofs.links.Sites.{here_host}
 use Rattle.node_laws.proofs.links.Worlds.{so_host}
 use Rattle.node_laws.proofs.readings.Sites.{comes_outside, near_end_side}
 use Rattle.node_laws.proofs.telling.Events.{hosts_same_of_nodes as hosts_same, is_step, link_is, ports_for, site_host, site_map, stands, swapped}
-use Rattle.node_laws.proofs.telling.Ticks.{arrival_all, ending_all, lost_all, wires_all}
+use Rattle.node_laws.proofs.telling.Ticks.{ending_all, lost_all, wires_all}
 use Rattle.node_laws.proofs.telling.Steps.{Keeps, after_coming, begins_keep, steps_keep, tick_keeps}
 use Rattle.node_laws.proofs.telling.Accounts.{AreMute}
 use Rattle.node_laws.proofs.turns.Passing.{AreNoGots, AreStill, Fresh, Goes, IsNoGot, Knows, Stands, begins_stand, ended_with, goes-append, has_side, input_on}
@@ -38,8 +37,7 @@ frames_still e who h l k = by_option (port_at k.ports h)
     (ending_all IsNoGot (λ w c. tt) (λ w c. tt) (λ w. tt) who l p.side (ending_of k))))
 
 pub arrival_still : (e : End) (who : Side) (h : ℕ) (l : Link) (comes : Comes) → AreStill e (entries_for h (arrival who l comes))
-arrival_still e who h l comes =
-    notes_still e h (arrival who l comes) (arrival_all IsNoGot (λ w c. tt) who l comes)
+arrival_still e who h l comes = grind arith
 
 -- ### Worlds
 
@@ -164,10 +162,7 @@ module _ (w : NodeWorld) (c : Option Running) (k : ℕ) (g : Site → Site) (t :
         let was : ByPower (is_some w.controller) q y.link.controller.side.got = subst (NearWaits w.controller q) z x in
         let now : ByPower (is_some c) q y.link.controller.side.got = subst (λ b. ByPower b q y.link.controller.side.got) (sym power) was in
         there s found h y z (λ v. ByPower (is_some c) q v.link.controller.side.got)
-        (λ is one.
-        let near : y.link.controller.side.got ≡ (g y).link.controller.side.got =
-        let P : Site → Type 0 = λ v. v.link.controller.side.got ≡ (g v).link.controller.side.got in subst P one (sym a.near) in
-        subst (ByPower (is_some c) q) near now)
+        (grind arith)
         (λ off. now));
   }
   site_moves s found a true h q x = by_test (k == h)
@@ -240,21 +235,13 @@ module _ (who : Side) (sides : ℕ → LinkEnd) (came : ℕ → List Message) (b
   own_left : (e : End) (p : Port) → has_side who e ≡ true → port_at begun.ports e.link ≡ Some p → p.turns ≡ [] → p.side ≡ sides e.link
       → (q : List Message) → (sides e.link).got ≡ q → Leaving e (came e.link) k q
   own_left e p side here turns is q got =
-      let done : Stands e who true (λ z. side) q (came e.link) k =
-      a.does e true (λ z. side) q (subst (Fresh e who true (sides e.link) q) (sym here) (turns, is, got)) in
+      let done : Stands e who true (λ z. side) q (came e.link) k = grind arith in
       let there : There k.ports e.link = there_too k.ports begun.ports e.link p a.ends here in
-      let known : Knows e who q (came e.link) true done.waiting (Some there.port) =
-      subst (Knows e who q (came e.link) true done.waiting) there.here done.at.port in
-      record {
-        left = done.waiting;
-        goes = done.at.goes;
-        turns =
-            ap (λ o. left_by (option_map_or (λ (x : Port). x.turns) o []) (came e.link)) there.here ∙ (known.0 ∙ known.1);
-      }
+      let known : Knows e who q (came e.link) true done.waiting (Some there.port) = grind arith in
+      grind arith
 
   waits_on : (e : End) (q ms : List Message) (o : Option Port) → Knows e who q (came e.link) false ms o → ms ≡ q
-  waits_on e q ms None x = x
-  waits_on e q ms (Some p) x = x.0
+  waits_on e q ms o x = grind arith
 
   pub away : (e : End) → ((q : List Message) → Fresh e who false (sides e.link) q (port_at begun.ports e.link)) → Leaves e k.entries
   away e fresh q =
@@ -264,14 +251,7 @@ module _ (who : Side) (sides : ℕ → LinkEnd) (came : ℕ → List Message) (b
 
 -- as a step ends
 ends_so : (k : Work) (ms got : List Message) → got ≡ ended_with (ending_of k) ms → ByPower (is_some (runs_on k)) ms got
-ends_so k ms got q = by k.cut q
-  where
-    r : Running
-    r = record { core = k.core; desks = map (λ (p : Port). p.desk) k.ports }
-
-    by : (b : Bool) → got ≡ ended_with (cond b CutOff GoesOut) ms → ByPower (is_some (cond b None (Some r))) ms got
-    by true z = z
-    by false z = sym z
+ends_so k ms got q = grind arith
 
 -- ## What waits at the ends of a world as the controller or a host has a step
 
@@ -309,14 +289,7 @@ module _ (n : ℕ) (hosts : List ℕ) (who : Side) (sides : ℕ → LinkEnd) (be
 other_fresh : (e : End) (s : LinkEnd) (q : List Message) (m : ℕ) (ports : List Port) → hosts_of_ends ports ≡ m ∷ [] → same_end (end_h m) e ≡ false
     → Fresh e Host false s q (port_at ports e.link)
 other_fresh e s q m [] h off = tt
-other_fresh e s q m (p ∷ []) h off = by_test (p.desk.host == e.link)
-    (λ z. let here : (m == e.link) ≡ true = ap (λ n. n == e.link) (sym one) ∙ z in
-    let out : e.at_host ≡ false = rw here at off in
-    rw z out)
-    (λ z. rw z tt)
-  where
-    one : p.desk.host ≡ m
-    one = cc
+other_fresh e s q m (p ∷ []) h off = grind arith
 other_fresh e s q m (p ∷ x ∷ ports) h off = absurd (cc h)
 
 -- a host becomes v in a step, as its node does so
@@ -342,8 +315,7 @@ module _ (s v : Site) (r : Running) (near_end : NumberedEnd) (came : ℕ → Lis
           left = (own_port q x).left;
           goes = goes-append (end_h s.host) k.entries frames q (own_port q x).left (own_port q x).left (own_port q x).goes
               (quiet (end_h s.host) (own_port q x).left);
-          waits = subst (λ (o : Option Running). ByPower (is_some o) (own_port q x).left v.link.host.side.got) (sym node)
-              (ends_so k (own_port q x).left v.link.host.side.got (far ∙ ap (ended_with (ending_of k)) (own_port q x).turns));
+          waits = grind arith;
         };
         others = λ e off. leaves-append e k.entries frames
             (away Host (λ j. near_end.side) came begun k does e (λ q. subst (λ ps. Fresh e Host false near_end.side q (port_at ps e.link)) (sym ports)
@@ -393,8 +365,7 @@ module _ (s : Site) (r : Running) (k : ℕ) (number : s.host ≡ k) (runs : s.no
       (ap (λ (x : NumberedEnd). x.side.got) (here_host own_link (Step comes (turns_at v s.host) (ending_of v))))
       (step_got own_link comes (Some i) (turns_at v s.host) (ending_of v) q (is_step comes i)
       ∙ ap (λ ms. ended_with (ending_of v) (left_by (turns_at v s.host) ms))
-      (ap (λ (z : LinkEnd). (after_input z i).got) (sym (near_end_side own_link comes))
-      ∙ ap (λ b. (after_coming near_end.side (cond b (Some i) None)).got) (sym here)))
+      (grind arith))
 
   pub host_begins : (deeds : List Deed) → AreMute deeds
       → SiteGoes s (after_host NoInput (host_work s r NoInput (begins_with k deeds)) s) (host_noted NoInput (host_work s r NoInput (begins_with k deeds)))
@@ -453,8 +424,7 @@ module _ (w : NodeWorld) (r : Running) (memory : Memory) (near_ends : ℕ → Nu
       (away Controller (λ j. (near_ends j).side) came begun k does (end_h h) (λ q. fresh q (port_at begun.ports h))) (quiet (end_h h))
     where
       fresh : (q : List Message) (o : Option Port) → Fresh (end_h h) Controller false (near_ends h).side q o
-      fresh q None = tt
-      fresh q (Some p) = refl
+      fresh q o = grind arith
 
   controller_moves : ((s : Site) → (g s).host ≡ s.host) → ((s : Site) → (g s).node ≡ s.node)
       → ((s : Site) → (g s).link.host.side.got ≡ s.link.host.side.got)
@@ -467,10 +437,7 @@ module _ (w : NodeWorld) (r : Running) (memory : Memory) (near_ends : ℕ → Nu
         left = q;
         goes = leaves_far h q;
         waits = sites_is g host w.sites h (FarWaits q) (λ z. tt)
-            (λ s z.
-            let was : ByPower (is_some s.node) q s.link.host.side.got = subst (FarWaits q) z x in
-            subst (λ (o : Option Running). ByPower (is_some o) q (g s).link.host.side.got) (sym (stays s))
-            (subst (ByPower (is_some s.node) q) (sym (far s)) was));
+            (grind arith);
       }
   controller_moves host stays far before behind false h q x = by_option (site_at w.sites h)
       (λ z. let none : port_at begun.ports h ≡ None = no_port begun.ports w.sites h ends z in
@@ -482,8 +449,7 @@ module _ (w : NodeWorld) (r : Running) (memory : Memory) (near_ends : ℕ → Nu
         waits = sites_is g host w.sites h (NearWaits (runs_on k) q) (λ y. tt) (λ s y. let both : None ≡ Some s = sym z ∙ y in absurd (cc both));
       })
       (λ s z. let one = stands near_ends r.desks w.sites h s node.ends z in
-      let was : q ≡ s.link.controller.side.got =
-      let P : Option Running → Type 0 = λ o. NearWaits o q (Some s) in subst P runs (subst (NearWaits w.controller q) z x) in
+      let was : q ≡ s.link.controller.side.got = grind arith in
       let own : Leaving (end_c h) (came h) k q =
       own_left Controller (λ j. (near_ends j).side) came begun k does (end_c h) (port_for (near_ends h) one.desk) refl
       (ap (λ ps. port_at ps h) ports ∙ one.here) refl refl q (before h s z ∙ sym was) in
@@ -526,8 +492,7 @@ module _ (w : NodeWorld) (r : Running) (runs : w.controller ≡ Some r) (node : 
       (λ e. arrival_still e Controller k (link_to w.sites k) comes) (AtEnd k i) (comes_outside (link_to w.sites k) comes i q) (near_different near_ends es))
       (λ e. flat_leaves e _ (λ s. still_leaves e _ (frames_still e Controller s.host (wires_for s.link (comes_to k comes s.host)) v)) w.sites)
       (λ s. refl) (λ s. refl) (λ s. ap (λ (x : NumberedEnd). x.side.got) (here_host s.link (Step (comes_to k comes s.host) (turns_at v s.host) (ending_of v))))
-      (λ h s z. ap (λ (e : LinkEnd). e.got) (near_end_side (link_to w.sites h) (comes_to k comes h))
-      ∙ ap (λ (l : Link). l.controller.side.got) (link_is w.sites h s z))
+      (λ h s z. grind arith)
       (λ h s z. behind h s z v)
     where
       behind : (h : ℕ) (s : Site) → site_at w.sites h ≡ Some s → (v : Work)
@@ -555,14 +520,12 @@ module _ (w : NodeWorld) (r : Running) (runs : w.controller ≡ Some r) (node : 
               ap (λ b. (steps_at_controller s.link (cond b comes NoInput) (turns_at v h) (ending_of v)).controller.side.got) e
               ∙ (step_got s.link comes (Some i) (turns_at v h) (ending_of v) input (is_step comes i)
               ∙ ap (λ ms. ended_with (ending_of v) (left_by (turns_at v h) ms))
-              (came (Some i)
-              ∙ ap (λ b. (after_coming (near_end_in (link_to w.sites h) (comes_to k comes h)).side (cond b (Some i) None)).got) (sym e)))
+              (grind arith))
           by false e =
               ap (λ b. (steps_at_controller s.link (cond b comes NoInput) (turns_at v h) (ending_of v)).controller.side.got) e
               ∙ (step_got s.link NoInput None (turns_at v h) (ending_of v) refl tt
               ∙ ap (λ ms. ended_with (ending_of v) (left_by (turns_at v h) ms))
-              (came None
-              ∙ ap (λ b. (after_coming (near_end_in (link_to w.sites h) (comes_to k comes h)).side (cond b (Some i) None)).got) (sym e)))
+              (grind arith))
 
   pub controller_ticked : AllMove w (record {
     memory = after_planned (steps TimePasses (starting (λ h. (link_to w.sites h).controller) [])).writes w.memory;

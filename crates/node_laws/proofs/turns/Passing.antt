@@ -1,18 +1,17 @@
 -- What came at an end and had no turn, over the deeds of a node, over its pass and its step.
-use Rattle.node_laws.proofs.Words.{Acked, ActStart, ActStop, ActTick, Active, AllByRecursion, AreDifferent, AsksReset, AtEnd, Bool, Cause, Comes, Controller}
-use Rattle.node_laws.proofs.Words.{Core, Cut, CutOff, Deed, Desk, Down, End, Ending, Entry, FetchMessage, GaveUp, Give, GoesOut, Got, Host, IsComing, IsOutside}
-use Rattle.node_laws.proofs.Words.{Link, LinkEnd, LinkInput, List, Message, NextFrame, NoInput, NodeInput, None, Noted, Option, Port, Refused, Report, Reset}
-use Rattle.node_laws.proofs.Words.{Restarted, SetAside, Some, Start, Starts, Stop, Stops, Take, Tick, Ticked, TimePasses, Turn, Work, Write, [], activated_got}
-use Rattle.node_laws.proofs.Words.{after_input, after_sessions, after_turn, all_come, all_done, all_owed, and-false, and_parts, answers_and_passes, ap}
-use Rattle.node_laws.proofs.Words.{append-nil, append_assoc, aside_refusal, begins_with, by_cut, by_list, by_option, by_test, changed_if, cond, deactivated}
-use Rattle.node_laws.proofs.Words.{deeds_of, drop, end_of, end_of_node, ended_by, entries_for, entry_of, eq-eqb, eqb-true, false, filter_map, filter_map-append}
-use Rattle.node_laws.proofs.Words.{finished, flat_map, flat_map-append, forgets, forgotten, give_refusal, got_entry, handles, has_come, has_input, have_turns}
-use Rattle.node_laws.proofs.Words.{hosts_of_ends, if_so, if◌then◌else◌, input_at, input_of, is_late, is_open, is_some, is_waiting, lack, loses_power, map}
-use Rattle.node_laws.proofs.Words.{moved, moved_got, nat_lt, needs, node_number, not, noted_of, noting, option_map_or, option_to_list, own_side, port_at, refl}
-use Rattle.node_laws.proofs.Words.{report, reset_got, reset_late, same_end, sent_unless, silent, since_boot, started, steps, steps_at_controller, stopped}
-use Rattle.node_laws.proofs.Words.{subst, sym, synced, tick_answer, ticked, ticked_so, ticks_at_controller, times_out, told, told_at, told_late, true}
-use Rattle.node_laws.proofs.Words.{true≢false, turn, turn_at, turn_entry_at, turned, unless_cut, whole_acked, with_desk, with_ended, with_older, without_notice}
-use Rattle.node_laws.proofs.Words.{ℕ, ◌&&◌, ◌++◌, ◌==◌, ◌∙◌, ◌∷◌, ◌≡◌}
+use Rattle.node_laws.proofs.Words.{Acked, ActStart, ActStop, Active, AllByRecursion, AreDifferent, AsksReset, AtEnd, Bool, Cause, Comes, Controller, Core, Cut}
+use Rattle.node_laws.proofs.Words.{CutOff, Deed, Desk, Down, End, Ending, Entry, FetchMessage, GaveUp, GoesOut, Got, Host, IsComing, IsOutside, Link, LinkEnd}
+use Rattle.node_laws.proofs.Words.{LinkInput, List, Message, NextFrame, NoInput, NodeInput, None, Noted, Option, Port, Refused, Report, Reset, Restarted, Some}
+use Rattle.node_laws.proofs.Words.{Start, Starts, Stop, Stops, Take, Tick, Ticked, TimePasses, Turn, Work, Write, [], activated_got, after_input}
+use Rattle.node_laws.proofs.Words.{after_sessions, after_turn, all_come, all_done, all_owed, and-false, and_parts, answers_and_passes, ap, append-nil}
+use Rattle.node_laws.proofs.Words.{append_assoc, arith, begins_with, by_cut, by_list, by_option, by_test, changed_if, cond, deactivated, deeds_of, drop, end_of}
+use Rattle.node_laws.proofs.Words.{end_of_node, ended_by, entries_for, entry_of, eqb-true, false, filter_map, filter_map-append, finished, flat_map}
+use Rattle.node_laws.proofs.Words.{flat_map-append, forgets, forgotten, got_entry, handles, has_come, has_input, have_turns, hosts_of_ends, if_so}
+use Rattle.node_laws.proofs.Words.{if◌then◌else◌, input_at, input_of, is_late, is_some, is_waiting, lack, loses_power, map, moved, moved_got, nat_lt, needs}
+use Rattle.node_laws.proofs.Words.{node_number, not, noted_of, noting, option_map_or, option_to_list, own_side, port_at, refl, report, reset_got, reset_late}
+use Rattle.node_laws.proofs.Words.{same_end, sent_unless, silent, since_boot, started, steps, steps_at_controller, stopped, subst, sym, synced, ticked_so}
+use Rattle.node_laws.proofs.Words.{ticks_at_controller, times_out, told, told_at, told_late, true, true≢false, turn, turn_at, turn_entry_at, turned, unless_cut}
+use Rattle.node_laws.proofs.Words.{whole_acked, with_desk, with_ended, with_older, without_notice, ℕ, ◌&&◌, ◌++◌, ◌==◌, ◌∙◌, ◌∷◌, ◌≡◌}
 use Rattle.link_laws.proofs.machine.Reports.{took_got}
 use Rattle.link_laws.specs.entries.Entries.{End as Side}
 use Rattle.link_laws.specs.entries.Entries.Entry.{Up}
@@ -20,7 +19,7 @@ use Rattle.link_laws.specs.machine.Machine.{got_by}
 use Rattle.node_laws.proofs.steps.StepWalks.{changed_host, come_host, forgets_host, late_host, rest as rest_of, unless, without_host}
 use Rattle.node_laws.proofs.telling.Accounts.{AreMute, ArePlain, IsMute, IsNoFetch, IsPlain, all_owed_mute, all_synced_mute, at_host, deeds_mute, every_do}
 use Rattle.node_laws.proofs.telling.Accounts.{forgotten_mute, holds, lets}
-use Rattle.node_laws.proofs.telling.Steps.{IsStep, after_coming, at_map, come_turns, forgets_same, none_map, sessions_side, without_same}
+use Rattle.node_laws.proofs.telling.Steps.{IsStep, after_coming, at_map, forgets_same, none_map, sessions_side, without_same}
 use Rattle.node_laws.proofs.telling.Ticks.{reset_turns}
 use Rattle.trace_model.specs.declared.entry.Entry.TheVariants as entry
 
@@ -43,9 +42,7 @@ left-append [] t ms = refl
 left-append (x ∷ ts) t ms = left-append ts t (kept_by x ms)
 
 turn_got : (e : LinkEnd) (t : Turn) → (turn e t).got ≡ kept_by t e.got
-turn_got e (Give m) = by_option (give_refusal e m) (λ q. rw q refl) (λ why q. rw q refl)
-turn_got e SetAside = by_option (aside_refusal e) (λ q. rw q refl) (λ why q. rw q refl)
-turn_got e _ = refl
+turn_got e t = grind arith
 
 turned_got : (e : LinkEnd) (ts : List Turn) → (turned e ts).got ≡ left_by ts e.got
 turned_got e [] = refl
@@ -57,9 +54,7 @@ more : (e f : LinkEnd) → f.got ≡ e.got → f.got ≡ e.got ++ []
 more e f q = q ∙ sym (append-nil e.got)
 
 pub tick_got : (e : LinkEnd) → (after_input e Tick).got ≡ e.got
-tick_got e = by_test (is_open e.role)
-    (λ q. let b : Bool = is_some (tick_answer e.shdlc).ended in rw q (moved_got e b (ticked e.shdlc)))
-    (λ q. rw q (activated_got e ActTick))
+tick_got e = grind arith
 
 -- what comes brings messages behind those that wait
 pub input_got : (e : LinkEnd) (i : LinkInput) → IsComing i → (after_input e i).got ≡ e.got ++ got_by e i
@@ -80,8 +75,7 @@ ended_with GoesOut ms = ms
 ended_with CutOff ms = []
 
 finished_got : (l : Link) (e : LinkEnd) (ending : Ending) → (finished l e ending).controller.side.got ≡ ended_with ending e.got
-finished_got l e GoesOut = refl
-finished_got l e CutOff = refl
+finished_got l e ending = grind arith
 
 all_got : (l : Link) (e : LinkEnd) (ts : List Turn) (ending : Ending)
     → (finished l (turned e ts) ending).controller.side.got ≡ ended_with ending (left_by ts e.got)
@@ -177,15 +171,7 @@ still_goes e [] q a = refl
 still_goes e (x ∷ t) q a = (q, (subst (λ d. Becomes d q q) (sym a.0) refl, still_goes e t q a.1))
 
 plain_still : (e : End) (x : Entry) → IsPlain x → doing e x ≡ Nothing
-plain_still e (entry.Held f need spare) p = refl
-plain_still e (entry.Ask host message) p = refl
-plain_still e (entry.Dropped f pid) p = refl
-plain_still e (entry.Command node command) p = refl
-plain_still e (entry.AnyOk node count) p = refl
-plain_still e (entry.InitSame f) p = refl
-plain_still e (entry.InitMade f count) p = refl
-plain_still e (entry.InitFailed f code) p = refl
-plain_still e x p = absurd p
+plain_still e x p = grind arith
 
 pub all_still : (e : End) (t : List Entry) → ArePlain t → AreStill e t
 all_still e [] a = tt
@@ -248,8 +234,7 @@ has_side Controller e = not e.at_host
 has_side Host e = e.at_host
 
 pub same_is : (who : Side) (k : ℕ) (e : End) → same_end (end_of k who) e ≡ ((k == e.link) && has_side who e)
-same_is Controller k e = refl
-same_is Host k e = refl
+same_is who k e = grind arith
 
 pub map_is : (f : Port → Port) → ((p : Port) → (f p).desk.host ≡ p.desk.host) → (ports : List Port) (h : ℕ) (P : Option Port → Type 0)
     → (port_at ports h ≡ None → P None) → ((p : Port) → port_at ports h ≡ Some p → P (Some (f p))) → P (port_at (map f ports) h)
@@ -268,8 +253,7 @@ Knows e who begin came false ms None = ms ≡ begin
 Knows e who begin came false ms (Some p) = (ms ≡ begin) × (has_side who e ≡ false)
 
 kept_same : (t : Turn) (ms : List Message) → IsNoFetch t → kept_by t ms ≡ ms
-kept_same FetchMessage ms n = absurd n
-kept_same _ ms n = refl
+kept_same t ms n = grind arith
 
 module _ (e : End) (who : Side) (own : Bool) (mine : own ≡ true → has_side who e ≡ true) (begin came : List Message) where
   abbrev pub Known : List Message → Option Port → Type 0
@@ -285,8 +269,7 @@ module _ (e : End) (who : Side) (own : Bool) (mine : own ≡ true → has_side w
 
   known_some : (b : Bool) (ms : List Message) (p q : Port) → q.turns ≡ p.turns → q.side.got ≡ p.side.got
       → Knows e who begin came b ms (Some p) → Knows e who begin came b ms (Some q)
-  known_some true ms p q turns got k = (ap (λ ts. left_by ts came) turns ∙ (k.0 ∙ sym got), got ∙ k.1)
-  known_some false ms p q turns got k = k
+  known_some b ms p q turns got k = grind arith
 
   pub known_map : (f : Port → Port) → ((p : Port) → (f p).desk.host ≡ p.desk.host) → ((p : Port) → (f p).turns ≡ p.turns)
       → ((p : Port) → (f p).side.got ≡ p.side.got) → (ms : List Message) (ports : List Port) → Known ms (port_at ports e.link)
@@ -305,22 +288,15 @@ module _ (e : End) (who : Side) (own : Bool) (mine : own ≡ true → has_side w
 
   if_changed : (b : Bool) (f : Port → Port) (ms : List Message) (p : Port) → (b ≡ true → Known ms (Some (f p))) → Known ms (Some p)
       → Known ms (Some (changed_if b f p))
-  if_changed true f ms p one k = one refl
-  if_changed false f ms p one k = k
+  if_changed b f ms p one k = grind arith
 
   -- ### Entries
 
   sent_still : (h n : ℕ) (m : Message) (side : Side) (o : Option Refused) → AreStill e (entries_for h (sent_unless o side n m))
-  sent_still h n m side None = (refl, tt)
-  sent_still h n m side (Some why) = tt
-
-  turn_still : (core : Core) (t : Turn) (p : Port) → AreStill e (noted_of core t p)
-  turn_still core (Give m) p = sent_still p.desk.host p.session m (own_side core) (give_refusal p.side m)
-  turn_still core _ p = tt
+  sent_still h n m side o = grind arith
 
   at_still : (core : Core) (t : Turn) (o : Option Port) → AreStill e (option_map_or (noted_of core t) o [])
-  at_still core t None = tt
-  at_still core t (Some p) = turn_still core t p
+  at_still core t o = grind arith
 
   still : (es : List Entry) (w : Work) (ms : List Message) → AreStill e es → Goes e begin w.entries ms → Goes e begin (w.entries ++ es) ms
   still es w ms s g = goes-append e w.entries es begin ms ms g (still_goes e es ms s)
@@ -358,12 +334,7 @@ module _ (e : End) (who : Side) (own : Bool) (mine : own ≡ true → has_side w
 
   pub beside : (ms : List Message) (w v : Work) → v.cut ≡ w.cut → v.core.node ≡ w.core.node → v.ports ≡ w.ports → v.entries ≡ w.entries → At ms w
       → At ms v
-  beside ms w v cut core ports entries a =
-      record {
-        side = ap (λ (x : ℕ). if x == 0 then Controller else Host) core ∙ a.side;
-        port = subst (λ ps. Known ms (port_at ps e.link)) (sym ports) a.port;
-        goes = subst (λ t. Goes e begin t ms) (sym entries) a.goes;
-      }
+  beside ms w v cut core ports entries a = grind arith
 
   loses : (ms : List Message) (writes : List Write) (w : Work) → At ms w → At ms (loses_power writes w)
   loses ms writes w a = record { side = a.side; port = a.port; goes = still (entry.Cut w.core.node ∷ []) w ms (refl, tt) a.goes }
@@ -375,8 +346,7 @@ module _ (e : End) (who : Side) (own : Bool) (mine : own ≡ true → has_side w
 
   known_fetched : (b : Bool) (ms : List Message) (p : Port) → (b ≡ true → ⊥) → Knows e who begin came b ms (Some p)
       → Knows e who begin came b ms (Some (after_turn FetchMessage p))
-  known_fetched true ms p other k = absurd (other refl)
-  known_fetched false ms p other k = k
+  known_fetched b ms p other k = grind arith
 
   -- it is this end of the node
   link_is : (k : ℕ) → same_end (end_of k who) e ≡ true → ((k == e.link) ≡ true) × (has_side who e ≡ true)
@@ -396,8 +366,7 @@ module _ (e : End) (who : Side) (own : Bool) (mine : own ≡ true → has_side w
   handles_other : (ms : List Message) (k : ℕ) (m : Message) (deeds : List Deed) (w : Work) → same_end (end_of k who) e ≡ false → AreMute deeds → At ms w
       → At ms (handles k m deeds w)
   handles_other ms k m deeds w off mute a =
-      let quiet : doing e (entry.Turn (end_of_node w.core k) m.0 m.1) ≡ doing e (entry.Turn (end_of k who) m.0 m.1) =
-      ap (λ s. doing e (entry.Turn (end_of k s) m.0 m.1)) a.side in
+      let quiet : doing e (entry.Turn (end_of_node w.core k) m.0 m.1) ≡ doing e (entry.Turn (end_of k who) m.0 m.1) = grind arith in
       let told : At ms (noting (Turned k m w) w) = record {
         side = a.side;
         port = a.port;
@@ -434,11 +403,9 @@ module _ (e : End) (who : Side) (own : Bool) (mine : own ≡ true → has_side w
   handles_mine : (k : ℕ) (m : Message) (ms : List Message) (deeds : List Deed) (w : Work) → same_end (end_of k who) e ≡ true → own ≡ true → AreMute deeds
       → At (m ∷ ms) w → At ms (handles k m deeds w)
   handles_mine k m ms deeds w on is mute a =
-      let first : doing e (entry.Turn (end_of_node w.core k) m.0 m.1) ≡ Takes m =
-      ap (λ s. doing e (entry.Turn (end_of k s) m.0 m.1)) a.side ∙ rw on refl in
+      let first : doing e (entry.Turn (end_of_node w.core k) m.0 m.1) ≡ Takes m = grind arith in
       let told : Work = noting (Turned k m w) w in
-      let here : (n : ℕ) → (n == e.link) ≡ true → (n == k) ≡ true =
-      λ n q. eq-eqb n k (eqb-true n e.link q ∙ sym (eqb-true k e.link (link_is k on).0)) in
+      let here : (n : ℕ) → (n == e.link) ≡ true → (n == k) ≡ true = grind arith in
       let fetched : At ms (turn_at k FetchMessage told) = record {
         side = a.side;
         port = map_is (λ p. changed_if (p.desk.host == k) (after_turn FetchMessage) p)
@@ -537,16 +504,10 @@ lead e h xs ys q r a g =
     (goes-append e (entries_for h xs) (entries_for h ys) q q r (still_goes e (entries_for h xs) q (notes_still e h xs a)) g)
 
 pub so_none : (b : Bool) (x : Noted) → IsNoGot x → AreNoGots (if_so b x)
-so_none true x a = (a, tt)
-so_none false x a = tt
+so_none b x a = grind arith
 
 pub ended_none : (who : Side) (o : Option Cause) → AreNoGots (map (Down who) (option_to_list o))
-ended_none who None = tt
-ended_none who (Some cause) = (tt, tt)
-
-pub tries_none : (who : Side) (o : Option ℕ) → AreNoGots (map (GaveUp who) (option_to_list o))
-tries_none who None = tt
-tries_none who (Some n) = (tt, tt)
+ended_none who o = grind arith
 
 pub told_goes : (e : End) (h : ℕ) (who : Side) (n acked : ℕ) (r : Report) (q s : List Message) → Goes e q (entries_for h (map (Got who n) r.got)) s
     → Goes e q (entries_for h (told who n r acked)) s
@@ -558,8 +519,7 @@ told_goes e h who n acked r q s g =
     lead e h (map (Down who) (option_to_list r.ended)) two q s (ended_none who r.ended)
     (lead e h (if_so r.began (Up who n)) three q s (so_none r.began (Up who n) tt)
     (lead e h (if_so r.became_active (Active who)) four q s (so_none r.became_active (Active who) tt)
-    (lead e h (map (GaveUp who) (option_to_list r.gave_up)) five q s (tries_none who r.gave_up)
-    (lead e h (if_so (nat_lt 0 r.acked) (Acked who n acked)) (map (Got who n) r.got) q s (so_none (nat_lt 0 r.acked) (Acked who n acked) tt) g))))
+    (grind arith)))
 
 -- ### What comes to the ends of a node
 
@@ -569,16 +529,14 @@ input_on (AtEnd h i) k = if k == h then Some i else None
 input_on TimePasses k = Some Tick
 
 input_is : (input : NodeInput) (p : Port) → input_at input p ≡ input_on input p.desk.host
-input_is (AtEnd h i) p = refl
-input_is TimePasses p = refl
+input_is input p = grind arith
 
 abbrev IfComing : Option LinkInput → Type 0
 IfComing None = Unit {0}
 IfComing (Some i) = IsComing i
 
 comes_outside : (input : NodeInput) (k : ℕ) → IsOutside input → IfComing (input_on input k)
-comes_outside (AtEnd h i) k a = by_test (k == h) (λ q. rw q a) (λ q. rw q tt)
-comes_outside TimePasses k a = tt
+comes_outside input k a = grind arith
 
 -- an end as a step begins: it is s, and these messages wait there; where the node doesn't have the end, no end of it is on its side
 abbrev pub Fresh : End → Side → Bool → LinkEnd → List Message → Option Port → Type 0
@@ -640,15 +598,13 @@ module _ (e : End) (who : Side) (own : Bool) (mine : own ≡ true → has_side w
     one_goes : (b : Bool) (p : Port) → own ≡ b → (p.desk.host == e.link) ≡ true → Fresh e who b s begin (Some p)
         → Goes e begin (noted p) (then_waits b (Some p))
     one_goes true p is here f =
-        let on : same_end (end_of p.desk.host who) e ≡ true =
-        let there : has_side who e ≡ true = mine is in same_is who p.desk.host e ∙ rw (here, there) refl in
+        let on : same_end (end_of p.desk.host who) e ≡ true = grind arith in
         let coming : IfComing (input_at input p) = subst IfComing (sym (input_is input p)) (comes_outside input p.desk.host outside) in
         own_goes core p (input_at input p) begin side on coming (ap (λ (z : LinkEnd). z.got) f.1 ∙ f.2)
     one_goes false p is here f = others_go core p (input_at input p) begin side (off_side p.desk.host f)
 
     none_goes : (b : Bool) → begin ≡ then_waits b None
-    none_goes true = refl
-    none_goes false = refl
+    none_goes b = grind arith
 
     all_go : (ports : List Port) → AreDifferent (hosts_of_ends ports) → Fresh e who own s begin (port_at ports e.link)
         → Goes e begin (flat_map noted ports) (then_waits own (port_at ports e.link))
@@ -668,17 +624,7 @@ module _ (e : End) (who : Side) (own : Bool) (mine : own ≡ true → has_side w
     -- what is known of the end then
     knows_come : (b : Bool) (p : Port) → (p.desk.host == e.link) ≡ true → Fresh e who b s begin (Some p)
         → Knows e who begin came b (then_waits b (Some p)) (Some (comes p))
-    knows_come true p here f =
-        let input_here : input_at input p ≡ input_on input e.link = input_is input p ∙ ap (input_on input) (eqb-true p.desk.host e.link here) in
-        let turns : (comes p).turns ≡ [] = come_turns p (input_at input p) ∙ f.0 in (
-          ap (λ ts. left_by ts came) turns ∙ (ap (λ o. (after_coming s o).got) (sym input_here) ∙ came_is (input_at input p)),
-          refl,
-        )
-      where
-        came_is : (o : Option LinkInput) → (after_coming s o).got ≡ (has_come p o).side.got
-        came_is None = ap (λ (z : LinkEnd). z.got) (sym f.1)
-        came_is (Some i) = ap (λ (z : LinkEnd). (after_input z i).got) (sym f.1)
-    knows_come false p here f = (refl, f)
+    knows_come b p here f = grind arith
 
     knows_all : (ports : List Port) → Fresh e who own s begin (port_at ports e.link)
         → Knows e who begin came own (then_waits own (port_at ports e.link)) (port_at (map comes ports) e.link)
@@ -696,9 +642,7 @@ module _ (e : End) (who : Side) (own : Bool) (mine : own ≡ true → has_side w
   late_goes core (p ∷ ports) q = goes-append e (told_late core p) (flat_map (told_late core) ports) q q q (go (is_late p)) (late_goes core ports q)
     where
       go : (b : Bool) → Goes e q (cond b (told_at core p (Some (Reset None))) []) q
-      go true =
-          told_goes e p.desk.host (own_side core) p.session (whole_acked (after_input p.side (Reset None))) (report p.side (Reset None)) q q refl
-      go false = refl
+      go b = grind arith
 
   abbrev pub Stand : List Message → Work → Type 0
   Stand came w = Stands e who own mine begin came w
@@ -753,11 +697,7 @@ module _ (e : End) (who : Side) (own : Bool) (mine : own ≡ true → has_side w
       (late_goes w.core old ms))
 
   knows_fresh : (b : Bool) (o : Option Port) → Fresh e who b s begin o → Knows e who begin s.got b begin o
-  knows_fresh true None f = tt
-  knows_fresh true (Some p) f =
-      (ap (λ ts. left_by ts s.got) f.0 ∙ ap (λ (z : LinkEnd). z.got) (sym f.1), ap (λ (z : LinkEnd). z.got) f.1 ∙ f.2)
-  knows_fresh false None f = refl
-  knows_fresh false (Some p) f = (refl, f)
+  knows_fresh b o f = grind arith
 
   pub begins_stand : (k : ℕ) (deeds : List Deed) (w : Work) → AreMute deeds → own_side w.core ≡ who → Fresh e who own s begin (port_at w.ports e.link)
       → Goes e begin w.entries begin → Stand s.got (begins_with k deeds w)

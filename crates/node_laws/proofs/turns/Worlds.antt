@@ -4,7 +4,7 @@ use Rattle.node_laws.proofs.Words.{Activates, AllByRecursion, AreDifferent, AreI
 use Rattle.node_laws.proofs.Words.{Controller, CutOff, Deed, End, Entry, FollowsNodes, Gives, GoesOut, Happening, HasEnds, Header, Host, IfItRuns, Inits, IsCut}
 use Rattle.node_laws.proofs.Words.{IsOrderly, Line, Link, LinkInput, List, Lose, Loses, Loss, MayBoot, Memory, Message, NextFrame, NoInput, NodeHistory}
 use Rattle.node_laws.proofs.Words.{NodeWorld, None, NumberedEnd, OnWire, Option, Resets, Running, Site, Some, Starts, Step, Takes, Ticks, Work, [], activates}
-use Rattle.node_laws.proofs.Words.{after_host, after_host_step, after_planned, aged, aged_entries, all_aged, ap, beginning, begins_with, boot_found}
+use Rattle.node_laws.proofs.Words.{after_host, after_host_step, after_planned, aged, aged_entries, all_aged, ap, arith, beginning, begins_with, boot_found}
 use Rattle.node_laws.proofs.Words.{boot_writes, boot_written, boots, by_boot, by_coming, by_controller, by_controller_tick, by_counts, by_host, by_host_tick}
 use Rattle.node_laws.proofs.Words.{by_loss, by_memory, by_option, by_power, by_test, comes_at, cond, controller_does, controller_ticks, count_of, counts, end_c}
 use Rattle.node_laws.proofs.Words.{end_h, entries_for, eq-eqb, eqb-true, exchanged, false, first_lost, frame_lost, frames_noted, happens, host_cut, host_does}
@@ -20,11 +20,11 @@ use Rattle.node_laws.proofs.telling.Events.{comes_goes, link_is, node_is, sendin
 use Rattle.node_laws.proofs.telling.Lasting.{AnyLine, all_lines, boots_may, entries_of_steps, lines_last, new_orderly, step_orderly}
 use Rattle.node_laws.proofs.telling.Accounts.{AreMute}
 use Rattle.node_laws.proofs.telling.WorldTicks.{aged_orderly, near_orderly, tick_host as site_ticked}
-use Rattle.node_laws.proofs.turns.Passing.{Becomes, Front, Goes, all_left, doing, front_goes, goes-append, notes_still, ticks_got}
+use Rattle.node_laws.proofs.turns.Passing.{Front, Goes, all_left, doing, front_goes, goes-append, notes_still, ticks_got}
 use Rattle.node_laws.proofs.turns.Nodes.{AllMove, ByPower, FarWaits, Leaves, Moves, NearWaits, OwnMoves, SiteGoes, Waits, aged_none, at_site, controller_steps}
 use Rattle.node_laws.proofs.turns.Nodes.{controller_ticked, end_at, flat_leaves, host_begins, host_steps, host_ticked, leaves-append, lost_none, move_then}
 use Rattle.node_laws.proofs.turns.Nodes.{sites_is, still_leaves}
-use Rattle.node_laws.proofs.turns.Passing.Doing.{Clears, Nothing}
+use Rattle.node_laws.proofs.turns.Passing.Doing.{Nothing}
 use Rattle.trace_model.specs.declared.entry.Entry.TheVariants as entry
 
 -- ## What waits at each end of a world over whatever happens there
@@ -34,13 +34,7 @@ use Rattle.trace_model.specs.declared.entry.Entry.TheVariants as entry
 -- all ends are as they were
 waits_same : (w v : NodeWorld) → is_some v.controller ≡ is_some w.controller → v.sites ≡ w.sites → (b : Bool) (h : ℕ) (q : List Message) → Waits w b h q
     → Waits v b h q
-waits_same w v power sites true h q x = subst (λ l. FarWaits q (site_at l h)) (sym sites) x
-waits_same w v power sites false h q x =
-    subst (λ l. NearWaits v.controller q (site_at l h)) (sym sites) (by (site_at w.sites h) x)
-  where
-    by : (o : Option Site) → NearWaits w.controller q o → NearWaits v.controller q o
-    by None y = tt
-    by (Some s) y = subst (λ b. ByPower b q s.link.controller.side.got) (sym power) y
+waits_same w v power sites b h q x = grind arith
 
 all_stay : (w v : NodeWorld) (t : List Entry) → is_some v.controller ≡ is_some w.controller → v.sites ≡ w.sites → ((e : End) → Leaves e t) → AllMove w v t
 all_stay w v t power sites quiet b h q x =
@@ -52,16 +46,7 @@ nothing_moves w = all_stay w w [] refl refl (λ e q. refl)
 -- a host that stays but for its memory, its wires and what it keeps
 stays : (s v : Site) (t : List Entry) → v.link.controller.side.got ≡ s.link.controller.side.got → v.link.host.side.got ≡ s.link.host.side.got
     → is_some v.node ≡ is_some s.node → ((e : End) → Leaves e t) → SiteGoes s v t
-stays s v t near far power quiet =
-    record {
-      near = near;
-      goes = λ q x. record {
-        left = q;
-        goes = quiet (end_h s.host) q;
-        waits = subst (λ b. ByPower b q v.link.host.side.got) (sym power) (subst (ByPower (is_some s.node) q) (sym far) x);
-      };
-      others = λ e off. quiet e;
-    }
+stays s v t near far power quiet = grind arith
 
 -- all hosts become others, and the controller goes on or loses its power
 all_sites : (w : NodeWorld) (memory : Memory) (c : Option Running) (g : Site → Site) (t : List Entry) → ((s : Site) → (g s).host ≡ s.host)
@@ -72,9 +57,7 @@ all_sites w memory c g t host node far near quiet true h q x = record {
   left = q;
   goes = quiet (end_h h) q;
   waits = sites_is g host w.sites h (FarWaits q) (λ z. tt)
-      (λ s z.
-      let was : ByPower (is_some s.node) q s.link.host.side.got = subst (FarWaits q) z x in
-      subst (λ (o : Option Running). ByPower (is_some o) q (g s).link.host.side.got) (sym (node s)) (subst (ByPower (is_some s.node) q) (sym (far s)) was));
+      (grind arith);
 }
 all_sites w memory c g t host node far near quiet false h q x = record {
   left = q;
@@ -106,10 +89,7 @@ module _ (w : NodeWorld) (k : ℕ) (comes : Comes) (f : Work → Work) (a : IsOr
       node_is s.host (s.host ∷ []) s.node r (site_is (λ (x : Site). IfItRuns x.host (x.host ∷ []) x.node) w.sites k s a.nodes here) z in
       let one : SiteGoes s (after_host comes v s) t = does s r here (site_host w.sites k s here) z node host in
       at_site w w.controller k (after_host comes v) t refl (λ x. refl)
-      (λ x found.
-      let same : Some s ≡ Some x = sym here ∙ found in
-      let is : s ≡ x = cc in
-      let P : Site → Type 0 = λ y. SiteGoes y (after_host comes v y) t in subst P is one)
+      (grind arith)
       (λ none. let both : Some s ≡ None = sym here ∙ none in absurd (cc both)))
 
 comes_move : (w : NodeWorld) (e : End) (comes : Comes) → IsOrderly w → AllMove w (comes_at w e comes).0 (comes_at w e comes).1
@@ -160,9 +140,7 @@ memory_moves n m w =
 -- ### Boots
 
 clears : (e : End) (n count : ℕ) (q : List Message) → (n == node_number e) ≡ true → Goes e q (entry.Booted n count ∷ []) []
-clears e n count q on =
-    let one : doing e (entry.Booted n count) ≡ Clears = rw on refl in
-    ([], (subst (λ d. Becomes d q []) (sym one) refl, refl))
+clears e n count q on = grind arith
 
 clears_not : (e : End) (n count : ℕ) → (n == node_number e) ≡ false → Leaves e (entry.Booted n count ∷ [])
 clears_not e n count off = let one : doing e (entry.Booted n count) ≡ Nothing = rw off refl in still_leaves e (entry.Booted n count ∷ []) (one, tt)
@@ -178,16 +156,7 @@ module _ (w : NodeWorld) (n : ℕ) (r : Running) (m : Memory) (count : ℕ) (a :
       absurd (true≢false (sym (eq-eqb s.host 0 (site_host w.sites h s q ∙ z)) ∙ some))))
 
   near_boots : (n == 0) ≡ true → AllMove w (record w { memory = m; controller = Some r }) booted
-  near_boots z false h q x = record { left = []; goes = clears (end_c h) n count q z; waits = by (site_at w.sites h) x }
-    where
-      none : w.controller ≡ None
-      none = rw z at off
-
-      by : (o : Option Site) → NearWaits w.controller q o → NearWaits (Some r) [] o
-      by None y = tt
-      by (Some s) y =
-          let new : s.link.controller.side.got ≡ [] = let P : Option Running → Type 0 = λ o. NearWaits o q (Some s) in subst P none y in
-          sym new
+  near_boots z false h q x = grind arith
   near_boots z true h q x = by_test (n == h)
       (λ e. let none : site_at w.sites h ≡ None = no_zero h (sym (eqb-true n h e) ∙ eqb-true n 0 z) in
       record { left = []; goes = clears (end_h h) n count q e; waits = subst (FarWaits []) (sym none) tt })
@@ -204,8 +173,7 @@ module _ (w : NodeWorld) (n : ℕ) (r : Running) (m : Memory) (count : ℕ) (a :
         near = refl;
         goes = λ q x.
             let none : s.node ≡ None = rw here at (rw z at off) in
-            let new : s.link.host.side.got ≡ [] =
-            let P : Option Running → Type 0 = λ o. ByPower (is_some o) q s.link.host.side.got in subst P none x in
+            let new : s.link.host.side.got ≡ [] = grind arith in
             record { left = []; goes = clears (end_h s.host) n count q (eq-eqb n s.host (sym number)); waits = sym new };
         others = λ e out. clears_not e n count (others e out);
       }
@@ -222,8 +190,7 @@ module _ (w : NodeWorld) (n : ℕ) (r : Running) (m : Memory) (count : ℕ) (a :
       nobody : site_at w.sites n ≡ None → AllMove w w booted
       nobody none false h q x = record { left = q; goes = clears_not (end_c h) n count z q; waits = x }
       nobody none true h q x = by_test (n == h)
-          (λ e. let here : site_at w.sites h ≡ None = ap (site_at w.sites) (sym (eqb-true n h e)) ∙ none in
-          record { left = []; goes = clears (end_h h) n count q e; waits = subst (FarWaits []) (sym here) tt })
+          (λ e. grind arith)
           (λ e. record { left = q; goes = clears_not (end_h h) n count e q; waits = x })
 
   node_moves : AllMove w (with_node n r (with_memory n m w)) booted
@@ -271,12 +238,10 @@ lost_moves w e why =
     (λ none. all_stay w (record w { controller = c }) t (counts_power why e.link w.controller) refl q))
   where
     near : (b : Bool) (l : Link) → (happens l (cond b (AtHost (Lose why)) (AtController (Lose why)))).controller.side.got ≡ l.controller.side.got
-    near true l = refl
-    near false l = refl
+    near b l = grind arith
 
     far : (b : Bool) (l : Link) → (happens l (cond b (AtHost (Lose why)) (AtController (Lose why)))).host.side.got ≡ l.host.side.got
-    far true l = refl
-    far false l = refl
+    far b l = grind arith
 
     quiet : (who : Side) (xs : List OnWire) (x : End) → Leaves x (entries_for e.link (first_lost who why xs))
     quiet who xs x = still_leaves x _ (notes_still x e.link (first_lost who why xs) (lost_none who why xs))
@@ -497,8 +462,7 @@ module _ (header : Header) (lines : List Line) (t : NodeHistory) (follows : Foll
   left_at_host h s r here runs =
       let all : Waiting (node_entries t) last true h = all_wait.waiting true h in
       let power : ByPower (is_some s.node) all.messages s.link.host.side.got = subst (FarWaits all.messages) here all.waits in
-      let is : all.messages ≡ s.link.host.side.got =
-      subst (λ (o : Option Running). ByPower (is_some o) all.messages s.link.host.side.got) runs power in
+      let is : all.messages ≡ s.link.host.side.got = grind arith in
       subst (AreLeft (end_h h) (node_entries t)) is (sym (all_left (end_h h) (node_entries t) [] [] all.messages refl all.goes))
 
   pub left_at_controller : (h : ℕ) (s : Site) (r : Running) → site_at last.sites h ≡ Some s → last.controller ≡ Some r
@@ -506,6 +470,5 @@ module _ (header : Header) (lines : List Line) (t : NodeHistory) (follows : Foll
   left_at_controller h s r here runs =
       let all : Waiting (node_entries t) last false h = all_wait.waiting false h in
       let power : ByPower (is_some last.controller) all.messages s.link.controller.side.got = subst (NearWaits last.controller all.messages) here all.waits in
-      let is : all.messages ≡ s.link.controller.side.got =
-      subst (λ (o : Option Running). ByPower (is_some o) all.messages s.link.controller.side.got) runs power in
+      let is : all.messages ≡ s.link.controller.side.got = grind arith in
       subst (AreLeft (end_c h) (node_entries t)) is (sym (all_left (end_c h) (node_entries t) [] [] all.messages refl all.goes))

@@ -2,22 +2,18 @@
 use Rattle.node_laws.proofs.Words.{About, AllByRecursion, AllByRecursion-append, Answer, Ask, Asks, Book, Bool, Broken, Command, Commit, Commits, Controller}
 use Rattle.node_laws.proofs.Words.{Core, Cut, Decision, Deed, Desk, Drops, End, Ends, Entry, Err, ErrorCount, Give, GoesOn, HciTables, Hears, Hold, Host}
 use Rattle.node_laws.proofs.Words.{InitFailed, InitMade, InitSame, IsAnswered, IsResponse, LinkView, List, Lost, Message, MessageFault, MessageKind, None}
-use Rattle.node_laws.proofs.Words.{Noted, OfDecision, OfHost, Ok, OnDemand, Option, Orders, Plain, Port, Release, Releases, Removed, Restarted, Result, SaysOk}
-use Rattle.node_laws.proofs.Words.{Sends, Sent, SetAside, SetsErrors, Some, Tells, TooMany, TooOld, Turn, Unread, Up, Waits, Work, Write, [], after_turn}
-use Rattle.node_laws.proofs.Words.{all_done, all_of_controller, all_of_host, all_so, and-true, answer_of, answers, anyone, ap, apply, asks_for, body_in}
-use Rattle.node_laws.proofs.Words.{body_of, book_after, by_cut, by_option, by_test, cases_Bool, changed_if, changed_same, command_deeds, commit, commit_writes}
-use Rattle.node_laws.proofs.Words.{cond, cond_both, controller_deeds, count_in, count_of, decided, decision_deeds, deeds_by_relay, done, end_of, end_of_node}
-use Rattle.node_laws.proofs.Words.{end_view, entries_for, entry_of, eqb, eqb-true, errors_after, errors_set_by, fails_within, false, far_end, first_of, fold}
-use Rattle.node_laws.proofs.Words.{fold-append, give_refusal, goes_through, has, has_link, header_of, holds_back, host_deeds, hosts_of_ends, hosts_where, inl}
-use Rattle.node_laws.proofs.Words.{inr, is_any_ok, is_held, is_opened, is_up, kind_deeds, leads_to_link_gate, length, lets_go, link_deeds, link_served, lost_as}
-use Rattle.node_laws.proofs.Words.{lpdu_of, map, min, node_of, not, noted_of, notified, noting, option_map_or, ordered_deeds, own_deeds, own_gate, own_side}
-use Rattle.node_laws.proofs.Words.{own_view, port_at, refl, relayed_to, same_end, served_at, subst, sym, tests_to_get, tests_to_set_errors, true, true≢false}
-use Rattle.node_laws.proofs.Words.{turn_at, turn_entry, unless_asking, unless_cut, unwrap_or, value_in, view_for, view_of, was_refused, with_command, with_desk}
-use Rattle.node_laws.proofs.Words.{with_port, ℕ, ◌&&◌, ◌++◌, ◌+◌, ◌||◌, ◌∙◌, ◌∷◌, ◌≡◌, ◌⊎◌}
+use Rattle.node_laws.proofs.Words.{Noted, OfDecision, OfHost, Ok, Option, Orders, Plain, Port, Release, Releases, Removed, Result, SaysOk, Sends, Sent}
+use Rattle.node_laws.proofs.Words.{SetAside, SetsErrors, Some, Tells, Turn, Up, Waits, Work, Write, [], after_turn, all_done, all_of_controller, all_of_host}
+use Rattle.node_laws.proofs.Words.{all_so, and-true, answer_of, answers, anyone, ap, apply, arith, asks_for, body_in, body_of, book_after, by_cut, by_test}
+use Rattle.node_laws.proofs.Words.{cases_Bool, changed_if, changed_same, command_deeds, commit, commit_writes, cond, cond_both, controller_deeds, count_of}
+use Rattle.node_laws.proofs.Words.{decided, decision_deeds, deeds_by_relay, done, end_of, end_of_node, end_view, entries_for, entry_of, eqb, eqb-true}
+use Rattle.node_laws.proofs.Words.{errors_after, errors_set_by, fails_within, false, far_end, fold, fold-append, goes_through, has, has_link, header_of}
+use Rattle.node_laws.proofs.Words.{holds_back, host_deeds, hosts_of_ends, hosts_where, inl, inr, is_held, is_opened, is_up, kind_deeds, length, lets_go}
+use Rattle.node_laws.proofs.Words.{link_deeds, link_served, map, node_of, not, noted_of, notified, noting, option_map_or, ordered_deeds, own_deeds, own_gate}
+use Rattle.node_laws.proofs.Words.{own_side, own_view, port_at, refl, relayed_to, same_end, served_at, subst, sym, true, true≢false, turn_at, unless_asking}
+use Rattle.node_laws.proofs.Words.{unless_cut, view_for, view_of, with_command, with_desk, with_port, ℕ, ◌&&◌, ◌++◌, ◌||◌, ◌∙◌, ◌∷◌, ◌≡◌, ◌⊎◌}
 use Rattle.hcp_packet.specs.declared.MessageKind.TheVariants.{Command as IsCommand, Event as IsEvent}
 use Rattle.link_laws.specs.entries.Entries.{End as Side}
-use Rattle.link_laws.specs.entries.Entries.Entry.{Tick}
-use Rattle.trace_model.specs.declared.entry.LostCause.{LostCause}
 use Rattle.node_laws.proofs.kept.Doing.{hosts_map}
 use Rattle.node_laws.proofs.readings.Noticed.{up_is}
 use Rattle.node_laws.proofs.readings.Noting.{IsBeside}
@@ -64,39 +60,10 @@ still_leaves e es all = all_so (IsStill e) (Leaves e) (λ y b. (λ x n r. (b x n
 -- ### Each entry
 
 sent_still : (e f : End) (k pid : ℕ) (message : List ℕ) → IsStill e (entry.Sent f k pid message)
-sent_still e f k pid message x n r = (
-  record {
-    sets = refl;
-    is = cond_both (same_end f e && is_any_ok message) (unwrap_or x.sets x.errors) x.errors (λ z. z ≡ n)
-        (λ _. ap (λ o. unwrap_or o x.errors) r.sets ∙ r.is) (λ _. r.is);
-  },
-  refl,
-)
-
-off_left : (a b : Bool) (x y : Option ℕ) → a ≡ false → cond (a && b) x y ≡ y
-off_left a b x y q = rw q refl
+sent_still e f k pid message x n r = grind arith
 
 pub turn_leaves : (e f : End) (pid : ℕ) (message : List ℕ) → same_end f e ≡ false → IsStill e (entry.Turn f pid message)
-turn_leaves e f pid message off x n r = (
-  record {
-    sets = off_left (same_end f e) (leads_to_link_gate x.book.tables e pid) (errors_set_by message) None off;
-    is = r.is;
-  },
-  refl,
-)
-
-not_counted : (a b : Bool) (x y n : ℕ) → b ≡ false → y ≡ n → cond (a && b) x y ≡ n
-not_counted true b x y n q r = rw q r
-not_counted false b x y n q r = r
-
-lost_leaves : (e f : End) (lpdu : List ℕ) (cause : LostCause) → was_refused cause ≡ false → IsStill e (entry.Lost f lpdu cause)
-lost_leaves e f lpdu cause off x n r = (
-  record {
-    sets = refl;
-    is = not_counted (same_end f e) (was_refused cause) (min 65535 (x.errors + 1)) x.errors n off r.is;
-  },
-  refl,
-)
+turn_leaves e f pid message off x n r = grind arith
 
 -- a frame isn't lost as it was damaged
 abbrev pub IsUndamaged : Noted → Type 0
@@ -107,16 +74,7 @@ pub plainly : (e : End) (x : ErrorCount) (n : ℕ) → IsRead x n → IsRead (re
 plainly e x n r = record { sets = refl; is = r.is }
 
 pub note_still : (e : End) (h : ℕ) (x : Noted) → IsUndamaged x → AllByRecursion (IsStill e) (entry_of h x)
-note_still e h (Sent who k m) un = (sent_still e (end_of h who) k m.0 m.1, tt)
-note_still e h (Lost who frame OnDemand) un = (lost_leaves e (end_of h who) (lpdu_of frame) (lost_as OnDemand) refl, tt)
-note_still e h (Lost who frame (Broken fault)) un = absurd un
-note_still e h (Lost who frame Unread) un = (lost_leaves e (end_of h who) (lpdu_of frame) (lost_as Unread) refl, tt)
-note_still e h (Lost who frame TooOld) un = (lost_leaves e (end_of h who) (lpdu_of frame) (lost_as TooOld) refl, tt)
-note_still e h (Lost who frame TooMany) un = (lost_leaves e (end_of h who) (lpdu_of frame) (lost_as TooMany) refl, tt)
-note_still e h Tick un = tt
-note_still e h (Restarted who) un = tt
-note_still e h (Cut who) un = tt
-note_still e h _ un = ((λ x n r. (plainly e x n r, refl)), tt)
+note_still e h x un = grind arith
 
 pub notes_still : (e : End) (h : ℕ) (xs : List Noted) → AllByRecursion IsUndamaged xs → AllByRecursion (IsStill e) (entries_for h xs)
 notes_still e h [] all = tt
@@ -124,19 +82,12 @@ notes_still e h (x ∷ xs) all = AllByRecursion-append (IsStill e) (entry_of h x
 
 -- what a node notes beside its links leaves it
 pub beside_leaves : (e : End) (k : ℕ) (y : Entry) → IsBeside k y → Leaves e y
-beside_leaves e k (entry.Held f need spare) b = λ x n r. plainly e x n r
-beside_leaves e k (entry.Ask host message) b = λ x n r. plainly e x n r
-beside_leaves e k (entry.Dropped f pid) b = λ x n r. plainly e x n r
-beside_leaves e k (entry.Command node command) b = λ x n r. record { sets = refl; is = r.is }
-beside_leaves e k (entry.AnyOk node count) b = λ x n r. plainly e x n r
-beside_leaves e k (entry.Cut node) b = λ x n r. plainly e x n r
-beside_leaves e k y b = absurd b
+beside_leaves e k y b = grind arith
 
 -- ### What is read of the controller
 
 book_of : (e : End) (x : ErrorCount) (y : Entry) → (errors_after e x y).book ≡ book_after 0 x.book y
-book_of e x (entry.Head header) = refl
-book_of e x _ = refl
+book_of e x y = grind arith
 
 -- it is what is read of it without REC_ERROR
 pub book_reads : (e : End) (es : List Entry) (x : ErrorCount) → (reads e es x).book ≡ fold (book_after 0) x.book es
@@ -165,26 +116,10 @@ AreUnset deeds = AllByRecursion IsUnset deeds
 
 -- ### The link management gate
 
--- what a command sets there doesn't depend on what REC_ERROR is
-set_same : (errors instruction : ℕ) (body : List ℕ) → (link_served errors instruction body).1 ≡ (link_served 0 instruction body).1
-set_same errors instruction body = by_test (eqb instruction 1) (λ p. rw p refl)
-    (λ p. by_test (eqb instruction 2)
-    (λ q. rw (p, q) (by_option (first_of (tests_to_get 6 body)) (λ q. rw q refl) (λ r q. rw q refl)))
-    (λ q. rw (p, q) refl))
-
 -- where it sets it, it is ANY_SET_PARAMETER, and it is answered by ANY_OK
 set_is : (errors instruction : ℕ) (body : List ℕ) (v : ℕ) → (link_served 0 instruction body).1 ≡ Some v
     → (link_served errors instruction body ≡ (answer_of response.Ok [], Some v)) × (eqb instruction 1 ≡ true)
-set_is errors instruction body v s = by_test (eqb instruction 1)
-    (λ p. by_option (first_of (tests_to_set_errors body))
-    (λ z. let is : Some (count_in (value_in body)) ≡ Some v = rw (p, z) at s in
-    (rw (p, z) (ap (λ o. (answer_of response.Ok [], o)) is), p))
-    (λ r z. let none : None ≡ Some v = rw (p, z) at s in absurd (cc none)))
-    (λ p. by_test (eqb instruction 2)
-    (λ q. by_option (first_of (tests_to_get 6 body))
-    (λ z. let none : None ≡ Some v = rw (p, q, z) at s in absurd (cc none))
-    (λ r z. let none : None ≡ Some v = rw (p, q, z) at s in absurd (cc none)))
-    (λ q. let none : None ≡ Some v = rw (p, q) at s in absurd (cc none)))
+set_is errors instruction body v s = grind arith
 
 -- what a message sets by its header
 abbrev set_by_header : List ℕ → Result (MessageKind × ℕ) MessageFault → Option ℕ
@@ -192,12 +127,7 @@ set_by_header message (Ok (IsCommand, instruction)) = (link_served 0 instruction
 set_by_header message _ = None
 
 set_by_is : (message : List ℕ) → errors_set_by message ≡ set_by_header message (header_of message)
-set_by_is message = by (header_of message) refl where
-  by : (x : Result (MessageKind × ℕ) MessageFault) → header_of message ≡ x → errors_set_by message ≡ set_by_header message (header_of message)
-  by (Ok (IsCommand, instruction)) q = rw q refl
-  by (Ok (IsEvent, instruction)) q = rw q refl
-  by (Ok (IsResponse, code)) q = rw q refl
-  by (Err fault) q = rw q refl
+set_by_is message = grind arith
 
 -- the pipe leads to the link management gate
 abbrev pub is_link_gate : Option ℕ → Bool
@@ -210,10 +140,7 @@ SetsNone here sets = cond here sets None ≡ None
 -- a command that sets nothing doesn't set this value
 sets_nothing : (errors n value : ℕ) (m : Message) → header_of m.1 ≡ Ok (IsCommand, n) → errors_set_by m.1 ≡ None
     → (link_served errors n (body_in m.1)).1 ≡ Some value → ⊥
-sets_nothing errors n value m command none is =
-    let none_here : (link_served 0 n (body_in m.1)).1 ≡ None = sym (set_by_is m.1 ∙ ap (set_by_header m.1) command) ∙ none in
-    let both : Some value ≡ None = sym is ∙ (set_same errors n (body_in m.1) ∙ none_here) in
-    cc both
+sets_nothing errors n value m command none is = grind arith
 
 -- ### Other messages
 
@@ -233,8 +160,7 @@ pub controller_unset : (core : Core) (ports : List Port) (h : ℕ) (m : Message)
 controller_unset core ports h m none =
     all_of_controller IsUnset plain core ports h m
     (λ n. decision_unset h (decided core.tables (view_for core.tables ports h) h m.0 n (body_in m.1))) (λ p c here asked. tt)
-    (λ errors n value command gate is.
-    sets_nothing errors n value m command (subst (λ b. SetsNone b (errors_set_by m.1)) (ap is_link_gate gate) none) is)
+    (grind arith)
 
 pub host_unset : (core : Core) (p : Port) (m : Message) → SetsNone (eqb m.0 0) (errors_set_by m.1) → AreUnset (host_deeds (own_view core) (end_view p) m)
 host_unset core p m none =
@@ -270,9 +196,7 @@ pub data SetDeeds (ports : List Port) (h pid v : ℕ) (deeds : List Deed) : Type
   IsDropped : deeds ≡ Drops pid ∷ [] → SetDeeds ports h pid v deeds
 
 link_up : (ports : List Port) (h : ℕ) → has_link ports h ≡ true → IsUpAt ports h
-link_up ports h up = by_option (port_at ports h)
-    (λ q. let no : false ≡ true = rw q at up in absurd (true≢false (sym no)))
-    (λ p q. record { port = p; here = q; up = up_is p.side.shdlc.phase (let z = up in rw q at z) })
+link_up ports h up = grind arith
 
 set_deeds : (h pid errors instruction v : ℕ) (body : List ℕ) → (link_served 0 instruction body).1 ≡ Some v
     → link_deeds h pid (link_served errors instruction body) ≡ SetsErrors v ∷ Sends h (pid, answer_of response.Ok []) ∷ []
@@ -283,16 +207,7 @@ both_of host gate = Some (host, gate)
 
 -- the gate that a pipe leads to, by its far end
 gate_far : (t : HciTables) (h pid : ℕ) → is_link_gate (own_gate t h pid) ≡ true → far_end t h pid ≡ both_of 0 6
-gate_far t h pid is = by (far_end t h pid) refl where
-  by : (o : Option (ℕ × ℕ)) → far_end t h pid ≡ o → o ≡ both_of 0 6
-  by None q = let no : false ≡ true = rw q at is in absurd (true≢false (sym no))
-  by (Some (host, gate)) q = ends (eqb host 0) (eqb gate 0) refl refl where
-    ends : (a b : Bool) → eqb host 0 ≡ a → eqb gate 0 ≡ b → both_of host gate ≡ both_of 0 6
-    ends false b x y = let no : false ≡ true = rw (q, x) at is in absurd (true≢false (sym no))
-    ends true true x y = let no : false ≡ true = rw (q, x, y) at is in absurd (true≢false (sym no))
-    ends true false x y =
-        let six : eqb gate 6 ≡ true = rw (q, x, y) at is in
-        ap (λ a. both_of a gate) (eqb-true host 0 x) ∙ ap (both_of 0) (eqb-true gate 6 six)
+gate_far t h pid is = grind arith
 
 pub controller_sets : (core : Core) (ports : List Port) (h : ℕ) (m : Message) (v : ℕ) → is_link_gate (own_gate core.tables h m.0) ≡ true
     → errors_set_by m.1 ≡ Some v → SetDeeds ports h m.0 v (controller_deeds (view_of core ports) h m)
@@ -314,10 +229,7 @@ controller_sets core ports h m v leads sets =
       not_relayed = ap (deeds_by_relay (view_of core ports) h m) relayed_none
 
       other_pipe : eqb m.0 1 ≡ false
-      other_pipe = by_test (eqb m.0 1)
-          (λ q. rw q (let one : m.0 ≡ 1 = eqb-true m.0 1 q in
-          let no : far_end core.tables h 1 ≡ both_of 0 6 = subst (λ n. far_end core.tables h n ≡ both_of 0 6) one far in absurd (cc no)))
-          (λ q. rw q refl)
+      other_pipe = grind arith
 
       kind_is : kind_deeds (view_of core ports) h m (header_of m.1) ≡ command_deeds (view_of core ports) h m.0 s.instruction (body_in m.1)
       kind_is = ap (kind_deeds (view_of core ports) h m) s.header
@@ -367,9 +279,7 @@ host_sets core ports p m v here zero sets = by_test (is_up p.side.shdlc.phase)
 
       ordered_is : ordered_deeds (own_view core) p.desk.errors m.0 s.instruction (body_in m.1)
           ≡ link_deeds core.node m.0 (link_served p.desk.errors s.instruction (body_in m.1))
-      ordered_is =
-          ap (λ n. ordered_deeds (own_view core) p.desk.errors n s.instruction (body_in m.1)) zero_is
-          ∙ ap (λ n. link_deeds core.node n (link_served p.desk.errors s.instruction (body_in m.1))) (sym zero_is)
+      ordered_is = grind arith
 
 -- ## A node does deeds that don't set REC_ERROR of its end: what is read of it stays what the node keeps
 
@@ -389,20 +299,11 @@ pub map_has : (e : End) (n : ℕ) (f : Port → Port) → ((p : Port) → HasErr
 map_has e n f one [] all = tt
 map_has e n f one (p ∷ ports) all = (one p all.0, map_has e n f one ports all.1)
 
--- a turn is noted, if it is, as a message that was sent
-turn_undamaged : (who : Side) (t : Turn) (p : Port) → AllByRecursion IsUndamaged (turn_entry who p.session p.side t)
-turn_undamaged who (Give m) p = by_option (give_refusal p.side m) (λ q. rw q (tt, tt)) (λ why q. rw q tt)
-turn_undamaged who _ p = tt
-
 turn_still : (e : End) (core : Core) (t : Turn) (o : Option Port) → AllByRecursion (IsStill e) (option_map_or (noted_of core t) o [])
-turn_still e core t None = tt
-turn_still e core t (Some p) = notes_still e p.desk.host (turn_entry (own_side core) p.session p.side t) (turn_undamaged (own_side core) t p)
+turn_still e core t o = grind arith
 
 init_still : (e : End) (x : Entry) → IsInitEnd x → IsStill e x
-init_still e (InitSame f) i = λ x n r. (plainly e x n r, refl)
-init_still e (InitMade f count) i = λ x n r. (plainly e x n r, refl)
-init_still e (InitFailed f code) i = λ x n r. (plainly e x n r, refl)
-init_still e x i = absurd i
+init_still e x i = grind arith
 
 module _ (e : End) (hosts : List ℕ) (x0 : ErrorCount) where
   -- The node of the end is in a step: what is read of REC_ERROR is what it keeps, and the controller's tables are those that are read
@@ -461,15 +362,7 @@ module _ (e : End) (hosts : List ℕ) (x0 : ErrorCount) where
       (1, message)) w r)
 
   pub with_core : (w : Work) (c : Core) → c.node ≡ w.core.node → c.tables ≡ w.core.tables → Right w → Right (record w { core = c })
-  with_core w c same tables r = record {
-    number = same ∙ r.number;
-    side = ap (λ m. cond (eqb m 0) Controller Host) same ∙ r.side;
-    hosts_are = r.hosts_are;
-    errors = r.errors;
-    read = r.read;
-    ends = r.ends;
-    tables = λ on near. tables ∙ r.tables on near;
-  }
+  with_core w c same tables r = grind arith
 
   -- a command is read, and REC_ERROR stays
   with_read : (w : Work) (y : Entry) (r : Right w) → IsRead (errors_after e (reads e w.entries x0) y) r.errors
@@ -528,9 +421,7 @@ module _ (e : End) (hosts : List ℕ) (x0 : ErrorCount) where
   unset_fine k [] all = tt
   unset_fine k (d ∷ deeds) all = (one d all.0, unset_fine k deeds all.1) where
     one : (d : Deed) → IsUnset d → IsFine k d
-    one (SetsErrors errors) u = absurd u
-    one (Ends y) u = u
-    one _ u = tt
+    one d u = grind arith
 
   -- it is set at another end
   sets_other : (k v : ℕ) (w : Work) → eqb k e.link ≡ false → Right w → Right (done k (SetsErrors v) w)
@@ -548,8 +439,7 @@ module _ (e : End) (hosts : List ℕ) (x0 : ErrorCount) where
     set p = record p { desk = record p.desk { errors = v } }
 
     by : (p : Port) → HasErrors e r.errors p → (b : Bool) → eqb p.desk.host k ≡ b → HasErrors e r.errors (changed_if b set p)
-    by p has true q = λ is. absurd (true≢false (sym is ∙ (ap (λ n. eqb n e.link) (eqb-true p.desk.host k q) ∙ off)))
-    by p has false q = has
+    by p has b q = grind arith
 
   does : (k : ℕ) (d : Deed) (w : Work) → IsFine k d → Right w → Right (done k d w)
   does k (Commits c) w q r = commits c w r
@@ -564,8 +454,7 @@ module _ (e : End) (hosts : List ℕ) (x0 : ErrorCount) where
   does k (Drops pid) w q r = note (entry.Dropped (end_of_node w.core k) pid ∷ []) w ((λ x n i. (plainly e x n i, refl)), tt) r
   does k (SetsErrors errors) w q r = sets_other k errors w q r
   does k (Orders message) w q r =
-      turns k (Give (1, message)) (record w { core = record w.core { command = Some message } }) (with_core w
-      (record w.core { command = Some message }) refl refl r)
+      turns k (Give (1, message)) (record w { core = record w.core { command = Some message } }) (grind arith)
   does k Hears w q r = with_core w (record w.core { command = None }) refl refl r
   does k (GoesOn i) w q r = with_core w (record w.core { init = Some i }) refl refl r
   does k (Ends y) w q r =

@@ -2,7 +2,8 @@
 use Rattle.node_laws.proofs.Words.{AllByRecursion, AllByRecursion-append, AreDifferent, AtController, AtEnd, Book, Bool, Comes, Controller, CutOff, Deed, Desk}
 use Rattle.node_laws.proofs.Words.{End, Entry, ErrorCount, HasEnds, Host, IfItRuns, IsOrderly, LinkInput, List, Memory, NoInput, NodeWorld, None, NumberedEnd}
 use Rattle.node_laws.proofs.Words.{Option, Running, Site, Some, Starts, Step, TimePasses, Work, [], activates, after_controller, after_host, after_host_step}
-use Rattle.node_laws.proofs.Words.{after_near_tick, after_planned, aged, aged_entries, all_aged, all_flat, and-false, ap, arrival, begins_with, boot_found}
+use Rattle.node_laws.proofs.Words.{after_near_tick, after_planned, aged, aged_entries, all_aged, all_flat, and-false, ap, arith, arrival, begins_with}
+use Rattle.node_laws.proofs.Words.{boot_found}
 use Rattle.node_laws.proofs.Words.{boot_writes, boot_written, boots, by_boot, by_coming, by_controller, by_controller_tick, by_host, by_host_tick, by_memory}
 use Rattle.node_laws.proofs.Words.{by_power, by_running, by_test, cases_Bool, changed_if, changed_same, comes_at, comes_to, cond, controller_cut}
 use Rattle.node_laws.proofs.Words.{controller_does, controller_ticks, controller_work, count_of, end_c, end_h, entries_for, eq-eqb, eqb, eqb-false, eqb-true}
@@ -108,13 +109,7 @@ module _ (e : End) (real : e.at_host ≡ true → eqb e.link 0 ≡ false) where
   own_node w = cond e.at_host (far_node (site_at w.sites e.link)) w.controller
 
   pub own_node_is : (w : NodeWorld) → node_at w (node_of e) ≡ own_node w
-  own_node_is w = by_test e.at_host
-      (λ q. ap (λ b. node_at w (cond b e.link 0)) q
-      ∙ (far_is (site_at w.sites e.link) refl q ∙ sym (ap (λ b. cond b (far_node (site_at w.sites e.link)) w.controller) q)))
-      (λ q. ap (λ b. node_at w (cond b e.link 0)) q ∙ sym (ap (λ b. cond b (far_node (site_at w.sites e.link)) w.controller) q)) where
-        far_is : (o : Option Site) → site_at w.sites e.link ≡ o → e.at_host ≡ true → node_at w e.link ≡ far_node (site_at w.sites e.link)
-        far_is None z q = rw (real q, z) refl
-        far_is (Some s) z q = rw (real q, z) refl
+  own_node_is w = grind arith
 
   pub near_node : (w : NodeWorld) → e.at_host ≡ false → own_node w ≡ w.controller
   near_node w q = rw q refl
@@ -172,8 +167,8 @@ module _ (e : End) (real : e.at_host ≡ true → eqb e.link 0 ≡ false) where
         (λ near. subst (λ o. IfKeeps e o (reads e (c.entries ++ frames) x)) (sym (near_node (after_controller w h comes c).0 near))
         (own_steps e real (hosts_in w.sites) (near_single (hosts_in w.sites) near) x r w.memory.plan
         (λ n. near_end_in (link_to w.sites n) (comes_to h comes n))
-        (entries_for h (arrival Controller (link_to w.sites h) comes)) frames (AtEnd h i) (subst (λ n. HasEnds n (hosts_in w.sites) r) (sym (near_zero near))
-        has) came frames_so (λ n. known n r q) (subst (λ o. IfKeeps e o x) (near_node w near ∙ q) k))) where
+        (entries_for h (arrival Controller (link_to w.sites h) comes)) frames (AtEnd h i) (grind arith) came frames_so (λ n. known n r q)
+        (subst (λ o. IfKeeps e o x) (near_node w near ∙ q) k))) where
           c : Work
           c = controller_work w r h comes (steps (AtEnd h i))
 
@@ -265,10 +260,8 @@ module _ (e : End) (real : e.at_host ≡ true → eqb e.link 0 ≡ false) where
     others s r here q off =
         let has = has_own w h s r fine here q in
         others_step e s.host Host (s.host ∷ []) r s.memory.plan (λ n. near_end_in (exchanged s.link) comes) (entries_for s.host
-        (arrival Host (exchanged s.link) comes)) (AtEnd h i) has.0 (host_side s.host has.1) (
-          far_other s.host (λ far. ap (λ n. eqb n e.link) has.2 ∙ off far),
-          tt,
-        ) (still_leaves e (entries_for s.host (arrival Host (exchanged s.link) comes)) (arrival_still e Host s.host (exchanged s.link) comes))
+        (arrival Host (exchanged s.link) comes)) (AtEnd h i) has.0 (host_side s.host has.1) (grind arith)
+        (still_leaves e (entries_for s.host (arrival Host (exchanged s.link) comes)) (arrival_still e Host s.host (exchanged s.link) comes))
 
   pub far_begins : (w : NodeWorld) (x : ErrorCount) (h : ℕ) (deeds : List Deed) → AreFine w.sites → AreUnset deeds → AreMute deeds → Kept w x
       → After (host_does w h NoInput (begins_with h deeds)) x
@@ -409,11 +402,7 @@ module _ (e : End) (real : e.at_host ≡ true → eqb e.link 0 ≡ false) where
       → IfKeeps e (far_node (site_at (hosts_tick sites).0 e.link)) (reads e (hosts_tick sites).1 x)
   ticks_own [] x fine far k = k
   ticks_own (s ∷ sites) x fine far k =
-      by_host (cases_Bool (eqb s.host e.link)) (ticks_own sites (reads e (host_ticks s).1 x) (record {
-        different = fine.different.1;
-        hosts = fine.hosts.1;
-        nodes = fine.nodes.1;
-      }) far) where
+      by_host (cases_Bool (eqb s.host e.link)) (ticks_own sites (reads e (host_ticks s).1 x) ((grind arith)) far) where
         first : Site × List Entry
         first = host_ticks s
 
@@ -444,8 +433,7 @@ module _ (e : End) (real : e.at_host ≡ true → eqb e.link 0 ≡ false) where
         by_host (inr off) next =
             let there : IfKeeps e (far_node (site_at sites e.link)) (reads e first.1 x) =
             leaves_kept e (far_node (site_at sites e.link)) x first.1 (tick_leaves s fine.nodes.0 fine.hosts.0 (λ f. off))
-            (subst (λ o. IfKeeps e (far_node o) x)
-            (was false off) k) in
+            (grind arith) in
             subst (λ o. IfKeeps e (far_node o) (reads e (first.1 ++ later.1) x)) (sym (found false off))
             (subst (IfKeeps e (far_node (site_at later.0 e.link))) (sym (reads_append e first.1 later.1 x)) (next there))
 
@@ -518,9 +506,7 @@ module _ (e : End) (real : e.at_host ≡ true → eqb e.link 0 ≡ false) where
 
       far_cut : (e.at_host ≡ true) ⊎ (e.at_host ≡ false) → So (record w { sites = with_site n host_cut w.sites }) (reads e (entry.Cut n ∷ []) x)
       far_cut (inl far) = at_site far (site_at w.sites e.link) refl (cases_Bool (eqb e.link n))
-      far_cut (inr near) =
-          stays (record w { sites = with_site n host_cut w.sites })
-          (near_node e real (record w { sites = with_site n host_cut w.sites }) near ∙ sym (near_node e real w near))
+      far_cut (inr near) = grind arith
 
   -- a memory is another one: no node changes
   memory_node : (w : NodeWorld) (n : ℕ) (m : Memory) → own_node e real (with_memory n m w) ≡ own_node e real w

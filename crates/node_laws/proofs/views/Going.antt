@@ -1,27 +1,23 @@
 -- A host has its turns and its steps, and begins something: the init that runs there stays what is read, and so it does in steps of others.
-use Rattle.node_laws.proofs.Words.{Acked, Active, AllByRecursion, Asks, Bool, Cause, Command, Commits, Controller, Core, Cut, Deed, Desk, Down as NotedDown}
-use Rattle.node_laws.proofs.Words.{Drops, Ends, Entry, Err, FetchMessage, GaveUp, Give, GoesOn, Got, HasEnds, Hears, Hold, Host, Init, InitMade, IsAnswered}
-use Rattle.node_laws.proofs.Words.{IsComing, IsFresh, IsHost, IsOutside, IsResponse, LeavesInit, LinkInput, LinkState, List, Message, MessageFault, MessageKind}
-use Rattle.node_laws.proofs.Words.{NodeInput, None, Noted, NumberedEnd, Ok, Option, Orders, Plain, Plan, Port, Refused, Release, Releases, Restarted, Result}
-use Rattle.node_laws.proofs.Words.{Running, SaysOk, Sends, Sent, Set, SetsErrors, Some, Tells, Turn, Up, Waiting, Work, Write, [], after_input, after_sessions}
-use Rattle.node_laws.proofs.Words.{after_turn, all_done, all_synced_hold, and-true, ap, append-nil, beginning, begins_with, body_in, body_of, by_cut, by_option}
-use Rattle.node_laws.proofs.Words.{by_test, cases_Bool, changed_if, changed_same, comes_to_pass, commit, commit_writes, cond, cond-true, cond_both, count_of}
-use Rattle.node_laws.proofs.Words.{deeds_of, done, end_h, end_of, end_of_node, end_view, ended_by, entries_for, entry_of, eq-eqb, eqb, eqb-true, fails_within}
-use Rattle.node_laws.proofs.Words.{false, flat_map, fold, fold-append, gate_of_pipe, give_refusal, goes_through_ends, handles, has, has_come, have_turns}
-use Rattle.node_laws.proofs.Words.{header_of, holds_back, host_deeds, init_after, init_deeds, init_holds, init_of, init_of_running, inl, input_at, inr}
-use Rattle.node_laws.proofs.Words.{is_command_message, is_gate, is_held, is_response, is_some, is_up, keeps, lack, learned, learned_holds, learns, learns_holds}
-use Rattle.node_laws.proofs.Words.{length, lets_go, loses_power, map, needs, noted_of, noting, option_map, option_map_or, option_to_list, ordered_deeds}
-use Rattle.node_laws.proofs.Words.{own_side, own_view, passes, port_at, refl, report, response_deeds, runs_left, runs_none, runs_on, same_end, sending}
-use Rattle.node_laws.proofs.Words.{sent_unless, steps, subst, sym, synced, told_at, true, true≢false, turn_at, unless_cut, whole_acked, with_desk, with_port}
-use Rattle.node_laws.proofs.Words.{with_response, work_of, ℕ, ◌&&◌, ◌++◌, ◌∙◌, ◌∷◌, ◌≡◌, ◌⊎◌}
-use Rattle.gate_loopback.specs.Loopback.{posts_back}
+use Rattle.node_laws.proofs.Words.{AllByRecursion, Asks, Bool, Cause, Command, Commits, Controller, Core, Cut, Deed, Desk, Down as NotedDown, Drops, Ends}
+use Rattle.node_laws.proofs.Words.{Entry, Err, FetchMessage, Give, GoesOn, HasEnds, Hears, Hold, Host, Init, IsAnswered, IsComing, IsFresh, IsHost, IsOutside}
+use Rattle.node_laws.proofs.Words.{IsResponse, LeavesInit, LinkInput, LinkState, List, Message, MessageFault, MessageKind, NodeInput, None, Noted, NumberedEnd}
+use Rattle.node_laws.proofs.Words.{Ok, Option, Orders, Plain, Plan, Port, Release, Releases, Restarted, Result, Running, SaysOk, Sends, Sent, SetsErrors, Some}
+use Rattle.node_laws.proofs.Words.{Tells, Turn, Up, Work, Write, [], after_input, after_sessions, all_done, all_synced_hold, ap, append-nil, arith, beginning}
+use Rattle.node_laws.proofs.Words.{begins_with, body_in, body_of, by_cut, by_option, by_test, cases_Bool, comes_to_pass, commit, commit_writes, cond, cond-true}
+use Rattle.node_laws.proofs.Words.{cond_both, count_of, deeds_of, done, end_h, end_of, end_of_node, end_view, ended_by, entries_for, entry_of, eq-eqb, eqb}
+use Rattle.node_laws.proofs.Words.{eqb-true, fails_within, false, flat_map, fold, fold-append, goes_through_ends, handles, has, has_come, have_turns, header_of}
+use Rattle.node_laws.proofs.Words.{holds_back, host_deeds, init_after, init_deeds, init_of, inl, input_at, inr, is_held, is_response, is_some, is_up, keeps}
+use Rattle.node_laws.proofs.Words.{lack, learned, learned_holds, length, lets_go, loses_power, map, needs, noted_of, noting, option_map, option_map_or}
+use Rattle.node_laws.proofs.Words.{option_to_list, ordered_deeds, own_side, own_view, passes, port_at, refl, report, response_deeds, same_end, sending, steps}
+use Rattle.node_laws.proofs.Words.{subst, sym, synced, told_at, true, true≢false, turn_at, unless_cut, whole_acked, with_desk, with_port, with_response}
+use Rattle.node_laws.proofs.Words.{work_of, ℕ, ◌&&◌, ◌++◌, ◌∙◌, ◌∷◌, ◌≡◌, ◌⊎◌}
 use Rattle.hcp_packet.specs.declared.MessageKind.TheVariants.{Command as IsCommand, Event as IsEvent}
 use Rattle.link_laws.specs.entries.Entries.{End as Side}
-use Rattle.link_laws.specs.entries.Entries.Entry.{Down as IsDown, Tick, Up as NotedUp}
+use Rattle.link_laws.specs.entries.Entries.Entry.{Down as IsDown, Tick}
 use Rattle.node_machine.proofs.Walks.{all_ordered}
-use Rattle.shdlc_core.specs.declared.answers.LinkState.TheVariants.{Down}
 use Rattle.node_laws.specs.views.Inits.{KeepsInit}
-use Rattle.node_laws.proofs.links.Noticing.{outside, stays_up, turn-phase}
+use Rattle.node_laws.proofs.links.Noticing.{outside, stays_up}
 use Rattle.node_laws.proofs.readings.Noting.{IsBeside, IsOwnNote, Notes, NotesSo, all_do, behind, behind_is, came_is, controller_notes, host_notes, on_is}
 use Rattle.node_laws.proofs.readings.Noting.{over_is, steps_note}
 use Rattle.node_laws.proofs.readings.Turning.{IsQuiet, host_side, rest_quiet, same_own, told_rest}
@@ -57,9 +53,6 @@ plain = record { sends = λ to x. tt; says_ok = tt; releases = λ asker. tt; is_
 
 ordered_neutral : (core : Core) (errors pipe n : ℕ) (body : List ℕ) → AreNeutral (ordered_deeds (own_view core) errors pipe n body)
 ordered_neutral core errors pipe n body = all_ordered IsNeutral core plain (λ c. tt) errors pipe n body (λ zero value is. tt)
-
-learns_neutral : (core : Core) (c : Command) → AreNeutral (learns (own_view core) c)
-learns_neutral core c = learns_holds AreNeutral core tt (λ c may room. (tt, tt)) c
 
 learned_neutral : (core : Core) (order value : List ℕ) → AreNeutral (learned (own_view core) order value)
 learned_neutral core order value = learned_holds AreNeutral core tt (λ c may room. (tt, tt)) order value
@@ -105,20 +98,10 @@ module _ (h : ℕ) (now : LinkState) where
     -- a response came to a command of an init, and one more is read as answered
     init_go : (code : ℕ) (value : List ℕ) (init : Option Init) → now ≡ Up
         → MayGo (option_map with_response init) None init (init_deeds (own_view core) code value init)
-    init_go code value None up = ended None None refl
-    init_go code value (Some i) up = init_holds (MayGo (Some (with_response i)) None (Some i)) core i code value (record {
-      same = ended _ None (over (Some (with_response i)));
-      failed = λ code. ended _ None (over (Some (with_response i)));
-      made =
-          neutral_go (Some (with_response i)) None (Some i) (learns (own_view core) (Set core.node 0 1 (record { items = i.identity })))
-          (Ends (InitMade (end_of_node core core.node) (length i.pipes)) ∷ []) (learns_neutral core (Set core.node 0 1 (record { items = i.identity })))
-          (ended _ None (over (Some (with_response i))));
-      next = λ order is. (refl, λ some. (refl, up));
-    })
+    init_go code value init up = grind arith
 
     none_of : (o : Option Init) → (is_some o ≡ true → ⊥) → o ≡ None
-    none_of None e = refl
-    none_of (Some i) e = absurd (e refl)
+    none_of o e = grind arith
 
     response_go : (code : ℕ) (value : List ℕ) → now ≡ Up → (is_some core.init ≡ true → is_some core.command ≡ true)
         → MayGo (option_map with_response core.init) core.command core.init (response_deeds (own_view core) code value)
@@ -141,10 +124,7 @@ module _ (h : ℕ) (now : LinkState) where
     neutral_all y deeds is waits all = subst (MayGo y core.command core.init) (append-nil deeds) (neutral_go y core.command core.init deeds [] all (is, waits))
 
     not_answered : (m : Message) (y : Option Init) → is_response m.1 ≡ false → answered_by m y ≡ y
-    not_answered m y other = ap (λ b. cond b (option_map with_response y) y) (off (eqb m.0 1) (is_response m.1) other) where
-      off : (a b : Bool) → b ≡ false → (a && b) ≡ false
-      off true b q = q
-      off false b q = refl
+    not_answered m y other = grind arith
 
     -- what a host does with a message
     host_go : (p : Port) (m : Message) → p.side.shdlc.phase ≡ now → (is_some core.init ≡ true → (is_some core.command ≡ true) × (now ≡ Up))
@@ -154,9 +134,7 @@ module _ (h : ℕ) (now : LinkState) where
       Fine deeds = MayGo (answered_by m core.init) core.command core.init deeds
 
       up_of : (s : LinkState) → is_up s ≡ true → s ≡ Up
-      up_of Up e = refl
-      up_of Waiting e = absurd (true≢false (sym e))
-      up_of Down e = absurd (true≢false (sym e))
+      up_of s e = grind arith
 
       up_is : (s : LinkState) → s ≡ Up → is_up s ≡ true
       up_is s e = rw e refl
@@ -165,8 +143,7 @@ module _ (h : ℕ) (now : LinkState) where
       none_there q = none_of core.init (λ some. true≢false (sym (up_is p.side.shdlc.phase (phase ∙ (waits some).1)) ∙ q))
 
       same_none : (i : Option Init) → i ≡ None → answered_by m i ≡ i
-      same_none i e = subst (λ i. answered_by m i ≡ i) (sym e) (cond_both (eqb m.0 1 && is_response m.1) None None (λ (o : Option Init). o ≡ None) (λ _. refl)
-          (λ _. refl))
+      same_none i e = grind arith
 
       go : (b : Bool) (x : Result (MessageKind × ℕ) MessageFault) → is_up p.side.shdlc.phase ≡ b → header_of m.1 ≡ x
           → Fine (host_deeds (own_view core) (end_view p) m)
@@ -177,21 +154,8 @@ module _ (h : ℕ) (now : LinkState) where
           subst Fine (sym shown)
           (neutral_all (answered_by m core.init) (ordered_deeds (own_view core) p.desk.errors m.0 n (body_in m.1)) (not_answered m core.init other) waits
           (ordered_neutral core p.desk.errors m.0 n (body_in m.1)))
-      go true (Ok (IsEvent, n)) q z = by (is_gate 4 (gate_of_pipe (own_view core) m.0) && posts_back m.1) refl where
-        other : is_response m.1 ≡ false
-        other = rw z refl
-
-        shown : (b : Bool) → (is_gate 4 (gate_of_pipe (own_view core) m.0) && posts_back m.1) ≡ b
-            → host_deeds (own_view core) (end_view p) m ≡ cond b (Sends core.node m ∷ []) []
-        shown b e = rw (q, z) (ap (λ c. cond c (Sends core.node m ∷ []) []) e)
-
-        by : (b : Bool) → (is_gate 4 (gate_of_pipe (own_view core) m.0) && posts_back m.1) ≡ b → Fine (host_deeds (own_view core) (end_view p) m)
-        by b e = subst Fine (sym (shown b e)) (neutral_all (answered_by m core.init) (cond b (Sends core.node m ∷ []) []) (not_answered m core.init other) waits
-            (cond_both b (Sends core.node m ∷ []) [] AreNeutral (λ _. (tt, tt)) (λ _. tt)))
-      go true (Err fault) q z =
-          let other : is_response m.1 ≡ false = rw z refl in
-          let shown : host_deeds (own_view core) (end_view p) m ≡ [] = rw (q, z) refl in
-          subst Fine (sym shown) (neutral_all (answered_by m core.init) [] (not_answered m core.init other) waits tt)
+      go true (Ok (IsEvent, n)) q z = grind arith
+      go true (Err fault) q z = grind arith
       go true (Ok (IsResponse, n)) q z = subst Fine (sym shown) (by_pipe (cases_Bool (eqb m.0 1))) where
         shown : host_deeds (own_view core) (end_view p) m ≡ cond (eqb m.0 1) (response_deeds (own_view core) n (body_in m.1)) []
         shown = rw (q, z) refl
@@ -230,14 +194,8 @@ told_init h core p i y side at = rw side (go (ended_by p.side i)) where
       ap (λ b. reads_init h (entries_for p.desk.host rest) (cond b None y)) (ap (λ k. same_end (end_h k) (end_h h)) at ∙ same_own h)
       ∙ quiet_init h p.desk.host rest None quiet
 
-sent_init : (h k : ℕ) (who : Side) (n : ℕ) (m : Message) (o : Option Refused) (y : Option Init) → reads_init h (entries_for k (sent_unless o who n m)) y ≡ y
-sent_init h k who n m None y = refl
-sent_init h k who n m (Some why) y = refl
-
 turn_init : (h : ℕ) (core : Core) (t : Turn) (o : Option Port) (y : Option Init) → reads_init h (option_map_or (noted_of core t) o []) y ≡ y
-turn_init h core t None y = refl
-turn_init h core (Give m) (Some p) y = sent_init h p.desk.host (own_side core) p.session m (give_refusal p.side m) y
-turn_init h core _ (Some p) y = refl
+turn_init h core t o y = grind arith
 
 module _ (h : ℕ) (host : IsHost h) (i0 : Option Init) where
   -- the host and its one end, which is in this phase
@@ -260,43 +218,22 @@ module _ (h : ℕ) (host : IsHost h) (i0 : Option Init) where
         → reads_init h (w.entries ++ es) i0 ≡ y
     noted es w y was silent = init_append h w.entries es i0 ∙ (silent (reads_init h w.entries i0) ∙ was)
 
-    quieted : (b : Bool) (f : Port → Port) (p : Port) → ((q : Port) → q.desk.notice ≡ None → (f q).desk.notice ≡ None) → p.desk.notice ≡ None
-        → (changed_if b f p).desk.notice ≡ None
-    quieted true f p keeps is = keeps p is
-    quieted false f p keeps is = is
-
     ends : (k : ℕ) (f : Port → Port) (w v : Work) → v.core.node ≡ w.core.node → v.ports ≡ with_port k f w.ports → ((p : Port) → (f p).desk.host ≡ p.desk.host)
         → ((p : Port) → p.desk.notice ≡ None → (f p).desk.notice ≡ None) → ((p : Port) → (f p).side.shdlc.phase ≡ p.side.shdlc.phase) → Base now w → Base now v
-    ends k f w v node ports same quiet phase b = record {
-      number = node ∙ b.number;
-      port = changed_if (eqb b.port.desk.host k) f b.port;
-      is = ports ∙ ap (with_port k f) b.is;
-      at = changed_same (λ (p : Port). p.desk.host) (eqb b.port.desk.host k) f b.port same ∙ b.at;
-      quiet = quieted (eqb b.port.desk.host k) f b.port quiet b.quiet;
-      phase = changed_same (λ (p : Port). p.side.shdlc.phase) (eqb b.port.desk.host k) f b.port phase ∙ b.phase;
-    }
+    ends k f w v node ports same quiet phase b = grind arith
 
     turned : (k : ℕ) (t : Turn) (w v : Work) → v.core.node ≡ w.core.node → v.ports ≡ w.ports → Base now w → Base now (turn_at k t v)
-    turned k t w v node ports b =
-        ends k (after_turn t) w (turn_at k t v) node (ap (with_port k (after_turn t)) ports) (λ p. refl) (λ p is. is) (λ p. turn-phase p.side t) b
+    turned k t w v node ports b = grind arith
 
     turn_seen : (k : ℕ) (t : Turn) (w : Work) (y : Option Init) → reads_init h w.entries i0 ≡ y → reads_init h (turn_at k t w).entries i0 ≡ y
     turn_seen k t w y was = noted (option_map_or (noted_of w.core t) (port_at w.ports k) []) w y was (turn_init h w.core t (port_at w.ports k))
 
     desked : (k : ℕ) (f : Desk → Desk) (w : Work) → ((d : Desk) → (f d).host ≡ d.host) → ((d : Desk) → d.notice ≡ None → (f d).notice ≡ None) → Base now w
         → Base now (with_desk k f w)
-    desked k f w same quiet b =
-        ends k (λ p. record p { desk = f p.desk }) w (with_desk k f w) refl refl (λ p. same p.desk) (λ p is. quiet p.desk is) (λ p. refl) b
+    desked k f w same quiet b = grind arith
 
     same_base : (w v : Work) → v.core.node ≡ w.core.node → v.ports ≡ w.ports → Base now w → Base now v
-    same_base w v node ports b = record {
-      number = node ∙ b.number;
-      port = b.port;
-      is = ports ∙ b.is;
-      at = b.at;
-      quiet = b.quiet;
-      phase = b.phase;
-    }
+    same_base w v node ports b = grind arith
 
     then_on : (f : Work → Work) (w : Work) → w.cut ≡ false → Stands now (f w) → Stands now (unless_cut f w)
     then_on f w on s = by_cut (Stands now) f w (λ q. absurd (true≢false (sym q ∙ on))) (λ q. s)
@@ -308,11 +245,7 @@ module _ (h : ℕ) (host : IsHost h) (i0 : Option Init) where
 
     pub all_go : (k : ℕ) (deeds : List Deed) (w : Work) (y : Option Init) → w.cut ≡ false → Base now w → reads_init h w.entries i0 ≡ y
         → MayGo h now y w.core.command w.core.init deeds → Stands now (all_done k deeds w)
-    all_go k [] w y on b was may = record {
-      base = b;
-      on = λ q. (was ∙ may.0, may.1);
-      off = λ q. absurd (true≢false (sym q ∙ on));
-    }
+    all_go k [] w y on b was may = grind arith
     all_go k (Commits c ∷ deeds) w y on b was may = by (cases_Bool (fails_within (length writes) w.plan)) (all_go k deeds) where
       writes : List Write
       writes = commit_writes w.core.journal w.core.tables (body_of c)
@@ -349,8 +282,7 @@ module _ (h : ℕ) (host : IsHost h) (i0 : Option Init) where
         (turn_seen asker Release w y was) may)
     all_go k (Tells to message ∷ deeds) w y on b was may = absurd may
     all_go k (IsAnswered ∷ deeds) w y on b was may =
-        then_on (all_done k deeds) (done k IsAnswered w) on (all_go k deeds (done k IsAnswered w) y on (desked k (λ d. record d { notice = None }) w (λ d. refl)
-        (λ d is. refl) b) was may)
+        then_on (all_done k deeds) (done k IsAnswered w) on (all_go k deeds (done k IsAnswered w) y on (grind arith) was may)
     all_go k (Drops pid ∷ deeds) w y on b was may =
         then_on (all_done k deeds) (done k (Drops pid) w) on (all_go k deeds (done k (Drops pid) w) y on (same_base w (done k (Drops pid) w) refl refl b)
         (noted (entry.Dropped (end_of_node w.core k) pid ∷ []) w y was (λ z. refl)) may)
@@ -379,8 +311,8 @@ module _ (h : ℕ) (host : IsHost h) (i0 : Option Init) where
         → Stands now (handles h m (host_deeds (own_view w.core) (end_view b.port) m) w)
     handled m w on s b =
         all_go h (host_deeds (own_view w.core) (end_view b.port) m) fetched (answered_by h now w.core b.number (side_of_host w b) m w.core.init) on
-        (desked h (λ d. record d { holds = false }) (turn_at h FetchMessage said) (λ d. refl) (λ d is. is) (turned h FetchMessage said said refl refl
-        (same_base w said refl refl b))) (turn_seen h FetchMessage said (answered_by h now w.core b.number (side_of_host w b) m w.core.init) read)
+        (desked h (λ d. record d { holds = false }) (turn_at h FetchMessage said) (λ d. refl) (λ d is. is) (grind arith))
+        (turn_seen h FetchMessage said (answered_by h now w.core b.number (side_of_host w b) m w.core.init) read)
         (host_go h now w.core b.number (side_of_host w b) b.port m b.phase (s.on on).1) where
           said : Work
           said = noting (entry.Turn (end_of_node w.core h) m.0 m.1 ∷ []) w
@@ -394,8 +326,7 @@ module _ (h : ℕ) (host : IsHost h) (i0 : Option Init) where
           read : reads_init h said.entries i0 ≡ answered_by h now w.core b.number (side_of_host w b) m w.core.init
           read =
               init_append h w.entries (entry.Turn (end_of_node w.core h) m.0 m.1 ∷ []) i0
-              ∙ (ap (λ c. cond (c && (eqb m.0 1 && is_response m.1)) (option_map with_response (reads_init h w.entries i0)) (reads_init h w.entries i0)) own
-              ∙ ap (λ y. cond (eqb m.0 1 && is_response m.1) (option_map with_response y) y) (s.on on).0)
+              ∙ (grind arith)
 
     noting_stands : (es : List Entry) (w : Work) → ((y : Option Init) → reads_init h es y ≡ y) → Stands now w → Stands now (noting es w)
     noting_stands es w silent s = record {
@@ -430,11 +361,7 @@ module _ (h : ℕ) (host : IsHost h) (i0 : Option Init) where
         (λ q. rw q s)
 
     node_off : (w : Work) → Base now w → eqb w.core.node 0 ≡ false
-    node_off w b = by_test (eqb w.core.node 0)
-        (λ q. rw q (let no : Rattle.link_laws.specs.entries.Entries.End.Controller ≡ Host =
-        sym (ap (λ c. cond c Rattle.link_laws.specs.entries.Entries.End.Controller Host) q)
-        ∙ side_of_host w b in absurd (cc no)))
-        (λ q. rw q refl)
+    node_off w b = grind arith
 
     pub deeds_is : (m : Message) (w : Work) (b : Base now w) → deeds_of w.core w.ports h m ≡ host_deeds (own_view w.core) (end_view b.port) m
     deeds_is m w b =
@@ -454,11 +381,9 @@ module _ (h : ℕ) (host : IsHost h) (i0 : Option Init) where
     goes [] w on s = s
     goes (k ∷ hosts) w on s =
         let messages : List Message = option_map_or (λ (p : Port). p.side.got) (port_at w.ports k) [] in
-        then (goes_through_ends hosts) (have_turns k messages w) (λ still z. goes hosts (have_turns k messages w) still z) (by (cases_Bool
-        (eqb s.base.port.desk.host k))) where
+        then (goes_through_ends hosts) (have_turns k messages w) (λ still z. goes hosts (have_turns k messages w) still z) (by (grind arith)) where
           none_is : eqb s.base.port.desk.host k ≡ false → option_map_or (λ (p : Port). p.side.got) (port_at w.ports k) [] ≡ []
-          none_is q = ap (λ ps. option_map_or (λ (p : Port). p.side.got) (port_at ps k) []) s.base.is
-              ∙ ap (λ c. option_map_or (λ (p : Port). p.side.got) (cond c (Some s.base.port) None) []) q
+          none_is q = grind arith
 
           by : (eqb s.base.port.desk.host k ≡ true) ⊎ (eqb s.base.port.desk.host k ≡ false)
               → Stands now (have_turns k (option_map_or (λ (p : Port). p.side.got) (port_at w.ports k) []) w)
@@ -484,13 +409,7 @@ module _ (h : ℕ) (host : IsHost h) (i0 : Option Init) where
 
   came_so : (now : LinkState) (w : Work) (p : Port) (o : Option LinkInput) → ((i : LinkInput) → o ≡ Some i → IsComing i) → w.core.node ≡ h → p.desk.host ≡ h
       → p.desk.notice ≡ None → p.side.shdlc.phase ≡ now → IsFresh p → HasCome now w (has_come p o) (told_at w.core p o)
-  came_so now w p None coming node at quiet phase fresh = record {
-    at = at;
-    quiet = quiet;
-    late = fresh.1;
-    told = λ y. sym (ap (λ b. cond b None y) fresh.0);
-    up = λ is ended. phase ∙ is;
-  }
+  came_so now w p None coming node at quiet phase fresh = grind arith
   came_so now w p (Some i) coming node at quiet phase fresh = record {
     at = at;
     quiet = quiet;
@@ -581,25 +500,10 @@ module _ (h : ℕ) (host : IsHost h) (i0 : Option Init) where
   -- ### What a host keeps
 
   keeps_stand : (w : Work) → w.cut ≡ false → (k : KeepsInit h i0 w) → Stands h host i0 k.port.side.shdlc.phase w
-  keeps_stand w on k = record {
-    base = record { number = k.node; port = k.port; is = k.ports_are; at = k.host; quiet = k.no_notice; phase = refl };
-    on = λ e. (k.read ∙ ap init_of_running (runs_left w e), k.waits e);
-    off = λ e. absurd (true≢false (sym e ∙ on));
-  }
+  keeps_stand w on k = grind arith
 
   stands_keep : (now : LinkState) (w : Work) → Stands h host i0 now w → KeepsInit h i0 w
-  stands_keep now w s = record {
-    node = s.base.number;
-    port = s.base.port;
-    ports_are = s.base.is;
-    host = s.base.at;
-    no_notice = s.base.quiet;
-    waits = λ e some. (((s.on e).1 some).0, s.base.phase ∙ ((s.on e).1 some).1);
-    read = by (cases_Bool w.cut);
-  } where
-    by : (w.cut ≡ true) ⊎ (w.cut ≡ false) → reads_init h w.entries i0 ≡ init_of_running (runs_on w)
-    by (inl e) = s.off e ∙ sym (ap init_of_running (runs_none w e))
-    by (inr e) = (s.on e).0 ∙ sym (ap init_of_running (runs_left w e))
+  stands_keep now w s = grind arith
 
 pub steps_keep : (h : ℕ) (begun : Option Init) (input : NodeInput) (w : Work) → IsHost h → IsOutside input → KeepsInit h begun w → w.cut ≡ false
     → AllByRecursion IsFresh w.ports → KeepsInit h begun (steps input w)
@@ -615,22 +519,15 @@ sends_keep h begun m w host k on =
     let now : LinkState = k.port.side.shdlc.phase in
     let s : Stands h host begun now w = keeps_stand h host begun w on k in
     stands_keep h host begun now (begins_with h (sending h m) w) (all_go h host begun now h (sending h m) w w.core.init on s.base (s.on on).0
-    (cond_both (eqb m.0 1 && is_command_message m.1) (Orders m.1 ∷ []) (Sends h m ∷ []) (MayGo h now w.core.init w.core.command w.core.init)
-    (λ _. (refl, λ some. (refl, ((s.on on).1 some).1))) (λ _. (refl, (s.on on).1))))
+    (grind arith))
 
 pub begins_keep : (h : ℕ) (begun : Option Init) (identity : List ℕ) (pipes : List (List ℕ)) (w : Work) → IsHost h → (k : KeepsInit h begun w) → w.cut ≡ false
     → w.entries ≡ [] → k.port.side.shdlc.phase ≡ Up → KeepsInit h (Some (init_of identity pipes)) (begins_with h (beginning identity pipes) w)
 begins_keep h begun identity pipes w host k on none up =
     let i : Option Init = Some (init_of identity pipes) in
     let now : LinkState = k.port.side.shdlc.phase in
-    stands_keep h host i now (begins_with h (beginning identity pipes) w) (all_go h host i now h (beginning identity pipes) w i on (record {
-      number = k.node;
-      port = k.port;
-      is = k.ports_are;
-      at = k.host;
-      quiet = k.no_notice;
-      phase = refl;
-    }) (ap (λ es. reads_init h es i) none) (refl, λ some. (refl, up)))
+    stands_keep h host i now (begins_with h (beginning identity pipes) w)
+    (all_go h host i now h (beginning identity pipes) w i on ((grind arith)) (ap (λ es. reads_init h es i) none) (refl, λ some. (refl, up)))
 
 -- ## What other nodes note tells nothing of the init that runs at a host
 
@@ -658,35 +555,20 @@ module _ (h n : ℕ) (other : eqb n h ≡ false) (who : Side) (is_side : cond (e
   IsOff k = same_end (end_of k who) (end_h h) ≡ false
 
   note_leaves : (k : ℕ) (x : Noted) → IsOff k → IsOwnNote who x → AllByRecursion (LeavesInit h) (entry_of k x)
-  note_leaves k (NotedUp side m) off own = ((λ y. refl), tt)
-  note_leaves k (NotedDown side cause) off own =
-      ((λ y. off_cond (same_end (end_of k side) (end_h h)) None y (ap (λ s. same_end (end_of k s) (end_h h)) own ∙ off)), tt)
-  note_leaves k (Active side) off own = ((λ y. refl), tt)
-  note_leaves k (GaveUp side tries) off own = ((λ y. refl), tt)
-  note_leaves k (Acked side m count) off own = ((λ y. refl), tt)
-  note_leaves k (Got side m message) off own = ((λ y. refl), tt)
-  note_leaves k (Sent side m message) off own = ((λ y. refl), tt)
-  note_leaves k x off own = absurd own
+  note_leaves k x off own = grind arith
 
   turned_leaves : (k pid : ℕ) (message : List ℕ) → IsOff k → LeavesInit h (entry.Turn (end_of k who) pid message)
   turned_leaves k pid message off = λ y. off_both (same_end (end_of k who) (end_h h)) _ (option_map with_response y) y off
 
   beside_leaves : (x : Entry) → IsBeside n x → LeavesInit h x
-  beside_leaves (entry.Held f need spare) b = λ y. refl
-  beside_leaves (entry.Ask host message) b = λ y. refl
-  beside_leaves (entry.Dropped f pid) b = λ y. refl
-  beside_leaves (entry.Command node command) b = λ y. refl
-  beside_leaves (entry.AnyOk node count) b = λ y. refl
-  beside_leaves (entry.Cut node) b = λ y. off_cond (eqb node h) None y (ap (λ m. eqb m h) b ∙ other)
-  beside_leaves x b = absurd b
+  beside_leaves x b = grind arith
 
   deeds_leave : (core : Core) (ports : List Port) (k : ℕ) (m : Message) → core.node ≡ n → AllByRecursion (NotesSo (LeavesInit h)) (deeds_of core ports k m)
   deeds_leave core ports k m number = by_test (eqb core.node 0)
       (λ q. rw q (controller_notes (LeavesInit h) core ports k m))
       (λ q. rw q (one q (port_at ports k))) where
         own_off : eqb core.node 0 ≡ false → same_end (end_of_node core core.node) (end_h h) ≡ false
-        own_off q = ap (λ b. same_end (end_of core.node (cond b Controller Host)) (end_h h)) q
-            ∙ (and-true (eqb core.node h) ∙ (ap (λ m. eqb m h) number ∙ other))
+        own_off q = grind arith
 
         one : eqb core.node 0 ≡ false → (o : Option Port)
             → AllByRecursion (NotesSo (LeavesInit h)) (option_map_or (λ e. host_deeds (own_view core) e m) (option_map end_view o) [])

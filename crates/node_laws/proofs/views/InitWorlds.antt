@@ -1,20 +1,20 @@
 -- Whatever happens to a world, a host keeps the init that is read of it.
-use Rattle.node_laws.proofs.Words.{Activates, AllByRecursion, AllByRecursion-append, Arms, AsksReset, AtController, AtEnd, AtHost, Bool, Boots, Broken, Comes}
-use Rattle.node_laws.proofs.Words.{Controller, CutOff, Deed, Desk, End, Entry, Gives, GoesOut, Happening, HasEnds, Host, IfItRuns, IfRunsInit, Init, Inits}
-use Rattle.node_laws.proofs.Words.{IsCut, IsHost, IsOrderly, LeavesInit, Link, LinkEnd, LinkInput, LinkState, List, Lose, Loses, Loss, Memory, Message}
-use Rattle.node_laws.proofs.Words.{NextFrame, NoInput, NodeInput, NodeWorld, None, NumberedEnd, Option, Orders, Port, Resets, Running, Sends, Site}
-use Rattle.node_laws.proofs.Words.{SiteKeepsInit, Some, Starts, Step, Takes, Tick, Ticks, TimePasses, Up, Work, [], activates, after_controller, after_host}
-use Rattle.node_laws.proofs.Words.{after_host_step, after_input, after_near_tick, after_planned, aged, aged_entries, all_aged, all_flat, and-false, ap, arith}
-use Rattle.node_laws.proofs.Words.{arrival, beginning, begins_with, boot_found, boot_writes, boot_written, boots, by_boot, by_coming, by_controller}
-use Rattle.node_laws.proofs.Words.{by_controller_tick, by_host, by_host_tick, by_memory, by_option, by_power, by_running, by_test, cases_Bool, changed_if}
-use Rattle.node_laws.proofs.Words.{changed_same, comes_at, comes_to, cond, cond_both, controller_cut, controller_does, controller_ticks, controller_work}
-use Rattle.node_laws.proofs.Words.{count_of, counts, end_c, end_h, end_of, ending_entries, ending_of, entries_for, eq-eqb, eqb, eqb-false, eqb-true, exchanged}
-use Rattle.node_laws.proofs.Words.{false, first_lost, flat_map, found, frame_lost, frames_noted, happens, has_come, host_cut, host_does, host_does_so}
-use Rattle.node_laws.proofs.Words.{host_tick, host_ticks, host_work, hosts_in, hosts_tick, init_begun, init_of, init_of_running, inl, input_at, input_of, inr}
-use Rattle.node_laws.proofs.Words.{is_command_message, is_late_at, link_after_controller, link_to, links_of, loses_power_at, map, memory_at, min, ne_eqb}
-use Rattle.node_laws.proofs.Words.{near_end_in, near_tick, new_desk, node_at, port_at, port_for, refl, runs_on, same_end, sending, site_at, site_ticked}
-use Rattle.node_laws.proofs.Words.{site_unticked, steps, steps_at_controller, subst, sym, ticks_at_controller, ticks_host, true, true≢false, turns_at}
-use Rattle.node_laws.proofs.Words.{wires_for, with_error, with_memory, with_site, work_of, world_step, world_ticks, ℕ, ◌&&◌, ◌++◌, ◌+◌, ◌∙◌, ◌∷◌, ◌≡◌, ◌⊎◌}
+use Rattle.node_laws.proofs.Words.{Activates, AllByRecursion, AllByRecursion-append, Arms, AsksReset, AtController, AtEnd, AtHost, Bool, Boots, Comes}
+use Rattle.node_laws.proofs.Words.{Controller, CutOff, Deed, End, Entry, Gives, GoesOut, Happening, HasEnds, Host, IfItRuns, IfRunsInit, Init, Inits, IsCut}
+use Rattle.node_laws.proofs.Words.{IsHost, IsOrderly, LeavesInit, Link, LinkInput, LinkState, List, Lose, Loses, Loss, Memory, Message, NextFrame, NoInput}
+use Rattle.node_laws.proofs.Words.{NodeInput, NodeWorld, None, NumberedEnd, Option, Resets, Running, Site, SiteKeepsInit, Some, Starts, Step, Takes, Tick}
+use Rattle.node_laws.proofs.Words.{Ticks, TimePasses, Up, Work, [], activates, after_controller, after_host, after_host_step, after_input, after_near_tick}
+use Rattle.node_laws.proofs.Words.{after_planned, aged, aged_entries, all_aged, all_flat, and-false, ap, arith, arrival, beginning, begins_with, boot_found}
+use Rattle.node_laws.proofs.Words.{boot_writes, boot_written, boots, by_boot, by_coming, by_controller, by_controller_tick, by_host, by_host_tick, by_memory}
+use Rattle.node_laws.proofs.Words.{by_option, by_power, by_running, by_test, cases_Bool, changed_if, changed_same, comes_at, comes_to, cond, controller_cut}
+use Rattle.node_laws.proofs.Words.{controller_does, controller_ticks, controller_work, count_of, counts, end_c, end_h, end_of, ending_entries, ending_of}
+use Rattle.node_laws.proofs.Words.{entries_for, eq-eqb, eqb, eqb-false, eqb-true, exchanged, false, first_lost, flat_map, found, frame_lost, frames_noted}
+use Rattle.node_laws.proofs.Words.{happens, has_come, host_cut, host_does, host_does_so, host_tick, host_ticks, host_work, hosts_in, hosts_tick, init_begun}
+use Rattle.node_laws.proofs.Words.{init_of, init_of_running, inl, input_at, input_of, inr, is_late_at, link_after_controller, link_to, links_of, loses_power_at}
+use Rattle.node_laws.proofs.Words.{map, memory_at, ne_eqb, near_end_in, near_tick, node_at, port_at, port_for, refl, runs_on, same_end, sending, site_at}
+use Rattle.node_laws.proofs.Words.{site_ticked, site_unticked, steps, steps_at_controller, subst, sym, ticks_at_controller, ticks_host, true, turns_at}
+use Rattle.node_laws.proofs.Words.{Desk, LinkEnd, wires_for, with_memory, with_site, work_of, world_step, world_ticks, ℕ, ◌++◌, ◌∙◌, ◌∷◌, ◌≡◌, ◌⊎◌}
+use Rattle.node_laws.proofs.Words.{true≢false}
 use Rattle.link_laws.specs.entries.Entries.{End as Side}
 use Rattle.node_laws.specs.views.Inits.{RunsInit}
 use Rattle.node_laws.proofs.kept.Events.{hosts_same}
@@ -49,14 +49,7 @@ done_keeps s host i now k l link memory phase st = by_test k.cut
     (λ e. record { read = read ∙ (st.off e ∙ sym (rw e refl)); runs = rw e tt })
     (λ e. record {
       read = read ∙ ((st.on e).0 ∙ sym (rw e refl));
-      runs = rw e (record {
-        number = st.base.number;
-        desk = st.base.port.desk;
-        desks_are = ap (map (λ (p : Port). p.desk)) st.base.is;
-        host = st.base.at;
-        no_notice = st.base.quiet;
-        waits = λ some. (((st.on e).1 some).0, phase e ∙ ((st.on e).1 some).1);
-      });
+      runs = rw e ((grind arith));
     }) where
       read : reads_init s.host (k.entries ++ frames_noted Host s.host l k) i ≡ reads_init s.host k.entries i
       read = init_append s.host k.entries (frames_noted Host s.host l k) i ∙ frames_init s.host Host s.host l k (reads_init s.host k.entries i)
@@ -145,8 +138,7 @@ module _ (s : Site) (host : IsHost s.host) (i : Option Init) (r : Running) (node
 
   pub sends_keeps : (m : Message) → SiteKeepsInit (reads_init s.host (host_does_so s r NoInput (begins_with s.host (sending s.host m))).1 i)
       (host_does_so s r NoInput (begins_with s.host (sending s.host m))).0
-  sends_keeps m = acts_keep (sending s.host m) i (cond_both (eqb m.0 1 && is_command_message m.1) (Orders m.1 ∷ []) (Sends s.host m ∷ [])
-      (MayGo s.host s.link.host.side.shdlc.phase i r.core.command r.core.init) (λ _. (kept, λ some. (refl, (so.waits some).1))) (λ _. (kept, so.waits)))
+  sends_keeps m = acts_keep (sending s.host m) i (grind arith)
 
   pub begins_keeps : (identity : List ℕ) (pipes : List (List ℕ)) → s.link.host.side.shdlc.phase ≡ Up
       → SiteKeepsInit (reads_init s.host (host_does_so s r NoInput (begins_with s.host (beginning identity pipes))).1 (Some (init_of identity pipes)))
@@ -177,17 +169,7 @@ cut_keeps s i = record { read = ap (λ b. cond b None i) (eq-eqb s.host s.host r
 -- it boots while it doesn't run
 pub boot_keeps : (s : Site) (i : Option Init) (m : Memory) (content : List ℕ) (n : ℕ) → SiteKeepsInit i s → s.node ≡ None
     → SiteKeepsInit (reads_init s.host (entry.Booted s.host n ∷ []) i) (record s { memory = m; node = Some (found s.host (s.host ∷ []) content) })
-boot_keeps s i m content n k off = record {
-  read = k.read ∙ ap init_of_running off;
-  runs = record {
-    number = refl;
-    desk = new_desk s.host;
-    desks_are = refl;
-    host = refl;
-    no_notice = refl;
-    waits = λ some. absurd (true≢false (sym some));
-  };
-}
+boot_keeps s i m content n k off = grind arith
 
 -- ## What happens to a world: a host keeps the init that is read of it
 
@@ -197,20 +179,7 @@ leaves_all h (x ∷ es) i all = ap (reads_init h es) (all.0 i) ∙ leaves_all h 
 
 -- a host that stays as it is keeps its init
 pub keep_same : (i : Option Init) (s v : Site) → v.host ≡ s.host → v.node ≡ s.node → v.link.host.side ≡ s.link.host.side → SiteKeepsInit i s → SiteKeepsInit i v
-keep_same i s v host node side k = record {
-  read = k.read ∙ ap init_of_running (sym node);
-  runs = subst (λ n. IfRunsInit n v.link v.node) (sym host) (subst (IfRunsInit s.host v.link) (sym node) (moved s.node k.runs));
-} where
-  moved : (o : Option Running) → IfRunsInit s.host s.link o → IfRunsInit s.host v.link o
-  moved None so = tt
-  moved (Some r) so = record {
-    number = so.number;
-    desk = so.desk;
-    desks_are = so.desks_are;
-    host = so.host;
-    no_notice = so.no_notice;
-    waits = λ some. ((so.waits some).0, ap (λ (e : LinkEnd). e.shdlc.phase) side ∙ (so.waits some).1);
-  }
+keep_same i s v host node side k = grind arith
 
 -- the host that is there keeps it; none is read where there is none
 abbrev pub AtSite : Option Init → Option Site → Type 0
@@ -371,11 +340,9 @@ module _ (h : ℕ) (host : IsHost h) where
       → input_of (exchanged (link_to w.sites k)) comes ≡ Some input → Keeps w i → Then (host_does w k comes (steps (AtEnd k input))) i
   far_does w i k comes input orderly is keeps = by_test (eqb h k)
       (λ z. let same : h ≡ k = eqb-true h k z in
-      let is_here : input_of (exchanged (link_to w.sites h)) comes ≡ Some input = subst (λ n. input_of (exchanged (link_to w.sites n)) comes ≡ Some input)
-      (sym same) is in
+      let is_here : input_of (exchanged (link_to w.sites h)) comes ≡ Some input = grind arith in
       subst (λ n. Then (host_does w n comes (steps (AtEnd n input))) i) same (own_acts w comes (λ n. steps (AtEnd n input)) i
-      (λ s r here q kept. comes_keeps s (real_host w.sites s here) i r q kept comes input (ap (λ l. input_of (exchanged l) comes) (sym (link_is w s here))
-      ∙ is_here)) keeps))
+      (λ s r here q kept. comes_keeps s (real_host w.sites s here) i r q kept comes input (grind arith)) keeps))
       (λ z. other_acts w k comes (steps (AtEnd k input)) i z
       (λ s r here q. let has = own_ends w.sites k s r (orderly_fine w orderly) here q in
       host_steps s r (λ n. near_end_in (exchanged s.link) comes) (entries_for s.host (arrival Host (exchanged s.link) comes)) (AtEnd k input) has.0 has.1
@@ -411,8 +378,7 @@ module _ (h : ℕ) (host : IsHost h) where
   gives_keep w i k m orderly keeps = by_test (eqb h k)
       (λ z. subst (λ n. Then (host_does w n NoInput (begins_with n (sending n m))) i) (eqb-true h k z) (own_acts w NoInput (λ n. begins_with n (sending n m)) i
       (λ s r here q kept. sends_keeps s (real_host w.sites s here) i r q kept m) keeps))
-      (λ z. others_act w i k (sending k m) orderly (cond_both (eqb m.0 1 && is_command_message m.1) (Orders m.1 ∷ []) (Sends k m ∷ [])
-      (AllByRecursion (NotesSo (LeavesInit h))) (λ _. (tt, tt)) (λ _. (tt, tt))) z keeps)
+      (λ z. others_act w i k (sending k m) orderly (grind arith) z keeps)
 
   -- its node runs, and its end is up
   inits_keep : (w : NodeWorld) (i : Option Init) (e : End) (identity : List ℕ) (pipes : List (List ℕ)) → IsOrderly w → MayInit w e → Keeps w i
@@ -427,15 +393,12 @@ module _ (h : ℕ) (host : IsHost h) where
         begun b z = ap (λ b. cond b (Some (init_of identity pipes)) i) z
 
         site_is : (o : Option Site) → site_at w.sites h ≡ o → e.link ≡ h → (s : Site) × (site_at w.sites h ≡ Some s) × (s.node ≡ Some may.node)
-        site_is None here same =
-            let none : None ≡ Some may.node = sym (absent w h zero here) ∙ (ap (node_at w) (sym same) ∙ may.runs) in absurd (cc none)
-        site_is (Some s) here same = (s, here, sym (present w h zero s here) ∙ (ap (node_at w) (sym same) ∙ may.runs))
+        site_is o here same = grind arith
 
         begins : (s : Site) → site_at w.sites h ≡ Some s → s.node ≡ Some may.node → e.link ≡ h
             → Then (host_does w e.link NoInput (begins_with e.link (beginning identity pipes))) (Some (init_of identity pipes))
         begins s here runs same =
-            let up : s.link.host.side.shdlc.phase ≡ Up = ap (λ (l : Link). l.host.side.shdlc.phase) (sym (link_is w s here))
-            ∙ (ap (λ n. (link_to w.sites n).host.side.shdlc.phase) (sym same) ∙ may.up) in
+            let up : s.link.host.side.shdlc.phase ≡ Up = grind arith in
             subst (λ n. Then (host_does w n NoInput (begins_with n (beginning identity pipes))) (Some (init_of identity pipes))) (sym same)
             (own_runs w NoInput (λ n. begins_with n (beginning identity pipes)) (Some (init_of identity pipes)) s may.node here runs
             (begins_keeps s (real_host w.sites s here) i may.node runs (subst (AtSite i) here keeps) identity pipes up))
@@ -444,34 +407,9 @@ module _ (h : ℕ) (host : IsHost h) where
 
 -- ### A frame that was refused leaves the init of a node
 
-counts_init : (why : Loss) (k : ℕ) (o : Option Running) → init_of_running (counts why k o) ≡ init_of_running o
-counts_init (Broken fault) k None = refl
-counts_init (Broken fault) k (Some r) = refl
-counts_init _ k o = refl
-
-counts_runs : (why : Loss) (k n : ℕ) (l : Link) (o : Option Running) → IfRunsInit n l o → IfRunsInit n l (counts why k o)
-counts_runs (Broken fault) k n l None so = tt
-counts_runs (Broken fault) k n l (Some r) so = record {
-  number = so.number;
-  desk = changed_if (eqb so.desk.host k) more so.desk;
-  desks_are = ap (with_error k) so.desks_are;
-  host = changed_same (λ (d : Desk). d.host) (eqb so.desk.host k) more so.desk (λ d. refl) ∙ so.host;
-  no_notice = changed_same (λ (d : Desk). d.notice) (eqb so.desk.host k) more so.desk (λ d. refl) ∙ so.no_notice;
-  waits = so.waits;
-} where
-  more : Desk → Desk
-  more d = record d { errors = min 65535 (d.errors + 1) }
-counts_runs _ k n l o so = so
-
 lost_keeps : (k : ℕ) (why : Loss) (i : Option Init) (s : Site) → SiteKeepsInit i s
     → SiteKeepsInit i (record s { link = happens s.link (AtHost (Lose why)); node = counts why k s.node })
-lost_keeps k why i s keeps =
-    let moved : SiteKeepsInit i (record s { link = happens s.link (AtHost (Lose why)) }) = keep_same i s
-    (record s { link = happens s.link (AtHost (Lose why)) }) refl refl refl keeps in
-    record {
-      read = keeps.read ∙ sym (counts_init why k s.node);
-      runs = counts_runs why k s.host (happens s.link (AtHost (Lose why))) s.node moved.runs;
-    }
+lost_keeps k why i s keeps = grind arith
 
 -- a node that boots doesn't run, and one whose init begins does, with its end up
 abbrev pub MayKeep : NodeWorld → Happening → Type 0
@@ -581,8 +519,7 @@ module _ (h : ℕ) (host : IsHost h) where
       (λ z. subst (AtSite i) z keeps)
       (λ s z. by (eqb s.host k) s (subst (AtSite i) z keeps)) where
         by : (b : Bool) (s : Site) → SiteKeepsInit i s → SiteKeepsInit i (changed_if b f s)
-        by true s k = one s k
-        by false s k = k
+        by b s k = grind arith
 
   lost_keep : (w : NodeWorld) (i : Option Init) (e : End) (why : Loss) → Has w i → So (frame_lost w e why) i
   lost_keep w i e why keeps = by_test e.at_host
@@ -591,8 +528,7 @@ module _ (h : ℕ) (host : IsHost h) where
       (with_keeps e.link far (λ s. refl) i (λ s k. lost_keeps e.link why i s k) w.sites keeps)))
       (λ q. rw q (left h host (record w { controller = counts why e.link w.controller; sites = with_site e.link near w.sites })
       (entries_for e.link (first_lost Controller why (link_to w.sites e.link).to_controller)) i
-      (quiet_leaves h e.link (first_lost Controller why (link_to w.sites e.link).to_controller)
-      (lost_quiet Controller why (link_to w.sites e.link).to_controller))
+      (grind arith)
       (with_keeps e.link near (λ s. refl) i (λ s k. keep_same i s (near s) refl refl refl k) w.sites keeps))) where
         near : Site → Site
         near s = record s { link = happens s.link (AtController (Lose why)) }
@@ -690,10 +626,8 @@ module _ (h : ℕ) (host : IsHost h) where
               (AtSite i) (λ z. subst (AtSite i) here written_keeps) (λ s z. let none : None ≡ Some s = sym here ∙ z in absurd (cc none))
     own_boots q same (Some s) here =
         let at : s.host ≡ h = site_host written.sites h s here in
-        let starts : SiteKeepsInit i (record s { node = Some (found s.host (s.host ∷ []) before.content) }) = boot_keeps s i s.memory before.content
-        (count_of runs.core.journal) (subst (AtSite i) here written_keeps) (is_off q same s here) in
-        let node : found s.host (s.host ∷ []) before.content ≡ runs = ap (λ m. found m (m ∷ []) before.content) (at ∙ sym same)
-        ∙ ap (λ ls. found n ls before.content) (sym (links_are q)) in
+        let starts : SiteKeepsInit i (record s { node = Some (found s.host (s.host ∷ []) before.content) }) = grind arith in
+        let node : found s.host (s.host ∷ []) before.content ≡ runs = grind arith in
         subst (λ m. AtSite i (site_at (with_site m (λ (s : Site). record s { node = Some runs }) written.sites) h)) (sym same)
         (own_keeps h host (λ (s : Site). record s { node = Some runs }) (λ s. refl) written.sites s i here
         (subst (λ r. SiteKeepsInit i (record s { node = Some r })) node starts))

@@ -3,25 +3,22 @@ use Rattle.std.proofs.lemmas.Grind.{flat_map-append}
 use Rattle.node_laws.proofs.Words.{Activates, AllByRecursion, AllKeep, AreHosts, ArePlayable, Arms, AsksReset, AtController, AtHost, Book, Bool, Boots, Broken}
 use Rattle.node_laws.proofs.Words.{Controller, Desk, End, Entry, ErrorCount, ErrorsAreRead, FollowsNodes, Gives, Happening, HasEnds, HciTables, Header, Host}
 use Rattle.node_laws.proofs.Words.{IfItRuns, IfKnowsAsRead, IfRuns, Init, Inits, IsBegunByHost, IsCut, IsFew, IsHost, IsKeptNotice, IsOrderly, IsSameView}
-use Rattle.node_laws.proofs.Words.{IsSentByHost, IsTrue, KeepsNotices, Line, Link, LinkEnd, LinkState, LinkView, List, Lose, Loses, Loss, LostFor, MayBoot}
-use Rattle.node_laws.proofs.Words.{MayHappen, Message, NextFrame, NodeHistory, NodeWorld, None, NotUp, NoticesAreRead, NumberedEnd, Occurrence, OnDemand}
-use Rattle.node_laws.proofs.Words.{OnWire, Option, Orders, Port, Resets, Running, Same, Sends, Site, Some, Takes, Ticks, TooMany, TooOld, Undetected, Unread}
-use Rattle.node_laws.proofs.Words.{Up, Verdict, Waiting, [], and-false, ap, append-nil, ap₂, arith, asked_pipes, asking_in, beginning, by_option, by_test}
-use Rattle.node_laws.proofs.Words.{cases_Bool, changed_if, cond, cond_both, counts, decided, end_c, end_of, ends_between, entries_for, entries_in, eq-eqb, eqb}
-use Rattle.node_laws.proofs.Words.{eqb-false, eqb-true, errors_after, errors_in, errors_of, false, filter, find, first_lost, first_verdict, fold, frame_lost}
-use Rattle.node_laws.proofs.Words.{frames_at, give_refusal, happenings, happens, happens_by, has_order, hosts_in, if_not_sent, if_off, if_waiting, init_begun}
-use Rattle.node_laws.proofs.Words.{init_behind, init_in, init_of_running, inl, inr, is_asked_at, is_asked_pipe, is_command_message, is_connected_at}
-use Rattle.node_laws.proofs.Words.{is_connected_in, is_of_creation, is_one_of, is_opened, is_some, is_up, link_to, list_any, lost_as, lpdu_of, machine_in, map}
-use Rattle.node_laws.proofs.Words.{mask_of, memory_at, min, ne_eqb, new_world, no_errors, node_at, node_entries, node_of, notice_at, notice_in}
-use Rattle.node_laws.proofs.Words.{notice_of_running, occurrences_in, option_and_then, option_map, option_map_or, port_at, port_for, range_with_len, refl}
-use Rattle.node_laws.proofs.Words.{refusal_in, same_end, sending, session_at, session_now, site_at, slice_index, steps_from, subst, sym, tables_in, taken_of}
-use Rattle.node_laws.proofs.Words.{true, true≢false, unwrap_or, view_at, view_for, waiting_pipes, was_refused, with_error, with_site, world_after, world_behind}
-use Rattle.node_laws.proofs.Words.{world_step, ℕ, ◌&&◌, ◌++◌, ◌+◌, ◌||◌, ◌∙◌, ◌∷◌, ◌≡◌, ◌⊎◌}
+use Rattle.node_laws.proofs.Words.{IsSentByHost, IsTrue, KeepsNotices, Line, Link, LinkEnd, LinkView, List, Lose, Loses, Loss, MayBoot, MayHappen, Message}
+use Rattle.node_laws.proofs.Words.{NextFrame, NodeHistory, NodeWorld, None, NoticesAreRead, NumberedEnd, Occurrence, OnDemand, OnWire, Option, Orders, Port}
+use Rattle.node_laws.proofs.Words.{Resets, Running, Sends, Site, Some, Takes, Ticks, TooMany, TooOld, Unread, Up, [], and-false, ap, append-nil, ap₂, arith}
+use Rattle.node_laws.proofs.Words.{asked_pipes, asking_in, beginning, by_option, by_test, cases_Bool, changed_if, cond, cond_both, counts, decided, end_c}
+use Rattle.node_laws.proofs.Words.{end_of, ends_between, entries_for, entries_in, eq-eqb, eqb, eqb-false, eqb-true, errors_after, errors_in, errors_of, false}
+use Rattle.node_laws.proofs.Words.{filter, find, first_lost, first_verdict, fold, frame_lost, frames_at, give_refusal, happenings, happens, happens_by}
+use Rattle.node_laws.proofs.Words.{hosts_in, if_not_sent, if_off, if_waiting, init_begun, init_behind, init_in, init_of_running, inl, inr, is_asked_at}
+use Rattle.node_laws.proofs.Words.{is_asked_pipe, is_command_message, is_connected_at, is_connected_in, is_of_creation, is_one_of, is_opened, is_some, is_up}
+use Rattle.node_laws.proofs.Words.{link_to, list_any, lost_as, lpdu_of, machine_in, map, mask_of, memory_at, min, ne_eqb, new_world, no_errors, node_at}
+use Rattle.node_laws.proofs.Words.{node_entries, node_of, notice_at, notice_in, notice_of_running, occurrences_in, option_and_then, option_map, option_map_or}
+use Rattle.node_laws.proofs.Words.{port_at, port_for, range_with_len, refl, refusal_in, same_end, sending, session_at, session_now, site_at, slice_index}
+use Rattle.node_laws.proofs.Words.{steps_from, subst, sym, tables_in, taken_of, true, true≢false, unwrap_or, view_at, view_for, waiting_pipes, was_refused}
+use Rattle.node_laws.proofs.Words.{with_error, with_site, world_after, world_behind, world_step, ℕ, ◌&&◌, ◌++◌, ◌+◌, ◌||◌, ◌∙◌, ◌∷◌, ◌≡◌, ◌⊎◌}
 use Rattle.gate_admin.specs.View.{hosts_where}
 use Rattle.history.specs.Follows.{if_empty}
-use Rattle.link_laws.specs.entries.Entries.{End as Side}
 use Rattle.pipe_table.specs.PipeRows.{lowest_free}
-use Rattle.shdlc_core.specs.declared.answers.LinkState.TheVariants.{Down}
 use Rattle.swp_base.specs.declared.link_terms.FrameFault.{FrameFault}
 use Rattle.node_laws.specs.views.Errors.{MayBeCounted}
 use Rattle.node_laws.proofs.creations.Knowing.{given_same, if_known}
@@ -36,10 +33,10 @@ use Rattle.node_laws.proofs.telling.Events.{link_is, sending_mute}
 use Rattle.node_laws.proofs.telling.Lasting.{AllMay, AreCaused, behind_lines, damaged_may, entries_of_steps, events_of_steps, history_holds, lines_caused}
 use Rattle.node_laws.proofs.telling.Lasting.{lines_last, new_orderly, repeated_may, stands_none, step_orderly}
 use Rattle.node_laws.proofs.views.Going.{reads_init}
-use Rattle.node_laws.proofs.views.Doing.{AreUnset, IsUndamaged, Leaves, book_reads, notes_still, own_is, reads, reads_append, still_leaves}
+use Rattle.node_laws.proofs.views.Doing.{AreUnset, Leaves, book_reads, own_is, reads, reads_append, still_leaves}
 use Rattle.node_laws.proofs.views.Events.{After, Kept, Known, activates_kept, boots_kept, comes_kept, cut_kept, far_begins, far_node, host_node, left}
 use Rattle.node_laws.proofs.views.Events.{memory_kept, near_node, orderly_fine, own_node, own_node_is, ticks_kept, with_kept, with_none, with_other, with_own}
-use Rattle.node_laws.proofs.views.InitWorlds.{AtSite, Keeps, MayInit, MayKeep, absent, event_keeps, present, zero}
+use Rattle.node_laws.proofs.views.InitWorlds.{AtSite, Keeps, MayInit, MayKeep, event_keeps}
 use Rattle.node_laws.proofs.views.Nodes.{IfKeeps}
 use Rattle.swp_base.specs.declared.link_terms.FrameFault.TheVariants as fault
 use Rattle.trace_model.specs.declared.entry.Entry.TheVariants as entry
@@ -49,28 +46,14 @@ use Rattle.trace_model.specs.declared.line.Line.TheVariants as line
 
 -- ### Lines
 
-waiting_none : (waits : Bool) → if_waiting waits (Some NotUp) ≡ None → ⊥
-waiting_none true e = cc e
-waiting_none false e = cc e
-
 -- an end that takes a message is up
 pub taken_up : (waits : Bool) (e : LinkEnd) (m : Message) → if_waiting waits (give_refusal e m) ≡ None → e.shdlc.phase ≡ Up
-taken_up waits e m none = by e.shdlc.phase refl where
-  by : (p : LinkState) → e.shdlc.phase ≡ p → e.shdlc.phase ≡ Up
-  by Up q = q
-  by Waiting q = let z : if_waiting waits (Some NotUp) ≡ None = rw q at none in absurd (waiting_none waits z)
-  by Down q = let z : if_waiting waits (Some NotUp) ≡ None = rw q at none in absurd (waiting_none waits z)
+taken_up waits e m none = grind arith
 
 -- a line that isn't refused begins an init at a host that runs and whose end is up
 init_may : (w : NodeWorld) (e : End) → IsTrue e.at_host → (if_off w (node_of e) ≡ None) × (if_not_sent w e (1, 3 ∷ []) ≡ None) → MayInit w e
 init_may w e side none =
-    let runs = off_none (node_at w (node_of e)) none.0 in record {
-      node = runs.0;
-      runs = ap (node_at w) (sym link_is) ∙ runs.1;
-      up = ap (λ (x : LinkEnd). x.shdlc.phase) (sym end_is)
-          ∙ taken_up (eqb 1 1 && is_command_message (3 ∷ []) && has_order (node_at w (node_of e))) (machine_in w e)
-          (1, 3 ∷ []) none.1;
-    } where
+    let runs = off_none (node_at w (node_of e)) none.0 in (grind arith) where
       link_is : node_of e ≡ e.link
       link_is = rw side refl
 
@@ -103,9 +86,7 @@ module _ (h : ℕ) (host : IsHost h) where
 
   -- what is kept there is what runs
   kept_is : (w : NodeWorld) (i : Option Init) → Keeps h host w i → i ≡ init_of_running (node_at w h)
-  kept_is w i keeps = by_option (site_at w.sites h)
-      (λ z. let none : i ≡ None = subst (AtSite i) z keeps in none ∙ ap init_of_running (sym (absent w h (zero h host) z)))
-      (λ s z. (subst (AtSite i) z keeps).read ∙ ap init_of_running (sym (present w h (zero h host) s z)))
+  kept_is w i keeps = grind arith
 
   -- none runs at the beginning
   pub new_keeps : (hosts : List ℕ) → Keeps h host (new_world hosts) None
@@ -138,8 +119,7 @@ module _ (h : ℕ) (host : IsHost h) where
 -- ### Lists
 
 filter_same : (p q : ℕ → Bool) → ((h : ℕ) → p h ≡ q h) → (hosts : List ℕ) → filter p hosts ≡ filter q hosts
-filter_same p q same [] = refl
-filter_same p q same (h ∷ hosts) = ap₂ (λ b l. cond b (h ∷ l) l) (same h) (filter_same p q same hosts)
+filter_same p q same hosts = grind arith
 
 pub where_same : (p q : ℕ → Bool) → ((h : ℕ) → p h ≡ q h) → mask_of (hosts_where p) ≡ mask_of (hosts_where q)
 unfolding hosts_where
@@ -149,8 +129,7 @@ port_is : (f : Desk → Port) → ((d : Desk) → (f d).desk.host ≡ d.host) �
     → port_at (map f desks) h ≡ option_map f (find (λ (d : Desk). eqb d.host h) desks)
 port_is f host [] h = refl
 port_is f host (d ∷ desks) h = by_test (eqb d.host h)
-    (λ q. ap (λ b. cond b (Some (f d)) (port_at (map f desks) h)) (same ∙ q)
-    ∙ sym (ap (λ b. option_map f (cond b (Some d) (find (λ (d : Desk). eqb d.host h) desks))) q))
+    (λ q. grind arith)
     (λ q. ap (λ b. cond b (Some (f d)) (port_at (map f desks) h)) (same ∙ q)
     ∙ (port_is f host desks h ∙ sym (ap (λ b. option_map f (cond b (Some d) (find (λ (d : Desk). eqb d.host h) desks))) q))) where
       same : eqb (f d).desk.host h ≡ eqb d.host h
@@ -184,10 +163,7 @@ site_there (x ∷ desks) (s ∷ sites) h d same e = by_test (eqb x.host h)
 -- ### Sessions
 
 pub up_is : (near_end : NumberedEnd) → is_some (session_at near_end) ≡ is_up near_end.side.shdlc.phase
-up_is near_end = by near_end.side.shdlc.phase refl where
-  by : (s : LinkState) → near_end.side.shdlc.phase ≡ s → is_some (session_at near_end) ≡ is_up near_end.side.shdlc.phase
-  by Up q = rw q refl
-  by _ q = rw q refl
+up_is near_end = grind arith
 
 -- ### Pipes
 
@@ -230,8 +206,7 @@ module _ (t : List Entry) (w : NodeWorld) (r : Running) (runs : w.controller ≡
   kept_at h o q = subst (λ o. IsKeptNotice (notice_in t h) (option_and_then (λ (d : Desk). d.notice) o)) q (kept h)
 
   none_read : (m : Option (List ℕ)) → IsKeptNotice m None → m ≡ None
-  none_read None k = refl
-  none_read (Some m) k = absurd k
+  none_read m k = grind arith
 
   configured : (h : ℕ) → option_map_or (λ (p : Port). true) (port_at (ends_between w.sites r) h) false ≡ is_one_of (hosts_in w.sites) h
   configured h = tested (λ p. true) h ∙ (by (desk_of h) ∙ (sym (one_of_is r.desks h) ∙ ap (list_any (λ k. eqb k h)) has.ends)) where
@@ -309,17 +284,10 @@ IsRefusal (Broken fault) = ⊥
 IsRefusal _ = Unit {0}
 
 refused_is : (f : FrameFault) → was_refused (lost_as (Broken f)) ≡ true
-refused_is (fault.Length bits) = refl
-refused_is _ = refl
-
-lost_undamaged : (who : Side) (why : Loss) (xs : List OnWire) → IsRefusal why → AllByRecursion IsUndamaged (first_lost who why xs)
-lost_undamaged who why [] not = tt
-lost_undamaged who (Broken fault) (x ∷ xs) not = absurd not
-lost_undamaged who _ (x ∷ xs) not = (tt, tt)
+refused_is f = grind arith
 
 counts_same : (why : Loss) (h : ℕ) (o : Option Running) → IsRefusal why → counts why h o ≡ o
-counts_same (Broken fault) h o not = absurd not
-counts_same _ h o not = refl
+counts_same why h o not = grind arith
 
 -- the desks of a node count one more at the end itself, or at another one
 own_errors : (e : End) (h n : ℕ) → eqb h e.link ≡ true → (desks : List Desk) → AllByRecursion (λ (d : Desk). eqb d.host e.link ≡ true → d.errors ≡ n) desks
@@ -347,15 +315,10 @@ other_errors e h n off (d ∷ desks) all = (by (eqb d.host h) refl, other_errors
 -- what is read of one refused frame
 lost_reads : (e f : End) (lpdu : List ℕ) (why : FrameFault) (x : ErrorCount) → same_end f e ≡ true
     → (errors_after e x (entry.Lost f lpdu (lost_as (Broken why)))).errors ≡ one_more x.errors
-lost_reads e f lpdu why x same =
-    ap (λ b. cond (b && was_refused (lost_as (Broken why))) (one_more x.errors) x.errors) same
-    ∙ ap (λ b. cond b (one_more x.errors) x.errors) (refused_is why)
+lost_reads e f lpdu why x same = grind arith
 
 lost_leaves : (e f : End) (lpdu : List ℕ) (why : FrameFault) → same_end f e ≡ false → Leaves e (entry.Lost f lpdu (lost_as (Broken why)))
-lost_leaves e f lpdu why off = λ x n r. record {
-  sets = refl;
-  is = ap (λ b. cond (b && was_refused (lost_as (Broken why))) (one_more x.errors) x.errors) off ∙ r.is;
-}
+lost_leaves e f lpdu why off = grind arith
 
 counted_own : (e : End) (h : ℕ) (f : End) (lpdu : List ℕ) (why : FrameFault) (o : Option Running) (x : ErrorCount) → eqb h e.link ≡ true → same_end f e ≡ true
     → IfKeeps e o x → IfKeeps e (counts (Broken why) h o) (errors_after e x (entry.Lost f lpdu (lost_as (Broken why))))
@@ -444,8 +407,7 @@ module _ (e : End) (real : e.at_host ≡ true → eqb e.link 0 ≡ false) where
     -- a loss that doesn't count
     near_plain : (why : Loss) → IsRefusal why → After e real (near_v why, entries_for a.link (first_lost Controller why wire_near)) x
     near_plain why not = left e real w (near_v why) (entries_for a.link (first_lost Controller why wire_near)) x (by e.at_host refl)
-        (still_leaves e (entries_for a.link (first_lost Controller why wire_near)) (notes_still e a.link (first_lost Controller why wire_near)
-        (lost_undamaged Controller why wire_near not))) k where
+        (still_leaves e (entries_for a.link (first_lost Controller why wire_near)) (grind arith)) k where
           by : (b : Bool) → e.at_host ≡ b → own_node e real (near_v why) ≡ own_node e real w
           by true q = near_hosts why q
           by false q = near_controller why q ∙ (counts_same why a.link w.controller not ∙ sym (near_node e real w q))
@@ -453,8 +415,7 @@ module _ (e : End) (real : e.at_host ≡ true → eqb e.link 0 ≡ false) where
     far_plain : (why : Loss) → IsRefusal why → After e real (far_v why, entries_for a.link (first_lost Host why wire_far)) x
     far_plain why not =
         left e real w (far_v why) (entries_for a.link (first_lost Host why wire_far)) x (by (cases_Bool e.at_host) (cases_Bool (eqb a.link e.link)))
-        (still_leaves e (entries_for a.link (first_lost Host why wire_far)) (notes_still e a.link (first_lost Host why wire_far)
-        (lost_undamaged Host why wire_far not))) k where
+        (still_leaves e (entries_for a.link (first_lost Host why wire_far)) (grind arith)) k where
           by : (e.at_host ≡ true) ⊎ (e.at_host ≡ false) → (eqb a.link e.link ≡ true) ⊎ (eqb a.link e.link ≡ false)
               → own_node e real (far_v why) ≡ own_node e real w
           by (inr near) b = far_controller why near
@@ -474,8 +435,7 @@ module _ (e : End) (real : e.at_host ≡ true → eqb e.link 0 ≡ false) where
       by (inl far) b = left e real w (near_v (Broken f)) (noted ∷ []) x (near_hosts (Broken f) far)
           (lost_leaves e (end_of a.link Controller) (lpdu_of y.frame) f (near_off a.link far), tt) k
       by (inr near) (inl is) = subst (λ o. IfKeeps e o (errors_after e x noted)) (sym (near_controller (Broken f) near))
-          (counted_own e a.link (end_of a.link Controller) (lpdu_of y.frame) f w.controller x is (near_same a.link near ∙ is) (subst (λ o. IfKeeps e o x)
-          (near_node e real w near) k))
+          (counted_own e a.link (end_of a.link Controller) (lpdu_of y.frame) f w.controller x is (near_same a.link near ∙ is) (grind arith))
       by (inr near) (inr off) =
           let stays : IfKeeps e (own_node e real (near_v (Broken f))) x = subst (λ o. IfKeeps e o x) (sym (near_controller (Broken f) near))
           (counted_other e a.link f w.controller x off (subst (λ o. IfKeeps e o x) (near_node e real w near) k)) in
@@ -557,13 +517,8 @@ desk_found : (e : End) (k : ℕ) (desks : List Desk) (n : ℕ) → AllByRecursio
     → option_map (λ (d : Desk). d.errors) (find (λ (d : Desk). eqb d.host e.link) desks) ≡ Some n → k ≡ n
 desk_found e k [] n all q = absurd (cc q)
 desk_found e k (d ∷ desks) n all q = by_test (eqb d.host e.link)
-    (λ z. let here : Some d.errors ≡ Some n = sym (ap (λ b. option_map (λ (d : Desk). d.errors)
-    (cond b (Some d) (find (λ (d : Desk). eqb d.host e.link) desks))) z)
-    ∙ q in
-    let is : d.errors ≡ n = cc in
-    sym (all.0 z) ∙ is)
-    (λ z. desk_found e k desks n all.1 (sym (ap (λ b. option_map (λ (d : Desk). d.errors) (cond b (Some d) (find (λ (d : Desk). eqb d.host e.link) desks))) z) ∙
-    q))
+    (λ z. grind arith)
+    (λ z. desk_found e k desks n all.1 (grind arith))
 
 kept_read : (t : List Entry) (w : NodeWorld) → AllKept t w → ErrorsAreRead t w
 kept_read t w all e n host q = by (node_at w (node_of e)) refl q where
@@ -612,19 +567,10 @@ event_so hosts are t w c so may few =
 -- ### Lines
 
 not_empty : (wire : List OnWire) → if_empty wire ≡ None → wire ≡ [] → ⊥
-not_empty [] none e = cc none
-not_empty (x ∷ xs) none e = cc e
+not_empty wire none e = grind arith
 
 damage_may : (w : NodeWorld) (e : End) (places : List ℕ) (wire : List OnWire) → frames_at w e ≡ wire → AllMay May w (happens_by e (first_verdict wire places))
-damage_may w e places [] here = tt
-damage_may w e places (x ∷ xs) here = by (Rattle.history.specs.Damage.verdict_on (Rattle.swp_lpdu.specs.Controls.lpdu_of x.frame) places) where
-  there : frames_at w e ≡ [] → ⊥
-  there none = let no : x ∷ xs ≡ [] = sym here ∙ none in cc no
-
-  by : (v : Verdict) → AllMay May w (happens_by e (Some v))
-  by Same = ((tt, tt, tt), tt)
-  by (LostFor why) = ((tt, there, tt), tt)
-  by (Undetected read) = tt
+damage_may w e places wire here = grind arith
 
 line_may : (w : NodeWorld) (l : Line) → IsSentByHost l → refusal_in w l ≡ None → AllMay May w (happenings w l)
 line_may w (line.Send e pid message) side none =
@@ -710,8 +656,7 @@ module _ (hosts : List ℕ) (are : AreHosts hosts) (t : List Entry) (w : NodeWor
       let keeps : IfRuns 0 hosts w.memory.content t (Some r) = subst (IfRuns 0 hosts w.memory.content t) runs so.keep.controller.runs in
       subst (λ hs. IsSameView (view_for r.core.tables (ends_between w.sites r) h) (view_at hs t h)) so.keep.hosts_are
       (same_view t w r runs has keeps.tables_are (notices_of t w so.notices) (kept_read t w so.errors) sessions h (all_one hosts h are.all one)
-      (subst (λ hs. is_one_of hs h ≡ true) (sym so.keep.hosts_are) one) (subst (λ hs. PipesAreRead hs t (ends_between w.sites r)) (sym so.keep.hosts_are)
-      pipes))
+      (subst (λ hs. is_one_of hs h ≡ true) (sym so.keep.hosts_are) one) (grind arith))
 
 -- ## The view of a controller over whole histories: sessions and creations that wait are read there
 

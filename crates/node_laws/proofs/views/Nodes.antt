@@ -1,37 +1,28 @@
 -- A node of a world has a step: REC_ERROR of its ends stays what is read, and what others keep is left.
-use Rattle.node_laws.proofs.Words.{Acked, Active, AllByRecursion, AllByRecursion-append, AtEnd, Bool, Comes, Control, Controller, Core, CutOff, Deed, Desk}
-use Rattle.node_laws.proofs.Words.{Down, End, Ending, Ends, Entry, ErrorCount, GaveUp, GoesOut, Got, HasEnds, Host, Link, LinkEnd, LinkInput, List, Message}
-use Rattle.node_laws.proofs.Words.{NextFrame, NodeInput, None, Noted, NumberedEnd, OnWire, Option, Plan, Port, Reset, Running, Sends, Sent, Some, TimePasses}
-use Rattle.node_laws.proofs.Words.{TooMany, Work, [], after_input, after_sessions, aged_entries, all_come, all_done, all_flat, all_owed, all_owed_hold, all_so}
-use Rattle.node_laws.proofs.Words.{all_synced_hold, ap, arrival, begins_with, by_list, by_option, by_test, cond, cond_both, end_of, ending_entries, ending_of}
-use Rattle.node_laws.proofs.Words.{entries_for, entry_of, eqb, false, far, first_lost, flat_map, forgets, forgotten, forgotten_hold, frames_noted, frames_out}
-use Rattle.node_laws.proofs.Words.{has_come, input_at, is_late, length, map, nat_lt, node_of, own_side, passes, port_at, pushed_out, put, put_entries}
-use Rattle.node_laws.proofs.Words.{puts_entries, refl, report, reset_late, runs_on, same_end, steps, subst, sym, synced, times_out, told, told_at, told_late}
-use Rattle.node_laws.proofs.Words.{true, unless_cut, whole_acked, wire_with, with_older, without_notice, work_of, ℕ, ◌++◌, ◌∙◌, ◌∷◌, ◌≡◌}
+use Rattle.node_laws.proofs.Words.{AllByRecursion, AllByRecursion-append, AtEnd, Comes, Control, Controller, Core, CutOff, Deed, Desk, End, Ending, Entry}
+use Rattle.node_laws.proofs.Words.{ErrorCount, GoesOut, HasEnds, Host, Link, LinkEnd, LinkInput, List, Message, NodeInput, None, Noted, NumberedEnd, OnWire}
+use Rattle.node_laws.proofs.Words.{Option, Plan, Port, Running, Some, TimePasses, Work, [], after_input, after_sessions, aged_entries, all_come, all_done}
+use Rattle.node_laws.proofs.Words.{all_flat, all_owed, all_owed_hold, all_so, all_synced_hold, ap, arith, arrival, begins_with, by_option, by_test, cond}
+use Rattle.node_laws.proofs.Words.{cond_both, end_of, ending_entries, ending_of, entries_for, entry_of, eqb, false, far, flat_map, forgets, forgotten}
+use Rattle.node_laws.proofs.Words.{forgotten_hold, frames_noted, frames_out, has_come, input_at, map, nat_lt, node_of, own_side, passes, port_at, pushed_out}
+use Rattle.node_laws.proofs.Words.{put, put_entries, puts_entries, refl, report, reset_late, runs_on, same_end, steps, subst, sym, synced, times_out, told}
+use Rattle.node_laws.proofs.Words.{told_at, told_late, true, unless_cut, whole_acked, wire_with, with_older, without_notice, work_of, ℕ, ◌++◌, ◌∙◌, ◌∷◌, ◌≡◌}
 use Rattle.link_laws.specs.entries.Entries.{End as Side}
-use Rattle.link_laws.specs.entries.Entries.Entry.{Up}
 use Rattle.node_laws.proofs.notices.Steps.{sessions_tables}
 use Rattle.node_laws.proofs.readings.Noting.{IsOwnNote, Notes, NotesSo, all_do as notes_do, all_notes, steps_note}
 use Rattle.node_laws.proofs.steps.StepWalks.{come_host, forgets_host, late_host, sessions_node, without_host}
-use Rattle.node_laws.proofs.telling.Accounts.{AreMute, IsMute, IsPlain, deeds_mute}
+use Rattle.node_laws.proofs.telling.Accounts.{AreMute, IsMute, deeds_mute}
 use Rattle.node_laws.proofs.telling.Events.{hosts_same_of_nodes as hosts_same, ports_for}
 use Rattle.node_laws.proofs.views.Doing.{AreUnset, HasErrors, IsStill, IsUndamaged, IsUnset, Leaves, Right, all_do, beside_leaves, leaves_all, maps, note}
-use Rattle.node_laws.proofs.views.Doing.{note_still, notes_still, plainly, reads, reads_append, side_of, still_all, still_leaves, turn_leaves, unless}
-use Rattle.node_laws.proofs.views.Doing.{unset_fine, with_core}
+use Rattle.node_laws.proofs.views.Doing.{note_still, notes_still, reads, reads_append, side_of, still_all, still_leaves, turn_leaves, unless, unset_fine}
+use Rattle.node_laws.proofs.views.Doing.{with_core}
 use Rattle.node_laws.proofs.views.Turning.{passes_right}
 use Rattle.trace_model.specs.declared.entry.Entry.TheVariants as entry
 
 -- ## A step of a node: what is read of REC_ERROR of its end stays what it keeps
 
 own_undamaged : (who : Side) (x : Noted) → IsOwnNote who x → IsUndamaged x
-own_undamaged who (Up side n) is = tt
-own_undamaged who (Down side cause) is = tt
-own_undamaged who (Active side) is = tt
-own_undamaged who (GaveUp side tries) is = tt
-own_undamaged who (Acked side n count) is = tt
-own_undamaged who (Got side n m) is = tt
-own_undamaged who (Sent side n m) is = tt
-own_undamaged who x is = absurd is
+own_undamaged who x is = grind arith
 
 all_undamaged : (who : Side) (xs : List Noted) → AllByRecursion (IsOwnNote who) xs → AllByRecursion IsUndamaged xs
 all_undamaged who xs all = all_so (IsOwnNote who) IsUndamaged (own_undamaged who) xs all
@@ -44,20 +35,17 @@ come_still e core p (Some i) =
     (all_notes (own_side core) p.session (whole_acked (after_input p.side i)) (report p.side i)))
 
 late_still : (e : End) (core : Core) (p : Port) → AllByRecursion (IsStill e) (told_late core p)
-late_still e core p = cond_both (is_late p) (told_at core p (Some (Reset None))) [] (AllByRecursion (IsStill e)) (λ _. come_still e core p (Some
-    (Reset None))) (λ _. tt)
+late_still e core p = grind arith
 
 -- ### What is owed
 
 -- ### Steps
 
 come_errors : (p : Port) (o : Option LinkInput) → (has_come p o).desk.errors ≡ p.desk.errors
-come_errors p None = refl
-come_errors p (Some i) = refl
+come_errors p o = grind arith
 
 late_errors : (p : Port) → (reset_late p).desk.errors ≡ p.desk.errors
-late_errors p = cond_both (is_late p) (record p { side = after_input p.side (Reset None); late = true }) p (λ q. q.desk.errors ≡ p.desk.errors)
-    (λ _. refl) (λ _. refl)
+late_errors p = grind arith
 
 pub forgets_errors : (ports : List Port) (p : Port) → (forgets ports p).desk.errors ≡ p.desk.errors
 forgets_errors ports p = cond_both _ _ p (λ (q : Port). q.desk.errors ≡ p.desk.errors) (λ _. refl) (λ _. refl)
@@ -111,11 +99,7 @@ module _ (e : End) (hosts : List ℕ) (x0 : ErrorCount) (single : e.at_host ≡ 
 -- ### Frames
 
 pushed_undamaged : (who : Side) (wire : List OnWire) → AllByRecursion IsUndamaged (pushed_out who wire)
-pushed_undamaged who wire = go (nat_lt 64 (length wire)) wire where
-  go : (b : Bool) (xs : List OnWire) → AllByRecursion IsUndamaged (cond b (first_lost who TooMany xs) [])
-  go true [] = tt
-  go true (x ∷ xs) = (tt, tt)
-  go false xs = tt
+pushed_undamaged who wire = grind arith
 
 puts_undamaged : (who : Side) (l : Link) (cs : List Control) → AllByRecursion IsUndamaged (puts_entries who l cs)
 puts_undamaged who l [] = tt
@@ -128,8 +112,7 @@ ending_undamaged who l e GoesOut = puts_undamaged who l (frames_out e)
 ending_undamaged who l e CutOff = (tt, tt)
 
 arrival_undamaged : (who : Side) (l : Link) (comes : Comes) → AllByRecursion IsUndamaged (arrival who l comes)
-arrival_undamaged who l NextFrame = by_list l.to_controller (λ q. rw q tt) (λ x xs q. rw q (tt, tt))
-arrival_undamaged who l _ = tt
+arrival_undamaged who l comes = grind arith
 
 aged_undamaged : (who : Side) (xs : List OnWire) → AllByRecursion IsUndamaged (aged_entries who xs)
 aged_undamaged who [] = tt
@@ -162,8 +145,7 @@ IfKeeps e None x = x.sets ≡ None
 IfKeeps e (Some r) x = KeepsErrors e r x
 
 pub keeps_sets : (e : End) (o : Option Running) (x : ErrorCount) → IfKeeps e o x → x.sets ≡ None
-keeps_sets e None x k = k
-keeps_sets e (Some r) x k = k.sets
+keeps_sets e o x k = grind arith
 
 same_desks : (e : End) (n m : ℕ) (desks : List Desk) → n ≡ m → AllByRecursion (λ (d : Desk). eqb d.host e.link ≡ true → d.errors ≡ n) desks
     → AllByRecursion (λ (d : Desk). eqb d.host e.link ≡ true → d.errors ≡ m) desks
@@ -238,25 +220,11 @@ module _ (e : End) (real : e.at_host ≡ true → eqb e.link 0 ≡ false) (hosts
 
 -- ### Other nodes
 
-plain_leaves : (e : End) (y : Entry) → IsPlain y → Leaves e y
-plain_leaves e (entry.Held f need spare) p = λ x n r. plainly e x n r
-plain_leaves e (entry.Ask host message) p = λ x n r. plainly e x n r
-plain_leaves e (entry.Dropped f pid) p = λ x n r. plainly e x n r
-plain_leaves e (entry.Command node command) p = λ x n r. record { sets = refl; is = r.is }
-plain_leaves e (entry.AnyOk node count) p = λ x n r. plainly e x n r
-plain_leaves e (entry.InitSame f) p = λ x n r. plainly e x n r
-plain_leaves e (entry.InitMade f count) p = λ x n r. plainly e x n r
-plain_leaves e (entry.InitFailed f code) p = λ x n r. plainly e x n r
-plain_leaves e (entry.Cut node) p = λ x n r. plainly e x n r
-plain_leaves e y p = absurd p
-
 mute_leaves : (e : End) (deeds : List Deed) → AreMute deeds → AllByRecursion (NotesSo (Leaves e)) deeds
 mute_leaves e [] all = tt
 mute_leaves e (d ∷ deeds) all = (one d all.0, mute_leaves e deeds all.1) where
   one : (d : Deed) → IsMute d → NotesSo (Leaves e) d
-  one (Sends to m) i = tt
-  one (Ends y) m = plain_leaves e y m
-  one _ m = tt
+  one d i = grind arith
 
 -- the node isn't that of the end
 abbrev pub IsOther : End → Side → ℕ → Type 0

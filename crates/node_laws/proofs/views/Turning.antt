@@ -1,18 +1,18 @@
 -- A node has its turns, in which REC_ERROR of its end may be set: what is read of it stays what the node keeps.
-use Rattle.node_laws.proofs.Words.{AllByRecursion, Book, Bool, Controller, Core, Deed, Drops, End, Entry, ErrorCount, FetchMessage, Give, Host, LinkEnd, List}
-use Rattle.node_laws.proofs.Words.{Message, None, Option, Port, Sends, SetsErrors, Some, Up, Work, [], after_turn, answer_of, ap, append-nil, by_option}
-use Rattle.node_laws.proofs.Words.{by_test, cases_Bool, changed_if, changed_same, cond, controller_deeds, deeds_of, end_of, end_of_node, end_view, entries_for}
-use Rattle.node_laws.proofs.Words.{eq-eqb, eqb, eqb-true, errors_after, errors_set_by, false, give_refusal, goes_through_ends, handles, have_turns, host_deeds}
-use Rattle.node_laws.proofs.Words.{hosts_of_ends, inl, inr, is_any_ok, lack, leads_to_link_gate, length, map, nat_lt, need, needs, noted_of, noting}
-use Rattle.node_laws.proofs.Words.{option_map_or, own_gate, own_side, own_view, passes, port_at, refl, same_end, sent_unless, spare, subst, sym, true}
-use Rattle.node_laws.proofs.Words.{true≢false, turn_at, unwrap_or, view_of, with_desk, with_port, ℕ, ◌&&◌, ◌++◌, ◌∙◌, ◌∷◌, ◌≡◌, ◌⊎◌}
+use Rattle.node_laws.proofs.Words.{AllByRecursion, Book, Bool, Core, Deed, Drops, End, Entry, ErrorCount, FetchMessage, Give, List, Message, None, Option, Port}
+use Rattle.node_laws.proofs.Words.{Sends, SetsErrors, Some, Work, [], after_turn, answer_of, ap, append-nil, arith, by_option, by_test, cases_Bool, changed_if}
+use Rattle.node_laws.proofs.Words.{changed_same, cond, controller_deeds, deeds_of, end_of, end_of_node, end_view, entries_for, eq-eqb, eqb, eqb-true}
+use Rattle.node_laws.proofs.Words.{errors_after, errors_set_by, false, give_refusal, goes_through_ends, handles, have_turns, host_deeds, hosts_of_ends, inl}
+use Rattle.node_laws.proofs.Words.{inr, is_any_ok, lack, leads_to_link_gate, length, map, nat_lt, need, needs, noted_of, noting, option_map_or, own_gate}
+use Rattle.node_laws.proofs.Words.{own_side, own_view, passes, port_at, refl, sent_unless, spare, subst, sym, true, turn_at, view_of, with_desk, with_port, ℕ}
+use Rattle.node_laws.proofs.Words.{◌&&◌, ◌++◌, ◌∙◌, ◌∷◌, ◌≡◌, ◌⊎◌}
 use Rattle.trace_model.specs.declared.entry.Entry.TheVariants as entry
 use Rattle.gate_answers.specs.declared.response.Response.TheVariants as response
 use Rattle.node_laws.proofs.telling.Steps.{at_map}
 use Rattle.node_laws.proofs.links.Noticing.{at_host}
 use Rattle.node_laws.proofs.readings.Turning.{lack_parts}
 use Rattle.node_laws.proofs.views.Doing.{HasErrors, IsFine, IsRead, IsUpAt, Right, SetDeeds, all_do, controller_sets, controller_unset, desks, holds, host_sets}
-use Rattle.node_laws.proofs.views.Doing.{host_unset, is_link_gate, lets, map_has, own_is, reads, reads_append, side_of, turns, unless, unset_fine}
+use Rattle.node_laws.proofs.views.Doing.{host_unset, is_link_gate, lets, map_has, reads, reads_append, side_of, turns, unless, unset_fine}
 use Rattle.node_laws.proofs.views.Doing.SetDeeds.{IsDropped, IsRefused, IsSet}
 use Rattle.node_laws.proofs.kept.Doing.{fetch_none, hosts_map}
 
@@ -32,18 +32,10 @@ takes_with ports h m k f host same t = record {
   takes = changed_same (λ (q : Port). give_refusal q.side m) (eqb t.port.desk.host k) f t.port same ∙ t.takes;
 }
 
-room_takes : (e : LinkEnd) (m : Message) → e.shdlc.phase ≡ Up → nat_lt 4096 (length m.1) ≡ false → nat_lt (spare e) (need m.1) ≡ false → give_refusal e m ≡ None
-room_takes e m up short room = rw (up, short, room) refl
-
 -- an end that is up takes an answer that finds room
 up_takes : (ports : List Port) (h : ℕ) (m : Message) → IsUpAt ports h → nat_lt 4096 (length m.1) ≡ false
     → nat_lt (option_map_or (λ (p : Port). spare p.side) (port_at ports h) 0) (need m.1) ≡ false → Takes ports h m
-up_takes ports h m up short room = record {
-  port = up.port;
-  here = up.here;
-  takes = room_takes up.port.side m up.up short
-      (sym (ap (λ o. nat_lt (option_map_or (λ (p : Port). spare p.side) o 0) (need m.1)) up.here) ∙ room);
-}
+up_takes ports h m up short room = grind arith
 
 -- which is noted
 sent_noted : (w : Work) (h : ℕ) (m : Message) (t : Takes w.ports h m)
@@ -59,10 +51,7 @@ with_hosts k f host ports = hosts_map (λ p. changed_if (eqb p.desk.host k) f p)
 
 with_has : (e : End) (n k : ℕ) (f : Port → Port) → ((p : Port) → (f p).desk.host ≡ p.desk.host) → ((p : Port) → (f p).desk.errors ≡ p.desk.errors)
     → (ports : List Port) → AllByRecursion (HasErrors e n) ports → AllByRecursion (HasErrors e n) (with_port k f ports)
-with_has e n k f host errors ports all = map_has e n (λ p. changed_if (eqb p.desk.host k) f p) (λ p has is.
-    changed_same (λ (q : Port). q.desk.errors) (eqb p.desk.host k) f p errors
-    ∙ has (ap (λ h. eqb h e.link) (sym (changed_same (λ (q : Port). q.desk.host) (eqb p.desk.host k) f p
-    host)) ∙ is)) ports all
+with_has e n k f host errors ports all = map_has e n (λ p. changed_if (eqb p.desk.host k) f p) (grind arith) ports all
 
 -- it is set at the end itself
 set_has : (e : End) (h v : ℕ) → eqb h e.link ≡ true → (ports : List Port)
@@ -70,8 +59,7 @@ set_has : (e : End) (h v : ℕ) → eqb h e.link ≡ true → (ports : List Port
 set_has e h v here [] = tt
 set_has e h v here (p ∷ ports) = (by (eqb p.desk.host h) refl, set_has e h v here ports) where
   by : (b : Bool) → eqb p.desk.host h ≡ b → HasErrors e v (changed_if b (λ (p : Port). record p { desk = record p.desk { errors = v } }) p)
-  by true q = λ is. refl
-  by false q = λ is. absurd (true≢false (sym (eq-eqb p.desk.host h (eqb-true p.desk.host e.link is ∙ sym (eqb-true h e.link here))) ∙ q))
+  by b q = grind arith
 
 -- ## A message is handled
 
@@ -82,8 +70,7 @@ not_so : (a b : Bool) (x : Option ℕ) → a ≡ false → cond (a && b) x None 
 not_so a b x q = rw q refl
 
 some_so : (b : Bool) (x : Option ℕ) (v : ℕ) → cond b x None ≡ Some v → (b ≡ true) × (x ≡ Some v)
-some_so true x v q = (refl, q)
-some_so false x v q = absurd (cc q)
+some_so b x v q = grind arith
 
 module _ (e : End) (hosts : List ℕ) (x0 : ErrorCount) (single : e.at_host ≡ true → hosts ≡ e.link ∷ []) where
   abbrev So : Work → Type 0
@@ -100,14 +87,8 @@ module _ (e : End) (hosts : List ℕ) (x0 : ErrorCount) (single : e.at_host ≡ 
   abbrev sets_now : Work → ℕ → Message → Option ℕ
   sets_now w h m = cond (eqb h e.link && leads_to_link_gate w.core.tables e m.0) (errors_set_by m.1) None
 
-  leads_same : (w : Work) (pid : ℕ) → w.cut ≡ false → So w → leads_to_link_gate (seen w).book.tables e pid ≡ leads_to_link_gate w.core.tables e pid
-  leads_same w pid on r = by_test e.at_host (λ q. rw q refl) (λ q. ap (λ t. leads_to_link_gate t e pid) (sym (r.tables on q)))
-
   turn_reads : (w : Work) (h : ℕ) (m : Message) → w.cut ≡ false → So w → errors_after e (seen w) (turn_of w h m) ≡ record (seen w) { sets = sets_now w h m }
-  turn_reads w h m on r =
-      ap (λ b. record (seen w) { sets = cond (b && leads_to_link_gate (seen w).book.tables e m.0) (errors_set_by m.1) None })
-      (ap (λ s. same_end (end_of h s) e) r.side ∙ own_is e h)
-      ∙ ap (λ b. record (seen w) { sets = cond (eqb h e.link && b) (errors_set_by m.1) None }) (leads_same w m.0 on r)
+  turn_reads w h m on r = grind arith
 
   -- the message is the node's, and nothing is done with it yet
   abbrev fetched : ℕ → Message → Work → Work
@@ -176,14 +157,7 @@ module _ (e : End) (hosts : List ℕ) (x0 : ErrorCount) (single : e.at_host ≡ 
       → is_any_ok a.1 ≡ ok
       → cond ok v (seen w).errors ≡ n
       → IsRead (errors_after e (record (seen w) { sets = sets_now w h m }) (entry.Sent (end_of_node w.core h) k a.0 a.1)) n
-  sent_read w h m v k a n ok r here sets is value = record {
-    sets = refl;
-    is =
-        ap (λ b. cond (b && is_any_ok a.1) (unwrap_or (sets_now w h m) (seen w).errors) (seen w).errors)
-        (ap (λ s. same_end (end_of h s) e) r.side ∙ (own_is e h ∙ here))
-        ∙ (ap (λ b. cond b (unwrap_or (sets_now w h m) (seen w).errors) (seen w).errors) is
-        ∙ (ap (λ o. cond ok (unwrap_or o (seen w).errors) (seen w).errors) sets ∙ value));
-  }
+  sent_read w h m v k a n ok r here sets is value = grind arith
 
   -- a command that sets it at the end itself
   set_handled : (h : ℕ) (m : Message) (deeds : List Deed) (v : ℕ) (w : Work) → w.cut ≡ false → eqb h e.link ≡ true → sets_now w h m ≡ Some v
@@ -256,22 +230,14 @@ module _ (e : End) (hosts : List ℕ) (x0 : ErrorCount) (single : e.at_host ≡ 
   alone : (ports : List Port) (h : ℕ) (p : Port) → hosts_of_ends ports ≡ e.link ∷ [] → port_at ports h ≡ Some p → h ≡ e.link
   alone [] h p same q = absurd (cc q)
   alone (x ∷ y ∷ ports) h p same q = absurd (cc same)
-  alone (x ∷ []) h p same q = by_test (eqb x.desk.host h)
-      (λ z. sym (eqb-true x.desk.host h z) ∙ one)
-      (λ z. let none : None ≡ Some p = sym (ap (λ b. cond b (Some x) None) z) ∙ q in absurd (cc none)) where
-        one : x.desk.host ≡ e.link
-        one = cc
+  alone (x ∷ []) h p same q = grind arith
 
   set_fine : (ports : List Port) (h pid v : ℕ) (deeds : List Deed) → eqb h e.link ≡ false → SetDeeds ports h pid v deeds
       → AllByRecursion (IsFine e hosts x0 h) deeds
-  set_fine ports h pid v deeds off (IsSet up is) = subst (AllByRecursion (IsFine e hosts x0 h)) (sym is) (off, (tt, tt))
-  set_fine ports h pid v deeds off (IsRefused up is) = subst (AllByRecursion (IsFine e hosts x0 h)) (sym is) (tt, tt)
-  set_fine ports h pid v deeds off (IsDropped is) = subst (AllByRecursion (IsFine e hosts x0 h)) (sym is) (tt, tt)
+  set_fine ports h pid v deeds off a = grind arith
 
   side_zero : (core : Core) → own_side core ≡ side_of e → e.at_host ≡ true → eqb core.node 0 ≡ false
-  side_zero core side near = by_test (eqb core.node 0)
-      (λ q. rw q (let no : Controller ≡ Host = sym (ap (λ b. cond b Controller Host) q) ∙ (side ∙ ap (λ b. cond b Host Controller) near) in absurd (cc no)))
-      (λ q. rw q refl)
+  side_zero core side near = grind arith
 
   pub handled : (h : ℕ) (m : Message) (p : Port) (w : Work) → w.cut ≡ false → port_at w.ports h ≡ Some p
       → lack w.ports (needs h (deeds_of w.core w.ports h m)) ≡ None → So w → So (handles h m (deeds_of w.core w.ports h m) w)

@@ -1,29 +1,23 @@
 -- Why sessions end, and the ages of a controller's notices, which are read over its steps.
-use Rattle.node_laws.proofs.Words.{About, ActEvent, ActTake, ActTick, AllByRecursion, Asked, Asks, AtEnd, Bool, ByAct, Chain, Commits, Control, Controller}
-use Rattle.node_laws.proofs.Words.{Core, Creation, Deed, Desk, Drops, EndState, EndedBy, Ends, Entry, FetchMessage, Give, GoesToFree, Hold, Host, IsAnswered}
-use Rattle.node_laws.proofs.Words.{IsDown, IsHost, IsKeptNotice, IsUpNow, IsWaitingNow, LastsOverTurns, LinkEnd, LinkInput, LinkState, List, Message, NoAnswer}
+use Rattle.node_laws.proofs.Words.{About, AllByRecursion, Asks, AtEnd, Bool, Commits, Control, Core, Creation, Deed, Desk, Drops, EndedBy, Ends, Entry}
+use Rattle.node_laws.proofs.Words.{FetchMessage, Give, GoesToFree, Hold, IsAnswered, IsHost, IsKeptNotice, LastsOverTurns, LinkEnd, LinkInput, List, Message}
 use Rattle.node_laws.proofs.Words.{NodeInput, None, Noted, Notice, Option, Orders, Port, Refused, Release, Releases, Report, Reset, SaysOk, Sends, SetAside}
-use Rattle.node_laws.proofs.Words.{SetsErrors, Some, Start, Take, Tells, Tick, TimePasses, Timed, Turn, Work, [], act_answer, after_input, after_sessions}
-use Rattle.node_laws.proofs.Words.{after_turn, all_come, all_done, all_owed_hold, all_synced_hold, ap, ap₂, arith, asked_at, awaited_after, by_option, by_test}
-use Rattle.node_laws.proofs.Words.{changed_if, comes_to_pass, cond, cond_both, controller_deeds, deeds_of, done, end_c, end_of, end_of_node, ended_by}
-use Rattle.node_laws.proofs.Words.{ended_by_act, ended_by_reset, entries_for, eq-eqb, eqb, eqb-true, false, flat_map, forgets, forgotten, forgotten_hold}
-use Rattle.node_laws.proofs.Words.{give_refusal, goes_in, handles, has_come, has_come_so, has_freed, has_notice, has_synced, holds_back, hosts_of_ends, if_up}
-use Rattle.node_laws.proofs.Words.{inl, input_at, inr, is_faulty, is_forgotten, is_late, is_notice, is_open, is_over, is_own_reset, is_some, is_up, lack}
-use Rattle.node_laws.proofs.Words.{list_any, map, nat_le, needs, not, noted_by_deed, noted_of, nothing_ticked, notice_in, noting, option_and_then, option_map}
-use Rattle.node_laws.proofs.Words.{option_map_or, or-false, or-true, or_parts, owed_in_step, own_side, passes, port_at, refl, report, reset_late, reset_refusal}
-use Rattle.node_laws.proofs.Words.{runs_timer, same_end, same_side, sent_unless, steps, subst, sym, synced, syncs_in, take_answer, taken, takes_up, tick_answer}
-use Rattle.node_laws.proofs.Words.{timed, told, told_at, told_late, told_of_coming, told_of_late, true, true≢false, turn_at, unless_cut, view_of, waiting_at}
-use Rattle.node_laws.proofs.Words.{whole_acked, with_desk, with_older, with_port, without_notice, ℕ, ◌&&◌, ◌++◌, ◌+◌, ◌||◌, ◌∙◌, ◌∷◌, ◌≡◌, ◌≤◌}
+use Rattle.node_laws.proofs.Words.{SetsErrors, Some, Take, Tells, Tick, TimePasses, Turn, Work, [], after_input, after_sessions, after_turn, all_come, all_done}
+use Rattle.node_laws.proofs.Words.{all_owed_hold, all_synced_hold, ap, ap₂, arith, asked_at, awaited_after, by_option, by_test, changed_if, comes_to_pass, cond}
+use Rattle.node_laws.proofs.Words.{controller_deeds, deeds_of, done, end_c, end_of_node, ended_by, entries_for, eq-eqb, eqb, eqb-true, false, flat_map, forgets}
+use Rattle.node_laws.proofs.Words.{forgotten, forgotten_hold, give_refusal, goes_in, handles, has_come, has_come_so, has_freed, has_notice, has_synced}
+use Rattle.node_laws.proofs.Words.{holds_back, hosts_of_ends, input_at, is_late, is_notice, is_over, is_own_reset, is_some, is_up, list_any, map, nat_le, not}
+use Rattle.node_laws.proofs.Words.{noted_by_deed, noted_of, notice_in, noting, option_and_then, option_map, option_map_or, or-false, or-true, or_parts}
+use Rattle.node_laws.proofs.Words.{owed_in_step, own_side, passes, port_at, refl, report, reset_late, reset_refusal, sent_unless, steps, subst, sym, synced}
+use Rattle.node_laws.proofs.Words.{syncs_in, takes_up, told, told_at, told_late, told_of_coming, told_of_late, true, true≢false, turn_at, unless_cut, view_of}
+use Rattle.node_laws.proofs.Words.{waiting_at, whole_acked, with_desk, with_older, with_port, without_notice, ℕ, ◌&&◌, ◌++◌, ◌+◌, ◌||◌, ◌∙◌, ◌∷◌, ◌≡◌, ◌≤◌}
 use Rattle.link_laws.specs.entries.Entries.{End as Side}
-use Rattle.shdlc_core.specs.Machine.{nothing_taken}
-use Rattle.shdlc_core.specs.Machine.Timed.{Over, Runs, Spent}
-use Rattle.swp_base.specs.declared.link_terms.Cause.TheVariants.{Peer}
 use Rattle.node_laws.specs.answers.Unasked.{notifies}
 use Rattle.node_laws.proofs.links.Noticing.{at_all, at_host}
 use Rattle.node_laws.proofs.notices.Telling.{MayTell, Outcome, answer_other, controller_free, controller_outcome, noticed}
 use Rattle.node_laws.proofs.notices.Turning.{AreHostEnds, IsOn, Stands, all_stand, commit_ports, else_same, handled_stand, holds_stand, kept_none, lets_stand}
 use Rattle.node_laws.proofs.notices.Turning.{read_more, reads, then}
-use Rattle.node_laws.proofs.notices.Near.{AreFar, IsFar, not_near, quiet_far}
+use Rattle.node_laws.proofs.notices.Near.{AreFar, IsFar, quiet_far}
 use Rattle.node_laws.proofs.notices.Steps.{HasCome, TellNoNotices, begun, frees, no_notices_flat, no_notices_may, owed_all, synced_no_notices}
 use Rattle.node_laws.proofs.notices.Telling.Outcome.{IsHeard, Leaves}
 use Rattle.node_laws.proofs.passes.InSteps.{come_entries, deed_notes, steps_are}
@@ -43,97 +37,19 @@ asked o = option_map_or is_own_reset o false
 abbrev pub otherwise : EndedBy → Bool
 otherwise cause = not (is_own_reset cause)
 
-pub up_asked : (s : EndState) (cause : EndedBy) → is_own_reset cause ≡ false → asked (if_up s cause) ≡ false
-up_asked s cause other = go s.phase refl where
-  go : (p : LinkState) → s.phase ≡ p → asked (if_up s cause) ≡ false
-  go IsUpNow q = rw q other
-  go IsWaitingNow q = rw q refl
-  go IsDown q = rw q refl
-
-take_asked : (s : EndState) (c : Control) → asked (take_answer s c).ended ≡ false
-take_asked s c = go s.phase refl c where
-  go : (p : LinkState) → s.phase ≡ p → (c : Control) → asked (take_answer s c).ended ≡ false
-  go IsUpNow q (control.I ns nr info) = rw q refl
-  go IsUpNow q (control.S kind nr) = rw q refl
-  go IsUpNow q (control.Rset window caps) =
-      rw q (cond_both (eqb window 0) nothing_taken (record nothing_taken { ended = Some Peer; began = true }) (λ r. asked r.ended ≡ false) (λ _. refl)
-      (λ _. refl))
-  go IsUpNow q _ = rw q refl
-  go IsDown q (control.Rset window caps) =
-      rw q (cond_both (eqb window 0) nothing_taken (record nothing_taken { began = true }) (λ r. asked r.ended ≡ false) (λ _. refl) (λ _. refl))
-  go IsDown q _ = rw q refl
-  go IsWaitingNow q (control.Ua) = rw q refl
-  go IsWaitingNow q _ = rw q refl
-
-pub tick_asked : (s : EndState) → asked (tick_answer s).ended ≡ false
-tick_asked s = go s.phase refl where
-  up : (z : Timed) → timed s ≡ z → s.phase ≡ IsUpNow → asked (tick_answer s).ended ≡ false
-  up Runs z q = rw (q, z) (cond_both (runs_timer s.session) nothing_ticked nothing_ticked (λ r. asked r.ended ≡ false) (λ _. refl) (λ _. refl))
-  up Over z q = rw (q, z) (cond_both (runs_timer s.session) nothing_ticked nothing_ticked (λ r. asked r.ended ≡ false) (λ _. refl) (λ _. refl))
-  up Spent z q =
-      rw (q, z) (cond_both (runs_timer s.session) (record nothing_ticked { ended = Some NoAnswer }) nothing_ticked (λ r. asked r.ended ≡ false)
-      (λ _. refl) (λ _. refl))
-
-  waits : (z : Timed) → timed s ≡ z → s.phase ≡ IsWaitingNow → asked (tick_answer s).ended ≡ false
-  waits Runs z q = rw (q, z) refl
-  waits _ z q = rw (q, z) refl
-
-  go : (p : LinkState) → s.phase ≡ p → asked (tick_answer s).ended ≡ false
-  go IsUpNow q = up (timed s) refl q
-  go IsWaitingNow q = waits (timed s) refl q
-  go IsDown q = rw q refl
-
-pub act_asked : (s : LinkEnd) (event : ActEvent) → asked (ended_by_act s event) ≡ false
-act_asked s event =
-    cond_both (act_answer s.role event).ended_link (if_up s.shdlc ByAct) None (λ o. asked o ≡ false) (λ _. up_asked s.shdlc ByAct refl) (λ _. refl)
-
-heard_asked : (s : LinkEnd) (c : Control)
-    → asked (cond (is_open s.role) (cond (is_faulty (taken s.shdlc c).session) (Some Chain) (take_answer s.shdlc c).ended) None) ≡ false
-heard_asked s c =
-    cond_both (is_open s.role) (cond (is_faulty (taken s.shdlc c).session) (Some Chain) (take_answer s.shdlc c).ended) None (λ o. asked o ≡ false)
-    (λ _. cond_both (is_faulty (taken s.shdlc c).session) (Some Chain) (take_answer s.shdlc c).ended (λ o. asked o ≡ false) (λ _. refl)
-    (λ _. take_asked s.shdlc c))
-    (λ _. refl)
-
 pub frame_asked : (s : LinkEnd) (c : Control) → asked (ended_by s (Take c)) ≡ false
-frame_asked s (control.Act act again) = act_asked s (ActTake act again)
-frame_asked s control.Clt = refl
-frame_asked s (control.I ns nr info) = heard_asked s (control.I ns nr info)
-frame_asked s (control.S kind nr) = heard_asked s (control.S kind nr)
-frame_asked s (control.Rset window caps) = heard_asked s (control.Rset window caps)
-frame_asked s control.Ua = heard_asked s control.Ua
-
-pub start_asked : (s : LinkEnd) (value : ℕ) → asked (ended_by s (Start value)) ≡ false
-start_asked s value = up_asked s.shdlc ByAct refl
+frame_asked s c = grind arith
 
 pub ticked_asked : (s : LinkEnd) → asked (ended_by s Tick) ≡ false
-ticked_asked s =
-    cond_both (is_open s.role) (tick_answer s.shdlc).ended (ended_by_act s ActTick) (λ o. asked o ≡ false) (λ _. tick_asked s.shdlc) (λ _. act_asked s ActTick)
-
--- where it isn't such a reset it is another cause
-pub other_is : (o : Option EndedBy) → asked o ≡ false → option_map_or otherwise o false ≡ is_some o
-other_is None q = refl
-other_is (Some cause) q = ap not q
+ticked_asked s = grind arith
 
 -- a reset that isn't refused ends the session where the end is up
 pub reset_asked : (s : LinkEnd) (window : Option ℕ) → reset_refusal s ≡ None → asked (ended_by s (Reset window)) ≡ is_up s.shdlc.phase
-reset_asked s window free = ap (λ o. asked (ended_by_reset s o)) free ∙ go s.shdlc.phase refl where
-  go : (p : LinkState) → s.shdlc.phase ≡ p → asked (if_up s.shdlc Asked) ≡ is_up s.shdlc.phase
-  go IsUpNow q = rw q refl
-  go _ q = rw q refl
+reset_asked s window free = grind arith
 
 -- a reset ends it for no other cause
 pub reset_only : (s : LinkEnd) (window : Option ℕ) → asked (ended_by s (Reset window)) ≡ is_some (ended_by s (Reset window))
-reset_only s window = by_option (reset_refusal s) (λ q. rw q (by s.shdlc.phase refl)) (λ why q. rw q refl) where
-  by : (p : LinkState) → s.shdlc.phase ≡ p → asked (if_up s.shdlc Asked) ≡ is_some (if_up s.shdlc Asked)
-  by IsUpNow q = rw q refl
-  by _ q = rw q refl
-
-pub reset_other : (s : LinkEnd) (window : Option ℕ) → option_map_or otherwise (ended_by s (Reset window)) false ≡ false
-reset_other s window = by_option (reset_refusal s) (λ q. rw q (by s.shdlc.phase refl)) (λ why q. rw q refl) where
-  by : (p : LinkState) → s.shdlc.phase ≡ p → option_map_or otherwise (if_up s.shdlc Asked) false ≡ false
-  by IsUpNow q = rw q refl
-  by _ q = rw q refl
+reset_only s window = grind arith
 
 -- ## As a controller handles messages the ages of its notices are the ticks since they were sent
 
@@ -150,30 +66,17 @@ module _ (x : ℕ) where
   still_notified a b q = more_notified a b ∙ (ap (λ z. notified a || z) q ∙ or-false (notified a))
 
   one_far : (e : Entry) → IsFar e → notifies x e ≡ false
-  one_far (entry.Sent e n pid message) a = ap (λ b. b && eqb pid 1 && is_notice message) (not_near e x a)
-  one_far e a = refl
+  one_far e a = grind arith
 
   pub far_notifies : (es : List Entry) → AreFar es → notified es ≡ false
   far_notifies [] a = refl
   far_notifies (e ∷ es) a = ap₂ (λ b c. b || c) (one_far e a.0) (far_notifies es a.1)
 
-  -- where none is sent none begins to wait
-  sent_none : (a : Bool) (y : Option (List ℕ)) → a ≡ false → cond a y None ≡ None
-  sent_none a y q = rw q refl
-
   abbrev nothing : Option (List ℕ)
   nothing = None
 
-  either_none : (a : Bool) → cond a nothing nothing ≡ nothing
-  either_none true = refl
-  either_none false = refl
-
   one_reads : (e : Entry) → notifies x e ≡ false → awaited_after is_notice (end_c x) 0 None e ≡ None
-  one_reads (entry.Sent e n pid message) q = sent_none (same_end e (end_c x) && eqb pid 1 && is_notice message) (Some message) q
-  one_reads (entry.Turn e pid message) q = either_none _
-  one_reads (entry.Down e cause) q = either_none _
-  one_reads (entry.Cut n) q = either_none _
-  one_reads e q = refl
+  one_reads e q = grind arith
 
   none_reads : (es : List Entry) → notified es ≡ false → reads x es None ≡ None
   none_reads [] q = refl
@@ -182,24 +85,12 @@ module _ (x : ℕ) where
 
   -- ### What deeds note
 
-  sent_other : (h n : ℕ) (m : Message) (side : Side) (o : Option Refused) → (eqb m.0 1 && is_notice m.1) ≡ false
-      → notified (entries_for h (sent_unless o side n m)) ≡ false
-  sent_other h n m side (Some why) q = refl
-  sent_other h n m side None q = go (same_end (end_of h side) (end_c x)) (eqb m.0 1) (is_notice m.1) q where
-    go : (a b c : Bool) → (b && c) ≡ false → ((a && b && c) || false) ≡ false
-    go false b c z = refl
-    go true true c z = or-false c ∙ z
-    go true false c z = refl
-
   sent_else : (h n : ℕ) (m : Message) (side : Side) (o : Option Refused) → eqb h x ≡ false → notified (entries_for h (sent_unless o side n m)) ≡ false
-  sent_else h n m side (Some why) q = refl
-  sent_else h n m Controller None q = ap (λ b. (b && same_side false false && eqb m.0 1 && is_notice m.1) || false) q
-  sent_else h n m Host None q = ap (λ b. (b && same_side true false && eqb m.0 1 && is_notice m.1) || false) q
+  sent_else h n m side o q = grind arith
 
   gives_other : (core : Core) (m : Message) (o : Option Port) → (eqb m.0 1 && is_notice m.1) ≡ false
       → notified (option_map_or (noted_of core (Give m)) o []) ≡ false
-  gives_other core m None q = refl
-  gives_other core m (Some p) q = sent_other p.desk.host p.session m (own_side core) (give_refusal p.side m) q
+  gives_other core m o q = grind arith
 
   gives_else : (core : Core) (m : Message) (ports : List Port) (to : ℕ) → eqb to x ≡ false
       → notified (option_map_or (noted_of core (Give m)) (port_at ports to) []) ≡ false
@@ -228,8 +119,7 @@ module _ (x : ℕ) where
   -- ### What they keep
 
   changed : {X : Type 0} (f : Port → X) (b : Bool) (g : Port → Port) (p : Port) → f (g p) ≡ f p → f (changed_if b g p) ≡ f p
-  changed {X} f true g p q = q
-  changed {X} f false g p q = refl
+  changed f b g p q = grind arith
 
   noticed_map : (f : Port → Port) → ((q : Port) → (f q).desk.host ≡ q.desk.host) → ((q : Port) → (f q).desk.notice ≡ q.desk.notice)
       → (ports : List Port) → noticed (map f ports) x ≡ noticed ports x
@@ -272,8 +162,7 @@ module _ (x : ℕ) where
           there = ap (λ z. option_and_then (λ (p : Port). p.desk.notice) z) (sym is) ∙ q
 
           by : (b : Bool) (p : Port) → port_at w.ports x ≡ Some p → (changed_if b g p).desk.notice ≡ Some n → P n
-          by true p z y = new n y
-          by false p z y = a n (ap (λ u. option_and_then (λ (p : Port). p.desk.notice) u) z ∙ y)
+          by b p z y = grind arith
 
     notified_each : (to : ℕ) (about : About) (message : List ℕ) (w : Work)
         → ((n : Notice) → n.age ≡ 0 → P n) → Each w → Each (Rattle.node_machine.specs.Carrying.notified to about message w)
@@ -367,9 +256,7 @@ module _ (x : ℕ) where
             subst (λ b. Each (AgeIs base b) (done h d w)) (sym same) (else_done (AgeIs base (notified w.entries)) h d w may a)
 
   has_of : (ports : List Port) (n : Notice) → noticed ports x ≡ Some n → has_notice ports x ≡ true
-  has_of ports n q = by_option (port_at ports x)
-      (λ z. let none : None ≡ Some n = rw z at q in absurd (cc none))
-      (λ p z. let there : p.desk.notice ≡ Some n = rw z at q in rw z (ap (λ (o : Option Notice). is_some o) there))
+  has_of ports n q = grind arith
 
   module _ (t : List Entry) (base k : ℕ) (m : Message) (w : Work) (host : IsHost k) (a : IsOn x t w) (old : AgesIn base w) where
     abbrev deeds : List Deed
@@ -470,8 +357,7 @@ module _ (x : ℕ) (t : List Entry) (base : ℕ) where
       (λ p z. subst IsHost (at_host ports h p z) (at_port (λ (u : Port). IsHost u.desk.host) ports h p hosts z))
 
   on_of : (v : Work) → Stands x t v → v.cut ≡ false → IsOn x t v
-  on_of v (inl a) on = a
-  on_of v (inr a) on = absurd (true≢false (sym a.off ∙ on))
+  on_of v a on = grind arith
 
   lasts : LastsOverTurns G
   lasts = record {
@@ -481,8 +367,7 @@ module _ (x : ℕ) (t : List Entry) (base : ℕ) where
         let are : deeds_of w.core w.ports h m ≡ deeds = (let zero : eqb w.core.node 0 ≡ true = eq-eqb w.core.node 0 a.0.node in rw zero refl) in
         subst (λ ds. (handles h m ds w).cut ≡ false → G (handles h m ds w)) (sym are)
         (λ on.
-        let b : IsOn x t (handles h m deeds w) = on_of (handles h m deeds w) (handled_stand x t h m w host a.0 (ap (λ ds. lack w.ports (needs h ds))
-        (sym are) ∙ room)) on in
+        let b : IsOn x t (handles h m deeds w) = on_of (handles h m deeds w) (handled_stand x t h m w host a.0 (grind arith)) on in
         (b, handled_ages x t base h m w host a.0 a.1 b)) still;
     held = λ w h m messages short a on waits lacks. (holds_stand x t h short w a.0, holds_ages h short w a.1);
     let_go = λ w h a on waits. (lets_stand x t h w a.0, lets (AgesIn x base) held_ages h w a.1);
@@ -529,20 +414,7 @@ module _ (x : ℕ) where
     off : is_over q ≡ false
 
   stayed : (ports : List Port) (q : Port) (n : Notice) → (without_notice (forgets ports q)).desk.notice ≡ Some n → Stayed q n
-  stayed ports q n is = by_test (is_forgotten ports (asked_at q))
-      (λ z. by_notice (rw z at parts.0) q.desk.notice refl (rw z at parts.1))
-      (λ z. record { was = n; here = rw z at parts.1; age = refl; off = rw z at parts.0 }) where
-        parts : (is_over (forgets ports q) ≡ false) × ((forgets ports q).desk.notice ≡ Some n)
-        parts = by_test (is_over (forgets ports q)) (λ y. let none : None ≡ Some n = rw y at is in absurd (cc none)) (λ y. (y, rw y at is))
-
-        forgot : Option Notice → Option Notice
-        forgot o = option_map_or (λ (n : Notice). Some (record n { about = Rattle.node_machine.specs.Parts.About.Forgotten })) o None
-
-        by_notice : is_over q ≡ false → (o : Option Notice) → q.desk.notice ≡ o → forgot o ≡ Some n → Stayed q n
-        by_notice off None z y = absurd (cc y)
-        by_notice off (Some m) z y =
-            let same : record m { about = Rattle.node_machine.specs.Parts.About.Forgotten } ≡ n = cc in
-            record { was = m; here = z; age = sym (ap (λ (k : Notice). k.age) same); off = off }
+  stayed ports q n is = grind arith
 
   -- how old it was, and is as the turns begin
   abbrev pub grown : NodeInput → ℕ → ℕ
@@ -555,18 +427,12 @@ module _ (x : ℕ) where
   came TimePasses p = reset_late (with_older (has_come p (Some Tick)))
 
   come_host : (p : Port) (o : Option LinkInput) → (has_come p o).desk ≡ p.desk
-  come_host p None = refl
-  come_host p (Some i) = refl
-
-  reset_desk : (p : Port) → (reset_late p).desk ≡ p.desk
-  reset_desk p = by_test (is_late p) (λ z. rw z refl) (λ z. rw z refl)
+  come_host p o = grind arith
 
   came_is : (input : NodeInput) (w : Work) → port_at (has_come_so input w).ports x ≡ option_map (came input) (port_at w.ports x)
-  came_is (AtEnd h i) w = at_all w.ports x (λ p. has_come p (input_at (AtEnd h i) p)) (λ q. ap (λ
-      (d : Rattle.node_machine.specs.Parts.Desk). d.host) (come_host q (input_at (AtEnd h i) q)))
+  came_is (AtEnd h i) w = at_all w.ports x (λ p. has_come p (input_at (AtEnd h i) p)) (λ q. grind arith)
   came_is TimePasses w =
-      at_all (map with_older (map (λ p. has_come p (Some Tick)) w.ports)) x reset_late (λ q. ap (λ
-      (d : Rattle.node_machine.specs.Parts.Desk). d.host) (reset_desk q))
+      at_all (map with_older (map (λ p. has_come p (Some Tick)) w.ports)) x reset_late (λ q. grind arith)
       ∙ (ap (option_map reset_late) (at_all (map (λ p. has_come p (Some Tick)) w.ports) x with_older (λ q. refl)
       ∙ ap (option_map with_older) (at_all w.ports x (λ p. has_come p (Some Tick)) (λ q. refl))) ∙ by_option (port_at w.ports x)
       (λ q. rw q refl)
@@ -578,36 +444,7 @@ module _ (x : ℕ) where
   -- a notice is as old as is read while it stays
   came_age : (input : NodeInput) (p : Port) (age0 : ℕ) (n : Notice) → ((m : Notice) → p.desk.notice ≡ Some m → (m.age ≡ age0) × (m.age ≤ 99))
       → Stayed (came input p) n → (n.age ≡ grown input age0) × (n.age ≤ 99)
-  came_age (AtEnd h i) p age0 n old s =
-      let m = old s.was (ap (λ (d : Rattle.node_machine.specs.Parts.Desk). d.notice) (sym (come_host p (input_at (AtEnd h i) p))) ∙ s.here) in
-      (s.age ∙ m.0, subst (λ k. k ≤ 99) (sym s.age) m.1)
-  came_age TimePasses p age0 n old s = by_option p.desk.notice
-      (λ z. let none : None ≡ Some s.was = rw z at here in absurd (cc none))
-      (λ m z. let is : Some (Rattle.node_machine.specs.Node.older_notice m) ≡ Some s.was = rw z at here in
-      let same : Rattle.node_machine.specs.Node.older_notice m ≡ s.was = cc in
-      let less : nat_le 100 s.was.age ≡ false = ap (λ o. option_map_or (λ (n : Notice). nat_le 100 n.age) o false) (sym here) ∙ low in (
-        (s.age ∙ sym (ap (λ (k : Notice). k.age) same)) ∙ ap (λ k. k + 1) (old m z).0,
-        subst (λ k. k ≤ 99) (sym s.age) (young s.was.age less),
-      )) where
-        y : Port
-        y = with_older (has_come p (Some Tick))
-
-        here : y.desk.notice ≡ Some s.was
-        here = ap (λ (d : Rattle.node_machine.specs.Parts.Desk). d.notice) (sym (reset_desk y)) ∙ s.here
-
-        fresh : (is_late y ≡ false) × (y.ended ≡ false)
-        fresh = by_test (is_late y)
-            (λ z. let late : is_over (reset_late y) ≡ true = rw z (or-true y.ended) in absurd (true≢false (sym late ∙ s.off)))
-            (λ z. let same : reset_late y ≡ y = rw z refl in
-            (z, (or_parts y.ended y.late (ap is_over (sym same) ∙ s.off)).0))
-
-        and_not : (a b : Bool) → (a && not b) ≡ false → b ≡ false → a ≡ false
-        and_not true true q z = absurd (true≢false z)
-        and_not true false q z = q
-        and_not false b q z = refl
-
-        low : option_map_or (λ (n : Notice). nat_le 100 n.age) y.desk.notice false ≡ false
-        low = and_not (option_map_or (λ (n : Notice). nat_le 100 n.age) y.desk.notice false) y.ended fresh.0 fresh.1
+  came_age input p age0 n old s = grind arith
 
   -- as a step begins to do what it owes
   module _ (input : NodeInput) (w : Work) (age0 : ℕ) (quiet : notified x w.entries ≡ false) (old : Each x (λ n. (n.age ≡ age0) × (n.age ≤ 99)) w) where

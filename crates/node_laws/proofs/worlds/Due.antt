@@ -1,21 +1,21 @@
 -- Over histories sessions end by resets exactly where those are due, and before its first turn a host answers exactly what is due.
 use Rattle.node_laws.proofs.Words.{Activates, AllByRecursion, AnswersSo, AreDifferent, AreHosts, ArePlayable, AreReset, AreSessionsRead, AreTaken, Arms}
-use Rattle.node_laws.proofs.Words.{AsksReset, AtEachOccurrence, AtEnd, Bool, Boots, Contains, Control, CountsCommands, Deed, Desk, End, Entry, FollowsNodes}
-use Rattle.node_laws.proofs.Words.{Gives, GoesOut, Happening, HasEnds, Header, Host, Init, Inits, IsBegunByHost, IsCut, IsDueAt, IsFew, IsGoodSite, IsHost}
+use Rattle.node_laws.proofs.Words.{AsksReset, AtEachOccurrence, AtEnd, Bool, Boots, Contains, Control, CountsCommands, Deed, End, Entry, FollowsNodes, Gives}
+use Rattle.node_laws.proofs.Words.{GoesOut, Happening, HasEnds, Header, Host, Init, Inits, IsBegunByHost, IsCut, IsDueAt, IsFew, IsGoodSite, IsHost}
 use Rattle.node_laws.proofs.Words.{IsNodeHeader, IsNodeLineOf, IsOrderly, IsReplyNoted, IsSentByHost, IsTrue, KeepsNotices, Line, Link, LinkEnd, LinkInput}
-use Rattle.node_laws.proofs.Words.{LinkState, List, Loses, LostFor, MayBoot, Message, NextFrame, NoInput, NodeHistory, NodeWorld, None, NumberedEnd, Occurrence}
-use Rattle.node_laws.proofs.Words.{OnWire, Option, Orders, Port, Resets, Running, Same, Sends, Site, SiteKeepsInit, Some, Take, Takes, TakesMessage, Ticks}
-use Rattle.node_laws.proofs.Words.{Turn, Undetected, Up, Verdict, Work, [], after_input, all_done, all_so, and_parts, ap, append-nil, arith, before_turn}
-use Rattle.node_laws.proofs.Words.{beginning, begins_with, begun_at, by_coming, by_controller, by_option, by_test, cond, controller_does, controller_work}
-use Rattle.node_laws.proofs.Words.{count_of, due, end_c, end_h, end_of_number, ended_by, ending_of, ends_in, entries_in, entries_of_reply, eq-eqb, eqb}
-use Rattle.node_laws.proofs.Words.{eqb-false, eqb-true, exchanged, false, filter, first_cause, first_verdict, flat_map-append, fold, frames_at, frames_noted}
-use Rattle.node_laws.proofs.Words.{frames_out, give_refusal, happenings, happens_by, has_taken, host_does, host_work, hosts_in, if_not_sent, if_off, if_waiting}
-use Rattle.node_laws.proofs.Words.{init_behind, is_answer_of, is_command_message, is_cut_of, is_down, is_reset_down, is_reset_due, is_rset, is_some, is_turn_of}
-use Rattle.node_laws.proofs.Words.{is_up, length, link_after_controller, link_to, list_any, lpdu_of, map, ne_eqb, near_end_in, new_world, node_at, node_entries}
-use Rattle.node_laws.proofs.Words.{node_of, noted_by_deeds, noted_of_deeds, number_now, number_of, occurrences_in, option_and_then, option_map_or, put, put_all}
-use Rattle.node_laws.proofs.Words.{refl, refusal_in, replicate, runs_on, same_number, sending, sent_in_session, session_now, session_of_port, site_at, steps}
-use Rattle.node_laws.proofs.Words.{steps_at_controller, steps_from, subst, suc, sym, taken_of, to_command, true, true≢false, turned, turns_at, unwrap_or}
-use Rattle.node_laws.proofs.Words.{verdict_on, wires_for, with_ended, world_behind, world_step, zero, ℕ, ◌&&◌, ◌++◌, ◌==◌, ◌∙◌, ◌∷◌, ◌≡◌, ◌≤◌}
+use Rattle.node_laws.proofs.Words.{LinkState, List, Loses, MayBoot, Message, NextFrame, NoInput, NodeHistory, NodeWorld, None, NumberedEnd, Occurrence, OnWire}
+use Rattle.node_laws.proofs.Words.{Option, Orders, Port, Resets, Running, Sends, Site, SiteKeepsInit, Some, Take, Takes, TakesMessage, Ticks, Turn, Up, Work}
+use Rattle.node_laws.proofs.Words.{[], after_input, all_done, all_so, and_parts, ap, append-nil, arith, before_turn, beginning, begins_with, begun_at}
+use Rattle.node_laws.proofs.Words.{by_coming, by_controller, by_test, cond, controller_does, controller_work, count_of, due, end_c, end_h, end_of_number}
+use Rattle.node_laws.proofs.Words.{ended_by, ending_of, ends_in, entries_in, entries_of_reply, eq-eqb, eqb, eqb-false, eqb-true, exchanged, false, filter}
+use Rattle.node_laws.proofs.Words.{first_cause, first_verdict, flat_map-append, fold, frames_at, frames_noted, frames_out, give_refusal, happenings, happens_by}
+use Rattle.node_laws.proofs.Words.{has_taken, host_does, host_work, hosts_in, if_not_sent, if_off, if_waiting, init_behind, is_answer_of, is_command_message}
+use Rattle.node_laws.proofs.Words.{is_cut_of, is_down, is_reset_down, is_reset_due, is_rset, is_some, is_turn_of, is_up, length, link_after_controller, link_to}
+use Rattle.node_laws.proofs.Words.{list_any, map, near_end_in, new_world, node_at, node_entries, node_of, noted_by_deeds, noted_of_deeds, number_now, number_of}
+use Rattle.node_laws.proofs.Words.{occurrences_in, option_and_then, option_map_or, put, put_all, refl, refusal_in, replicate, runs_on, same_number, sending}
+use Rattle.node_laws.proofs.Words.{sent_in_session, session_now, session_of_port, site_at, steps, steps_at_controller, steps_from, subst, suc, sym, taken_of}
+use Rattle.node_laws.proofs.Words.{to_command, true, true≢false, turned, turns_at, unwrap_or, wires_for, with_ended, world_behind, world_step, zero, ℕ, ◌&&◌}
+use Rattle.node_laws.proofs.Words.{◌++◌, ◌==◌, ◌∙◌, ◌∷◌, ◌≡◌, ◌≤◌}
 use Rattle.node_laws.proofs.creations.Events.{history_keeps}
 use Rattle.node_laws.proofs.kept.Ticking.{first_none, off_none}
 use Rattle.node_laws.proofs.links.Worlds.{IsFineSite}
@@ -27,13 +27,12 @@ use Rattle.node_laws.proofs.passes.InSteps.{deeds_note_of_notes as deeds_note}
 use Rattle.node_laws.proofs.passes.Replying.{noted_so}
 use Rattle.node_laws.proofs.power.Steps.{IsMine, own_not, part_own}
 use Rattle.node_laws.proofs.power.Events.{begins_part, sending_mine}
-use Rattle.node_laws.proofs.readings.Lines.{is_taken}
 use Rattle.node_laws.proofs.readings.Noticed.{numbers}
 use Rattle.node_laws.proofs.reply_passes.Ordered.{port_begins}
 use Rattle.node_laws.proofs.telling.Lasting.{AllMay, AnyLine, AreCaused, EachHolds, all_lines, boots_may, damaged_may, events_of_steps, front_each}
 use Rattle.node_laws.proofs.telling.Lasting.{lines_caused, lines_each, new_orderly, occurs, repeated_may}
-use Rattle.node_laws.proofs.telling.Events.{Stands, link_is, site_host, site_is, stands}
-use Rattle.node_laws.proofs.views.InitWorlds.{AtSite, Keeps, MayKeep, present}
+use Rattle.node_laws.proofs.telling.Events.{Stands, site_host, site_is, stands}
+use Rattle.node_laws.proofs.views.InitWorlds.{AtSite, Keeps, MayKeep}
 use Rattle.node_laws.proofs.views.Lines.{front_keeps, line_may_of_init_lines as line_may, new_keeps, taken_up}
 use Rattle.node_laws.proofs.worlds.Resetting.{AgesAreRead, IsReadBefore, aged_read, far_is, near_is}
 use Rattle.node_laws.proofs.worlds.Ticking.{AreDownless, IfNoNotices, NoNotices, far_node, far_number, frames_downless, host_begins}
@@ -47,9 +46,7 @@ use Rattle.trace_model.specs.declared.line.Line.TheVariants as line
 
 -- the host of a site that keeps its init has none
 keeps_none : (i : Option Init) (s : Site) → SiteKeepsInit i s → IfNoNotices s.node
-keeps_none i s k = by_option s.node
-    (λ q. rw q tt)
-    (λ r q. rw q (let runs = rw q at k.runs in subst (λ ds. AllByRecursion (λ (d : Desk). d.notice ≡ None) ds) (sym runs.desks_are) (runs.no_notice, tt)))
+keeps_none i s k = grind arith
 
 -- ## Over histories sessions end by resets exactly where those are due
 
@@ -210,8 +207,7 @@ puts_near l [] = refl
 puts_near l (c ∷ cs) = puts_near (put l c) cs ∙ put_near l c
 
 pub ended_near : (l : Link) (b : Bool) → (with_ended l b).to_controller ≡ l.to_controller
-ended_near l true = refl
-ended_near l false = refl
+ended_near l b = grind arith
 
 taken_near : (l : Link) (x : OnWire) (xs : List OnWire) (ts : List Turn) → (has_taken l x xs ts GoesOut).to_controller ≡ xs
 taken_near l x xs ts =
@@ -235,8 +231,7 @@ sites_near h k [] n out many = omega (arith, many)
 sites_near h k (s ∷ sites) n out many = by_test (eqb s.host h)
     (λ q. let now : link_to (map moved (s ∷ sites)) h ≡ steps_at_controller s.link NextFrame (turns_at k s.host) GoesOut =
     ap (λ b. option_map_or (λ (x : Site). x.link) (cond b (Some (moved s)) (site_at (map moved sites) h)) (link_to [] h)) q
-    ∙ (ap (λ b. steps_at_controller s.link (cond b NextFrame NoInput) (turns_at k s.host) (ending_of k)) q
-    ∙ ap (steps_at_controller s.link NextFrame (turns_at k s.host)) out) in
+    ∙ (grind arith) in
     omega (arith, step_near s.link (turns_at k s.host) n (rw q at many), ap (λ (l : Link). length l.to_controller) now))
     (λ q. let now : link_to (map moved (s ∷ sites)) h ≡ link_to (map moved sites) h =
     ap (λ b. option_map_or (λ (x : Site). x.link) (cond b (Some (moved s)) (site_at (map moved sites) h)) (link_to [] h)) q in
@@ -274,33 +269,21 @@ frames_near w e near = rw near refl
 takes_may : (n : ℕ) (w : NodeWorld) (e : End) → (e.link == 0) ≡ false → e.at_host ≡ false → Stand w e.link n → AllMay MayStep w (replicate n (Takes e))
 takes_may zero w e off near many = tt
 takes_may (suc n) w e off near many = (
-  (
-    off,
-    λ at on none.
-        absurd (omega (arith, many on, ap (λ (xs : List OnWire). length xs) (sym (frames_near w e near) ∙ none))),
-  ),
+  (grind arith),
   takes_may n (world_step w (Takes e)).0 e off near (take_stands w e n near many),
 )
 
 -- ### Lines
 
 pub off_zero : (header : Header) → IsNodeHeader header → (h : ℕ) → Contains header.hosts.items h → (h == 0) ≡ false
-off_zero header nodes h (k, below, is) =
-    let host : IsHost h = subst IsHost is (nodes.hosts k h below) in
-    ne_eqb h 0 (λ (zero_it : h ≡ 0). omega (arith, host.0, zero_it))
+off_zero header nodes h a = grind arith
 
 pub taken_most : (count : Option ℕ) (wire : List OnWire) → taken_of count wire ≤ length wire
-taken_most None wire = omega arith
-taken_most (Some n) wire = omega arith
+taken_most count wire = grind arith
 
 damage_may : (w : NodeWorld) (e : End) → (e.link == 0) ≡ false → (places : List ℕ) (wire : List OnWire) → frames_at w e ≡ wire
     → AllMay MayStep w (happens_by e (first_verdict wire places))
-damage_may w e off places [] here = tt
-damage_may w e off places (x ∷ xs) here = by (verdict_on (lpdu_of x.frame) places) where
-  by : (v : Verdict) → AllMay MayStep w (happens_by e (Some v))
-  by Same = ((off, λ near on none. let no : x ∷ xs ≡ [] = sym here ∙ none in cc no), tt)
-  by (LostFor why) = (tt, tt)
-  by (Undetected read) = tt
+damage_may w e off places wire here = grind arith
 
 module _ (header : Header) (nodes : IsNodeHeader header) where
   pub line_steps : (w : NodeWorld) (l : Line) → IsNodeLineOf header l → refusal_in w l ≡ None → AllMay MayStep w (happenings w l)
@@ -328,8 +311,7 @@ AreDueAtHosts hosts past o = AllByRecursion (IsDueAt hosts past o) hosts
 -- ### Answers
 
 neither : (b : Bool) (es : List Entry) → cond b es es ≡ es
-neither true es = refl
-neither false es = refl
+neither b es = grind arith
 
 late_due : (n : ℕ) (es : List Entry) → IsLate n es → AnswersSo n es []
 late_due n es late = late ∙ sym (neither (list_any (is_cut_of n) (before_turn n es)) [])
@@ -340,8 +322,7 @@ one_due : (n : ℕ) (x : Entry) (frames : List Entry) → is_answer_of n x ≡ t
 one_due n x frames answers turn command none =
     answer_is n x frames turn answers
     ∙ (ap (λ es. x ∷ es) (late_all n frames none)
-    ∙ sym (ap (λ es. cond (list_any (is_cut_of n) (before_turn n (x ∷ frames))) es (x ∷ [])) command
-    ∙ neither (list_any (is_cut_of n) (before_turn n (x ∷ frames))) (x ∷ [])))
+    ∙ sym (grind arith))
 
 none_down : (es : List Entry) → AreDownless es → filter is_down es ≡ []
 none_down [] a = refl
@@ -398,9 +379,7 @@ module _ (t : List Entry) (s : Site) (r : Running) (has : HasEnds s.host (s.host
           ∙ ap (λ k. entry.Sent (end_of_number k s.host) K m.0 m.1 ∷ []) has.number)))
 
       wanted : noted_of_deeds t s.host s.host D ≡ X ∷ []
-      wanted =
-          reply s.host (λ k. session_now t (end_of_number s.host k) s.host) _
-          ∙ ap (λ o. option_map_or (λ n. entry.Sent (end_of_number s.host s.host) n m.0 m.1 ∷ []) o [] ++ []) is_read
+      wanted = grind arith
 
       begun_due : (frames : List Entry) → AllByRecursion (NoAnswer s.host) frames → AreDownless frames
           → AnswersSo s.host ((all_done s.host D from).entries ++ frames)
@@ -432,12 +411,7 @@ IsPlain l = IsSentByHost l × IsBegunByHost l
 start_at : (w : NodeWorld) (e : End) (m : Message) → IsTrue e.at_host → (if_off w (node_of e) ≡ None) × (if_not_sent w e m ≡ None)
     → first_cause (if_off w (node_of e)) (if_not_sent w e m) ≡ None → MayStartAt w e m
 start_at w e m side parts none =
-    let runs = off_none (node_at w (node_of e)) parts.0 in record {
-      side = side;
-      node = runs.0;
-      runs = ap (node_at w) (sym link) ∙ runs.1;
-      taken = is_taken w e m side none;
-    } where
+    let runs = off_none (node_at w (node_of e)) parts.0 in (grind arith) where
       link : node_of e ≡ e.link
       link = rw side refl
 
@@ -463,9 +437,7 @@ both_plain (l ∷ lines) sent begun = ((sent.0, begun.0), both_plain lines sent.
 
 site_of : (w : NodeWorld) (k : ℕ) (r : Running) → (k == 0) ≡ false → node_at w k ≡ Some r
     → (s : Site) × (site_at w.sites k ≡ Some s) × (s.node ≡ Some r)
-site_of w k r off runs = by_option (site_at w.sites k)
-    (λ q. let none : node_at w k ≡ None = rw (off, q) refl in let no : None ≡ Some r = sym none ∙ runs in absurd (cc no))
-    (λ s q. (s, q, sym (present w k off s q) ∙ runs))
+site_of w k r off runs = grind arith
 
 begins_noted : (w : NodeWorld) (k : ℕ) (s : Site) (r : Running) (deeds : List Deed) → site_at w.sites k ≡ Some s → s.node ≡ Some r
     → (host_does w k NoInput (begins_with k deeds)).1
@@ -494,8 +466,7 @@ module _ (t : List Entry) (w : NodeWorld) (a : IsOrderly w) (sites : AreHostSite
       let s : Site = found.0 in
       let r : Running = may.node in
       let is : s.host ≡ e.link = site_host w.sites e.link s found.1 in
-      let takes : give_refusal s.link.host.side m ≡ None =
-      ap (λ (l : Link). give_refusal l.host.side m) (sym (link_is w.sites e.link s found.1)) ∙ may.taken in
+      let takes : give_refusal s.link.host.side m ≡ None = grind arith in
       let R : ℕ → Type 0 = λ k. session_now t (end_h k) k ≡ number_now s.link.host in
       let read : R s.host = subst R (sym is) (sessions e.link s found.1).host in
       let v : ℕ → Work = λ k. host_work s r NoInput (begins_with k (D k)) in
@@ -508,8 +479,7 @@ module _ (t : List Entry) (w : NodeWorld) (a : IsOrderly w) (sites : AreHostSite
       (frames_downless Host s.host (wires_for (exchanged s.link) NoInput) (v s.host)) in
       let noted : Begins D e.link ≡ (v e.link).entries ++ frames e.link = begins_noted w e.link s r (D e.link) found.1 found.2 in
       let there : G e.link = subst G is own in
-      let all : AnswersSo e.link (Begins D e.link) (noted_of_deeds (t ++ filter is_down (Begins D e.link)) e.link e.link (D e.link)) =
-      subst (λ es. AnswersSo e.link es (noted_of_deeds (t ++ filter is_down es) e.link e.link (D e.link))) (sym noted) there in
+      let all : AnswersSo e.link (Begins D e.link) (noted_of_deeds (t ++ filter is_down (Begins D e.link)) e.link e.link (D e.link)) = grind arith in
       subst (λ k. AnswersSo k (Begins D e.link) (noted_of_deeds (t ++ filter is_down (Begins D e.link)) k k (D k))) link all
     where
       takes_message : (s : Site) (r : Running) → give_refusal s.link.host.side m ≡ None → TakesMessage (host_begins s r NoInput).ports s.host m

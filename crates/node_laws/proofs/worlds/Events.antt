@@ -1,4 +1,5 @@
 -- In each event all messages at the ends of nodes that run have had their turns, or all before one that is held.
+use Rattle.std.proofs.Common.{arith}
 use Rattle.node_laws.proofs.Words.{AllByRecursion, AreDifferent, AreNoTurns, AreNotOf, AtController, AtEnd, Bool, Broken, Comes, Controller, CutOff, Deed, End}
 use Rattle.node_laws.proofs.Words.{Entry, HasEnds, Host, IsOrderly, LinkEnd, LinkInput, List, Loss, Memory, NoInput, NodeWorld, None, Noted, NumberedEnd}
 use Rattle.node_laws.proofs.Words.{Option, Port, Running, Site, Some, Step, Work, [], after_host, after_planned, all_append, all_map, all_so, ap, append-nil}
@@ -6,7 +7,7 @@ use Rattle.node_laws.proofs.Words.{append_assoc, arrival, begins_with, boot_foun
 use Rattle.node_laws.proofs.Words.{by_loss, by_memory, by_power, by_running, by_test, changed_if, comes_at, comes_to, cond, controller_cut, controller_does}
 use Rattle.node_laws.proofs.Words.{controller_work, count_of, counts, end_c, end_h, ending_of, entries_for, eqb, eqb-true, exchanged, false, first_lost}
 use Rattle.node_laws.proofs.Words.{flat_map, fold-append, frame_lost, frames_noted, happens, holds_in, host_cut, host_does, host_work, hosts_in, input_of}
-use Rattle.node_laws.proofs.Words.{is_done, is_held_at, is_some, link_after_controller, link_to, links_of, loses_power_at, map, memory_at, near_end_in, node_of}
+use Rattle.node_laws.proofs.Words.{is_done, is_held_at, is_some, link_after_controller, link_to, loses_power_at, map, memory_at, near_end_in, node_of}
 use Rattle.node_laws.proofs.Words.{noted_by_deeds, own_side, refl, runs_on, same_number, site_at, site_lost, steps, subst, sym, true, true≢false, turns_at}
 use Rattle.node_laws.proofs.Words.{unhandled_after, unhandled_in, waiting_at, wires_for, with_error, with_memory, with_site, ℕ, ◌++◌, ◌==◌, ◌∙◌, ◌∷◌, ◌≡◌}
 use Rattle.trace_model.specs.declared.entry.Entry.TheVariants as entry
@@ -23,8 +24,7 @@ use Rattle.node_laws.proofs.turns.Passing.{AreNoGots, AreStill, Goes, notes_stil
 use Rattle.node_laws.proofs.turns.Nodes.{ByPower, FarWaits, arrival_still, lost_none}
 use Rattle.node_laws.proofs.views.Events.{orderly_fine}
 use Rattle.node_laws.proofs.reply_passes.Ordered.{WaitsRead, deeds_still, near_goes}
-use Rattle.node_laws.proofs.reply_passes.Held.{AreNoBoots, begins_unbooted, desks_held, error_held, is_held_among, new_held, notes_unbooted, ports_held}
-use Rattle.node_laws.proofs.reply_passes.Held.{site_fine}
+use Rattle.node_laws.proofs.reply_passes.Held.{AreNoBoots, begins_unbooted, desks_held, error_held, is_held_among, notes_unbooted, ports_held, site_fine}
 use Rattle.node_laws.proofs.worlds.Resting.{AreIdle, IsIdle, SiteRests, SiteWaits, done_empty, far_site, flat_idle, frames_idle, idle_done, idle_held}
 use Rattle.node_laws.proofs.worlds.Resting.{near_rests, others_idle, quiet_idle, site_on}
 use Rattle.node_laws.proofs.power.Events.{begins_part, controller_part, host_part}
@@ -58,9 +58,7 @@ all_two P Q R one (s ∷ sites) a b = (one s a.0 b.0, all_two P Q R one sites a.
 -- one site becomes another one
 all_with : (P Q : Site → Type 0) (k : ℕ) (g : Site → Site) → ((s : Site) → (s.host == k) ≡ true → P s → Q (g s))
     → ((s : Site) → (s.host == k) ≡ false → P s → Q s) → (sites : List Site) → AllByRecursion P sites → AllByRecursion Q (with_site k g sites)
-all_with P Q k g here there sites a = all_map P Q (λ (s : Site). changed_if (s.host == k) g s) (λ s p. by_test (s.host == k)
-    (λ q. rw q (here s q p))
-    (λ q. rw q (there s q p))) sites a
+all_with P Q k g here there sites a = all_map P Q (λ (s : Site). changed_if (s.host == k) g s) (λ s p. grind arith) sites a
 
 pub all_rests : (t : List Entry) (sites : List Site) → AllWaiting t sites → AllAtRest t sites
 all_rests t [] a = tt
@@ -356,9 +354,7 @@ module _ (t : List Entry) (w : NodeWorld) (o : IsOrderly w) (a : AllAtRest t w.s
       (λ q. absurd (true≢false (sym q ∙ z)))
       (λ q. all_with (SiteRests t) (SiteRests (t ++ told)) n (λ s. record s { node = Some (boot_found w n) })
       (λ s found x. booted_rests t n count s (record s { node = Some (boot_found w n) }) x found z refl
-      (λ r e. let same : Some (boot_found w n) ≡ Some r = e in
-      let is : boot_found w n ≡ r = cc in
-      ap (λ (y : Running). is_held_among y.desks s.host) (sym is) ∙ new_held (links_of w n) s.host))
+      (λ r e. grind arith))
       (λ s other x. rest_on t told s s x refl x.holds (z, tt) (same_sym s.host n other, tt)) (boot_written w n).sites old))) where
         m : Memory
         m = after_planned (boot_writes (memory_at w n).content) (memory_at w n)
@@ -391,5 +387,4 @@ module _ (t : List Entry) (w : NodeWorld) (o : IsOrderly w) (a : AllAtRest t w.s
       (λ f. quiet_links f e.link (first_lost Host why (link_to w.sites e.link).to_host) (lost_none Host why (link_to w.sites e.link).to_host)))
       (λ at. with_on t w.sites a (entries_for e.link (first_lost Controller why (link_to w.sites e.link).to_controller)) e.link (site_lost e why) (λ s. refl)
       same_node
-      (λ f. quiet_links f e.link (first_lost Controller why (link_to w.sites e.link).to_controller)
-      (lost_none Controller why (link_to w.sites e.link).to_controller)))
+      (λ f. grind arith))

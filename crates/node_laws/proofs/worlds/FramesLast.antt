@@ -14,8 +14,8 @@ use Rattle.node_laws.proofs.Words.{by_controller_tick, by_host, by_host_tick, by
 use Rattle.node_laws.proofs.Words.{controller_begins, controller_does, controller_tick_begins, controller_ticks, controller_work, end_c, end_h, ending_entries}
 use Rattle.node_laws.proofs.Words.{ending_of, entries_for, eqb-true, exchanged, false, filter_map, first_lost, flat_map, frame_lost, frames_noted, host_does}
 use Rattle.node_laws.proofs.Words.{host_tick, host_ticks, host_work, hosts_in, hosts_of_ends, hosts_tick, inl, inr, is_of_node, link_of_turn, link_to}
-use Rattle.node_laws.proofs.Words.{links_of_turns, near_end_in, near_tick, new_world, node_of, not, noted_before_pass, noted_by_deeds, option_map_or, passes}
-use Rattle.node_laws.proofs.Words.{port_at, refl, sending, steps, subst, sym, told, told_of_coming, true, true≢false, turn_link, unless_cut, wires_for, work_of}
+use Rattle.node_laws.proofs.Words.{links_of_turns, near_end_in, near_tick, new_world, not, noted_before_pass, noted_by_deeds, option_map_or, passes, port_at}
+use Rattle.node_laws.proofs.Words.{refl, sending, steps, subst, sym, told, told_of_coming, true, true≢false, turn_link, unless_cut, wires_for, work_of}
 use Rattle.node_laws.proofs.Words.{world_behind, world_step, world_ticks, ℕ, ◌&&◌, ◌++◌, ◌<◌, ◌==◌, ◌∙◌, ◌∷◌, ◌≡◌, ◌≤◌, ◌⊎◌}
 use Rattle.link_laws.specs.entries.Entries.{End as Side}
 use Rattle.link_laws.specs.entries.Entries.Entry.{Tick}
@@ -186,10 +186,7 @@ module _ (Calm Frame : Entry → Type 0) (May : Deed → Type 0) (Through : List
   begins_has : (w : NodeWorld) (h : ℕ) (deeds : List Deed) → AllByRecursion May deeds → Q (host_does w h NoInput (begins_with h deeds)).1
   begins_has w h deeds may =
       by_host (λ p. Q p.1) w h NoInput (begins_with h deeds) (have.alone [] tt)
-      (λ s r found q.
-      let v : Work = host_work s r NoInput (begins_with h deeds) in
-      have.deeds h deeds (host_begins s r NoInput) (frames_noted Host h (wires_for (exchanged s.link) NoInput) v) may
-      (have.arrives Host s.host (exchanged s.link) NoInput) (have.frames Host h (wires_for (exchanged s.link) NoInput) v))
+      (grind arith)
 
   host_has : (s : Site) → IfItRuns s.host (s.host ∷ []) s.node → Q (host_ticks s).1
   host_has s runs =
@@ -278,14 +275,11 @@ along_ascends (h ∷ hosts) (k ∷ links) up (inr a) = along_ascends hosts (k �
 
 module _ (n : ℕ) where
   either : (b : Bool) (k : ℕ) → (cond b (Some k) None ≡ Some k) ⊎ (cond b (Some k) None ≡ None)
-  either true k = inl refl
-  either false k = inr refl
+  either b k = grind arith
 
   -- what is read of this node is part of what is read of all
   part : (x : Entry) → (turn_link n x ≡ link_of_turn x) ⊎ (turn_link n x ≡ None)
-  part (entry.Turn e pid message) = either (node_of e == n) e.link
-  part (entry.Held e need spare) = either (node_of e == n) e.link
-  part x = inl refl
+  part x = grind arith
 
   low_part : (b : ℕ) (es : List Entry) → AllByRecursion (λ y. b ≤ y) (links_of_turns es) → AllByRecursion (λ y. b ≤ y) (filter_map (turn_link n) es)
   low_part b [] a = tt
@@ -361,10 +355,7 @@ begun_turnless w h deeds may =
     (frames_turnless Host h (wires_for (exchanged s.link) NoInput) (host_work s r NoInput (begins_with h deeds))))
 
 pub lost_turnless : (w : NodeWorld) (e : End) (why : Loss) → AreNoTurns (frame_lost w e why).1
-lost_turnless w e why =
-    by_loss (λ p. AreNoTurns p.1) w e why
-    (λ z. links_none e.link (first_lost Host why (link_to w.sites e.link).to_host))
-    (λ z. links_none e.link (first_lost Controller why (link_to w.sites e.link).to_controller))
+lost_turnless w e why = grind arith
 
 pub boots_turnless : (w : NodeWorld) (n : ℕ) → AreNoTurns (boots w n).1
 boots_turnless w n = by_boot (λ p. AreNoTurns p.1) w n (refl, tt) (refl, tt)
@@ -376,9 +367,7 @@ module _ (n : ℕ) where
   Own es = IsAscending (filter_map (turn_link n) es)
 
   other_turn : (x : Entry) → is_of_node n x ≡ false → turn_link n x ≡ None
-  other_turn (entry.Turn e pid message) q = ap (λ b. cond b (Some e.link) None) q
-  other_turn (entry.Held e need spare) q = ap (λ b. cond b (Some e.link) None) q
-  other_turn x q = refl
+  other_turn x q = grind arith
 
   pub other_turns : (es : List Entry) → AreNotOf n es → AllByRecursion (λ x. turn_link n x ≡ None) es
   other_turns es a = all_so (λ x. is_of_node n x ≡ false) (λ x. turn_link n x ≡ None) other_turn es a
@@ -401,9 +390,7 @@ aged_turnless =
     (λ s. links_none s.host (aged_entries Controller s.link.to_controller ++ aged_entries Host s.link.to_host))
 
 turnless_one : (n : ℕ) (x : Entry) → IsNoTurn x → turn_link n x ≡ None
-turnless_one n (entry.Turn e pid message) q = absurd (cc q)
-turnless_one n (entry.Held e need spare) q = absurd (cc q)
-turnless_one n x q = refl
+turnless_one n x q = grind arith
 
 -- where no message has its turn or is held, none is at this node
 pub turnless_there : (n : ℕ) (es : List Entry) → AreNoTurns es → AllByRecursion (λ x. turn_link n x ≡ None) es
@@ -453,8 +440,7 @@ abbrev AreInside : List Entry → Type 0
 AreInside es = AllByRecursion IsInside es
 
 of_step : (x : Entry) → IsOfStep x → IsInside x
-of_step (entry.Emit e lpdu) a = absurd a
-of_step x a = refl
+of_step x a = grind arith
 
 grown : (es more : List Entry) → AreInside more → AreInside es → AreInside (es ++ more)
 grown es more later before = all_append IsInside es more before later
@@ -564,9 +550,7 @@ module _ (n : ℕ) where
   IsFramedFor es = AreHalves NoFrame FrameAlone es
 
   out_one : (x : Entry) → IsOut x → FrameAlone x
-  out_one (entry.Emit e lpdu) q = by_test (node_of e == n) (λ q. rw q refl) (λ q. rw q refl)
-  out_one (entry.Lost e lpdu cause) q = refl
-  out_one x q = absurd (true≢false (sym q))
+  out_one x q = grind arith
 
   inside_one : (x : Entry) → IsInside x → NoFrame x
   inside_one x q = ap (λ o. option_map_or (λ k. k == n) o false) q
@@ -577,8 +561,7 @@ module _ (n : ℕ) where
 
   -- what tells nothing of the node
   other_frame : (x : Entry) → is_of_node n x ≡ false → NoFrame x
-  other_frame (entry.Emit e lpdu) q = q
-  other_frame x q = refl
+  other_frame x q = grind arith
 
   others_behind : (es fs : List Entry) → IsFramedFor es → AreNotOf n fs → IsFramedFor (es ++ fs)
   others_behind es fs p a =

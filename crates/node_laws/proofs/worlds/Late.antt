@@ -1,23 +1,21 @@
 -- What comes to a node is noted before what it answers, and a host answers nothing before its first turn but what it begins.
-use Rattle.node_laws.proofs.Words.{ActEvent, ActStart, ActStop, ActTake, ActTick, AllByRecursion, AreDifferent, AreNotOf, ArePassed, AsksReset, AtEnd, Bare}
-use Rattle.node_laws.proofs.Words.{BeginWithTurn, Bool, Clf, Comes, ComesTo, Controller, Core, Cut, Deed, Desk, Down, Emit, End, Entry, FollowsNodes, GoesOut}
-use Rattle.node_laws.proofs.Words.{Header, Host, Inactive, IsOrderly, IsTurnSo, IsUicc, Line, Link, LinkEnd, LinkInput, List, Loss, Lost, Message, NodeHistory}
-use Rattle.node_laws.proofs.Words.{NodeInput, NodeWorld, NodesHearFirst, None, Noted, NumberedEnd, OnWire, Option, Phase, Port, PowerMode, Ready, Report}
-use Rattle.node_laws.proofs.Words.{Response, Restarted, Role, Sent, Site, Some, Starts, Step, SyncId, TimePasses, Took, Uicc, UiccAct, Work, [], act_event}
-use Rattle.node_laws.proofs.Words.{act_out, aged, aged_entries, all_aged, all_append, all_come, all_done, all_owed, all_so, answerer, ap, append-nil}
-use Rattle.node_laws.proofs.Words.{append_assoc, arrival, asked_at, before_turn, beginning, boots, by_boot, by_coming, by_controller, by_controller_tick}
-use Rattle.node_laws.proofs.Words.{by_host, by_host_tick, by_loss, by_option, by_test, comes_at, comes_to, comes_to_pass, cond, controller_does}
-use Rattle.node_laws.proofs.Words.{controller_ticks, controller_work, end_c, end_h, ending_entries, ending_of, entries_for, eqb-true, exchanged, false, filter}
-use Rattle.node_laws.proofs.Words.{first_lost, flat_map, forgets, frame_lost, frames_noted, has_come, has_come_so, has_freed, has_synced, hears, host_does}
-use Rattle.node_laws.proofs.Words.{host_tick, host_ticks, host_work, hosts_in, hosts_of_ends, hosts_tick, input_at, is_answer_of, is_late, is_late_at}
-use Rattle.node_laws.proofs.Words.{is_of_node, is_turn_of, is_waiting, link_after_controller, link_to, map, nat_le, near_end_in, near_tick, not}
-use Rattle.node_laws.proofs.Words.{noted_before_pass, noted_by_deeds, option_map_or, owed, owed_in_step, passes, port_at, refl, report, reset_late, same_number}
-use Rattle.node_laws.proofs.Words.{sending, site_ticked, site_unticked, steps, subst, sym, synced, take_while-cons, ticks_host, told, told_of_coming, true}
-use Rattle.node_laws.proofs.Words.{true≢false, turns_at, uicc_step, wires_for, with_older, work_of, world_ticks, ℕ, ◌&&◌, ◌++◌, ◌==◌, ◌∙◌, ◌∷◌, ◌≡◌}
+use Rattle.node_laws.proofs.Words.{AllByRecursion, AreDifferent, AreNotOf, ArePassed, AsksReset, AtEnd, BeginWithTurn, Bool, Comes, ComesTo, Controller, Core}
+use Rattle.node_laws.proofs.Words.{Cut, Deed, Desk, Down, Emit, End, Entry, FollowsNodes, GoesOut, Header, Host, IsOrderly, IsTurnSo, IsUicc, Line, Link}
+use Rattle.node_laws.proofs.Words.{LinkEnd, LinkInput, List, Loss, Lost, Message, NodeHistory, NodeInput, NodeWorld, NodesHearFirst, None, Noted, NumberedEnd}
+use Rattle.node_laws.proofs.Words.{OnWire, Option, Port, Report, Response, Restarted, Sent, Site, Starts, Step, TimePasses, Took, Work, [], aged, aged_entries}
+use Rattle.node_laws.proofs.Words.{all_aged, all_append, all_come, all_done, all_owed, all_so, answerer, ap, append-nil, append_assoc, arith, arrival, asked_at}
+use Rattle.node_laws.proofs.Words.{before_turn, beginning, boots, by_boot, by_coming, by_controller, by_controller_tick, by_host, by_host_tick, by_option}
+use Rattle.node_laws.proofs.Words.{by_test, comes_at, comes_to, comes_to_pass, cond, controller_does, controller_ticks, controller_work, end_c, end_h}
+use Rattle.node_laws.proofs.Words.{ending_entries, ending_of, entries_for, eqb-true, exchanged, false, filter, first_lost, flat_map, forgets, frame_lost}
+use Rattle.node_laws.proofs.Words.{frames_noted, has_come, has_come_so, has_freed, has_synced, hears, host_does, host_tick, host_ticks, host_work, hosts_in}
+use Rattle.node_laws.proofs.Words.{hosts_of_ends, hosts_tick, input_at, is_answer_of, is_late, is_late_at, is_of_node, is_turn_of, is_waiting}
+use Rattle.node_laws.proofs.Words.{link_after_controller, map, near_end_in, near_tick, not, noted_before_pass, noted_by_deeds, option_map_or, owed}
+use Rattle.node_laws.proofs.Words.{owed_in_step, passes, port_at, refl, reset_late, same_number, sending, site_ticked, site_unticked, steps, subst, sym, synced}
+use Rattle.node_laws.proofs.Words.{ticks_host, told, told_of_coming, true, true≢false, turns_at, wires_for, with_older, work_of, world_ticks, ℕ, ◌&&◌, ◌++◌}
+use Rattle.node_laws.proofs.Words.{◌==◌, ◌∙◌, ◌∷◌, ◌≡◌}
 use Rattle.link_laws.specs.entries.Entries.{End as Side}
 use Rattle.link_laws.specs.entries.Entries.Entry.{Tick}
 use Rattle.node_laws.specs.passes.Passing.ComesTo.{Begins}
-use Rattle.node_laws.proofs.kept.Stepping.{ticked_sync}
 use Rattle.node_laws.proofs.links.Sites.{here_host}
 use Rattle.node_laws.proofs.passes.InSteps.{IsBehind, IsOfStep, NotesOnly, before_entries, beginning_notes, coming_all, deeds_note, of_deeds, sending_notes}
 use Rattle.node_laws.proofs.passes.InSteps.{step_notes, steps_are}
@@ -28,7 +26,7 @@ use Rattle.node_laws.proofs.readings.Turning.{IsQuiet, rest_quiet, told_rest}
 use Rattle.node_laws.proofs.readings.Sites.{near_end_side}
 use Rattle.node_laws.proofs.readings.Noting.{forgets_same}
 use Rattle.node_laws.proofs.telling.Events.{comes_goes, ports_for, site_is}
-use Rattle.node_laws.proofs.telling.Ticks.{arrival_all, ending_all, lost_all, wires_all}
+use Rattle.node_laws.proofs.telling.Ticks.{ending_all, lost_all, wires_all}
 use Rattle.node_laws.proofs.telling.Lasting.{history_event}
 use Rattle.node_laws.proofs.telling.WorldTicks.{aged_orderly, ticked_orderly}
 use Rattle.node_laws.proofs.worlds.Events.{same_sym}
@@ -54,11 +52,7 @@ abbrev pub AreUnheard : List Entry → Type 0
 AreUnheard es = AllByRecursion IsUnheard es
 
 of_step : (x : Entry) → IsOfStep x → IsUnheard x
-of_step (entry.Up e k) a = absurd a
-of_step (entry.Down e cause) a = absurd a
-of_step (entry.Acked e k count) a = absurd a
-of_step (entry.Got e k pid message) a = absurd a
-of_step x a = refl
+of_step x a = grind arith
 
 -- it is no answer
 abbrev pub IsUnanswered : Entry → Type 0
@@ -107,8 +101,7 @@ pub out_unanswered : (who : Side) (h : ℕ) (l : Link) (k : Work) → AreUnanswe
 out_unanswered who h l k = (out_frames who h l k).1
 
 pub arrival_unanswered : (who : Side) (h : ℕ) (l : Link) (comes : Comes) → AreUnanswered (entries_for h (arrival who l comes))
-arrival_unanswered who h l comes =
-    (frames_unheard h (arrival who l comes) (arrival_all IsFrame (λ w c. tt) who l comes)).1
+arrival_unanswered who h l comes = grind arith
 
 pub lost_unanswered : (h : ℕ) (who : Side) (why : Loss) (xs : List OnWire) → AreUnanswered (entries_for h (first_lost who why xs))
 lost_unanswered h who why xs = (frames_unheard h (first_lost who why xs) (lost_all IsFrame (λ w c why. tt) who why xs)).1
@@ -175,11 +168,7 @@ module _ (n : ℕ) where
   IsPartedFor es = AreHalves NoAnswerOfOrder NoHearing es
 
   unheard_one : (x : Entry) → IsUnheard x → NoHearing x
-  unheard_one (entry.Up e k) q = absurd (true≢false q)
-  unheard_one (entry.Down e cause) q = absurd (true≢false q)
-  unheard_one (entry.Acked e k count) q = absurd (true≢false q)
-  unheard_one (entry.Got e k pid message) q = absurd (true≢false q)
-  unheard_one x q = refl
+  unheard_one x q = grind arith
 
   unanswered_one : (x : Entry) → IsUnanswered x → NoAnswerOfOrder x
   unanswered_one x q = ap (λ o. option_map_or (λ k. k == n) o false) q
@@ -193,22 +182,10 @@ module _ (n : ℕ) where
 
   -- what tells nothing of the node
   other_hears : (x : Entry) → is_of_node n x ≡ false → NoHearing x
-  other_hears (entry.Up e k) q = q
-  other_hears (entry.Down e cause) q = q
-  other_hears (entry.Acked e k count) q = q
-  other_hears (entry.Got e k pid message) q = q
-  other_hears x q = refl
+  other_hears x q = grind arith
 
   pub other_answers : (x : Entry) → is_of_node n x ≡ false → NoAnswerOfOrder x
-  other_answers (entry.Command k c) q = q
-  other_answers (entry.Sent e k pid message) q = q
-  other_answers (entry.AnyOk k count) q = q
-  other_answers (entry.Ask host message) q = q
-  other_answers (entry.Dropped e pid) q = q
-  other_answers (entry.InitSame e) q = q
-  other_answers (entry.InitMade e count) q = q
-  other_answers (entry.InitFailed e code) q = q
-  other_answers x q = refl
+  other_answers x q = grind arith
 
   pub others_answer : (es : List Entry) → AreNotOf n es → AllByRecursion NoAnswerOfOrder es
   others_answer es a = all_so (λ x. is_of_node n x ≡ false) NoAnswerOfOrder other_answers es a
@@ -261,33 +238,12 @@ hear_first header lines t follows different numbers past back o front behind x i
 
 -- ### Identifiers
 
-pub uicc_sync : (s : UiccAct) (event : ActEvent) → (uicc_step s event).1.sync ≡ None
-uicc_sync s (ActStart value) = refl
-uicc_sync s (ActTake act true) = refl
-uicc_sync s (ActTake (SyncId id) false) = refl
-uicc_sync s (ActTake Ready false) = refl
-uicc_sync s (ActTake (PowerMode code) false) = go (nat_le code 1) refl s.phase refl where
-  go : (b : Bool) → nat_le code 1 ≡ b → (p : Phase) → s.phase ≡ p → (uicc_step s (ActTake (PowerMode code) false)).1.sync ≡ None
-  go true z Inactive q = rw (z, q) refl
-  go true z _ q = rw (z, q) refl
-  go false z p q = rw z refl
-uicc_sync s ActTick = ticked_sync s.phase s.last
-uicc_sync s ActStop = refl
-
-out_none : (r : Role) (o : Option ActEvent) → IsUicc r → (act_out r o).sync ≡ None
-out_none Bare o a = absurd a
-out_none (Clf s) o a = absurd a
-out_none (Uicc s) None a = refl
-out_none (Uicc s) (Some event) a = uicc_sync s event
-
 -- the end of a host, at which no notice stands
 abbrev IsOfHost : Port → Type 0
 IsOfHost p = IsUicc p.side.role × (p.desk.notice ≡ None)
 
 synced_none : (core : Core) (input : NodeInput) (p : Port) → IsUicc p.side.role → synced core input p ≡ []
-synced_none core input p a = by_option (input_at input p)
-    (λ q. rw q refl)
-    (λ i q. let none : (report p.side i).sync ≡ None = out_none p.side.role (act_event p.side i) a in rw (q, none) refl)
+synced_none core input p a = grind arith
 
 syncs_none : (core : Core) (input : NodeInput) (ports : List Port) → AllByRecursion IsOfHost ports → flat_map (synced core input) ports ≡ []
 syncs_none core input [] a = refl
@@ -300,8 +256,7 @@ abbrev HasNoNotice : Port → Type 0
 HasNoNotice p = p.desk.notice ≡ None
 
 come_quiet : (p : Port) (o : Option LinkInput) → HasNoNotice p → HasNoNotice (has_come p o)
-come_quiet p None a = a
-come_quiet p (Some i) a = a
+come_quiet p o a = grind arith
 
 older_quiet : (p : Port) → HasNoNotice p → HasNoNotice (with_older p)
 older_quiet p a = rw a refl
@@ -403,8 +358,7 @@ module _ (n : ℕ) where
   both x es b = cond b (x ∷ filter (is_answer_of n) (before_turn n es)) (filter (is_answer_of n) (before_turn n es))
 
   pub before_first : (x : Entry) (es : List Entry) → is_turn_of n x ≡ false → before_turn n (x ∷ es) ≡ x ∷ before_turn n es
-  before_first x es turn =
-      take_while-cons (λ y. not (is_turn_of n y)) x es ∙ ap (λ b. cond (not b) (x ∷ before_turn n es) []) turn
+  before_first x es turn = grind arith
 
   rest_is : (x : Entry) (es : List Entry) → is_turn_of n x ≡ false → NoAnswer x
       → filter (is_answer_of n) (before_turn n (x ∷ es)) ≡ filter (is_answer_of n) (before_turn n es)
@@ -415,9 +369,7 @@ module _ (n : ℕ) where
   answer_is x es turn answers = ap (filter (is_answer_of n)) (before_first x es turn) ∙ ap (both x es) answers
 
   late_turn : (x : Entry) (es : List Entry) → is_turn_of n x ≡ true → IsLate (x ∷ es)
-  late_turn x es q =
-      ap (filter (is_answer_of n))
-      (take_while-cons (λ y. not (is_turn_of n y)) x es ∙ ap (λ b. cond (not b) (x ∷ before_turn n es) []) q)
+  late_turn x es q = grind arith
 
   late_one : (x : Entry) (es : List Entry) → NoAnswer x → IsLate es → IsLate (x ∷ es)
   late_one x es none late = by_test (is_turn_of n x) (λ q. late_turn x es q) (λ q. rest_is x es q none ∙ late)
@@ -596,10 +548,7 @@ module _ (n : ℕ) where
               (λ r q. sites_map (site_ticked (near_tick old r)) (ticked_host (near_tick old r)) (λ s. refl) old.sites before)
 
     pub lost_late : (w : NodeWorld) (e : End) (why : Loss) → IsLate (frame_lost w e why).1
-    lost_late w e why =
-        by_loss (λ p. IsLate p.1) w e why
-        (λ z. late_all _ (unanswered_all n _ (lost_unanswered e.link Host why (link_to w.sites e.link).to_host)))
-        (λ z. late_all _ (unanswered_all n _ (lost_unanswered e.link Controller why (link_to w.sites e.link).to_controller)))
+    lost_late w e why = grind arith
 
     pub boots_late : (w : NodeWorld) (k : ℕ) → IsLate (boots w k).1
     boots_late w k = by_boot (λ p. IsLate p.1) w k refl refl

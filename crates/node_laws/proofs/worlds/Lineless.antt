@@ -2,7 +2,8 @@
 use Rattle.node_laws.proofs.Words.{Activates, AllByRecursion, Arms, AsksReset, AtEnd, Boots, Comes, Controller, Cut, Deed, End, Entry, Gives, Happening, Host}
 use Rattle.node_laws.proofs.Words.{Inits, IsCut, Link, LinkInput, List, Loses, Lost, NextFrame, NoInput, NodeInput, NodeWorld, Noted, Report, Resets, Restarted}
 use Rattle.node_laws.proofs.Words.{Site, Starts, Takes, Ticks, TimePasses, TooMany, TooOld, Work, [], activates, aged_entries, all_aged, all_append, all_done}
-use Rattle.node_laws.proofs.Words.{all_flat, arrival, beginning, begins_with, by_boot, by_coming, by_controller, by_controller_tick, by_host, by_host_tick}
+use Rattle.node_laws.proofs.Words.{all_flat, arith, arrival, beginning, begins_with, by_boot, by_coming, by_controller, by_controller_tick, by_host}
+use Rattle.node_laws.proofs.Words.{by_host_tick}
 use Rattle.node_laws.proofs.Words.{by_option, comes_at, comes_to, controller_begins, controller_does, controller_tick_begins, controller_ticks, controller_work}
 use Rattle.node_laws.proofs.Words.{end_c, end_h, ending_entries, ending_of, entries_for, exchanged, false, flat_map, frames_noted, host_does, host_tick}
 use Rattle.node_laws.proofs.Words.{host_ticks, host_work, hosts_tick, is_lost_by_line, link_to, near_tick, port_at, refl, sending, steps, told, told_of_coming}
@@ -23,8 +24,7 @@ abbrev pub AreLineless : List Entry → Type 0
 AreLineless es = AllByRecursion IsLineless es
 
 of_step : (x : Entry) → IsOfStep x → IsLineless x
-of_step (entry.Lost e lpdu cause) a = absurd a
-of_step x a = refl
+of_step x a = grind arith
 
 grown : (es more : List Entry) → AreLineless more → AreLineless es → AreLineless (es ++ more)
 grown es more later before = all_append IsLineless es more before later

@@ -2,16 +2,16 @@
 use Rattle.node_laws.proofs.Words.{Activates, AllByRecursion, AreDifferent, AreSessionsRead, Arms, AsksReset, AtEnd, Bool, Boots, Broken, Comes, Controller}
 use Rattle.node_laws.proofs.Words.{ControllerReads, Deed, Desk, End, Entry, Gives, Happening, HasEnds, Host, IfHostNode, IfItRuns, IfNoticedUp, IfReads, Inits}
 use Rattle.node_laws.proofs.Words.{IsCut, IsFresh, IsOrderly, IsOutside, IsShut, KeepsNotices, Link, LinkEnd, LinkInput, List, Loses, Loss, NextFrame, NoInput}
-use Rattle.node_laws.proofs.Words.{NodeInput, NodeWorld, None, Notice, NumberedEnd, Occurrence, Option, Plan, Port, Reset, Resets, Running, Site, Some, Start}
-use Rattle.node_laws.proofs.Words.{Starts, Take, Takes, Ticks, TimePasses, Work, [], activates, age_in, all_aged, and-false, and-true, ap, ap₂, arith, arrival}
-use Rattle.node_laws.proofs.Words.{as_noted, beginning, begins_with, boot_found, boot_written, boots, by_boot, by_coming, by_controller, by_controller_tick}
-use Rattle.node_laws.proofs.Words.{by_host, by_list, by_loss, by_memory, by_option, by_power, by_running, by_test, comes_at, comes_to, cond, controller_does}
-use Rattle.node_laws.proofs.Words.{controller_ticks, controller_work, count_of, counts, end_c, end_h, ended_by, entries_for, entries_in, eqb, eqb-false}
-use Rattle.node_laws.proofs.Words.{eqb-true, exchanged, false, first_lost, fold-append, frame_lost, frames_noted, has_come_so, host_does, hosts_in, hosts_tick}
-use Rattle.node_laws.proofs.Words.{if_off, input_of, is_late_in, is_own_reset, is_reset_down, is_reset_due, is_some, is_tick, is_up, link_to, list_any}
-use Rattle.node_laws.proofs.Words.{loses_power_at, machine_in, map, memory_at, nat_le, near_end_in, near_tick, node_at, not, notice_at, notice_in}
-use Rattle.node_laws.proofs.Words.{option_and_then, option_map_or, refl, refusal_in, reset_refusal, runs_on, sending, session_now, site_at, steps, subst, sym}
-use Rattle.node_laws.proofs.Words.{true, true≢false, wires_for, with_memory, work_of, world_step, world_ticks, ℕ, ◌&&◌, ◌++◌, ◌+◌, ◌||◌, ◌∙◌, ◌∷◌, ◌≡◌, ◌≤◌}
+use Rattle.node_laws.proofs.Words.{NodeInput, NodeWorld, None, Notice, NumberedEnd, Occurrence, Option, Plan, Port, Reset, Resets, Running, Site, Some, Starts}
+use Rattle.node_laws.proofs.Words.{Takes, Ticks, TimePasses, Work, [], activates, age_in, all_aged, and-false, and-true, ap, ap₂, arith, arrival, as_noted}
+use Rattle.node_laws.proofs.Words.{beginning, begins_with, boot_found, boot_written, boots, by_boot, by_coming, by_controller, by_controller_tick, by_host}
+use Rattle.node_laws.proofs.Words.{by_loss, by_memory, by_option, by_running, by_test, comes_at, comes_to, cond, controller_does, controller_ticks}
+use Rattle.node_laws.proofs.Words.{controller_work, count_of, counts, end_c, end_h, ended_by, entries_for, entries_in, eqb, eqb-true, exchanged, false}
+use Rattle.node_laws.proofs.Words.{first_lost, fold-append, frame_lost, frames_noted, has_come_so, host_does, hosts_in, hosts_tick, if_off, input_of}
+use Rattle.node_laws.proofs.Words.{is_late_in, is_own_reset, is_reset_down, is_reset_due, is_some, is_tick, is_up, link_to, list_any, loses_power_at}
+use Rattle.node_laws.proofs.Words.{machine_in, map, memory_at, nat_le, near_end_in, near_tick, node_at, not, notice_at, notice_in, option_and_then}
+use Rattle.node_laws.proofs.Words.{option_map_or, refl, refusal_in, reset_refusal, runs_on, sending, session_now, site_at, steps, subst, sym, true, true≢false}
+use Rattle.node_laws.proofs.Words.{wires_for, with_memory, work_of, world_step, world_ticks, ℕ, ◌&&◌, ◌++◌, ◌+◌, ◌||◌, ◌∙◌, ◌∷◌, ◌≡◌, ◌≤◌}
 use Rattle.node_laws.specs.answers.Unasked.{age_after}
 use Rattle.node_laws.proofs.kept.Ticking.{first_none, off_none}
 use Rattle.node_laws.proofs.notices.Turning.{IsOn}
@@ -26,10 +26,10 @@ use Rattle.node_laws.proofs.telling.Lasting.{occurs}
 use Rattle.node_laws.proofs.telling.Events.{hosts_same_of_nodes as hosts_same, link_is, site_host}
 use Rattle.node_laws.proofs.views.InitWorlds.{present}
 use Rattle.node_laws.proofs.views.Lines.{up_is}
-use Rattle.node_laws.proofs.worlds.Ages.{AgeIs, far_notifies, frame_asked, grown, more_notified, notified, otherwise, start_asked, step_ages, still_notified}
-use Rattle.node_laws.proofs.worlds.Ticking.{NoNotices, any_append, any_none, at, beginning_none, begins_none, comes_none, far_near, far_number, far_other}
-use Rattle.node_laws.proofs.worlds.Ticking.{far_reset, far_tick, kept_notice, near_far, near_other, near_reset, notes_downless, off_tick, other_end_is, p, q}
-use Rattle.node_laws.proofs.worlds.Ticking.{reset_is, sending_none, tells_of_steps as tells}
+use Rattle.node_laws.proofs.worlds.Ages.{AgeIs, far_notifies, grown, more_notified, notified, otherwise, step_ages, still_notified}
+use Rattle.node_laws.proofs.worlds.Ticking.{NoNotices, any_append, at, beginning_none, begins_none, comes_none, far_near, far_number, far_other, far_reset}
+use Rattle.node_laws.proofs.worlds.Ticking.{far_tick, kept_notice, near_far, near_other, near_reset, off_tick, other_end_is, p, q, reset_is, sending_none}
+use Rattle.node_laws.proofs.worlds.Ticking.{tells_of_steps as tells}
 use Rattle.trace_model.specs.declared.entry.Entry.TheVariants as entry
 use Rattle.trace_model.specs.declared.line.Line.TheVariants as line
 
@@ -50,16 +50,11 @@ pub record IsReadBefore (past : List Occurrence) (w : NodeWorld) : Type 0 where
 
 -- what comes ends no session by a reset unless it is one
 frames_none : (side : LinkEnd) (i : LinkInput) (l : Link) → input_of l NextFrame ≡ Some i → option_map_or is_own_reset (ended_by side i) false ≡ false
-frames_none side i l is = by_list l.to_controller
-    (λ z. let none : None ≡ Some i = rw z at is in absurd (cc none))
-    (λ x xs z. let some : Some (Take x.frame) ≡ Some i = rw z at is in
-    let same : Take x.frame ≡ i = cc in
-    subst (λ j. option_map_or is_own_reset (ended_by side j) false ≡ false) same (frame_asked side x.frame))
+frames_none side i l is = grind arith
 
 starts_none : (value : ℕ) (side : LinkEnd) (i : LinkInput) (l : Link) → input_of l (Starts value) ≡ Some i
     → option_map_or is_own_reset (ended_by side i) false ≡ false
-starts_none value side i l is =
-    let same : Start value ≡ i = cc in subst (λ j. option_map_or is_own_reset (ended_by side j) false ≡ false) same (start_asked side value)
+starts_none value side i l is = grind arith
 
 -- ### Events that reset nothing
 
@@ -71,12 +66,7 @@ module _ (w : NodeWorld) (e : End) where
   boots_none n = by_boot (λ p. Silent p.1) w n refl refl
 
   lost_none : (f : End) (why : Loss) → Silent (world_step w (Loses f why)).1
-  lost_none f why =
-      by_loss (λ p. Silent p.1) w f why
-      (λ z. any_none is_own_reset e _ (notes_downless f.link (first_lost Host why (link_to w.sites f.link).to_host)
-      (lost_quiet Host why (link_to w.sites f.link).to_host)))
-      (λ z. any_none is_own_reset e _ (notes_downless f.link (first_lost Controller why (link_to w.sites f.link).to_controller)
-      (lost_quiet Controller why (link_to w.sites f.link).to_controller)))
+  lost_none f why = grind arith
 
   activates_none : (h sync power : ℕ) → Silent (world_step w (Activates h sync power)).1
   activates_none h sync power =
@@ -145,9 +135,7 @@ module _ (past : List Occurrence) (w : NodeWorld) (k : IsReadBefore past w) (x :
   -- ### Ticks
 
   below : (a : ℕ) → a ≤ 99 → nat_le 100 (a + 1) ≡ eqb a 99
-  below a most = by_test (eqb a 99)
-      (λ z. rw z (ap (λ n. nat_le 100 (n + 1)) (eqb-true a 99 z)))
-      (λ z. rw z (let other : a ≡ 99 → ⊥ = eqb-false a 99 z in grind (arith, most, other)))
+  below a most = grind arith
 
   late_is : (r : Running) → w.controller ≡ Some r
       → tells is_own_reset (end_c x) (world_ticks w).1 ≡ is_late_in past (occurs w Ticks) x
@@ -358,8 +346,7 @@ module _ (age : ℕ → ℕ) where
   lost_aged : (w : NodeWorld) → AreOld age w.controller → (e : End) (why : Loss) → AreAged age (frame_lost w e why).1 (frame_lost w e why).0.controller
   lost_aged w old e why =
       by_loss (λ p. AreAged age p.1 p.0.controller) w e why
-      (λ z. far_aged age _ w.controller (quiet_far e.link (first_lost Host why (link_to w.sites e.link).to_host)
-      (lost_quiet Host why (link_to w.sites e.link).to_host)) old)
+      (λ z. grind arith)
       (λ z. far_aged age _ (counts why e.link w.controller) (quiet_far e.link (first_lost Controller why (link_to w.sites e.link).to_controller)
       (lost_quiet Controller why (link_to w.sites e.link).to_controller)) (counts_old why e.link w.controller old))
 
@@ -368,8 +355,7 @@ module _ (age : ℕ → ℕ) where
 
   -- the power goes
   cut_aged : (w : NodeWorld) (n : ℕ) → AreOld age w.controller → AreAged age (entry.Cut n ∷ []) (loses_power_at n w).controller
-  cut_aged w n old =
-      by_power (λ v. AreAged age (entry.Cut n ∷ []) v.controller) n w (λ z. tt) (λ z. far_aged age (entry.Cut n ∷ []) w.controller (z, tt) old)
+  cut_aged w n old = grind arith
 
   boots_aged : (w : NodeWorld) (n : ℕ) → AreOld age w.controller → AreAged age (boots w n).1 (boots w n).0.controller
   boots_aged w n old =
@@ -464,7 +450,5 @@ pub aged_read : (past : List Occurrence) (w : NodeWorld) (c : Happening) → Kee
     → AgesAreRead (past ++ occurs w c ∷ []) (world_step w c).0.controller
 aged_read past w c k a = by_option (world_step w c).0.controller
     (λ q. rw q tt)
-    (λ r q. rw q (let b = rw q at (event_aged (age_in past) (entries_in past) w c k (by_option w.controller
-    (λ q. rw q tt)
-    (λ r q. rw q (rw q at a)))) in
+    (λ r q. rw q (let b = rw q at (event_aged (age_in past) (entries_in past) w c k (grind arith)) in
     λ x n q. ((b x n q).0 ∙ sym (fold-append (age_after x) 0 past (occurs w c ∷ [])), (b x n q).1)))

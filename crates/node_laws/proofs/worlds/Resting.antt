@@ -1,11 +1,11 @@
 -- Behind steps, whatever happens, all messages at the ends of nodes that run have had their turns, or all before one that is held.
 use Rattle.node_laws.proofs.Words.{AllByRecursion, AreDifferent, AreNoTurns, AreNotOf, Bool, ComesTo, Controller, End, Entry, HasEnds, Host, IsBehind, IsNoTurn}
-use Rattle.node_laws.proofs.Words.{IsOutside, Link, LinkEnd, List, Message, NodeInput, None, NumberedEnd, Option, Plan, Port, Running, Site, Some, Stays, Work}
-use Rattle.node_laws.proofs.Words.{[], all_append, ap, append-nil, append_assoc, by_list, by_option, by_test, comes_to_pass, cond, end_c, end_h, ending_entries}
-use Rattle.node_laws.proofs.Words.{ending_of, eqb, eqb-true, false, flat_map, fold-append, frames_noted, goes_through_ends, holds_in, hosts_in, hosts_of_ends}
-use Rattle.node_laws.proofs.Words.{inl, inr, is_done, is_held_at, is_none, is_of_node, link_to, map, node_of, not, oldest, or-true, own_side, passes, port_at}
-use Rattle.node_laws.proofs.Words.{refl, runs_in, runs_on, same_end, same_number, site_at, steps, subst, sym, true, true≢false, unhandled_after, unhandled_in}
-use Rattle.node_laws.proofs.Words.{waiting_at, work_of, ℕ, ◌++◌, ◌==◌, ◌||◌, ◌∙◌, ◌∷◌, ◌≡◌}
+use Rattle.node_laws.proofs.Words.{IsOutside, Link, LinkEnd, List, Message, NodeInput, NumberedEnd, Option, Plan, Port, Running, Site, Some, Stays, Work, []}
+use Rattle.node_laws.proofs.Words.{all_append, ap, append-nil, append_assoc, arith, by_list, by_option, by_test, comes_to_pass, cond, end_c, end_h}
+use Rattle.node_laws.proofs.Words.{ending_entries, ending_of, eqb, eqb-true, false, flat_map, fold-append, frames_noted, goes_through_ends, holds_in, hosts_in}
+use Rattle.node_laws.proofs.Words.{hosts_of_ends, inl, inr, is_done, is_held_at, is_none, is_of_node, link_to, map, node_of, not, oldest, or-true, own_side}
+use Rattle.node_laws.proofs.Words.{passes, port_at, refl, runs_in, runs_on, same_end, same_number, site_at, steps, subst, sym, true, true≢false}
+use Rattle.node_laws.proofs.Words.{unhandled_after, unhandled_in, waiting_at, work_of, ℕ, ◌++◌, ◌==◌, ◌||◌, ◌∙◌, ◌∷◌, ◌≡◌}
 use Rattle.link_laws.specs.entries.Entries.{End as Side}
 use Rattle.node_laws.specs.passes.Passing.ComesTo.{Begins}
 use Rattle.node_laws.proofs.passes.InSteps.{before_hosts, steps_are}
@@ -15,11 +15,10 @@ use Rattle.node_laws.proofs.power.Events.{far_runs, near_runs}
 use Rattle.node_laws.proofs.reply_passes.Ordered.{begun_at, goes_read, mine, ms, port_begins, runs_comes, there_still}
 use Rattle.node_laws.proofs.reply_passes.Held.{AreNoBoots, IsNoBoot, begun_side, desks_held, ended_read_at, host_side, is_held_among, is_host_side}
 use Rattle.node_laws.proofs.reply_passes.Held.{notes_unbooted, ports_held}
-use Rattle.node_laws.proofs.schedules.Ranges.{ends_same}
-use Rattle.node_laws.proofs.telling.Events.{hosts_same_of_nodes as hosts_same, link_is}
+use Rattle.node_laws.proofs.telling.Events.{hosts_same_of_nodes as hosts_same}
 use Rattle.node_laws.proofs.telling.Accounts.{AreUncut}
 use Rattle.node_laws.proofs.turns.Passing.{AreStill, Goes, Known, doing, goes-append, still_goes}
-use Rattle.node_laws.proofs.turns.Passing.Doing.{Adds, Clears, Nothing, Takes}
+use Rattle.node_laws.proofs.turns.Passing.Doing.{Nothing}
 use Rattle.node_laws.proofs.turns.Nodes.{frames_still}
 use Rattle.node_laws.proofs.worlds.FramesLast.{frames_turnless}
 use Rattle.trace_model.specs.declared.entry.Entry.TheVariants as entry
@@ -53,29 +52,17 @@ AreIdle e es = AllByRecursion (IsIdle e) es
 
 module _ (e : End) where
   pub other_end : (f : End) → (node_of f == node_of e) ≡ false → same_end f e ≡ false
-  other_end f off = by_test (same_end f e)
-      (λ q. absurd (true≢false (sym (ap (λ z. node_of z == node_of e) (ends_same f e q) ∙ same_number (node_of e)) ∙ off)))
-      (λ q. q)
+  other_end f off = grind arith
 
   idle_other : (x : Entry) → is_of_node (node_of e) x ≡ false → IsIdle e x
-  idle_other (entry.Got f n pid message) off = other_end f off
-  idle_other (entry.Turn f pid message) off = other_end f off
-  idle_other (entry.Held f need spare) off = other_end f off
-  idle_other (entry.Booted n k) off = off
-  idle_other x off = tt
+  idle_other x off = grind arith
 
   pub others_idle : (es : List Entry) → AreNotOf (node_of e) es → AreIdle e es
   others_idle [] a = tt
   others_idle (x ∷ es) a = (idle_other x a.0, others_idle es a.1)
 
   idle_quiet : (x : Entry) → doing e x ≡ Nothing → IsNoTurn x → IsNoBoot x → IsIdle e x
-  idle_quiet (entry.Got f n pid message) still turn boot = by_test (same_end f e)
-      (λ q. let no : Adds (pid, message) ≡ Nothing = rw q at still in absurd (cc no))
-      (λ q. q)
-  idle_quiet (entry.Turn f pid message) still turn boot = absurd (cc turn)
-  idle_quiet (entry.Held f need spare) still turn boot = absurd (cc turn)
-  idle_quiet (entry.Booted n k) still turn boot = absurd boot
-  idle_quiet x still turn boot = tt
+  idle_quiet x still turn boot = grind arith
 
   pub quiet_idle : (es : List Entry) → AreStill e es → AreNoTurns es → AreNoBoots es → AreIdle e es
   quiet_idle [] a b c = tt
@@ -215,8 +202,7 @@ module _ (n : ℕ) (who : Side) (t : List Entry) (input : NodeInput) (w : Work) 
 
     by_fine : Fine n ended → is_done (t ++ ended.entries) e ≡ true
     by_fine (inl r) = by_test begun.cut
-        (λ off. let is : ended ≡ begun = steps_are input w ∙ rw off refl in
-        absurd (true≢false (sym (ap (λ (u : Work). u.cut) is ∙ off) ∙ r.on)))
+        (λ off. grind arith)
         (λ begun_on. let is : ended ≡ passes begun = steps_are input w ∙ rw begun_on refl in
         by_rest begun_on (ap (λ (u : Work). u.cut) (sym is) ∙ r.on) is)
     by_fine (inr l) =
@@ -240,10 +226,7 @@ flat_idle e f one [] = tt
 flat_idle e f one (s ∷ sites) = all_append (IsIdle e) (f s) (flat_map f sites) (one s) (flat_idle e f one sites)
 
 idle_still_one : (e : End) (x : Entry) → IsIdle e x → doing e x ≡ Nothing
-idle_still_one e (entry.Got f n pid message) idle = ap (λ b. cond b (Adds (pid, message)) Nothing) idle
-idle_still_one e (entry.Turn f pid message) idle = ap (λ b. cond b (Takes (pid, message)) Nothing) idle
-idle_still_one e (entry.Booted n k) idle = ap (λ b. cond b Clears Nothing) idle
-idle_still_one e x idle = refl
+idle_still_one e x idle = grind arith
 
 pub idle_still : (e : End) (es : List Entry) → AreIdle e es → AreStill e es
 idle_still e [] idle = tt
@@ -313,8 +296,7 @@ module _ (t : List Entry) (sites : List Site) (plan : Option Plan) (r : Running)
   near_rests k s here =
       let p = site_one start.ports sites k s hosts_are here in
       let begins = port_begins near_ends r.desks k p.0 p.1 in
-      let got : s.link.controller.side.got ≡ p.0.side.got =
-      ap (λ (l : Link). l.controller.side.got) (sym (link_is sites k s here)) ∙ ap (λ (e : LinkEnd). e.got) (sym (same k) ∙ sym begins.1) in
+      let got : s.link.controller.side.got ≡ p.0.side.got = grind arith in
       ended_done 0 Controller t input start has.number side none unbooted outside (subst AreDifferent (sym hosts_are) different)
       (near_runs r plan near_ends es has.number own uncut) k (holds k ∙ sym (ports_held near_ends r.desks k)) p.0 p.1 begins.0 refl (still k)
       (subst (Goes (end_c k) [] t) got (waits k s here))
@@ -361,12 +343,10 @@ module _ (t : List Entry) (s : Site) (a : SiteWaits t s) (r : Running) (runs : s
         (idle_done (end_c s.host) t (ended_of_at_rest.entries ++ frames) (others_idle (end_c s.host) (ended_of_at_rest.entries ++ frames) other) a.rests.near);
     holds = λ x q. subst (λ h. holds_in (t ++ (ended_of_at_rest.entries ++ frames)) (end_h h) ≡ is_held_among x.desks h) (sym host)
         (by_test ended_of_at_rest.cut
-        (λ lost. let none_on : runs_on ended_of_at_rest ≡ None = rw lost refl in
-        let no : None ≡ Some x = sym none_on ∙ (sym node ∙ q) in absurd (cc no))
+        (λ lost. grind arith)
         (λ on. let on_is : runs_on ended_of_at_rest ≡ Some
         (record { core = ended_of_at_rest.core; desks = map (λ (p : Port). p.desk) ended_of_at_rest.ports }) = rw on refl in
-        let all : Some x ≡ Some (record { core = ended_of_at_rest.core; desks = map (λ (p : Port). p.desk) ended_of_at_rest.ports }) = sym (sym node ∙ q)
-        ∙ on_is in
+        let all : Some x ≡ Some (record { core = ended_of_at_rest.core; desks = map (λ (p : Port). p.desk) ended_of_at_rest.ports }) = grind arith in
         let is : x ≡ record { core = ended_of_at_rest.core; desks = map (λ (p : Port). p.desk) ended_of_at_rest.ports } = cc in
         ap (λ l. holds_in l (end_h s.host)) (sym (append_assoc t ended_of_at_rest.entries frames))
         ∙ (idle_held (end_h s.host) (t ++ ended_of_at_rest.entries) frames idle

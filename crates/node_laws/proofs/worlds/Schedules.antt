@@ -27,8 +27,7 @@ use Rattle.node_laws.proofs.dues.Events.{all_due}
 use Rattle.node_laws.proofs.worlds.Short.{near_left_short}
 
 begun_one : (l : Line) → IsInitOfHost l → IsBegunByHost l
-begun_one (line.Init e identity pipes) a = a.0
-begun_one l a = tt
+begun_one l a = grind arith
 
 begun_all : (lines : List Line) → AllByRecursion IsInitOfHost lines → AllByRecursion IsBegunByHost lines
 begun_all lines a = all_so IsInitOfHost IsBegunByHost begun_one lines a

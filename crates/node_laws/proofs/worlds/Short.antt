@@ -8,11 +8,11 @@ use Rattle.node_laws.proofs.Words.{Ticks, TimePasses, Took, Work, [], after_near
 use Rattle.node_laws.proofs.Words.{arrival, as_it_ticks, as_left, begun_by, by_coming, by_host, by_list, by_option, by_test, comes_at, comes_to, comes_to_pass}
 use Rattle.node_laws.proofs.Words.{commands_by_events, cond, controller_begins, controller_does, controller_ticks, end_c, end_h, end_of, ending_entries}
 use Rattle.node_laws.proofs.Words.{ending_of, entries_for, entries_in, eq-eqb, exchanged, false, flat_map, fold, fold-append, frames_noted, host_work}
-use Rattle.node_laws.proofs.Words.{hosts_tick, inl, input_of, inr, is_later, is_left_short, is_none, is_of_node, is_some, lack_at, le-ltb, length, link_of_turn}
-use Rattle.node_laws.proofs.Words.{link_to, links_of_turns, lt-ltb, makes_step, nat_lt, near_end_in, near_tick, new_book, new_memory, new_world, node_at}
-use Rattle.node_laws.proofs.Words.{node_entries, node_of, not, noted_before_pass, occurrences_in, oldest, or-true, passes, port_at, reckoned, reckoning_of}
-use Rattle.node_laws.proofs.Words.{refl, replicate, runs_in, seen_from, steps, subst, sym, take_while, take_while-cons, through, true, true≢false, turn_link}
-use Rattle.node_laws.proofs.Words.{unhandled_in, wires_for, with_event, world_behind, world_step, ℕ, ◌&&◌, ◌++◌, ◌<◌, ◌==◌, ◌||◌, ◌∙◌, ◌∷◌, ◌≡◌, ◌≤◌, ◌⊎◌}
+use Rattle.node_laws.proofs.Words.{hosts_tick, inl, input_of, inr, is_later, is_left_short, is_of_node, is_some, lack_at, le-ltb, length, link_of_turn, link_to}
+use Rattle.node_laws.proofs.Words.{links_of_turns, lt-ltb, makes_step, nat_lt, near_end_in, near_tick, new_book, new_memory, new_world, node_at, node_entries}
+use Rattle.node_laws.proofs.Words.{node_of, not, noted_before_pass, occurrences_in, passes, port_at, reckoned, reckoning_of, refl, replicate, runs_in}
+use Rattle.node_laws.proofs.Words.{seen_from, steps, subst, sym, take_while, take_while-cons, through, true, true≢false, turn_link, unhandled_in, wires_for}
+use Rattle.node_laws.proofs.Words.{with_event, world_behind, world_step, ℕ, ◌&&◌, ◌++◌, ◌<◌, ◌==◌, ◌||◌, ◌∙◌, ◌∷◌, ◌≡◌, ◌≤◌, ◌⊎◌}
 use Rattle.link_laws.specs.entries.Entries.{End as Side}
 use Rattle.node_laws.proofs.creations.Events.{aged_good, far_beside, near_good}
 use Rattle.node_laws.proofs.cuts.Histories.{known}
@@ -51,25 +51,16 @@ module _ (hosts : List ℕ) (past : List Occurrence) (o : Occurrence) (e : End) 
   steps_there = makes_step (node_of e) o.cause
 
   pub short_off : runs_in (through past o) (node_of e) ≡ false → is_left_short hosts past o e ≡ true
-  short_off off =
-      ap (λ b. (not (steps_there && b) || is_none (oldest (unhandled_in (through past o) e))) || is_some (lack_at hosts (as_left past o e) e)) off
-      ∙ by_test steps_there (λ q. rw q refl) (λ q. rw q refl)
+  short_off off = grind arith
 
   pub short_still : steps_there ≡ false → is_left_short hosts past o e ≡ true
-  short_still still =
-      ap (λ b. (not (b && runs_in (through past o) (node_of e)) || is_none (oldest (unhandled_in (through past o) e)))
-      || is_some (lack_at hosts (as_left past o e) e))
-      still
+  short_still still = grind arith
 
   pub short_none : unhandled_in (through past o) e ≡ [] → is_left_short hosts past o e ≡ true
-  short_none none =
-      ap (λ l. (not (steps_there && runs_in (through past o) (node_of e)) || is_none (oldest l)) || is_some (lack_at hosts (as_left past o e) e)) none
-      ∙ by_test (not (steps_there && runs_in (through past o) (node_of e))) (λ q. rw q refl) (λ q. rw q refl)
+  short_none none = grind arith
 
   pub short_lacks : is_some (lack_at hosts (as_left past o e) e) ≡ true → is_left_short hosts past o e ≡ true
-  short_lacks lacks =
-      ap (λ b. (not (steps_there && runs_in (through past o) (node_of e)) || is_none (oldest (unhandled_in (through past o) e))) || b) lacks
-      ∙ or-true (not (steps_there && runs_in (through past o) (node_of e)) || is_none (oldest (unhandled_in (through past o) e)))
+  short_lacks lacks = grind arith
 
 -- entries that tell nothing of the controller's power leave it as it was
 idle_on : (k : ℕ) (s es : List Entry) → AreIdle (end_c k) es → runs_in (s ++ es) 0 ≡ true → runs_in s 0 ≡ true
@@ -98,15 +89,10 @@ module _ (k : ℕ) where
       ∙ (ap (λ b. cond (not b) (y ∷ take_while before_it (es ++ (x ∷ rest))) []) a.0 ∙ ap (λ l. y ∷ l) (take_to es x rest a.1 late))
 
   far_end : (f : End) → cond (node_of f == 0) (Some f.link) None ≡ None → (not f.at_host && nat_lt k f.link) ≡ false
-  far_end f none = by_test f.at_host
-      (λ q. rw q refl)
-      (λ q. let zero : node_of f ≡ 0 = rw q refl in
-      let some : Some f.link ≡ None = sym (ap (λ n. cond (n == 0) (Some f.link) None) zero) ∙ none in absurd (cc some))
+  far_end f none = grind arith
 
   not_later : (x : Entry) → turn_link 0 x ≡ None → is_later (end_c k) x ≡ false
-  not_later (entry.Turn f pid message) none = far_end f none
-  not_later (entry.Held f need spare) none = far_end f none
-  not_later x none = refl
+  not_later x none = grind arith
 
   none_later : (es : List Entry) → NoneThere es → NotLater es
   none_later [] a = tt
@@ -126,9 +112,7 @@ module _ (k : ℕ) where
 
   head_later : (x : Entry) (es : List Entry) → is_some (link_of_turn x) ≡ true → IsNear x → AllByRecursion (λ l. k < l) (links_of_turns (x ∷ es))
       → is_later (end_c k) x ≡ true
-  head_later (entry.Turn f pid message) es some near a = above f near a.0
-  head_later (entry.Held f need spare) es some near a = above f near a.0
-  head_later _ es some near a = absurd (true≢false (sym some))
+  head_later x es some near a = grind arith
 
   -- ### Hosts in order
 
@@ -272,9 +256,7 @@ module _ (n : ℕ) where
   run_all s (x ∷ es) r q = run_all (s ++ x ∷ []) es (reckoned n r x) (run_one s r x q) ∙ ap (λ l. runs_in l n) (append_assoc s (x ∷ []) es)
 
   begun_runs : (c : Happening) (r : Reckoning) → (begun_by n c r).runs ≡ r.runs
-  begun_runs (Boots m) r = by_test (m == n) (λ q. rw q refl) (λ q. rw q refl)
-  begun_runs (Arms m plan) r = by_test (m == n) (λ q. rw q refl) (λ q. rw q refl)
-  begun_runs _ r = refl
+  begun_runs c r = grind arith
 
   run_events : (s : List Entry) (events : List Occurrence) (r : Reckoning) → r.runs ≡ runs_in s n
       → (fold (with_event n) r events).runs ≡ runs_in (s ++ entries_in events) n
@@ -319,15 +301,10 @@ frames_calm f v sites = record {
 }
 
 far_side : (f : End) → (node_of f == 0) ≡ false → f.at_host ≡ true
-far_side f off = by_test f.at_host
-    (λ q. q)
-    (λ q. let zero : node_of f ≡ 0 = rw q refl in
-    absurd (true≢false (sym (ap (λ n. n == 0) zero) ∙ off)))
+far_side f off = grind arith
 
 other_unheard : (x : Entry) → is_of_node 0 x ≡ false → IsUnheard x
-other_unheard (entry.Up f n) off = far_side f off
-other_unheard (entry.Acked f n count) off = far_side f off
-other_unheard _ off = tt
+other_unheard x off = grind arith
 
 others_unheard : (es : List Entry) → AreNotOf 0 es → AllByRecursion IsUnheard es
 others_unheard [] a = tt
@@ -416,8 +393,7 @@ module _ (header : Header) (lines : List Line) (t : NodeHistory) (follows : Foll
 
   coming_is : (e : End) (comes : Comes) (i : LinkInput) → e.at_host ≡ false → input_of (link_to w.sites e.link) comes ≡ Some i
       → comes_at w e comes ≡ controller_does w e.link comes (steps (AtEnd e.link i))
-  coming_is e comes i near input =
-      let seen : input_of (seen_from e (link_to w.sites e.link)) comes ≡ Some i = rw near input in rw seen (rw near refl)
+  coming_is e comes i near input = grind arith
 
   coming_short : (c : Happening) (e : End) (comes : Comes) (i : LinkInput) → e.at_host ≡ false → input_of (link_to w.sites e.link) comes ≡ Some i
       → Short c (comes_at w e comes).1

@@ -3,16 +3,15 @@ use Rattle.node_laws.proofs.Words.{AllByRecursion, AreDifferent, AsksReset, AtEn
 use Rattle.node_laws.proofs.Words.{HasEnds, Host, IfItRuns, IfNoticedUp, IfReads, IsComing, IsKeptNotice, IsOrderly, KeepsNotices, Link, LinkEnd, LinkInput}
 use Rattle.node_laws.proofs.Words.{List, Message, NoInput, NodeInput, NodeWorld, None, Noted, Notice, NumberedEnd, Option, Port, Report, Reset, Restarted}
 use Rattle.node_laws.proofs.Words.{Running, Sent, Site, Some, Tick, TimePasses, Work, [], after_input, after_near_tick, aged, aged_entries, all_aged}
-use Rattle.node_laws.proofs.Words.{all_append, all_come, all_done, and-false, and-true, and_parts, ap, append-nil, ap₂, arrival, beginning, begins_with}
+use Rattle.node_laws.proofs.Words.{all_append, all_come, all_done, and-false, and-true, and_parts, ap, append-nil, ap₂, arith, arrival, beginning, begins_with}
 use Rattle.node_laws.proofs.Words.{by_coming, by_controller, by_controller_tick, by_host, by_host_tick, by_list, by_option, by_test, comes_at, comes_to, cond}
 use Rattle.node_laws.proofs.Words.{controller_begins, controller_does, controller_tick_begins, controller_ticks, controller_work, end_c, end_h, end_of}
-use Rattle.node_laws.proofs.Words.{ended_by, ending_entries, ending_of, ends_session, entries_for, eq-eqb, eqb, eqb-false, eqb-true, exchanged, false, flat_map}
-use Rattle.node_laws.proofs.Words.{frames_noted, has_come, host_does, host_tick, host_ticks, host_work, hosts_in, hosts_of_ends, hosts_tick, input_at, input_of}
-use Rattle.node_laws.proofs.Words.{is_down, is_late, is_own_reset, is_some, is_up, link_to, list_any, map, nat_le, ne_eqb, near_end_in, near_tick, not}
-use Rattle.node_laws.proofs.Words.{notice_in, option_and_then, option_map, option_map_or, or-false, own_side, port_at, port_for, refl, report, reset_refusal}
-use Rattle.node_laws.proofs.Words.{same_end, sending, site_at, site_ticked, site_unticked, steps, subst, sym, told, told_at, told_late, told_of_coming}
-use Rattle.node_laws.proofs.Words.{told_of_late, true, true≢false, whole_acked, wires_for, with_older, work_of, world_ticks, ℕ, ◌&&◌, ◌++◌, ◌==◌, ◌||◌, ◌∙◌}
-use Rattle.node_laws.proofs.Words.{◌∷◌, ◌≡◌}
+use Rattle.node_laws.proofs.Words.{ended_by, ending_entries, ending_of, ends_session, entries_for, eqb, eqb-true, exchanged, false, flat_map, frames_noted}
+use Rattle.node_laws.proofs.Words.{has_come, host_does, host_tick, host_ticks, host_work, hosts_in, hosts_of_ends, hosts_tick, input_at, input_of, is_down}
+use Rattle.node_laws.proofs.Words.{is_late, is_own_reset, is_some, is_up, link_to, list_any, map, nat_le, ne_eqb, near_end_in, near_tick, not, notice_in}
+use Rattle.node_laws.proofs.Words.{option_and_then, option_map, option_map_or, or-false, own_side, port_at, port_for, refl, report, reset_refusal, same_end}
+use Rattle.node_laws.proofs.Words.{sending, site_at, site_ticked, site_unticked, steps, subst, sym, told, told_at, told_late, told_of_coming, told_of_late}
+use Rattle.node_laws.proofs.Words.{true, whole_acked, wires_for, with_older, work_of, world_ticks, ℕ, ◌&&◌, ◌++◌, ◌==◌, ◌||◌, ◌∙◌, ◌∷◌, ◌≡◌}
 use Rattle.link_laws.specs.entries.Entries.{End as Side}
 use Rattle.link_laws.specs.entries.Entries.Entry.{Tick as NotedTick}
 use Rattle.node_laws.proofs.kept.Doing.{hosts_map}
@@ -22,11 +21,11 @@ use Rattle.node_laws.proofs.notices.Near.{aged_side, begins, link_shut}
 use Rattle.node_laws.proofs.notices.Steps.{IsCome, come_is, older_is, reset_ends}
 use Rattle.node_laws.proofs.passes.InSteps.{IsOfStep, NotesOnly, beginning_notes, deeds_keep, of_deeds, sending_notes, step_keeps}
 use Rattle.node_laws.proofs.readings.Turning.{IsQuiet, rest_quiet, told_rest}
-use Rattle.node_laws.proofs.readings.Sites.{arrival_quiet, ending_quiet, near_end_side}
+use Rattle.node_laws.proofs.readings.Sites.{arrival_quiet, ending_quiet}
 use Rattle.node_laws.proofs.telling.Ticks.{wires_all}
-use Rattle.node_laws.proofs.telling.Events.{Stands, hosts_same_of_nodes as hosts_same, link_is, ports_for, site_host, site_is, stands}
+use Rattle.node_laws.proofs.telling.Events.{Stands, hosts_same_of_nodes as hosts_same, ports_for, site_host, site_is, stands}
 use Rattle.node_laws.proofs.telling.WorldTicks.{ticked_orderly}
-use Rattle.node_laws.proofs.worlds.Ages.{other_is, otherwise, reset_asked, reset_only, reset_other, ticked_asked}
+use Rattle.node_laws.proofs.worlds.Ages.{otherwise, reset_asked, reset_only, ticked_asked}
 use Rattle.trace_model.specs.declared.entry.Entry.TheVariants as entry
 
 -- ## Which sessions end in what a node notes in a step: only what comes to its ends, and late notices, tell of that
@@ -39,8 +38,7 @@ abbrev pub AreDownless : List Entry → Type 0
 AreDownless es = AllByRecursion IsDownless es
 
 of_step : (x : Entry) → IsOfStep x → IsDownless x
-of_step (entry.Down e cause) a = absurd a
-of_step x a = refl
+of_step x a = grind arith
 
 abbrev pub NotesNoEnd : Deed → Type 0
 NotesNoEnd d = NotesOnly IsDownless d
@@ -81,8 +79,7 @@ module _ (test : EndedBy → Bool) (e : End) where
   ends_in_list es = list_any (ends_session test e) es
 
   downless_one : (x : Entry) → IsDownless x → ends_session test e x ≡ false
-  downless_one (entry.Down f cause) q = absurd (true≢false q)
-  downless_one x q = refl
+  downless_one x q = grind arith
 
   pub any_none : (es : List Entry) → AreDownless es → ends_in_list es ≡ false
   any_none [] a = refl
@@ -175,8 +172,7 @@ module _ (test : EndedBy → Bool) (e : End) where
       ∙ (ap tells (append-nil (flat_map (λ p. told_at w.core p (input_at (AtEnd k i) p)) w.ports))
       ∙ flat_none (λ p. told_at w.core p (input_at (AtEnd k i) p)) one w.ports)) where
         one : (p : Port) → tells (told_at w.core p (input_at (AtEnd k i) p)) ≡ false
-        one p = at_any test e w.core p (input_at (AtEnd k i) p) ∙ (ap (λ b. same_end (end_of p.desk.host (own_side w.core)) e && b)
-            (by_test (eqb p.desk.host k) (λ q. rw q (none p)) (λ q. rw q refl)) ∙ and-false (same_end (end_of p.desk.host (own_side w.core)) e))
+        one p = at_any test e w.core p (input_at (AtEnd k i) p) ∙ (grind arith)
 
   -- the end is none of the node
   step_other : (input : NodeInput) (w : Work) → AreDownless w.entries → ((h : ℕ) → same_end (end_of h (own_side w.core)) e ≡ false)
@@ -210,8 +206,7 @@ module _ (test : EndedBy → Bool) (e : End) where
         others [] a q = refl
         others (r ∷ ports) a q =
             any_append test e (f r) (flat_map f ports)
-            ∙ ap₂ (λ a b. a || b) (one r ∙ ap (λ b. b && g r) (ne_eqb r.desk.host x (λ s. eqb-false r.desk.host p.desk.host a.0
-            (s ∙ sym (eqb-true p.desk.host x q))))) (others ports a.1 q)
+            ∙ ap₂ (λ a b. a || b) (one r ∙ ap (λ b. b && g r) (ne_eqb r.desk.host x (λ s. grind arith))) (others ports a.1 q)
 
         go : (b : Bool) → eqb p.desk.host x ≡ b → tells (flat_map f ports) ≡ option_map_or g (port_at ports x) false
             → ((b && g p) || tells (flat_map f ports)) ≡ option_map_or g (port_at (p ∷ ports) x) false
@@ -248,11 +243,7 @@ module _ (test : EndedBy → Bool) (e : End) where
           (Some Tick)) (λ q. refl)))
           )) ∙ by_option (port_at w.ports x) (λ q. rw q refl) (λ p q. rw q refl)))) where
             late : (p : Port) → tells (told_late w.core p) ≡ (eqb p.desk.host x && (is_late p && ends_by test e p (Some (Reset None))))
-            late p = late_one w.core p ∙ (ap (λ b. is_late p && b) (one p (Some (Reset None))) ∙ swap (is_late p) (eqb p.desk.host x)) where
-              swap : (a b : Bool) → (a && (b && ends_by test e p (Some (Reset None)))) ≡ (b && (a && ends_by test e p (Some (Reset None))))
-              swap true b = refl
-              swap false true = refl
-              swap false false = refl
+            late p = grind arith
 
             still : AreDifferent (hosts_of_ends (map with_older (all_come TimePasses w).ports))
             still = subst AreDifferent (sym (hosts_map with_older (λ q. refl) (all_come TimePasses w).ports
@@ -357,8 +348,7 @@ reset_value near_ends desks e x k window there free = go (eqb k x) refl where
   P o = option_map_or (λ p. ends_by is_own_reset e p (input_at (AtEnd k (Reset window)) p)) o false
 
   swapped : (n : ℕ) (b : Bool) → eqb k n ≡ b → eqb n k ≡ b
-  swapped n true q = eq-eqb n k (sym (eqb-true k n q))
-  swapped n false q = ne_eqb n k (λ s. eqb-false k n q (sym s))
+  swapped n b q = grind arith
 
   off : eqb k x ≡ false → (o : Option Port) → port_at ports x ≡ o → P o ≡ false
   off q None z = refl
@@ -383,8 +373,7 @@ module _ (w : NodeWorld) (a : IsOrderly w) (k : ℕ) (window : Option ℕ) (x : 
   near_reset r runs free =
       let near_ends : ℕ → NumberedEnd = λ j. near_end_in (link_to w.sites j) (comes_to k (AsksReset window) j) in
       let node : HasEnds 0 (hosts_in w.sites) r = near_node w r a runs in
-      let side : (near_ends x).side ≡ s.link.controller.side =
-      near_end_side (link_to w.sites x) (comes_to k (AsksReset window) x) ∙ ap (λ (l : Link). l.controller.side) (link_is w.sites x s found) in
+      let side : (near_ends x).side ≡ s.link.controller.side = grind arith in
       rw runs
       (near_frames_of_steps is_own_reset (end_c x) w k (AsksReset window) (controller_work w r k (AsksReset window) (steps (AtEnd k (Reset window))))
       ∙ (step_at is_own_reset (end_c x) x (controller_begins w r k (AsksReset window))
@@ -420,8 +409,7 @@ module _ (w : NodeWorld) (a : IsOrderly w) (k : ℕ) (window : Option ℕ) (x : 
       ∙ by_test (eqb k x) (λ y. rw y (ap (λ (q : Site). is_up q.link.host.side.shdlc.phase) (same_site y))) (λ y. rw y refl))))
     where
       same_site : eqb k x ≡ true → z ≡ s
-      same_site y =
-          let both : Some z ≡ Some s = sym there ∙ (ap (site_at w.sites) (eqb-true k x y) ∙ found) in cc
+      same_site y = grind arith
 
 -- ## Which sessions end in a tick of a world: those of late notices by resets
 
@@ -488,8 +476,7 @@ module _ (test : EndedBy → Bool) (x : ℕ) where
       by_host_tick (λ p. tells_of_steps test (end_c x) p.1 ≡ false) s (λ q. refl)
       (λ r q. any_back test (end_c x) (host_tick s r).entries _ (frames_downless Host s.host (exchanged s.link) (host_tick s r))
       ∙ step_other test (end_c x) TimePasses (work_of r s.memory.plan (λ h. s.link.host) []) tt
-      (λ h. ap (λ side. same_end (end_of h side) (end_c x)) (host_side r s.host (s.host ∷ []) (subst (IfItRuns s.host (s.host ∷ [])) q runs) off)
-      ∙ far_near h x))
+      (λ h. grind arith))
 
   hosts_other : (sites : List Site) → AllByRecursion (λ (s : Site). (s.host == 0) ≡ false) sites
       → AllByRecursion (λ (s : Site). IfItRuns s.host (s.host ∷ []) s.node) sites → tells_of_steps test (end_c x) (hosts_tick sites).1 ≡ false
@@ -604,8 +591,7 @@ module _ (w : NodeWorld) (a : IsOrderly w) where
             is z = rw z refl
 
       not_of : (b : Bool) → not b ≡ true → b ≡ false
-      not_of true z = sym z
-      not_of false z = refl
+      not_of b z = grind arith
 
       -- the session ends by a reset where the notice is late
       pub reset_is : tells_of_steps is_own_reset (end_c x) (world_ticks w).1 ≡ is_late q
@@ -617,17 +603,12 @@ module _ (w : NodeWorld) (a : IsOrderly w) where
             go true z =
                 let parts = and_parts (option_map_or (λ (n : Notice). nat_le 100 n.age) q.desk.notice false) (not q.ended) z in
                 reset_only q.side None
-                ∙ reset_ends q.side come.shut (come.up (ap (λ b. b || false) (not_of q.ended parts.1)) (by_option q.desk.notice
-                (λ q. rw q (rw q at parts.0))
-                (λ n q. rw q refl)))
+                ∙ reset_ends q.side come.shut (come.up (ap (λ b. b || false) (not_of q.ended parts.1)) (grind arith))
 
       -- and otherwise where it has ended as the tick came
       pub other_end_is : tells_of_steps otherwise (end_c x) (world_ticks w).1 ≡ q.ended
       other_end_is =
           step_is otherwise
-          ∙ (ap₂ (λ b c. b || (is_late q && c)) (other_is (ended_by p.side Tick) (ticked_asked p.side)) (reset_other q.side None) ∙ go q.ended
-          (is_late q)) where
+          ∙ (grind arith) where
             go : (b c : Bool) → (b || (c && false)) ≡ b
-            go true c = refl
-            go false true = refl
-            go false false = refl
+            go b c = grind arith
