@@ -1,25 +1,14 @@
 -- Few RSETs are put on the link of a bare world.
-use Rattle.history.proofs.Words.{AsksReset, AtController, AtHost, Bool, Cause, End, EndEvent, Given, GoesOut, IsBare, Link, List, Readied, Taken, Ticked}
-use Rattle.history.proofs.Words.{WasLost, WasReset, [], arith, at, bare_link, cond, event_of, false, link_after, link_after_all, refl, true, ℕ, ◌+◌, ◌∷◌, ◌≡◌}
-use Rattle.link_laws.specs.messages.Links.EndEvent.{Step}
+use Rattle.history.proofs.Words.{Cause, End, EndEvent, IsBare, Link, List, [], arith, at, bare_link, event_of, link_after, link_after_all, ℕ, ◌+◌, ◌∷◌, ◌≡◌}
 use Rattle.link_laws.specs.messages.Rsets.{FewRsets, NumbersWithin, rset_causes, resets_in_event}
 use Rattle.history.specs.BareRsets.{rsets_by_bare, rsets_by_all_bare}
 use Rattle.link_laws.proofs.messages.RsetNumbers.{event_numbered, made_by_event, numbers_within, start_numbered}
 
 at_end : (e : End) (event : EndEvent) → rset_causes (at e event) ≡ resets_in_event event
-at_end e event = go e.at_host
-  where
-    go : (b : Bool) → rset_causes (cond b (AtHost event) (AtController event)) ≡ resets_in_event event
-    go true = refl
-    go false = refl
+at_end e event = grind arith
 
 one_cause : (c : Cause) → rset_causes (event_of c) ≡ rsets_by_bare c
-one_cause (Given e m) = at_end e _
-one_cause (Taken e) = at_end e _
-one_cause (WasLost e why) = at_end e _
-one_cause Ticked = refl
-one_cause (WasReset e window) = at_end e (Step (AsksReset window) [] GoesOut)
-one_cause (Readied e ready) = at_end e _
+one_cause c = grind arith
 
 -- what happens has the link make so many more RSETs at most
 pub few_after : (n : ℕ) (l : Link) (c : Cause) → FewRsets n l → FewRsets (n + rsets_by_bare c) (link_after l c)
@@ -30,8 +19,7 @@ few_after n l c f =
     }
 
 by_one_more : (c : Cause) (causes : List Cause) → rsets_by_all_bare (c ∷ causes) ≡ rsets_by_bare c + rsets_by_all_bare causes
-by_one_more (Given e m) causes = omega arith
-by_one_more _ causes = omega arith
+by_one_more c causes = grind arith
 
 few_after_all : (causes : List Cause) (n : ℕ) (l : Link) → FewRsets n l → FewRsets (n + rsets_by_all_bare causes) (link_after_all l causes)
 few_after_all [] n l f = record { made = let z = f.made in omega (arith, z); numbered = f.numbered }

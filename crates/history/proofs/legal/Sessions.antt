@@ -4,28 +4,25 @@ use Rattle.std.proofs.lemmas.Grind.{common_steps}
 use Rattle.std.proofs.lemmas.List.Concat.{flat_map-append}
 use Rattle.std.proofs.lemmas.List.Elements.{filter_map-append}
 use Rattle.history.proofs.Words.{Acked, ActDue, Active, AllAllowed, AllByRecursion, Asked, AsksReset, Begins, Book, Bool, Busy, ByAct, Cause, Caused, Chain}
-use Rattle.history.proofs.Words.{Control, Controller, Counts, Cut, CutOff, Damage, Deliver, Down, Due, Emit, End, EndEvent, EndState, EndStep, Ends, Entry}
-use Rattle.history.proofs.Words.{Event, Follows, Fragment, GaveUp, Gets, Give, Given, GoesOut, Got, HasNumbers, HasTick, Header, History, Hold, Host, I}
-use Rattle.history.proofs.Words.{InOrderIn, IsAllowed, IsBare, IsEvent, IsFrontOf, IsHeader, IsInOrder, IsLineOf, IsSendable, IsWindow, Line, Link, LinkEnd}
-use Rattle.history.proofs.Words.{LinkEvent, LinkInput, List, Lose, Loss, Lost, LostFor, Message, NamedEnd, NextFrame, NoAnswer, NoCause, NoInput, None, Noted}
-use Rattle.history.proofs.Words.{NumberedEnd, OnWire, Option, Outcome, Peer, Prefix, Readied, Ready, Refused, Report, Reset, Restarted, Rset_due, Same, Saying}
-use Rattle.history.proofs.Words.{Send, Sends, Sent, Side, Some, Starts, Step, StepsFollow, Stops, Take, Taken, Ticked, TooMany, Took, Turn, Ua_due, Undetected}
-use Rattle.history.proofs.Words.{Up, Verdict, WasLost, WasReset, [], acked_after, acked_in, after_input, after_link_events, aged, aged_entries, all_entries}
-use Rattle.history.proofs.Words.{all_events, among, ap, arith, at, at_each_moment, at_end, bare_link, causes_in, causes_of, cons_option, control_due}
-use Rattle.history.proofs.Words.{damage_causes, drop, end_of, ended_by, entries, entries_for, entries_of, entry_of, event_at, event_entries, event_of}
-use Rattle.history.proofs.Words.{events_at, events_of, exchanged, expected, false, far, fetched, first_lost, first_verdict, flat_map, fold, fragment_due}
-use Rattle.history.proofs.Words.{frame_due, frames_of, frames_out, frames_to, give_refusal, good_of, got_in, got_in_session, happens, heard, here_entries}
-use Rattle.history.proofs.Words.{host_of, idle, if_so, if◌then◌else◌, is_chain_fault, is_some, left_after, length, link_acked, link_after, link_after_all}
-use Rattle.history.proofs.Words.{link_after_line, link_fault, link_got, link_sent, list_any, map, max, most_frames, nat_lt, number_of, opening_of}
-use Rattle.history.proofs.Words.{option_to_list, other_end, outcome_of, put, put_entries, puts_entries, read-append, refl, refusal, replicate, report}
-use Rattle.history.proofs.Words.{rest_entries, said_of, same_end, same_number, same_side, sent_by, sent_in, sent_unless, step_entries, subst, suc, sym, take}
-use Rattle.history.proofs.Words.{taken_entries, taken_of, tick_entries, ticks_at_controller, told, told_of, took_with, trace, true, turn, turn_entries}
-use Rattle.history.proofs.Words.{turn_entry, turned, unwrap_or, whole_acked, wire_with, with_ended, zero, ℕ, ◌%◌, ◌&&◌, ◌++◌, ◌-◌, ◌<◌, ◌==◌, ◌∙◌, ◌∷◌, ◌≡◌}
-use Rattle.history.proofs.Words.{◌≤◌}
+use Rattle.history.proofs.Words.{Control, Controller, Counts, Cut, CutOff, Damage, Deliver, Down, Emit, End, EndEvent, EndState, EndStep, Ends, Entry, Event}
+use Rattle.history.proofs.Words.{Follows, GaveUp, Gets, Given, GoesOut, Got, HasNumbers, HasTick, Header, History, Host, InOrderIn, IsBare, IsEvent, IsFrontOf}
+use Rattle.history.proofs.Words.{IsHeader, IsInOrder, IsLineOf, IsSendable, IsWindow, Line, Link, LinkEnd, LinkEvent, LinkInput, List, Lose, Loss, Lost}
+use Rattle.history.proofs.Words.{Message, NamedEnd, NextFrame, NoAnswer, NoCause, NoInput, None, Noted, NumberedEnd, OnWire, Option, Outcome, Peer, Prefix}
+use Rattle.history.proofs.Words.{Readied, Ready, Refused, Report, Reset, Restarted, Saying, Send, Sends, Sent, Side, Some, Starts, Step, StepsFollow, Stops}
+use Rattle.history.proofs.Words.{Take, Taken, Ticked, TooMany, Took, Turn, Up, Verdict, WasLost, WasReset, [], acked_after, acked_in, after_input}
+use Rattle.history.proofs.Words.{after_link_events, aged, aged_entries, all_entries, all_events, among, ap, arith, at, at_each_moment, at_end, bare_link}
+use Rattle.history.proofs.Words.{causes_in, causes_of, cons_option, damage_causes, drop, end_of, ended_by, entries, entries_for, entries_of, entry_of, event_at}
+use Rattle.history.proofs.Words.{event_entries, event_of, events_at, events_of, exchanged, false, far, fetched, first_lost, first_verdict, flat_map, fold}
+use Rattle.history.proofs.Words.{frame_due, frames_of, frames_out, frames_to, good_of, got_in, got_in_session, happens, heard, here_entries, host_of, idle}
+use Rattle.history.proofs.Words.{if_so, if◌then◌else◌, is_chain_fault, is_some, left_after, length, link_acked, link_after, link_after_all, link_after_line}
+use Rattle.history.proofs.Words.{link_fault, link_got, link_sent, list_any, map, max, most_frames, nat_lt, number_of, opening_of, option_to_list, other_end}
+use Rattle.history.proofs.Words.{outcome_of, put, put_entries, puts_entries, read-append, refl, refusal, replicate, report, rest_entries, said_of, same_end}
+use Rattle.history.proofs.Words.{same_side, sent_by, sent_in, step_entries, subst, suc, sym, take, taken_entries, taken_of, tick_entries, ticks_at_controller}
+use Rattle.history.proofs.Words.{told, told_of, took_with, trace, true, turn, turn_entries, turn_entry, turned, unwrap_or, whole_acked, wire_with, with_ended}
+use Rattle.history.proofs.Words.{zero, ℕ, ◌&&◌, ◌++◌, ◌-◌, ◌<◌, ◌==◌, ◌∙◌, ◌∷◌, ◌≡◌, ◌≤◌}
 use Rattle.link_laws.proofs.entries.Disturbing.{no_chain_noted}
 use Rattle.link_laws.proofs.entries.Hearing.{controller_heard as link_controller, host_heard as link_host}
 use Rattle.link_laws.specs.entries.Sessions.{number_now}
-use Rattle.link_laws.specs.machine.Machine.{Refused as LinkRefused}
 use Rattle.link_laws.specs.machine.Machine.LinkInput.{Reset as InputReset}
 use Rattle.link_laws.specs.messages.Links.EndEvent.{Lose as EndLose}
 use Rattle.trace_model.specs.declared.line.Line.TheVariants.{Tick}
@@ -36,10 +33,7 @@ use Rattle.trace_model.specs.declared.line.Line.TheVariants.{Tick}
 
 -- ends of one link are the same where they are at the same side
 pub same_as : (h : ℕ) (w who : Side) → same_end (end_of h w) (end_of h who) ≡ same_side w who
-same_as h Controller Controller = let z = same_number h in rw z refl
-same_as h Controller Host = let z = same_number h in rw z refl
-same_as h Host Controller = let z = same_number h in rw z refl
-same_as h Host Host = let z = same_number h in rw z refl
+same_as h w who = grind arith
 
 -- what is said, if so
 abbrev pub if_said : Bool → Saying → Option Saying
@@ -48,29 +42,12 @@ if_said b s = if b then Some s else None
 -- what no filter hears adds nothing
 passed : {A : Type 0} (g : Option Saying → Option A) (b : Bool) (s : Saying) → g None ≡ None → g (Some s) ≡ None
     → cons_option (g (if_said b s)) [] ≡ []
-passed g true s none some = ap (λ o. cons_option o []) some
-passed g false s none some = ap (λ o. cons_option o []) none
-
--- a filter hears one kind, in the session that is asked for
-chosen : (g : Option Saying → Option Message) (s : Saying) (c : Bool) (m : Message) (b : Bool) → g None ≡ None → g (Some s) ≡ (if c then Some m else None)
-    → cons_option (g (if_said b s)) [] ≡ (if b && c then m ∷ [] else [])
-chosen g s c m false none some = ap (λ o. cons_option o []) none
-chosen g s true m true none some = ap (λ o. cons_option o []) some
-chosen g s false m true none some = ap (λ o. cons_option o []) some
+passed g b s none some = grind arith
 
 -- ### Messages sent
 
 sent-one : (h : ℕ) (x : Noted) (who : Side) (n : ℕ) → sent_in (entry_of h x) (end_of h who) n ≡ link_sent (x ∷ []) who n
-sent-one h (Up w k) who n = passed (sent_by n) (same_end (end_of h w) (end_of h who)) (Begins k) refl refl
-sent-one h (Down w cause) who n = passed (sent_by n) (same_end (end_of h w) (end_of h who)) Ends refl refl
-sent-one h (Acked w k count) who n = passed (sent_by n) (same_end (end_of h w) (end_of h who)) (Counts k count) refl refl
-sent-one h (Got w k m) who n = passed (sent_by n) (same_end (end_of h w) (end_of h who)) (Gets k m) refl refl
-sent-one h (Sent w k m) who n =
-    ap (λ b. cons_option (sent_by n (if_said b (Sends k m))) []) (same_as h w who) ∙ chosen (sent_by n) (Sends k m) (k == n) m (same_side w who) refl refl
-sent-one h (Emit w c) who n = passed (sent_by n) (same_end (end_of h w) (end_of h who)) _ refl refl
-sent-one h (Took w c) who n = passed (sent_by n) (same_end (end_of h w) (end_of h who)) _ refl refl
-sent-one h (Lost w c why) who n = passed (sent_by n) (same_end (end_of h w) (end_of h who)) _ refl refl
-sent-one h _ who n = refl
+sent-one h x who n = grind arith
 
 pub sent-all : (h : ℕ) (t : List Noted) (who : Side) (n : ℕ) → sent_in (entries_for h t) (end_of h who) n ≡ link_sent t who n
 sent-all h [] who n = refl
@@ -82,17 +59,7 @@ sent-all h (x ∷ t) who n =
 -- ### Messages got
 
 got-one : (h : ℕ) (x : Noted) (who : Side) (n : ℕ) → got_in (entry_of h x) (end_of h who) n ≡ link_got (x ∷ []) who n
-got-one h (Up w k) who n = passed (got_in_session n) (same_end (end_of h w) (end_of h who)) (Begins k) refl refl
-got-one h (Down w cause) who n = passed (got_in_session n) (same_end (end_of h w) (end_of h who)) Ends refl refl
-got-one h (Acked w k count) who n = passed (got_in_session n) (same_end (end_of h w) (end_of h who)) (Counts k count) refl refl
-got-one h (Got w k m) who n =
-    ap (λ b. cons_option (got_in_session n (if_said b (Gets k m))) []) (same_as h w who)
-    ∙ chosen (got_in_session n) (Gets k m) (k == n) m (same_side w who) refl refl
-got-one h (Sent w k m) who n = passed (got_in_session n) (same_end (end_of h w) (end_of h who)) (Sends k m) refl refl
-got-one h (Emit w c) who n = passed (got_in_session n) (same_end (end_of h w) (end_of h who)) _ refl refl
-got-one h (Took w c) who n = passed (got_in_session n) (same_end (end_of h w) (end_of h who)) _ refl refl
-got-one h (Lost w c why) who n = passed (got_in_session n) (same_end (end_of h w) (end_of h who)) _ refl refl
-got-one h _ who n = refl
+got-one h x who n = grind arith
 
 pub got-all : (h : ℕ) (t : List Noted) (who : Side) (n : ℕ) → got_in (entries_for h t) (end_of h who) n ≡ link_got t who n
 got-all h [] who n = refl
@@ -105,22 +72,13 @@ got-all h (x ∷ t) who n =
 
 -- what doesn't count changes nothing
 not_counted : (n a : ℕ) (b : Bool) (s : Saying) → acked_after n a (Some s) ≡ a → acked_after n a (if_said b s) ≡ a
-not_counted n a true s q = q
-not_counted n a false s q = refl
+not_counted n a b s q = grind arith
 
 zero_max : (a : ℕ) → max a 0 ≡ a
 zero_max a = omega arith
 
-max_after : (a c z : ℕ) → max (max a c) z ≡ max a (max c z)
-max_after a c z = omega arith
-
 counted_here : (n a k c z : ℕ) (b : Bool) → max (acked_after n a (if_said b (Counts k c))) z ≡ max a (if b && (k == n) then max c z else z)
-counted_here n a k c z false = refl
-counted_here n a k c z true = go (k == n)
-  where
-    go : (d : Bool) → max (if d then max a c else a) z ≡ max a (if d then max c z else z)
-    go true = max_after a c z
-    go false = refl
+counted_here n a k c z b = grind arith
 
 -- how many messages of the session are acknowledged after these entries
 abbrev counted_from : ℕ → End → List Entry → ℕ → ℕ
@@ -158,8 +116,7 @@ abbrev pub Unsaid : End → List Entry → Type 0
 Unsaid e t = AllByRecursion (λ entry. said_of e entry ≡ None) t
 
 unsaid_there : (h : ℕ) (e : End) (w : Side) (s : Saying) → (h == e.link) ≡ false → at_end e (Some (end_of h w, s)) ≡ None
-unsaid_there h e Controller s q = rw q refl
-unsaid_there h e Host s q = rw q refl
+unsaid_there h e w s q = grind arith
 
 pub unsaid : (h : ℕ) (e : End) (t : List Noted) → (h == e.link) ≡ false → Unsaid e (entries_for h t)
 unsaid h e [] q = tt
@@ -211,21 +168,9 @@ CanCause _ = Unit {0}
 abbrev pub CanAll : List Cause → Type 0
 CanAll causes = AllByRecursion CanCause causes
 
-at_either : (l : Link) (e : End) (x : EndEvent) → IsAllowed l x → IsAllowed (exchanged l) x → IsEvent l (at e x)
-at_either l e x near far = go e.at_host
-  where
-    go : (b : Bool) → IsEvent l (at (record { link = e.link; at_host = b }) x)
-    go true = far
-    go false = near
-
 -- it is an event of the link
 pub can_event : (l : Link) (c : Cause) → CanCause c → IsEvent l (event_of c)
-can_event l (Given e m) can = at_either l e _ (tt, ((can, tt), tt)) (tt, ((can, tt), tt))
-can_event l (WasReset e window) can = at_either l e _ (can, (tt, tt)) (can, (tt, tt))
-can_event l (Taken e) can = at_either l e _ (tt, (tt, tt)) (tt, (tt, tt))
-can_event l (WasLost e why) can = at_either l e _ tt tt
-can_event l Ticked can = ((tt, tt), tt, (tt, tt))
-can_event l (Readied e ready) can = at_either l e _ (tt, (tt, tt)) (tt, (tt, tt))
+can_event l c can = grind arith
 
 -- so are these, one after another
 pub all_can : (cs : List Cause) (l : Link) → CanAll cs → AllAllowed l (map event_of cs)
@@ -242,10 +187,7 @@ can_repeat c can zero = tt
 can_repeat c can (suc n) = (can, can_repeat c can n)
 
 can_damage : (e : End) (v : Option Verdict) → CanAll (damage_causes e v)
-can_damage e None = tt
-can_damage e (Some Same) = (tt, tt)
-can_damage e (Some (LostFor why)) = (tt, tt)
-can_damage e (Some (Undetected read)) = tt
+can_damage e v = grind arith
 
 -- what a line causes may happen
 can_line : (header : Header) (l : Link) (line : Line) → IsLineOf header line → CanAll (causes_in l line)
@@ -343,10 +285,7 @@ IsOneAtMost (y ∷ z ∷ ys) = ⊥
 pub front_given : {X Y : Type 0} (f : X → List Y) → ((x : X) → IsOneAtMost (f x)) → (xs : List X) (front back : List Y) → flat_map f xs ≡ front ++ back
     → (p : List X) × IsFrontOf p xs × (front ≡ flat_map f p)
 front_given f one xs [] back q = ([], (xs, refl), refl)
-front_given f one [] (y ∷ front) back q = absurd (nothing q)
-  where
-    nothing : [] ≡ y ∷ (front ++ back) → ⊥
-    nothing e = cc
+front_given f one [] (y ∷ front) back q = grind arith
 front_given {X} {Y} f one (x ∷ xs) (y ∷ front) back q = go (f x) refl (one x) (front_given f one xs)
   where
     Given : List Y → Type 0
@@ -369,8 +308,7 @@ front_given {X} {Y} f one (x ∷ xs) (y ∷ front) back q = go (f x) refl (one x
     go (z ∷ w ∷ ys) e o later = absurd o
 
 pub one_entry : (h : ℕ) (x : Noted) → IsOneAtMost (entry_of h x)
-one_entry h (Up w k) = tt
-one_entry h _ = tt
+one_entry h x = grind arith
 
 -- ### In order at an end
 
@@ -385,11 +323,7 @@ AtEnd t e n = AreInOrder (sent_in t e n) (acked_in t e n) (got_in t (other_end e
 
 pub read_as : (t : List Entry) (e : End) (n : ℕ) (sent got : List Message) (acked : ℕ) → sent_in t e n ≡ sent → acked_in t e n ≡ acked
     → got_in t (other_end e) n ≡ got → AreInOrder sent acked got → AtEnd t e n
-read_as t e n sent got acked p q r h =
-    let P : List Message → Type 0 = λ z. AreInOrder z (acked_in t e n) (got_in t (other_end e) n) in
-    let Q : ℕ → Type 0 = λ z. AreInOrder sent z (got_in t (other_end e) n) in
-    let R : List Message → Type 0 = λ z. AreInOrder sent acked z in
-    subst P (sym p) (subst Q (sym q) (subst R (sym r) h))
+read_as t e n sent got acked p q r h = grind arith
 
 pub empty : AreInOrder [] 0 []
 empty = record { delivered = ([], refl); acknowledged = ([], refl); counted = omega arith }
@@ -486,28 +420,12 @@ joined header lines t valid is follows = joined_of (host_of header) t (is_run he
 abbrev pub HaveNumbers : List Control → Type 0
 HaveNumbers cs = AllByRecursion HasNumbers cs
 
-control_numbers : (e : EndState) (d : Due) → HasNumbers (control_due e d)
-control_numbers e Rset_due = tt
-control_numbers e Ua_due = tt
-control_numbers e _ = omega arith
-
-due_numbers : (e : EndState) (due : List Due) (q : Option Fragment) (c : Control) → fragment_due e.session ≡ q
-    → frame_due (record e { due = due }) ≡ Some c → HasNumbers c
-due_numbers e (d ∷ due) q c f is = let same : control_due e d ≡ c = cc in subst HasNumbers same (control_numbers e d)
-due_numbers e [] None c f is = absurd (let h : None ≡ Some c = rw f at is in cc)
-due_numbers e [] (Some info) c f is =
-    let h : Some (I (e.session.next % 8) (expected e.session) info) ≡ Some c = rw f at is in
-    let same : I (e.session.next % 8) (expected e.session) info ≡ c = cc in
-    let numbers : HasNumbers (I (e.session.next % 8) (expected e.session) info) = (omega arith, omega arith) in
-    subst HasNumbers same numbers
-
 frames_numbers : (n : ℕ) (e : EndState) → HaveNumbers (frames_of n e)
 frames_numbers zero e = tt
 frames_numbers (suc n) e = go (frame_due e) refl (frames_numbers n (fetched e))
   where
     go : (o : Option Control) → frame_due e ≡ o → HaveNumbers (frames_of n (fetched e)) → HaveNumbers (frames_of (suc n) e)
-    go None q later = rw q tt
-    go (Some c) q later = rw q (due_numbers e e.due (fragment_due e.session) c refl q, later)
+    go o q later = grind arith
 
 take_numbers : (n : ℕ) (cs : List Control) → HaveNumbers cs → HaveNumbers (take n cs)
 take_numbers zero cs h = tt
@@ -549,8 +467,7 @@ plain-append [] u h k = k
 plain-append (e ∷ t) u h k = (h.0, plain-append t u h.1 k)
 
 plain_so : (b : Bool) (e : Noted) → IsPlain e → ArePlain (if_so b e)
-plain_so false e p = tt
-plain_so true e p = (p, tt)
+plain_so b e p = grind arith
 
 plain_map : {A : Type 0} (f : A → Noted) (xs : List A) → ((x : A) → IsPlain (f x)) → ArePlain (map f xs)
 plain_map f [] p = tt
@@ -575,13 +492,7 @@ plain_told who n r acked =
     (plain_map (Down who) (option_to_list r.ended) (λ m. tt)) d
 
 plain_turn : (who : Side) (n : ℕ) (e : LinkEnd) (t : Turn) → ArePlain (turn_entry who n e t)
-plain_turn who n e (Give m) = go (give_refusal e m)
-  where
-    go : (o : Option LinkRefused) → ArePlain (sent_unless o who n m)
-    go None = (tt, tt)
-    go (Some why) = tt
-plain_turn who n e (Hold held) = tt
-plain_turn who n e _ = tt
+plain_turn who n e t = grind arith
 
 plain_turns : (who : Side) (n : ℕ) (e : LinkEnd) (ts : List Turn) → ArePlain (turn_entries who n e ts)
 plain_turns who n e [] = tt
@@ -589,12 +500,10 @@ plain_turns who n e (t ∷ ts) =
     plain-append (turn_entry who n e t) (turn_entries who n (turn e t) ts) (plain_turn who n e t) (plain_turns who n (turn e t) ts)
 
 plain_first : (who : Side) (why : Loss) (xs : List OnWire) → ArePlain (first_lost who why xs)
-plain_first who why [] = tt
-plain_first who why (x ∷ xs) = (tt, tt)
+plain_first who why xs = grind arith
 
 plain_pushed : (who : Side) (b : Bool) (xs : List OnWire) → ArePlain (if b then first_lost who TooMany xs else [])
-plain_pushed who true xs = plain_first who TooMany xs
-plain_pushed who false xs = tt
+plain_pushed who b xs = grind arith
 
 plain_puts : (who : Side) (cs : List Control) (l : Link) → HaveNumbers cs → ArePlain (puts_entries who l cs)
 plain_puts who [] l h = tt
@@ -607,8 +516,7 @@ plain_aged who [] = tt
 plain_aged who (x ∷ xs) = go (nat_lt x.age 4) refl (plain_aged who xs)
   where
     go : (b : Bool) → nat_lt x.age 4 ≡ b → ArePlain (aged_entries who xs) → ArePlain (aged_entries who (x ∷ xs))
-    go true q later = rw q later
-    go false q later = rw q (tt, later)
+    go b q later = grind arith
 
 plain_rest : (who : Side) (l : Link) (e : LinkEnd) (ts : List Turn) → ArePlain (rest_entries who l e ts GoesOut)
 plain_rest who l e ts =

@@ -1,21 +1,20 @@
 -- Sessions and wires are read off a history: a quiet link has delivered all, and a reset whose answer nothing kept back has brought both
 -- ends up.
-use Rattle.std.proofs.lemmas.List.{drop-map, map-append}
-use Rattle.history.proofs.Words.{Acked, Act, AllAllowed, AllByRecursion, AreActive, AreReadUpTogether, AsksReset, Begins, Bool, Busy, Cause, Caused, Clt}
-use Rattle.history.proofs.Words.{Complete, Contains, Control, Controller, Counts, Cut, Damage, Deliver, Down, Emit, End, EndRefused, EndStep, Ends, Entry}
-use Rattle.history.proofs.Words.{Event, Follows, Gets, GoesOut, Good, Got, Header, History, Host, I, IsBare, IsComplete, IsDelivered, IsEndOf, IsHeader}
-use Rattle.history.proofs.Words.{IsLineOf, IsNoted, IsQuietSince, IsReadQuiet, Line, Link, LinkDelivered, LinkEvent, List, Lose, Loses, Loss, Lost, LostFor}
-use Rattle.history.proofs.Words.{Message, NoCause, None, Noted, OnWire, Option, Outcome, Puts, Reached, Ready, Refused, Rej, Reset, Restarted, Rnr, Rr, Rset, S}
-use Rattle.history.proofs.Words.{Same, Saying, Seen, Send, Sends, Sent, Settled, Side, Some, Srej, Step, StepsFollow, Taken, Takes, Tick, Ticked, Took, Ua}
-use Rattle.history.proofs.Words.{Undetected, Up, Verdict, WasReset, [], after_link_events, all_events, ap, append_assoc, arith, as_noted, at, bare_link, begins}
-use Rattle.history.proofs.Words.{begins_on, causes_in, causes_of, core_event, core_of, damage_causes, disturbs, end_of, entries, entries_for, entries_of}
-use Rattle.history.proofs.Words.{event_entries, event_goes, event_of, event_step, events_at, events_of, false, first_entries, first_verdict, fold, frames_to}
-use Rattle.history.proofs.Words.{good_of, happens, has_lost, has_rnr, has_rset, heard, host_of, if◌then◌else◌, is_rnr_lpdu, is_waiting, length, link_after}
-use Rattle.history.proofs.Words.{link_after_all, link_after_line, list_any, lpdu_of, machine_of, map, note_event, nothing_seen, number_of, numbered, older}
-use Rattle.history.proofs.Words.{other_end, outcome_of, reached_more, refl, refusal, replicate, reset_refusal, said_of, same_end, same_number, same_side, see}
-use Rattle.history.proofs.Words.{see_all, session_after, session_number, session_up, since, since_up, slice_index, slice_index_or, start_noted, subst, suc, sym}
-use Rattle.history.proofs.Words.{taken_of, together, true, true≢false, unwrap_or, up_session, waits_in, wire_after, wire_to, zero, ℕ, ◌&&◌, ◌++◌, ◌<◌, ◌==◌}
-use Rattle.history.proofs.Words.{◌||◌, ◌∙◌, ◌∷◌, ◌≡◌}
+use Rattle.std.proofs.lemmas.List.{map-append}
+use Rattle.history.proofs.Words.{Acked, Act, AllAllowed, AllByRecursion, AreActive, AreReadUpTogether, Begins, Bool, Busy, Cause, Caused, Clt, Complete}
+use Rattle.history.proofs.Words.{Contains, Control, Controller, Counts, Cut, Damage, Deliver, Down, Emit, End, Ends, Entry, Event, Follows, Gets, Good, Got}
+use Rattle.history.proofs.Words.{Header, History, Host, I, IsBare, IsComplete, IsDelivered, IsEndOf, IsHeader, IsLineOf, IsNoted, IsQuietSince, IsReadQuiet}
+use Rattle.history.proofs.Words.{Line, Link, LinkDelivered, LinkEvent, List, Lose, Loses, Loss, Lost, Message, NoCause, None, Noted, OnWire, Option, Outcome}
+use Rattle.history.proofs.Words.{Puts, Reached, Ready, Refused, Rej, Reset, Restarted, Rnr, Rr, Rset, S, Saying, Seen, Send, Sends, Sent, Settled, Side, Some}
+use Rattle.history.proofs.Words.{Srej, Step, StepsFollow, Taken, Takes, Tick, Ticked, Took, Ua, Up, WasReset, [], after_link_events, all_events, ap}
+use Rattle.history.proofs.Words.{append_assoc, arith, bare_link, begins, begins_on, causes_in, causes_of, core_event, core_of, disturbs, end_of, entries}
+use Rattle.history.proofs.Words.{entries_for, entries_of, event_entries, event_goes, event_of, event_step, events_at, events_of, false, first_entries, fold}
+use Rattle.history.proofs.Words.{frames_to, good_of, happens, has_lost, has_rnr, has_rset, heard, host_of, if◌then◌else◌, is_rnr_lpdu, is_waiting, length}
+use Rattle.history.proofs.Words.{link_after, link_after_all, link_after_line, list_any, lpdu_of, machine_of, map, note_event, nothing_seen, number_of, numbered}
+use Rattle.history.proofs.Words.{older, other_end, outcome_of, reached_more, refl, refusal, replicate, reset_refusal, said_of, same_end, same_number, same_side}
+use Rattle.history.proofs.Words.{see, see_all, session_after, session_number, session_up, since, since_up, slice_index, start_noted, subst, suc, sym, taken_of}
+use Rattle.history.proofs.Words.{together, true, true≢false, unwrap_or, up_session, waits_in, wire_after, wire_to, zero, ℕ, ◌&&◌, ◌++◌, ◌<◌, ◌==◌, ◌||◌, ◌∙◌}
+use Rattle.history.proofs.Words.{◌∷◌, ◌≡◌}
 use Rattle.link_laws.proofs.entries.Seeing.{read_off}
 use Rattle.link_laws.proofs.entries.Settling.{Spared, Stands, none_withheld, or_none}
 use Rattle.link_laws.proofs.entries.Together.{quiet_here, quiet_there}
@@ -38,16 +37,13 @@ abbrev session_from : Option ℕ → End → List Entry → Option ℕ
 session_from s e t = fold (λ session entry. session_after session (said_of e entry)) s t
 
 unheard : (s : Option ℕ) (b : Bool) (x : Saying) → session_after s (Some x) ≡ s → session_after s (if_said b x) ≡ s
-unheard s true x q = q
-unheard s false x q = refl
+unheard s b x q = grind arith
 
 begun_here : (s : Option ℕ) (k : ℕ) (b : Bool) → session_after s (if_said b (Begins k)) ≡ (if b then Some k else s)
-begun_here s k true = refl
-begun_here s k false = refl
+begun_here s k b = grind arith
 
 ended_here : (s : Option ℕ) (b : Bool) → session_after s (if_said b Ends) ≡ (if b then None else s)
-ended_here s true = refl
-ended_here s false = refl
+ended_here s b = grind arith
 
 passed_over : (h : ℕ) (t : List Noted) (who w : Side) (s : Option ℕ) (x : Saying) → session_after s (Some x) ≡ s
     → session_from (session_after s (if_said (same_end (end_of h w) (end_of h who)) x)) (end_of h who) (entries_for h t)
@@ -88,10 +84,7 @@ bytes_on xs = map (λ (x : OnWire). lpdu_of x.frame) xs
 
 pub no_bytes : (xs : List OnWire) → bytes_on xs ≡ [] → xs ≡ []
 no_bytes [] q = refl
-no_bytes (x ∷ xs) q = absurd (nothing q)
-  where
-    nothing : lpdu_of x.frame ∷ bytes_on xs ≡ [] → ⊥
-    nothing e = cc
+no_bytes (x ∷ xs) q = grind arith
 
 older_bytes : (xs : List OnWire) → bytes_on (older xs) ≡ bytes_on xs
 older_bytes [] = refl
@@ -117,10 +110,7 @@ record IsStill (wire : List (List ℕ)) (x : Saying) : Type 0 where
   there : wire_after wire None (Some x) ≡ wire
 
 unmoved : (wire : List (List ℕ)) (x : Saying) (b c : Bool) → IsStill wire x → wire_after wire (if_said b x) (if_said c x) ≡ wire
-unmoved wire x true true q = q.both
-unmoved wire x true false q = q.here
-unmoved wire x false true q = q.there
-unmoved wire x false false q = refl
+unmoved wire x b c q = grind arith
 
 put_seen : (h : ℕ) (who w : Side) (s : Seen) (c : Control) → moved h who w (bytes_on (wire_seen who s)) (Puts (lpdu_of c))
     ≡ bytes_on (wire_seen who (see s (Emit w c)))
@@ -132,17 +122,11 @@ put_seen h Host Host s c = let z = same_number h in rw z refl
 
 taken_seen : (h : ℕ) (who w : Side) (s : Seen) (c : Control) → moved h who w (bytes_on (wire_seen who s)) (Takes (lpdu_of c))
     ≡ bytes_on (wire_seen who (see s (Took w c)))
-taken_seen h Controller Controller s c = let z = same_number h in rw z (drop-map (λ (x : OnWire). lpdu_of x.frame) 1 s.to_controller)
-taken_seen h Controller Host s c = let z = same_number h in rw z refl
-taken_seen h Host Controller s c = let z = same_number h in rw z refl
-taken_seen h Host Host s c = let z = same_number h in rw z (drop-map (λ (x : OnWire). lpdu_of x.frame) 1 s.to_host)
+taken_seen h who w s c = grind arith
 
 lost_seen : (h : ℕ) (who w : Side) (s : Seen) (c : Control) (why : Loss) → moved h who w (bytes_on (wire_seen who s)) (Loses (lpdu_of c))
     ≡ bytes_on (wire_seen who (see s (Lost w c why)))
-lost_seen h Controller Controller s c why = let z = same_number h in rw z (drop-map (λ (x : OnWire). lpdu_of x.frame) 1 s.to_controller)
-lost_seen h Controller Host s c why = let z = same_number h in rw z refl
-lost_seen h Host Controller s c why = let z = same_number h in rw z refl
-lost_seen h Host Host s c why = let z = same_number h in rw z (drop-map (λ (x : OnWire). lpdu_of x.frame) 1 s.to_host)
+lost_seen h who w s c why = grind arith
 
 aged_seen : (who : Side) (s : Seen) → bytes_on (wire_seen who s) ≡ bytes_on (wire_seen who (see s Tick))
 aged_seen Controller s = sym (older_bytes s.to_controller)
@@ -187,8 +171,7 @@ wire-host h t s q p = ap (λ z. wire_from (bytes_on z) (end_of h Host) (entries_
 -- ### Since an end came up
 
 begins_here : (h n k : ℕ) (w : Side) → begins_on h n (Some (end_of h w, Begins k)) ≡ (k == n)
-begins_here h n k Controller = let z = same_number h in rw z refl
-begins_here h n k Host = let z = same_number h in rw z refl
+begins_here h n k w = grind arith
 
 pub since-all : (h n : ℕ) (t : List Noted) → since_up h n (entries_for h t) ≡ entries_for h (since n t)
 since-all h n [] = refl
@@ -197,8 +180,7 @@ since-all h n (Up w k ∷ t) =
   where
     go : (b : Bool) → since_up h n (entries_for h t) ≡ entries_for h (since n t)
         → (if b then entries_for h t else since_up h n (entries_for h t)) ≡ entries_for h (if b then t else since n t)
-    go true q = refl
-    go false q = q
+    go b q = grind arith
 since-all h n (Down w cause ∷ t) = since-all h n t
 since-all h n (_ ∷ t) = since-all h n t
 
@@ -207,34 +189,22 @@ plain_since n [] p = tt
 plain_since n (e ∷ t) p = go (begins n e) refl (plain_since n t p.1)
   where
     go : (b : Bool) → begins n e ≡ b → ArePlain (since n t) → ArePlain (since n (e ∷ t))
-    go true q later = rw q p.1
-    go false q later = rw q later
+    go b q later = grind arith
 
 -- ### What disturbs a link
 
 -- RNR with a number below 8 is read again
 reads_rnr : (nr : ℕ) → nr < 8 → is_rnr_lpdu (lpdu_of (S Rnr nr)) ≡ true
-reads_rnr zero low = refl
-reads_rnr (suc zero) low = refl
-reads_rnr (suc (suc zero)) low = refl
-reads_rnr (suc (suc (suc zero))) low = refl
-reads_rnr (suc (suc (suc (suc zero)))) low = refl
-reads_rnr (suc (suc (suc (suc (suc zero))))) low = refl
-reads_rnr (suc (suc (suc (suc (suc (suc zero)))))) low = refl
-reads_rnr (suc (suc (suc (suc (suc (suc (suc zero))))))) low = refl
-reads_rnr (suc (suc (suc (suc (suc (suc (suc (suc nr)))))))) low = absurd (omega (arith, low))
+reads_rnr nr low = grind arith
 
 pub or_right : (a b : Bool) → (a || b) ≡ false → b ≡ false
-or_right true b q = absurd (let z : true ≡ false = q in cc)
-or_right false b q = q
+or_right a b q = grind arith
 
 or_left : (a b : Bool) → (a || b) ≡ false → a ≡ true → ⊥
-or_left true b q e = let z : true ≡ false = q in cc
-or_left false b q e = cc
+or_left a b q e = grind arith
 
 pub link_same : (h : ℕ) (w : Side) → ((end_of h w).link == h) ≡ true
-link_same h Controller = same_number h
-link_same h Host = same_number h
+link_same h w = grind arith
 
 -- where no frame of it was lost and no RNR put on it nothing disturbed a bare link
 pub undisturbed : (h : ℕ) (t : List Noted) → ArePlain t → has_lost h (entries_for h t) ≡ false → has_rnr h (entries_for h t) ≡ false
@@ -420,8 +390,7 @@ abbrev NoResets : List Cause → Type 0
 NoResets cs = AllByRecursion IsNoReset cs
 
 no_reset_asked : (h : ℕ) (l : Link) (c : Cause) → IsNoReset c → IsAsked h l c
-no_reset_asked h l (WasReset e window) n = absurd n
-no_reset_asked h l _ n = tt
+no_reset_asked h l c n = grind arith
 
 no_resets_asked : (h : ℕ) (l : Link) (cs : List Cause) → NoResets cs → AreAsked h l (events_at h l cs)
 no_resets_asked h l [] n = tt
@@ -430,12 +399,6 @@ no_resets_asked h l (c ∷ cs) n = (no_reset_asked h l c n.0, no_resets_asked h 
 no_repeat : (c : Cause) → IsNoReset c → (n : ℕ) → NoResets (replicate n c)
 no_repeat c none zero = tt
 no_repeat c none (suc n) = (none, no_repeat c none n)
-
-no_damage : (e : End) (v : Option Verdict) → NoResets (damage_causes e v)
-no_damage e None = tt
-no_damage e (Some Same) = (tt, tt)
-no_damage e (Some (LostFor why)) = (tt, tt)
-no_damage e (Some (Undetected read)) = tt
 
 -- ### Lines
 
@@ -449,11 +412,7 @@ unasked h l cs (Some cause) n = tt
 unasked h l cs None n = no_resets_asked h l cs n
 
 reset_line : (h : ℕ) (l : Link) (e : End) (window : Option ℕ) → e.link ≡ h → AreAsked h l (events_of (outcome_of h l (Reset e window)))
-reset_line h l e window is = go (reset_refusal (machine_of l e)) refl
-  where
-    go : (o : Option EndRefused) → reset_refusal (machine_of l e) ≡ o → AreAsked h l (events_of (decided h l (WasReset e window ∷ []) (as_noted o)))
-    go None q = ((is, q), tt)
-    go (Some why) q = tt
+reset_line h l e window is = grind arith
 
 asked_line : (header : Header) (h : ℕ) (l : Link) (line : Line) → IsLineOf header line → ((e : End) → IsEndOf header e → e.link ≡ h)
     → AreAsked h l (events_of (outcome_of h l line))
@@ -461,8 +420,7 @@ asked_line header h l (Send e pid message) is ends = unasked h l (causes_in l (S
 asked_line header h l (Deliver e count) is ends =
     unasked h l (causes_in l (Deliver e count)) (refusal l (Deliver e count)) (no_repeat (Taken e) tt (taken_of count (frames_to l e)))
 asked_line header h l (Lose e) is ends = unasked h l (causes_in l (Lose e)) (refusal l (Lose e)) (tt, tt)
-asked_line header h l (Damage e places) is ends =
-    unasked h l (causes_in l (Damage e places)) (refusal l (Damage e places)) (no_damage e (first_verdict (frames_to l e) places.items))
+asked_line header h l (Damage e places) is ends = grind arith
 asked_line header h l (LineTick times) is ends =
     unasked h l (causes_in l (LineTick times)) (refusal l (LineTick times)) (no_repeat Ticked tt (unwrap_or times 1))
 asked_line header h l (Reset e window) is ends = reset_line h l e window (ends e is.0)
@@ -484,11 +442,7 @@ asked_steps header h l (line ∷ lines) (step ∷ steps) valid ends follows =
 
 pub only_one : (xs : List ℕ) (x : ℕ) → length xs ≡ 1 → Contains xs x → x ≡ slice_index xs 0
 only_one [] x one has = absurd (let k : has.0 < 0 = has.1 in omega (arith, k))
-only_one (y ∷ []) x one has = go has.0 has.1 has.2
-  where
-    go : (k : ℕ) → k < 1 → slice_index_or (y ∷ []) k x ≡ x → x ≡ y
-    go zero low q = sym q
-    go (suc k) low q = absurd (omega (arith, low))
+only_one (y ∷ []) x one has = grind arith
 only_one (y ∷ z ∷ ys) x one has = absurd (let e : suc (suc (length ys)) ≡ 1 = one in omega (arith, e))
 
 all_asked : (header : Header) (l : Link) (lines : List Line) (steps : List Step) → IsHeader header → AllByRecursion (IsLineOf header) lines
@@ -526,24 +480,11 @@ always_active cs can =
 -- a reset that isn't refused, where the other end isn't waiting
 reset_ready : (l : Link) (e : End) (window : Option ℕ) → reset_refusal (machine_of l e) ≡ None → is_waiting (machine_of l (other_end e)).shdlc ≡ false
     → AreActive l → IsReset l (event_of (WasReset e window))
-reset_ready l e window r n o = go e.at_host r n
-  where
-    -- an end with this side named
-    with_side : Bool → End
-    with_side b = record { link = e.link; at_host = b }
-
-    go : (side : Bool) → reset_refusal (machine_of l (with_side side)) ≡ None → is_waiting (machine_of l (other_end (with_side side))).shdlc ≡ false
-        → IsReset l (at (with_side side) (EndStep (AsksReset window) [] GoesOut))
-    go false r n = record { granted = r; active = o.host; free = n }
-    go true r n = record { granted = r; active = o.controller; free = n }
+reset_ready l e window r n o = grind arith
 
 -- nothing is noted behind it in its event
 reset_alone : (l : Link) (e : End) (window : Option ℕ) → rest_of l (event_of (WasReset e window)) ≡ []
-reset_alone l e window = go e.at_host
-  where
-    go : (side : Bool) → rest_of l (at (record { link = e.link; at_host = side }) (EndStep (AsksReset window) [] GoesOut)) ≡ []
-    go false = refl
-    go true = refl
+reset_alone l e window = grind arith
 
 -- ### Runs
 
@@ -585,8 +526,7 @@ spared_of : (h : ℕ) (t : List Noted) → has_lost h (entries_for h t) ≡ fals
 spared_of h [] a b = refl
 spared_of h (Emit w (I ns nr info) ∷ t) a b = spared_of h t a (or_none _ _ b).1
 spared_of h (Emit w (S kind nr) ∷ t) a b = spared_of h t a (or_none _ _ b).1
-spared_of h (Emit w (Rset window caps) ∷ t) a b =
-    let one = link_same h w in absurd (let z : (((end_of h w).link == h) && true) ≡ false = (or_none _ _ b).0 in true≢false (rw one at z))
+spared_of h (Emit w (Rset window caps) ∷ t) a b = grind arith
 spared_of h (Emit w Ua ∷ t) a b = spared_of h t a (or_none _ _ b).1
 spared_of h (Emit w (Act act again) ∷ t) a b = spared_of h t a (or_none _ _ b).1
 spared_of h (Emit w Clt ∷ t) a b = spared_of h t a (or_none _ _ b).1

@@ -1,35 +1,29 @@
 -- What is noted of a step of an end says whether it waits for the answer to a reset.
-use Rattle.std.specs.Prelude.{length, ◌+◌}
 use Rattle.std.proofs.lemmas.List.Sums.{fold-append}
-use Rattle.history.proofs.Words.{Acked, Act, Active, AreSendableTurns, Asked, AsksReset, Before, Bool, Clt, Control, CoreTurn, Cut, CutOff, Down, Due, Emit}
-use Rattle.history.proofs.Words.{EndEvent, EndState, Ending, Fragment, GaveUp, Give, GoesOut, Got, HasTick, Hold, I, IsAllowed, IsNode, IsOwn, Link, LinkEnd}
-use Rattle.history.proofs.Words.{LinkInput, List, Loss, NextFrame, NoInput, Node, None, NumberedEnd, OnWire, Option, Report, Restarted, Role, Rr_due, Rset}
-use Rattle.history.proofs.Words.{Rset_due, Some, Starts, Stops, Take, TooMany, Turn, Up, [], act_answer, activated, after_input, aged_entries, among, ap}
-use Rattle.history.proofs.Words.{becomes, began_by, comes_first, core_turn, core_turned, core_turns, due_left, ended_by, false, far, finished, first_lost}
-use Rattle.history.proofs.Words.{first_none, fold, frames_of, frames_out, gave_up_by, give_refusal, happens_at_controller, has_taken, here_entries, if_so}
-use Rattle.history.proofs.Words.{if_up, if◌then◌else◌, inl, input_entries, inr, is_open, is_rset, is_some, is_waiting, left_after, list_any, map, most_frames}
-use Rattle.history.proofs.Words.{moved, nat_lt, near_of, new_link_end, none_out, number_of, opened, option_to_list, put, put_entries, puts_entries, refl}
-use Rattle.history.proofs.Words.{renewed, report, reset_by, reset_keeps, reset_refusal, reset_tells, reset_waits, reset_with, rest_entries, restart_entries}
-use Rattle.history.proofs.Words.{restart_mid, role_after, runs_timer, same_far, same_link_end, same_self, sent_unless, silent, step_entries, stopped, subst}
-use Rattle.history.proofs.Words.{suc, sym, take_answer, taken, taken_entries, tick_answer, tick_closed, tick_entries, tick_open, ticked, ticks_at_controller}
-use Rattle.history.proofs.Words.{told, told_of, took, took_with, true, true≢false, turn, turn_entries, turn_entry, turned, whole_acked, window_of, wire_with}
-use Rattle.history.proofs.Words.{with_ended, ℕ, ◌&&◌, ◌++◌, ◌==◌, ◌∙◌, ◌∷◌, ◌≡◌, ◌⊎◌}
-use Rattle.swp_base.specs.declared.control_frames.Act.{Act as Activation}
+use Rattle.history.proofs.Words.{Acked, Active, AreSendableTurns, Asked, AsksReset, Before, Bool, Control, CoreTurn, Cut, CutOff, Down, Due, Emit, EndEvent}
+use Rattle.history.proofs.Words.{EndState, Ending, Fragment, GaveUp, GoesOut, Got, HasTick, IsAllowed, IsNode, IsOwn, Link, LinkEnd, LinkInput, List, NextFrame}
+use Rattle.history.proofs.Words.{NoInput, Node, None, NumberedEnd, OnWire, Option, Report, Restarted, Role, Rr_due, Rset_due, Some, Starts, Stops, Take, Turn}
+use Rattle.history.proofs.Words.{Up, [], act_answer, activated, after_input, aged_entries, among, ap, arith, becomes, began_by, comes_first, core_turn}
+use Rattle.history.proofs.Words.{core_turned, core_turns, due_left, ended_by, false, far, finished, first_none, fold, frames_of, frames_out, gave_up_by}
+use Rattle.history.proofs.Words.{happens_at_controller, has_taken, here_entries, if_so, if_up, if◌then◌else◌, input_entries, is_open, is_rset, is_some}
+use Rattle.history.proofs.Words.{is_waiting, left_after, list_any, map, most_frames, moved, nat_lt, near_of, new_link_end, none_out, number_of, opened}
+use Rattle.history.proofs.Words.{option_to_list, put, put_entries, puts_entries, refl, renewed, report, reset_by, reset_keeps, reset_refusal, reset_tells}
+use Rattle.history.proofs.Words.{reset_waits, reset_with, rest_entries, restart_entries, restart_mid, same_far, same_link_end, same_self, silent, step_entries}
+use Rattle.history.proofs.Words.{stopped, subst, suc, sym, taken_entries, tick_answer, tick_closed, tick_entries, tick_open, ticked, ticks_at_controller, told}
+use Rattle.history.proofs.Words.{told_of, took, took_with, true, true≢false, turn, turn_entries, turn_entry, turned, whole_acked, window_of, with_ended, ℕ}
+use Rattle.history.proofs.Words.{◌&&◌, ◌++◌, ◌∙◌, ◌∷◌, ◌≡◌}
 use Rattle.swp_act.specs.declared.ActEvent.{ActEvent}
-use Rattle.swp_act.specs.declared.ActEvent.TheVariants.{Take as ActTake, Tick as ActTick}
+use Rattle.swp_act.specs.declared.ActEvent.TheVariants.{Tick as ActTick}
 use Rattle.shdlc_core.specs.declared.answers.LinkState.{LinkState}
-use Rattle.shdlc_core.specs.declared.answers.LinkState.TheVariants.{Down as IsDown, Waiting as IsWaitingNow, Up as IsUpNow}
+use Rattle.shdlc_core.specs.declared.answers.LinkState.TheVariants.{Down as IsDown, Waiting as IsWaitingNow}
 use Rattle.link_laws.proofs.places.Joined.{ready_cases, changed}
 use Rattle.link_laws.specs.sessions.Sessions.ShdlcTurn.{Offer, SetReady}
 use Rattle.link_laws.specs.machine.Machine.{Refused}
-use Rattle.link_laws.specs.machine.Machine.Role.{Bare}
 use Rattle.link_laws.specs.machine.Machine.LinkInput.{Reset}
 use Rattle.link_laws.proofs.machine.Reports.{shdlc_is as shdlc_moved}
-use Rattle.link_laws.proofs.machine.Sound.{Shift, taken_shift}
-use Rattle.link_laws.proofs.machine.Sound.Shift.{Begins, Ends, Renews, Rests as ShiftRests, Stays}
 use Rattle.link_laws.specs.messages.Links.EndEvent.{Step, Lose}
 use Rattle.link_laws.proofs.messages.Project.{NoAsk, NoRset, Now, frames_alike, mid_moved, none_due, ticked_keeps, turns_mid}
-use Rattle.link_laws.proofs.messages.Steps.{ComesFirst, is_shdlc, heard_is, took_open, took_closed, no_fault_first, polite, role_closes, act_mid}
+use Rattle.link_laws.proofs.messages.Steps.{ComesFirst, act_mid}
 use Rattle.link_laws.specs.entries.Entries.{End, Entry}
 use Rattle.link_laws.proofs.entries.Noting.{turned_same, Near, IsRestart, start_restarts, stop_restarts}
 
@@ -63,8 +57,7 @@ pub passes-append : (who : End) (t u : List Entry) → Passes who t → Passes w
 passes-append who t u p q b = harks-append who b t u ∙ (ap (λ z. harks who z u) (p b) ∙ q b)
 
 passes_so : (who : End) (c : Bool) (e : Entry) → Passes who (e ∷ []) → Passes who (if_so c e)
-passes_so who false e p b = refl
-passes_so who true e p b = p b
+passes_so who c e p b = grind arith
 
 passes_map : {A : Type 0} (who : End) (f : A → Entry) (xs : List A) → ((x : A) → Passes who (f x ∷ [])) → Passes who (map f xs)
 passes_map who f [] p b = refl
@@ -101,12 +94,10 @@ abbrev pub after_told : Bool → Bool → Bool → Bool
 after_told began gave b = if gave then false else (if began then false else b)
 
 hark_up : (who : End) (c : Bool) (n : ℕ) (b : Bool) → harks who b (if_so c (Up who n)) ≡ (if c then false else b)
-hark_up who false n b = refl
-hark_up who true n b = let q = same_self who in rw q refl
+hark_up who c n b = grind arith
 
 hark_given_up : (who : End) (o : Option ℕ) (b : Bool) → harks who b (map (GaveUp who) (option_to_list o)) ≡ (if is_some o then false else b)
-hark_given_up who None b = refl
-hark_given_up who (Some n) b = let q = same_self who in rw q refl
+hark_given_up who o b = grind arith
 
 hark_told : (who : End) (n : ℕ) (r : Report) (acked : ℕ) (b : Bool) → harks who b (told who n r acked) ≡ after_told r.began (is_some r.gave_up) b
 hark_told who n r acked b =
@@ -127,45 +118,26 @@ hark_told who n r acked b =
 -- ## Turns and frames
 
 passes_turn : (w who : End) (n : ℕ) (e : LinkEnd) (t : Turn) → Passes w (turn_entry who n e t)
-passes_turn w who n e (Give m) = go (give_refusal e m)
-  where
-    go : (o : Option Refused) → Passes w (sent_unless o who n m)
-    go None b = refl
-    go (Some why) b = refl
-passes_turn w who n e (Hold held) = λ b. refl
-passes_turn w who n e _ = λ b. refl
+passes_turn w who n e t = grind arith
 
 passes_turns : (w who : End) (n : ℕ) (e : LinkEnd) (ts : List Turn) → Passes w (turn_entries who n e ts)
 passes_turns w who n e [] = λ b. refl
 passes_turns w who n e (t ∷ ts) =
     passes-append w (turn_entry who n e t) (turn_entries who n (turn e t) ts) (passes_turn w who n e t) (passes_turns w who n (turn e t) ts)
 
-pub passes_lost : (w who : End) (why : Loss) (xs : List OnWire) → Passes w (first_lost who why xs)
-passes_lost w who why [] = λ b. refl
-passes_lost w who why (x ∷ xs) = λ b. refl
-
-passes_pushed : (w who : End) (c : Bool) (xs : List OnWire) → Passes w (if c then first_lost who TooMany xs else [])
-passes_pushed w who true xs = passes_lost w who TooMany xs
-passes_pushed w who false xs = λ b. refl
-
 pub passes_aged : (w who : End) (xs : List OnWire) → Passes w (aged_entries who xs)
 passes_aged w who [] = λ b. refl
 passes_aged w who (x ∷ xs) = go (nat_lt x.age 4) refl (passes_aged w who xs)
   where
     go : (c : Bool) → nat_lt x.age 4 ≡ c → Passes w (aged_entries who xs) → Passes w (aged_entries who (x ∷ xs))
-    go true q later b = rw q (later b)
-    go false q later b = rw q (later b)
+    go c q later b = grind arith
 
 -- a frame that goes out
 put_harked : (who : End) (l : Link) (c : Control) (b : Bool) → harks who b (put_entries who l c) ≡ (if is_rset c then true else b)
-put_harked who l c b =
-    let own : hark who b (Emit who c) ≡ (if is_rset c then true else b) = let q = same_self who in rw q refl in
-    passes_pushed who (far who) (nat_lt 64 (length (wire_with l c))) (wire_with l c) (hark who b (Emit who c)) ∙ own
+put_harked who l c b = grind arith
 
 put_far : (who : End) (l : Link) (c : Control) → Passes (far who) (put_entries who l c)
-put_far who l c b =
-    let own : hark (far who) b (Emit who c) ≡ b = let q = same_far who in rw q refl in
-    passes_pushed (far who) (far who) (nat_lt 64 (length (wire_with l c))) (wire_with l c) (hark (far who) b (Emit who c)) ∙ own
+put_far who l c b = grind arith
 
 puts_far : (who : End) (cs : List Control) (l : Link) → Passes (far who) (puts_entries who l cs)
 puts_far who [] l = λ b. refl
@@ -187,8 +159,7 @@ puts_waiting who (c ∷ cs) l =
     ∙ (ap (λ z. harks who z (puts_entries who (put l c) cs)) (put_harked who l c true ∙ either (is_rset c)) ∙ puts_waiting who cs (put l c))
   where
     either : (x : Bool) → (if x then true else true) ≡ true
-    either true = refl
-    either false = refl
+    either x = grind arith
 
 -- where one of them is an RSET
 puts_some : (who : End) (cs : List Control) (l : Link) (b : Bool) → list_any is_rset cs ≡ true → harks who b (puts_entries who l cs) ≡ true
@@ -200,18 +171,12 @@ puts_some who (c ∷ cs) l b some =
     by : (x : Bool) → is_rset c ≡ x → (list_any is_rset cs ≡ true → harks who b (puts_entries who (put l c) cs) ≡ true)
         → harks who (if is_rset c then true else b) (puts_entries who (put l c) cs) ≡ true
     by true q later = ap (λ x. harks who (if x then true else b) (puts_entries who (put l c) cs)) q ∙ puts_waiting who cs (put l c)
-    by false q later =
-        ap (λ x. harks who (if x then true else b) (puts_entries who (put l c) cs)) q
-        ∙ later (let z : list_any is_rset cs ≡ true = rw q at some in z)
+    by false q later = grind arith
 
 -- ## The end of a step
 
 same_waiting : (a b : EndState) → a.phase ≡ b.phase → is_waiting a ≡ is_waiting b
-same_waiting a b p = go b.phase refl
-  where
-    go : (y : LinkState) → b.phase ≡ y → is_waiting a ≡ is_waiting b
-    go IsUpNow q = let r = p ∙ q in rw (r, q) refl
-    go _ q = let r = p ∙ q in rw (r, q) refl
+same_waiting a b p = grind arith
 
 -- how an end f whose node has these turns ends its step, where this was read of it before: RSET goes out, and it waits; or none goes out
 data EndsSo (f : LinkEnd) (ts : List Turn) (b : Bool) : Type 0 where
@@ -223,8 +188,7 @@ turned_waits l f ts =
     same_waiting (becomes l (turned f ts)).controller.side.shdlc f.shdlc ((frames_alike most_frames (turned f ts).shdlc).phase ∙ turned_same ts f)
 
 new_waits : (r : Role) → is_waiting (new_link_end (renewed r)).shdlc ≡ false
-new_waits Bare = refl
-new_waits _ = refl
+new_waits r = grind arith
 
 rest_harked : (who : End) (l : Link) (f : LinkEnd) (ts : List Turn) (ending : Ending) (b : Bool) → EndsSo f ts b
     → harks who b (rest_entries who l f ts ending) ≡ waits (finished l (turned f ts) ending).controller
@@ -253,11 +217,7 @@ rest_far who l e ts CutOff =
 -- ## RSETs that are due
 
 offer_due : (s : EndState) (fragments : List Fragment) → (core_turn s (Offer fragments)).due ≡ s.due
-offer_due s fragments = go s.phase refl
-  where
-    go : (p : LinkState) → s.phase ≡ p → (core_turn s (Offer fragments)).due ≡ s.due
-    go IsUpNow q = rw q refl
-    go _ q = rw q refl
+offer_due s fragments = grind arith
 
 -- turns leave the RSET in front
 first_due : (us : List CoreTurn) (s : EndState) (ds : List Due) → s.due ≡ Rset_due ∷ ds → (es : List Due) × ((core_turned s us).due ≡ Rset_due ∷ es)
@@ -289,21 +249,7 @@ data Timed (s f : EndState) (gave : Bool) : Type 0 where
   Passed : after_told false gave (is_waiting s) ≡ is_waiting f → NoAsk f.due → Timed s f gave
 
 ticked_waits : (s : EndState) → s.due ≡ [] → Timed s (ticked s) (is_some (tick_answer s).gave_up)
-ticked_waits s due = go s.phase (runs_timer s.session) (nat_lt (s.timer + 1) 10) (nat_lt s.tries 5) refl refl refl refl
-  where
-    none : NoAsk s.due
-    none = none_due s due
-
-    go : (p : LinkState) (a b c : Bool) → s.phase ≡ p → runs_timer s.session ≡ a → nat_lt (s.timer + 1) 10 ≡ b → nat_lt s.tries 5 ≡ c
-        → Timed s (ticked s) (is_some (tick_answer s).gave_up)
-    go IsDown a b c p q r t = Passed (rw p refl) (rw p none)
-    go IsUpNow false b c p q r t = Passed (rw (p, q) refl) (rw (p, q) none)
-    go IsUpNow true true c p q r t = Passed (rw (p, q, r) refl) (rw (p, q, r) none)
-    go IsUpNow true false true p q r t = Passed (rw (p, q, r, t) refl) (rw (p, q, r, t) none)
-    go IsUpNow true false false p q r t = AsksNow (rw (p, q, r, t) refl) (rw (p, q, r, t) refl)
-    go IsWaitingNow a true c p q r t = Passed (rw (p, r) refl) (rw (p, r) none)
-    go IsWaitingNow a false true p q r t = AsksNow (rw (p, r, t) refl) (rw (p, r, t) (ap (λ d. d ++ Rset_due ∷ []) due))
-    go IsWaitingNow a false false p q r t = Passed (rw (p, r, t) refl) (rw (p, r, t) none)
+ticked_waits s due = grind arith
 
 tick_so : (l : Link) (ts : List Turn) → AreSendableTurns ts → Near l
     → EndsSo (after_input l.controller.side HasTick) ts (after_told false (is_some (gave_up_by l.controller.side HasTick)) (waits l.controller))
@@ -336,8 +282,7 @@ tick_so l ts a n = go (is_open e.role) refl
     down t p = rw p refl
 
     never : (x : Bool) (y : Bool) → y ≡ false → after_told false x y ≡ false
-    never true y q = refl
-    never false y q = q
+    never x y q = grind arith
 
     go : (o : Bool) → is_open e.role ≡ o → EndsSo (after_input e HasTick) ts (after_told false (is_some (gave_up_by e HasTick)) (is_waiting e.shdlc))
     go true o =
@@ -362,8 +307,7 @@ tick_so l ts a n = go (is_open e.role) refl
 -- ## Resets
 
 no_due : (p : LinkState) (due : List Due) → due ≡ [] → due_left p due ≡ []
-no_due IsUpNow due q = refl
-no_due _ due q = q
+no_due p due q = grind arith
 
 reset_due : (e : EndState) (w : ℕ) → is_waiting e ≡ false → e.due ≡ [] → (reset_with e w).due ≡ Rset_due ∷ []
 reset_due e w n q = let z = no_due e.phase e.due q in rw n (ap (λ d. d ++ Rset_due ∷ []) z)
@@ -402,113 +346,9 @@ reset_so l window ts a n = go (reset_refusal e) refl
 
 -- ## Frames that come
 
--- what an SHDLC end takes
-taken_waits : (s : EndState) (c : Control) → after_told (take_answer s c).began false (is_waiting s) ≡ is_waiting (taken s c)
-taken_waits s c = go s.phase refl c
-  where
-    up : (t : EndState) → t.phase ≡ IsUpNow → is_waiting t ≡ false
-    up t p = rw p refl
-
-    never : (x : Bool) → (if x then false else false) ≡ false
-    never true = refl
-    never false = refl
-
-    ended_began : s.phase ≡ IsUpNow → (c : Control) → is_some (take_answer s c).ended ≡ true → (take_answer s c).began ≡ false → ⊥
-    ended_began p (Rset w caps) q r = by (w == 0) refl
-      where
-        by : (z : Bool) → (w == 0) ≡ z → ⊥
-        by true z = true≢false (let y : false ≡ true = rw (p, z) at q in sym y)
-        by false z = true≢false (let y : true ≡ false = rw (p, z) at r in y)
-    ended_began p _ q r = true≢false (let z : false ≡ true = rw p at q in sym z)
-
-    stays_up : (c : Control) → s.phase ≡ IsUpNow → Shift s (taken s c) (is_some (take_answer s c).ended) (take_answer s c).began
-        → is_waiting (taken s c) ≡ false
-    stays_up c p (Stays q r g) = up (taken s c) g.is
-    stays_up c p (Ends q r u still z) = absurd (ended_began p c q r)
-    stays_up c p (Renews q r u k) = up (taken s c) k.is
-    stays_up c p (Begins q r d k) = absurd (d p)
-    stays_up c p (ShiftRests q r d still z) = absurd (d p)
-
-    go : (p : LinkState) → s.phase ≡ p → (c : Control) → after_told (take_answer s c).began false (is_waiting s) ≡ is_waiting (taken s c)
-    go IsUpNow p c =
-        ap (λ b. after_told (take_answer s c).began false b) (up s p) ∙ (never (take_answer s c).began ∙ sym (stays_up c p (taken_shift s c)))
-    go IsWaitingNow p (Rset w caps) = by (w == 0) refl
-      where
-        by : (b : Bool) → (w == 0) ≡ b
-            → after_told (take_answer s (Rset w caps)).began false (is_waiting s) ≡ is_waiting (taken s (Rset w caps))
-        by true q = rw (p, q) refl
-        by false q = rw (p, q) refl
-    go IsWaitingNow p (I ns nr info) = rw p refl
-    go IsDown p (Rset w caps) = by (w == 0) refl
-      where
-        by : (b : Bool) → (w == 0) ≡ b
-            → after_told (take_answer s (Rset w caps)).began false (is_waiting s) ≡ is_waiting (taken s (Rset w caps))
-        by true q = rw (p, q) refl
-        by false q = rw (p, q) refl
-    go IsWaitingNow p _ = rw p refl
-    go IsDown p (I ns nr info) = rw p refl
-    go IsDown p _ = rw p refl
-
 frame_waits : (l : Link) (x : OnWire) (xs : List OnWire) → ComesFirst l x xs
     → after_told (began_by l.controller.side (Take x.frame)) false (waits l.controller) ≡ is_waiting (took l.controller.side x.frame).shdlc
-frame_waits l x xs comes = go x.frame refl
-  where
-    e : LinkEnd
-    e = l.controller.side
-
-    P : Control → Type 0
-    P c = after_told (began_by e (Take c)) false (is_waiting e.shdlc) ≡ is_waiting (took e c).shdlc
-
-    no_began : (c : Bool) (z : Bool) → z ≡ false → after_told (c && z) false (is_waiting e.shdlc) ≡ is_waiting e.shdlc
-    no_began true z q = ap (λ b. after_told b false (is_waiting e.shdlc)) q
-    no_began false z q = refl
-
-    act_none : (act : Activation) (again : Bool) → (take_answer e.shdlc (Act act again)).began ≡ false
-    act_none act again = by e.shdlc.phase refl
-      where
-        by : (p : LinkState) → e.shdlc.phase ≡ p → (take_answer e.shdlc (Act act again)).began ≡ false
-        by IsUpNow p = rw p refl
-        by _ p = rw p refl
-
-    clt_none : (take_answer e.shdlc Clt).began ≡ false
-    clt_none = by e.shdlc.phase refl
-      where
-        by : (p : LinkState) → e.shdlc.phase ≡ p → (take_answer e.shdlc Clt).began ≡ false
-        by IsUpNow p = rw p refl
-        by _ p = rw p refl
-
-    shdlc : (b : Bool) → is_open e.role ≡ b → is_shdlc x.frame ≡ true → began_by e (Take x.frame) ≡ (b && (take_answer e.shdlc x.frame).began) → P x.frame
-    shdlc true o s began =
-        let f = took_open e x s o (no_fault_first l x xs comes.first comes.tells comes.host o comes.from) in
-        let g = heard_is e x comes.tells.now o in
-        ap (λ b. after_told b false (is_waiting e.shdlc)) began
-        ∙ (taken_waits e.shdlc x.frame ∙ sym (ap (λ (z : LinkEnd). is_waiting z.shdlc) f.0 ∙ ap is_waiting g.shdlc))
-    shdlc false o s began =
-        ap (λ b. after_told b false (is_waiting e.shdlc)) began
-        ∙ sym (ap (λ (z : LinkEnd). is_waiting z.shdlc) (took_closed e x.frame s o).0)
-
-    acts : (act : Activation) (again : Bool) → x.frame ≡ Act act again → P (Act act again)
-    acts act again q =
-        let event : ActEvent = ActTake act again in
-        let down = polite e x xs act again q comes.polite in
-        let closed : is_open (role_after e.role event) ≡ false → e.shdlc.phase ≡ IsDown = λ z. by (role_closes e.role act again z) in
-        let m = act_mid e event comes.tells.now comes.rests.due down closed in
-        no_began (is_open e.role) (take_answer e.shdlc (Act act again)).began (act_none act again) ∙ sym (ap is_waiting m.same)
-      where
-        by : (is_open e.role ≡ false) ⊎ ((act_answer e.role (ActTake act again)).ended_link ≡ true) → e.shdlc.phase ≡ IsDown
-        by (inl z) = comes.tells.now.closed z
-        by (inr z) = polite e x xs act again q comes.polite z
-
-    of_shdlc : is_shdlc x.frame ≡ true → P x.frame
-    of_shdlc s = by (is_open e.role) refl
-      where
-        by : (b : Bool) → is_open e.role ≡ b → P x.frame
-        by b o = shdlc b o s (ap (λ y. y && (take_answer e.shdlc x.frame).began) o)
-
-    go : (c : Control) → x.frame ≡ c → P x.frame
-    go (Act act again) q = subst P (sym q) (acts act again q)
-    go Clt q = subst P (sym q) (no_began (is_open e.role) (take_answer e.shdlc Clt).began clt_none)
-    go _ q = of_shdlc (ap is_shdlc q)
+frame_waits l x xs comes = grind arith
 
 -- ## Steps
 
@@ -607,11 +447,7 @@ frame_harked who l ts ending a b = go l.to_controller refl
     P k = Harked who l k u
 
     go : (w : List OnWire) → l.to_controller ≡ w → Harked who l m u
-    go [] q =
-        let none : u ≡ [] = rw q refl in
-        let same : m ≡ l = rw q refl in
-        let Q : List Entry → Type 0 = λ z. Harked who l l z in
-        subst P (sym same) (subst Q (sym none) (record { here = refl; there = λ s. refl }))
+    go [] q = grind arith
     go (x ∷ xs) q =
         let some : u ≡ taken_entries who l x xs ts ending = rw q refl in
         let next : m ≡ has_taken l x xs ts ending = rw q refl in
@@ -619,7 +455,6 @@ frame_harked who l ts ending a b = go l.to_controller refl
         subst P (sym next) (subst Q (sym some) (taken_harked who l x xs ts ending a (comes_first l x xs q b)))
 
 pub here_harked : (who : End) (l : Link) (e : EndEvent) → IsAllowed l e → Before l → Harked who l (happens_at_controller l e) (here_entries who l e)
-here_harked who l (Lose why) a b =
-    record { here = passes_lost who who why l.to_controller (waits l.controller); there = passes_lost (far who) who why l.to_controller }
+here_harked who l (Lose why) a b = grind arith
 here_harked who l (Step NextFrame ts ending) a b = frame_harked who l ts ending a.1 b
 here_harked who l e a b = own_harked who l e tt a (near_of l b)

@@ -1,16 +1,15 @@
 -- Whether an end of a bare link waits for the answer to a reset is read off the entries of a history.
 use Rattle.history.proofs.Words.{Act, AllAllowed, AllByRecursion, AreOwn, AtController, AtHost, Bool, CanStart, Cause, Control, Controller, Cut, Emit, End}
 use Rattle.history.proofs.Words.{EndEvent, Entry, Event, Follows, GaveUp, Good, HasNumbers, Header, History, Host, I, IsBare, IsEvent, IsHeader, IsInTick}
-use Rattle.history.proofs.Words.{IsLine, IsLineOf, IsNode, IsStart, IsUicc, IsUnderWay, Line, Link, LinkEvent, List, Noted, NumberedEnd, Reached, Rej}
-use Rattle.history.proofs.Words.{Restarted, Rnr, Rr, S, Side, Some, Sound, Sounds, Srej, Starts, Tick, Ticks, TicksWithout, Up, [], after_link_events}
-use Rattle.history.proofs.Words.{after_tick, aged, aged_entries, all_at_controller, all_events, all_in_tick, all_step, ap, arith, bare_link, before_here}
-use Rattle.history.proofs.Words.{before_there, can_start, causes_of, clf_starts, core_event, core_of, end_of, entries, entries_for, entries_of}
-use Rattle.history.proofs.Words.{entries_of_events, event_entries, event_of, event_step, exchanged, false, first_entries, fold, goes_on, happens}
-use Rattle.history.proofs.Words.{happens_at_controller, here_entries, host_here, host_in_tick, host_of, i_frame, if◌then◌else◌, is_rset, is_rset_lpdu}
-use Rattle.history.proofs.Words.{is_waiting, le-leb, length, link_after_all, lpdu_of, lpdu_row, lpdu_row_of, machine_of, map, nat_le, nat_lt, near_in_tick}
-use Rattle.history.proofs.Words.{own_in_tick, reached_more, refl, rests_of, safe_reached, same_side, slice_index, sound_here, start_under_way, started_clf}
-use Rattle.history.proofs.Words.{step_here, step_tick, subst, suc, sym, tick_entries, ticks_at_controller, ticks_host, trace, true, waits_after, waits_in}
-use Rattle.history.proofs.Words.{without_tick, zero, ℕ, ◌&&◌, ◌*◌, ◌++◌, ◌+◌, ◌<◌, ◌∙◌, ◌∷◌, ◌≡◌}
+use Rattle.history.proofs.Words.{IsLineOf, IsNode, IsStart, IsUicc, IsUnderWay, Line, Link, LinkEvent, List, Noted, NumberedEnd, Reached, Rej, Restarted, Rnr}
+use Rattle.history.proofs.Words.{Rr, S, Side, Some, Sound, Sounds, Srej, Starts, Tick, Ticks, TicksWithout, Up, [], after_link_events, after_tick, aged}
+use Rattle.history.proofs.Words.{aged_entries, all_at_controller, all_events, all_in_tick, all_step, ap, arith, bare_link, before_here, before_there, can_start}
+use Rattle.history.proofs.Words.{causes_of, clf_starts, core_event, core_of, end_of, entries, entries_for, entries_of, entries_of_events, event_entries}
+use Rattle.history.proofs.Words.{event_of, event_step, exchanged, false, first_entries, fold, goes_on, happens, happens_at_controller, here_entries, host_here}
+use Rattle.history.proofs.Words.{host_in_tick, host_of, i_frame, if◌then◌else◌, is_rset, is_rset_lpdu, is_waiting, le-leb, link_after_all, lpdu_of, lpdu_row}
+use Rattle.history.proofs.Words.{lpdu_row_of, machine_of, map, nat_le, near_in_tick, own_in_tick, reached_more, refl, rests_of, safe_reached, same_side}
+use Rattle.history.proofs.Words.{slice_index, sound_here, start_under_way, started_clf, step_here, step_tick, subst, sym, tick_entries, ticks_at_controller}
+use Rattle.history.proofs.Words.{ticks_host, trace, true, waits_after, waits_in, without_tick, ℕ, ◌&&◌, ◌*◌, ◌++◌, ◌+◌, ◌<◌, ◌∙◌, ◌∷◌, ◌≡◌}
 use Rattle.link_laws.proofs.sessions.Steps.{safe_aged}
 use Rattle.link_laws.specs.messages.Links.EndEvent.{Step}
 use Rattle.link_laws.specs.messages.Links.LinkEvent.{Activate}
@@ -162,8 +161,7 @@ events_harked (e ∷ es) t l a w =
 first_harked : (l : Link) → IsStart l
     → (harks Controller false (first_entries l.controller.side.role) ≡ waits l.controller)
     × (harks Host false (first_entries l.controller.side.role) ≡ waits l.host)
-first_harked l IsBare = (refl, refl)
-first_harked l IsLine = (refl, refl)
+first_harked l a = grind arith
 
 both_harked : (l : Link) → IsStart l → (events : List LinkEvent) → AllAllowed l events → BothHarked l (after_link_events l events) (entries l events)
 both_harked l s events a = events_harked events (first_entries l.controller.side.role) l a (start_under_way l s)
@@ -187,24 +185,11 @@ host_harked l s events a =
 
 -- what holds of the numbers below 8
 eight : (P : ℕ → Type 0) → P 0 → P 1 → P 2 → P 3 → P 4 → P 5 → P 6 → P 7 → (n : ℕ) → n < 8 → P n
-eight P a b c d e f g h zero low = a
-eight P a b c d e f g h (suc zero) low = b
-eight P a b c d e f g h (suc (suc zero)) low = c
-eight P a b c d e f g h (suc (suc (suc zero))) low = d
-eight P a b c d e f g h (suc (suc (suc (suc zero)))) low = e
-eight P a b c d e f g h (suc (suc (suc (suc (suc zero))))) low = f
-eight P a b c d e f g h (suc (suc (suc (suc (suc (suc zero)))))) low = g
-eight P a b c d e f g h (suc (suc (suc (suc (suc (suc (suc zero))))))) low = h
-eight P a b c d e f g h (suc (suc (suc (suc (suc (suc (suc (suc n)))))))) low = absurd (omega (arith, low))
+eight P a b c d e f g h n low = grind arith
 
 -- an information frame is none
 other_row : (bytes : List ℕ) → lpdu_row_of (slice_index bytes 0) ≡ Some (lpdu_row 0x80 0xBF 2 30 i_frame) → is_rset_lpdu bytes ≡ false
-other_row bytes q = go (nat_lt (length bytes) 2) (nat_lt 30 (length bytes)) refl refl
-  where
-    go : (c d : Bool) → nat_lt (length bytes) 2 ≡ c → nat_lt 30 (length bytes) ≡ d → is_rset_lpdu bytes ≡ false
-    go true d p r = rw (q, p) refl
-    go false true p r = rw (q, p, r) refl
-    go false false p r = rw (q, p, r) refl
+other_row bytes q = grind arith
 
 reads_fragment : (ns nr : ℕ) (info : List ℕ) → ns < 8 → nr < 8 → is_rset_lpdu (lpdu_of (I ns nr info)) ≡ false
 reads_fragment ns nr info low small =

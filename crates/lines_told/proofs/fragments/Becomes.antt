@@ -1,12 +1,12 @@
 -- One end of a link takes its turns and sends all that is due: how far this brings the places of both ends, and what stands on the wires.
 use Rattle.std.proofs.lemmas.List.{append-nil}
-use Rattle.lines_told.proofs.Words.{AnswersOnly, Bool, Control, Due, EndState, Fragment, I, IsPrefix, List, Losses, NoRnr, None, NumberedShdlc, OnWire, Rej_due}
-use Rattle.lines_told.proofs.Words.{Rnr_due, Rr, Rr_due, S, Session, ShdlcLink, ShdlcTurn, Some, Up, [], after_frames, aged_wire, ap, append_assoc, arith}
-use Rattle.lines_told.proofs.Words.{cases_lt, cond, control_due, counts_first, data_due, drop, expected, false, fetch_cases, fetched, fetched_answers}
-use Rattle.lines_told.proofs.Words.{few_turns, fits, fragment_due, frame_due, frames_of, inl, inr, is_act, is_rnr, is_rset, length, length-append, loses_aged}
-use Rattle.lines_told.proofs.Words.{lt-ltb, nat_lt, not, not_rset, noted_all, noted_loss, noted_out, or_parts, or_right, overflows, refl, sans, sends_keeps}
-use Rattle.lines_told.proofs.Words.{sends_noted, shdlc_becomes, shdlc_exchanged, shdlc_put, shdlc_put_all, shdlc_turned, slice_get, slice_get-append, suc, sym}
-use Rattle.lines_told.proofs.Words.{true, true≢false, with_frame, zero, ℕ, ◌%◌, ◌&&◌, ◌++◌, ◌+◌, ◌<◌, ◌||◌, ◌∙◌, ◌∷◌, ◌≡◌, ◌≤◌, ◌⊎◌}
+use Rattle.lines_told.proofs.Words.{AnswersOnly, Bool, Control, Due, EndState, Fragment, I, IsPrefix, List, Losses, NoRnr, None, NumberedShdlc, OnWire, Rr}
+use Rattle.lines_told.proofs.Words.{Rr_due, S, Session, ShdlcLink, ShdlcTurn, Some, Up, [], after_frames, aged_wire, ap, append_assoc, arith, cases_lt, cond}
+use Rattle.lines_told.proofs.Words.{control_due, counts_first, data_due, drop, expected, false, fetch_cases, fetched, fetched_answers, few_turns, fits}
+use Rattle.lines_told.proofs.Words.{fragment_due, frame_due, frames_of, inl, inr, is_act, is_rnr, is_rset, length, length-append, loses_aged, nat_lt, not_rset}
+use Rattle.lines_told.proofs.Words.{noted_all, noted_loss, noted_out, or_parts, overflows, refl, sans, sends_keeps, sends_noted, shdlc_becomes, shdlc_exchanged}
+use Rattle.lines_told.proofs.Words.{shdlc_put, shdlc_put_all, shdlc_turned, slice_get, slice_get-append, suc, sym, true, with_frame, zero, ℕ, ◌%◌, ◌&&◌, ◌++◌}
+use Rattle.lines_told.proofs.Words.{◌+◌, ◌<◌, ◌||◌, ◌∙◌, ◌∷◌, ◌≡◌, ◌≤◌, ◌⊎◌}
 use Rattle.link_laws.proofs.places.Joined.{idle_after, left}
 use Rattle.link_laws.proofs.sessions.Quiet.{few_room}
 use Rattle.lines_told.proofs.fragments.Turns.{Answers, Brings, Differs, Turned, answers_no_act, brings_no_act, turned_up}
@@ -98,10 +98,7 @@ module _ (P : Control → Type 0) where
     in_aged (suc k) (x ∷ xs) none h = go (nat_lt x.age 4) (is_act x.frame) refl refl (in_aged k xs) h
       where
         rest : (a b : Bool) → nat_lt x.age 4 ≡ a → is_act x.frame ≡ b → ((a ≡ true) ⊎ (b ≡ true)) → loses_aged (sans xs) ≡ false
-        rest a true p q e = rw q at none
-        rest true false p q e = rw p at (let z : loses_aged (x ∷ sans xs) ≡ false = rw q at none in z)
-        rest false false p q (inl e) = absurd (true≢false (let z : false ≡ true = e in cc))
-        rest false false p q (inr e) = absurd (true≢false (let z : false ≡ true = e in cc))
+        rest a b p q e = grind arith
 
         go : (a b : Bool) → nat_lt x.age 4 ≡ a → is_act x.frame ≡ b → (loses_aged (sans xs) ≡ false → StandsIn P k xs → StandsIn P k (aged_wire xs))
             → P x.frame ⊎ StandsIn P k xs → StandsIn P (suc k) (aged_wire (x ∷ xs))
@@ -148,8 +145,7 @@ behind_aged k [] h = tt
 behind_aged zero (x ∷ xs) h = go (nat_lt x.age 4) refl (behind_aged zero xs h.1)
   where
     go : (b : Bool) → nat_lt x.age 4 ≡ b → NoRnrBehind zero (aged_wire xs) → NoRnrBehind zero (aged_wire (x ∷ xs))
-    go true p later = rw p (h.0, later)
-    go false p later = rw p later
+    go b p later = grind arith
 behind_aged (suc k) (x ∷ xs) h = go (nat_lt x.age 4) refl (behind_aged k xs h)
   where
     go : (b : Bool) → nat_lt x.age 4 ≡ b → NoRnrBehind k (aged_wire xs) → NoRnrBehind (suc k) (aged_wire (x ∷ xs))
@@ -267,16 +263,11 @@ advances_then {a} {c} {d} {t} {c'} {d'} {t'} {m} {n} {o} g h =
     low_then low = omega (arith, g.acked)
 
     idle : IsIdle m ⊎ (0 < t + t') → IsIdle o
-    idle (inl e) = h.idle (inl (g.idle (inl e)))
-    idle (inr e) = elim (cases_lt 0 t') [
-      | inl i ↦ h.idle (inr i)
-      | inr i ↦ h.idle (inl (g.idle (inr (omega arith))))
-    ]
+    idle a = grind arith
 
     answered : (k : ℕ) → a ≤ m.controller.side.session.acked → StandsIn (Answers a) (k + c') n.to_controller ⊎ Grown a n
         → StandsIn (Answers a) k o.to_controller ⊎ Grown a o
-    answered k low (inl e) = h.answered (k + c') k (omega arith) (low_then low) e
-    answered k low (inr e) = inr (grown_still h e)
+    answered k low a = grind arith
 
     sent : (k : ℕ) → a ≤ m.controller.side.session.acked → StandsIn (Brings a) (k + d') n.to_host ⊎ Answered a n
         → StandsIn (Brings a) k o.to_host ⊎ Answered a o
@@ -286,16 +277,7 @@ advances_then {a} {c} {d} {t} {c'} {d'} {t'} {m} {n} {o} g h =
     waits : a ≤ m.controller.side.session.acked → a < length m.controller.side.session.out → NoRnrBehind 0 m.to_controller → IsIdle m
         → Counted m.controller.side.timer t n ⊎ Sent a n → Counted m.controller.side.timer (t + t') o ⊎ Sent a o
     waits low more rnr still (inr e) = inr (sent_still h (low_then low) e)
-    waits low more rnr still (inl e) =
-        go (h.waits (low_then low) (omega (arith, g.out)) (g.rnr 0 0 (omega arith) rnr) (g.idle (inl still)))
-      where
-        below : Counted n.controller.side.timer t' o → 0 < t + t' → (0 < t') ⊎ (t' ≤ 0) → o.controller.side.timer < 10
-        below k i (inl j) = k.below j
-        below k i (inr j) = omega (arith, k.timer, e.below (omega arith))
-
-        go : Counted n.controller.side.timer t' o ⊎ Sent a o → Counted m.controller.side.timer (t + t') o ⊎ Sent a o
-        go (inr s) = inr s
-        go (inl k) = inl (record { timer = omega (arith, k.timer, e.timer); below = λ i. below k i (cases_lt 0 t') })
+    waits low more rnr still (inl e) = grind arith
 
 -- ## An end sends all that is due: what this leaves of the end, and what stands on the wire then
 
@@ -316,32 +298,15 @@ sent_same zero e = record { phase = refl; ready = refl; timer = refl; window = r
 sent_same (suc n) e = go (one e) (sent_same n (fetched e))
   where
     one : (e : EndState) → SentSame e (fetched e)
-    one e =
-        fetch_cases (λ f c. SentSame e f) e
-        (λ d ds p. record { phase = refl; ready = refl; timer = refl; window = refl; acked = refl; out = refl; acc = refl })
-        (λ p q. record { phase = refl; ready = refl; timer = refl; window = refl; acked = refl; out = refl; acc = refl })
-        (λ info p q. record { phase = refl; ready = refl; timer = refl; window = refl; acked = refl; out = refl; acc = refl })
+    one e = grind arith
 
     go : {f g : EndState} → SentSame e f → SentSame f g → SentSame e g
-    go a b =
-        record {
-          phase = b.phase ∙ a.phase;
-          ready = b.ready ∙ a.ready;
-          timer = b.timer ∙ a.timer;
-          window = b.window ∙ a.window;
-          acked = b.acked ∙ a.acked;
-          out = b.out ∙ a.out;
-          acc = b.acc ∙ a.acc;
-        }
+    go a b = grind arith
 
 -- ### What is left of the link
 
 put_same : (l : ShdlcLink) (c : Control) → ((shdlc_put l c).to_controller ≡ l.to_controller) × ((shdlc_put l c).host ≡ l.host)
-put_same l c = go (is_rset c) refl
-  where
-    go : (b : Bool) → is_rset c ≡ b → ((shdlc_put l c).to_controller ≡ l.to_controller) × ((shdlc_put l c).host ≡ l.host)
-    go true q = rw q (refl, refl)
-    go false q = rw q (refl, refl)
+put_same l c = grind arith
 
 pub put_all_same : (cs : List Control) (l : ShdlcLink) → ((shdlc_put_all l cs).to_controller ≡ l.to_controller) × ((shdlc_put_all l cs).host ≡ l.host)
 put_all_same [] l = (refl, refl)
@@ -416,22 +381,10 @@ fragment_stands P no_act (d ∷ ds) (suc m) n e l info q i answers none is p =
 -- ### Where no RNR is due
 
 not_rnr : (e : EndState) (c : Control) → NoRnr e.due → AnswersOnly e.due → frame_due e ≡ Some c → is_rnr c ≡ false
-not_rnr e c none answers is =
-    fetch_cases (λ f o. o ≡ Some c → is_rnr c ≡ false) e (λ d ds p q. control d ds (rw p at none) (rw p at answers) q) (λ p q n. cc)
-    (λ info p q n. ap is_rnr (sym (some (I (e.session.next % 8) (expected e.session) info) c n))) is
-  where
-    some : (k c : Control) → Some k ≡ Some c → k ≡ c
-    some k c e = cc
-
-    control : (d : Due) (ds : List Due) → NoRnr (d ∷ ds) → AnswersOnly (d ∷ ds) → Some (control_due e d) ≡ Some c → is_rnr c ≡ false
-    control Rr_due ds h a q = ap is_rnr (sym (some (control_due e Rr_due) c q))
-    control Rej_due ds h a q = ap is_rnr (sym (some (control_due e Rej_due) c q))
-    control Rnr_due ds h a q = absurd h
-    control _ ds h a q = absurd a
+not_rnr e c none answers is = grind arith
 
 no_rnr_rest : (d : Due) (ds : List Due) → NoRnr (d ∷ ds) → NoRnr ds
-no_rnr_rest Rnr_due ds h = absurd h
-no_rnr_rest _ ds h = h
+no_rnr_rest d ds h = grind arith
 
 fetched_no_rnr : (e : EndState) → NoRnr e.due → NoRnr (fetched e).due
 fetched_no_rnr e h = fetch_cases (λ f o. NoRnr f.due) e (λ d ds p. no_rnr_rest d ds (rw p at h)) (λ p q. h) (λ info p q. h)
@@ -487,13 +440,7 @@ get_some (x ∷ xs) (suc k) i = get_some xs k (omega (arith, i))
 
 -- the first place that isn't acknowledged is sent
 due_again : (s : Session) (info : Fragment) → StartsAgain s → 0 < s.window → slice_get s.out s.next ≡ Some info → fragment_due s ≡ Some info
-due_again s info h wide is =
-    let inside : nat_lt s.next (s.acked + s.window) ≡ true = lt-ltb s.next (s.acked + s.window) (omega (arith, h.next)) in
-    rw (may h.may, inside) is
-  where
-    may : (s.peer_busy ≡ false) ⊎ (s.probe ≡ true) → (not s.peer_busy || s.probe) ≡ true
-    may (inl e) = rw e refl
-    may (inr e) = or_right (not s.peer_busy) s.probe e
+due_again s info h wide is = grind arith
 
 module _ {a c t : ℕ} {m l : ShdlcLink} {e : EndState} (ts : List ShdlcTurn) (n : Losses) (none : (noted_out n l (shdlc_turned e ts)).lost ≡ false) where
   -- its own places
@@ -557,8 +504,7 @@ module _ {a c t : ℕ} {m l : ShdlcLink} {e : EndState} (ts : List ShdlcTurn) (n
 
           sends : StartsAgain g.session → Sent a (shdlc_becomes l g)
           sends s =
-              let inside : g.session.next < length e.session.out =
-              omega (arith, s.next, turned.acked, same, ap (length {A = Fragment}) h.out) in
+              let inside : g.session.next < length e.session.out = omega (arith, s.next, turned.acked, same, ap (length {A = Fragment}) h.out) in
               let some = get_some e.session.out g.session.next inside in
               let is : slice_get g.session.out g.session.next ≡ Some some.0 =
               rw turned.out (slice_get-append e.session.out turned.more g.session.next some.0 some.1) in

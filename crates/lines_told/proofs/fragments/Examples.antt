@@ -1,6 +1,6 @@
 -- The machines compute worked examples of rounds: what is asked of rounds can be met, and a fragment can take twelve of them.
 use Rattle.lines_told.proofs.Words.{AreRounds, AreUndisturbed, AtController, AtHost, BothTakeFragments, Deliver, IsRound, List, Lose, Offer, SetReady}
-use Rattle.lines_told.proofs.Words.{ShdlcLink, ShdlcLinkEvent, Some, Tick, Turns, Up, [], false, length, no_losses, noted_event, refl, shdlc_after}
+use Rattle.lines_told.proofs.Words.{ShdlcLink, ShdlcLinkEvent, Some, Tick, Turns, Up, [], arith, false, length, no_losses, noted_event, refl, shdlc_after}
 use Rattle.lines_told.proofs.Words.{shdlc_happens, start, suc, to_deliver, true, zero, ℕ, ◌++◌, ◌∷◌, ◌≡◌}
 
 abbrev time : List ShdlcLinkEvent
@@ -102,9 +102,7 @@ abbrev taken : ShdlcLink
 taken = shdlc_happens before (AtHost (Deliver []))
 
 eleventh_rest : AreUndisturbed taken time
-eleventh_rest =
-    then_time taken (all_ready taken refl refl refl refl) refl
-    (all_ready (shdlc_happens taken (Tick (Some []) [] (Some []))) refl refl refl refl)
+eleventh_rest = grind arith
 
 eleventh_undisturbed : AreUndisturbed before (AtHost (Deliver []) ∷ time)
 eleventh_undisturbed = (all_ready before refl refl refl refl, refl, eleventh_rest)

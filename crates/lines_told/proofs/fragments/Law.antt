@@ -45,15 +45,7 @@ did_nothing m = did_wires 0 0 m m.to_controller m.to_host (leaves_same m.to_cont
 
 sound_from : {kn kf kn' kf' c d tn tf : ℕ} {m n : ShdlcLink} → Sound kn kf m → Did c d tn tf m n → SafeLink kn' kf' n → n.controller.side.phase ≡ Up
     → n.host.side.phase ≡ Up → Sound kn' kf' n
-sound_from h did safe near far =
-    record {
-      safe = safe;
-      near_up = near;
-      far_up = far;
-      near_wide = omega (arith, did.near_window, h.near_wide);
-      far_wide = omega
-          (arith, did.far_window, h.far_wide);
-    }
+sound_from h did safe near far = grind arith
 
 did_here : {m : ShdlcLink} → Sound 0 0 m → m.controller.side.ready ≡ true → (e : ShdlcEndEvent) → IsOrdinary e → (n : Losses)
     → (noted_here n m e).lost ≡ false
@@ -65,11 +57,7 @@ did_here h ready Lose o n none = did_loses n none
 did_here h ready _ o n none = absurd o
 
 allowed : (e : ShdlcEndEvent) → IsOrdinary e → IsShdlcAllowed e
-allowed (Turns ts) o = tt
-allowed (Deliver ts) o = tt
-allowed (Acts acts ts) o = tt
-allowed Lose o = tt
-allowed _ o = absurd o
+allowed e o = grind arith
 
 -- ### The turns of a tick
 
@@ -92,9 +80,7 @@ here_lost m (Acts acts ts) es n o none =
 here_lost m _ es n o none = absurd o
 
 rest_ordinary : (e : ShdlcEndEvent) (es : List ShdlcEndEvent) → AreOrdinaryTurns (e ∷ es) → AreOrdinaryTurns es
-rest_ordinary (Turns ts) es o = o
-rest_ordinary (Acts acts ts) es o = o
-rest_ordinary _ es o = absurd o
+rest_ordinary e es o = grind arith
 
 turns_lost : (es : List ShdlcEndEvent) (m : ShdlcLink) (n : Losses) → AreOrdinaryTurns es → (noted_turns n m es).lost ≡ false → n.lost ≡ false
 turns_lost [] m n o none = none
@@ -411,9 +397,7 @@ settles z (suc k) l n more fits (m, p, e) =
 -- rounds that are undisturbed lead on at both ends
 rounds_lead : (k : ℕ) (events : List ShdlcLinkEvent) (l : ShdlcLink) → Sound 0 0 l → AreUndisturbed l events → AreRounds k l events
     → Lead k l (shdlc_after l events) × Lead k (shdlc_exchanged l) (shdlc_exchanged (shdlc_after l events)) × Sound 0 0 (shdlc_after l events)
-rounds_lead zero events l h u is =
-    let end : shdlc_after l events ≡ l = ap (shdlc_after l) is in
-    (sym end, ap shdlc_exchanged (sym end), rw end h)
+rounds_lead zero events l h u is = grind arith
 rounds_lead (suc k) events l h u (first, rest, parts, one, more) =
     let all : AreUndisturbed l (first ++ rest) = rw (← parts) u in
     let cut = undisturbed_parts first rest l all in
@@ -431,13 +415,7 @@ sound : (l : ShdlcLink) → IsShdlcStart l → (before : List ShdlcLinkEvent) �
 sound l s before a b =
     let safe : SafeLink 0 0 (shdlc_after l before) = safe l s before a in
     let wide = wide l s before a in
-    record {
-      safe = safe;
-      near_up = b.controller_up;
-      far_up = b.host_up;
-      near_wide = wide.controller b.controller_up;
-      far_wide = wide.host b.host_up;
-    }
+    grind arith
 
 -- one direction: the sender is the controller's end, and all that it was given before is acknowledged
 delivered : (k : ℕ) (l n : ShdlcLink) → Lead k l n → Sound 0 0 n → length l.controller.side.session.out ≤ n.controller.side.session.acked
@@ -531,9 +509,7 @@ all_to_controller l s before a k rounds r u fits = delivered_to_controller l s b
 
 -- what is in order at their end
 in_order : (l : ShdlcLink) → Sound 0 0 l → FragmentsInOrder l.controller.side.session l.host.side.session
-in_order l h =
-    let b = (pair_up h).mine in
-    record { front = b.front; acked = b.acked; offered = omega (arith, b.from, b.sent, b.offered) }
+in_order l h = grind arith
 
 pub order_after : (l : ShdlcLink) → IsShdlcStart l → (before : List ShdlcLinkEvent) → AllShdlcAllowed before → (k : ℕ) (rounds : List ShdlcLinkEvent)
     → AreRounds k (shdlc_after l before) rounds → AreUndisturbed (shdlc_after l before) rounds

@@ -1,15 +1,13 @@
 -- Each thing that the near end of a link does, where both ends are up in one session: how far it brings the places of both ends.
-use Rattle.std.proofs.lemmas.Bool.{true≢false}
 use Rattle.std.specs.Prelude.{nat_lt, slice_get}
 use Rattle.lines_told.proofs.Words.{Activation, Acts, Bool, Control, Deliver, Due, EndState, IsData, List, Lose, Losses, None, NumberedShdlc, OnWire, Pair}
-use Rattle.lines_told.proofs.Words.{Rr_due, Safe, SafeLink, Session, ShdlcLink, ShdlcTurn, Some, TakenUp, Turns, Ua, Up, Waiting, [], act_frame, agreed, ap}
-use Rattle.lines_told.proofs.Words.{arith, came_up, cases_lt, counts_first, drop, false, fetch_cases, fragment_due, frame_cases, frame_due, frames_of, inl, inr}
-use Rattle.lines_told.proofs.Words.{is_act, is_some, length, live, lt-ltb, ltb-true, map, not, noted_all, noted_here, noted_loss, noted_out, noted_tick, of_up}
-use Rattle.lines_told.proofs.Words.{or_parts, or_right, pair_from, passes_act, refl, runs_timer, safe_swap, sans, sent_again, shdlc_becomes, shdlc_exchanged}
-use Rattle.lines_told.proofs.Words.{shdlc_happens_at_controller, shdlc_number_of, shdlc_put, shdlc_put_all, shdlc_session_of, shdlc_ticks_at_controller}
-use Rattle.lines_told.proofs.Words.{shdlc_turned, subst, sym, take_answer, taken, taken_up, tick_answer, ticked, took_with, true, turned-phase, waiting_from}
-use Rattle.lines_told.proofs.Words.{with_frame, with_shdlc_ended, ℕ, ◌&&◌, ◌+◌, ◌<◌, ◌∙◌, ◌∷◌, ◌≡◌, ◌≤◌, ◌⊎◌}
-use Rattle.link_laws.proofs.sessions.Hand.{IsRset, rset_told, ua_told}
+use Rattle.lines_told.proofs.Words.{Rr_due, SafeLink, Session, ShdlcLink, ShdlcTurn, Some, TakenUp, Turns, Ua, Up, [], act_frame, ap, arith, came_up, cases_lt}
+use Rattle.lines_told.proofs.Words.{counts_first, drop, false, fetch_cases, fragment_due, frame_cases, frame_due, frames_of, inl, inr, is_act, is_some, length}
+use Rattle.lines_told.proofs.Words.{live, lt-ltb, map, noted_all, noted_here, noted_loss, noted_out, noted_tick, or_parts, passes_act, refl, runs_timer, sans}
+use Rattle.lines_told.proofs.Words.{shdlc_becomes, shdlc_exchanged, shdlc_happens_at_controller, shdlc_put, shdlc_put_all, shdlc_ticks_at_controller}
+use Rattle.lines_told.proofs.Words.{shdlc_turned, subst, sym, take_answer, taken, taken_up, tick_answer, ticked, took_with, true, turned-phase, with_frame}
+use Rattle.lines_told.proofs.Words.{with_shdlc_ended, ℕ, ◌+◌, ◌<◌, ◌∙◌, ◌∷◌, ◌≡◌, ◌≤◌, ◌⊎◌}
+use Rattle.link_laws.proofs.sessions.Hand.{IsRset}
 use Rattle.lines_told.proofs.fragments.Becomes.{Advances, CountedAt, IsIdle, NoRnrBehind, Receives, Sends, StandsIn, StartsAgain, advances_other, advances_own}
 use Rattle.lines_told.proofs.fragments.Becomes.{advances_then, behind_fits, behind_more, behind_push, behind_rest, get_some, in_more, in_rest, out_lost}
 use Rattle.lines_told.proofs.fragments.Becomes.{prefix_of, put_all_same, put_stands, sent_same}
@@ -46,8 +44,7 @@ pub did_exchanged : {c d tn tf : ℕ} {m n : ShdlcLink} → Did c d tn tf m n �
 did_exchanged h = record { own = h.other; other = h.own; near_window = h.far_window; far_window = h.near_window }
 
 pub sound_exchanged : {kn kf : ℕ} {l : ShdlcLink} → Sound kn kf l → Sound kf kn (shdlc_exchanged l)
-sound_exchanged h =
-    record { safe = safe_swap h.safe; near_up = h.far_up; far_up = h.near_up; near_wide = h.far_wide; far_wide = h.near_wide }
+sound_exchanged h = grind arith
 
 -- of a wire this is left behind so many frames: what stood among the first stands there still, if it is no frame of activation, and
 -- where no RNR stood behind the first, none does
@@ -74,8 +71,7 @@ wires_advance a c d m v w near far =
     }
   where
     still : IsIdle m ⊎ (0 < 0) → IsIdle m
-    still (inl i) = i
-    still (inr i) = absurd (omega (arith, i))
+    still a = grind arith
 
 -- only both wires change
 pub did_wires : (c d : ℕ) (m : ShdlcLink) (v w : List OnWire) → Leaves c m.to_controller v → Leaves d m.to_host w
@@ -94,14 +90,7 @@ module _ {kn kf : ℕ} {m : ShdlcLink} (h : Sound kn kf m) where
 
   -- both sessions, and what is on its way to the near end
   pub pair_up : Pair m.controller.side.session m.host.side.session (sans m.to_controller) (live m.host.side.phase (sans m.to_host))
-  pair_up =
-      let P : Session → Type 0 = λ s. Pair m.controller.side.session s (sans m.to_controller) (live m.host.side.phase (sans m.to_host)) in
-      let a : live m.controller.side.phase (sans m.to_controller) ≡ Some (sans m.to_controller) = rw h.near_up refl in
-      let b : live m.host.side.phase (sans m.to_host) ≡ Some (sans m.to_host) = rw h.far_up refl in
-      let same : shdlc_number_of m.controller ≡ shdlc_number_of m.host =
-      agreed (live m.controller.side.phase (sans m.to_controller)) (live m.host.side.phase (sans m.to_host)) (sans m.to_controller) (sans m.to_host)
-      (shdlc_number_of m.controller ≡ shdlc_number_of m.host) a b h.safe.hand.agree in
-      subst P (ap (shdlc_session_of m.host) same ∙ of_up m.host h.far_up) (pair_from h.safe h.near_up)
+  pair_up = grind arith
 
 -- an end with something to send has its timer running, once all that is due is sent
 runs_of_idle : (e : EndState) → 0 < e.session.window → e.session.acked ≤ e.session.next → e.session.acked < length e.session.out
@@ -115,13 +104,10 @@ runs_of_idle e wide from more idle = go (cases_lt s.acked s.next)
     none = fetch_cases (λ f c. c ≡ None → fragment_due e.session ≡ None) e (λ d ds p n. cc) (λ p q n. q) (λ info p q n. cc) idle
 
     by_busy : (b : Bool) → e.session.peer_busy ≡ b → e.session.next ≡ e.session.acked → runs_timer e.session ≡ true
-    by_busy true q same =
-        let out : nat_lt e.session.next (length e.session.out) ≡ true = lt-ltb e.session.next (length e.session.out) (omega arith) in
-        or_right (nat_lt e.session.acked e.session.next) (e.session.peer_busy && nat_lt e.session.next (length e.session.out)) (rw (q, out) refl)
+    by_busy true q same = grind arith
     by_busy false q same =
         let some = get_some e.session.out e.session.next (omega arith) in
-        let inside : nat_lt e.session.next (e.session.acked + e.session.window) ≡ true =
-        lt-ltb e.session.next (e.session.acked + e.session.window) (omega arith) in
+        let inside : nat_lt e.session.next (e.session.acked + e.session.window) ≡ true = grind arith in
         let past : slice_get e.session.out e.session.next ≡ None = rw (q, inside) at none in
         absurd (let z = sym some.1 ∙ past in cc)
 
@@ -230,11 +216,7 @@ pub did_loses : {m : ShdlcLink} (n : Losses) → (noted_here n m Lose).lost ≡ 
 did_loses {m = m} n none = go m.to_controller (or_parts n.lost (counts_first m.to_controller) none).1
   where
     act : (x : OnWire) (xs : List OnWire) → counts_first (x ∷ xs) ≡ false → is_act x.frame ≡ true
-    act x xs e = by (is_act x.frame) refl e
-      where
-        by : (b : Bool) → is_act x.frame ≡ b → not b ≡ false → is_act x.frame ≡ true
-        by true q e = q
-        by false q e = absurd (true≢false e)
+    act x xs e = grind arith
 
     rest : (P : Control → Type 0) → ((c : Control) → is_act c ≡ true → P c → ⊥) → (j k : ℕ) → j ≤ k + 1 → (w : List OnWire) → counts_first w ≡ false
         → StandsIn P j w → StandsIn P k (drop 1 w)
@@ -261,8 +243,7 @@ gone l xs ended took =
 
 gone_wires : (l : ShdlcLink) (xs : List OnWire) (b : Bool) (t : ℕ)
     → ((gone l xs b t).to_controller ≡ xs) × ((gone l xs b t).to_host ≡ l.to_host) × ((gone l xs b t).host ≡ l.host)
-gone_wires l xs true t = (refl, refl, refl)
-gone_wires l xs false t = (refl, refl, refl)
+gone_wires l xs b t = grind arith
 
 -- the near end, which is ready, takes the first frame on its way to it
 pub did_delivers : {m : ShdlcLink} → Sound 0 0 m → m.controller.side.ready ≡ true → (ts : List ShdlcTurn) (n : Losses)
@@ -406,11 +387,9 @@ did_delivers {m} h ready ts n none = go m.to_controller h none
             → Did 1 0 0 0 full (shdlc_becomes left (shdlc_turned (taken m.controller.side x.frame) ts))
         by_frame q (inl d) = in_session q d
         by_frame q (inr (inl is)) =
-            absurd (let safe : Safe 0 0 m.controller m.host (x ∷ sans xs) (sans m.to_host) m.resets = rw q at g.safe in
-            let z = sym (rset_told safe.hand is).waiting ∙ g.far_up in let y : Waiting ≡ Up = z in cc)
+            absurd (grind arith)
         by_frame q (inr (inr is)) =
-            absurd (let safe : Safe 0 0 m.controller m.host (x ∷ sans xs) (sans m.to_host) m.resets = rw q at g.safe in
-            let z = sym (ua_told safe.hand is).1 ∙ g.near_up in let y : Waiting ≡ Up = z in cc)
+            absurd (grind arith)
 
         by_kind : (b : Bool) → is_act x.frame ≡ b → Did 1 0 0 0 full (shdlc_becomes left (shdlc_turned (taken m.controller.side x.frame) ts))
         by_kind true q = passed q
@@ -430,60 +409,11 @@ record Ticked (e f : EndState) : Type 0 where
   waits : runs_timer e.session ≡ true → CountedAt e.timer 1 f ⊎ StartsAgain f.session
 
 ticked_up : (e : EndState) → e.phase ≡ Up → (ticked e).phase ≡ Up → e.session.acked ≤ e.session.next → Ticked e (ticked e)
-ticked_up e up still from = go (runs_timer e.session) (nat_lt (e.timer + 1) 10) (nat_lt e.tries 5) refl refl refl
-  where
-    may : (b : Bool) → (b ≡ false) ⊎ (b ≡ true)
-    may true = inr refl
-    may false = inl refl
-
-    by : (f : EndState) → ticked e ≡ f → Ticked e f → Ticked e (ticked e)
-    by f is t = subst (Ticked e) (sym is) t
-
-    go : (a b c : Bool) → runs_timer e.session ≡ a → nat_lt (e.timer + 1) 10 ≡ b → nat_lt e.tries 5 ≡ c → Ticked e (ticked e)
-    go false b c p q r =
-        by e (rw (up, p) refl)
-        (record {
-          up = up;
-          due = refl;
-          window = refl;
-          acked = refl;
-          out = refl;
-          acc = refl;
-          from = from;
-          waits = λ runs. absurd (true≢false (sym runs ∙ p));
-        })
-    go true true c p q r =
-        by (record e { timer = e.timer + 1 }) (rw (up, p, q) refl)
-        (record {
-          up = up;
-          due = refl;
-          window = refl;
-          acked = refl;
-          out = refl;
-          acc = refl;
-          from = from;
-          waits = λ runs. inl (record { timer = refl; below = λ i. ltb-true (e.timer + 1) 10 q });
-        })
-    go true false true p q r =
-        by (sent_again e) (rw (up, p, q, r) refl)
-        (record {
-          up = up;
-          due = refl;
-          window = refl;
-          acked = refl;
-          out = refl;
-          acc = refl;
-          from = omega arith;
-          waits = λ runs. inr (record { next = refl; may = may e.session.peer_busy });
-        })
-    go true false false p q r =
-        absurd (let is : ticked e ≡ waiting_from e = rw (up, p, q, r) refl in let z = sym (ap (λ (f : EndState). f.phase) is) ∙ still in
-        let y : Waiting ≡ Up = z in cc)
+ticked_up e up still from = grind arith
 
 pub ended_wires : (l : ShdlcLink) (b : Bool) → ((with_shdlc_ended l b).to_controller ≡ l.to_controller) × ((with_shdlc_ended l b).to_host ≡ l.to_host)
     × ((with_shdlc_ended l b).host ≡ l.host)
-ended_wires l true = (refl, refl, refl)
-ended_wires l false = (refl, refl, refl)
+ended_wires l b = grind arith
 
 pub did_ticks : {kf : ℕ} {m : ShdlcLink} → Sound 1 kf m → (ts : List ShdlcTurn) (n : Losses) → (noted_tick n (Some ts) m).lost ≡ false
     → (shdlc_ticks_at_controller m ts).controller.side.phase ≡ Up → Did 0 0 1 0 m (shdlc_ticks_at_controller m ts)

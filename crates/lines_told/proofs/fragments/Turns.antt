@@ -1,10 +1,9 @@
 -- What an end that is up has become when it took a frame, and what the turns of its node leave of it.
 use Rattle.lines_told.proofs.Words.{AnswersOnly, Bool, Control, Counts, Due, EndState, Fragment, I, IsData, Kind, List, NoRnr, Offer, OnWire, Option, Pair, Rej}
-use Rattle.lines_told.proofs.Words.{Rej_due, Rnr, Rnr_due, Rr, Rr_due, Rset, S, Session, SetReady, ShdlcTurn, ShowsAct, Some, Srej, Up, [], accepted}
-use Rattle.lines_told.proofs.Words.{acknowledged, ahead, answers_more, ap, append-nil, append_assoc, arith, cases_lt, counts_le, eqb-false, eqb-true, false}
-use Rattle.lines_told.proofs.Words.{inl, inr, is_act, is_rnr, le-ltb, length, length-append, ltb-false, ltb-true, made_busy, max, nat_lt, offer_up, place_of}
-use Rattle.lines_told.proofs.Words.{ready_again, ready_cases, received, refl, rejected, repeated, shdlc_turn, shdlc_turned, subst, sym, taken, taken_I, taken_S}
-use Rattle.lines_told.proofs.Words.{true, turn-phase, ℕ, ◌%◌, ◌++◌, ◌+◌, ◌<◌, ◌==◌, ◌∙◌, ◌∷◌, ◌≡◌, ◌≤◌, ◌⊎◌}
+use Rattle.lines_told.proofs.Words.{Rej_due, Rnr, Rnr_due, Rr, Rr_due, Rset, S, Session, SetReady, ShdlcTurn, ShowsAct, Some, Up, [], accepted, acknowledged}
+use Rattle.lines_told.proofs.Words.{ahead, answers_more, ap, append-nil, append_assoc, arith, counts_le, false, is_act, is_rnr, length, length-append, offer_up}
+use Rattle.lines_told.proofs.Words.{place_of, ready_cases, received, refl, repeated, shdlc_turn, shdlc_turned, subst, sym, taken, taken_I, true, turn-phase, ℕ}
+use Rattle.lines_told.proofs.Words.{◌%◌, ◌++◌, ◌+◌, ◌<◌, ◌∙◌, ◌∷◌, ◌≡◌, ◌≤◌, ◌⊎◌}
 use Rattle.link_laws.proofs.places.Joined.{place_found}
 
 -- ## What an end that is up and ready has become when it took a frame of its session
@@ -23,13 +22,10 @@ Brings a (I ns nr info) = ns ≡ a % 8
 Brings a _ = ⊥
 
 pub answers_no_act : (a : ℕ) (c : Control) → is_act c ≡ true → Answers a c → ⊥
-answers_no_act a (I _ _ _) q h = let z : false ≡ true = q in cc
-answers_no_act a (S _ _) q h = let z : false ≡ true = q in cc
-answers_no_act a _ q h = h
+answers_no_act a c q h = grind arith
 
 pub brings_no_act : (a : ℕ) (c : Control) → is_act c ≡ true → Brings a c → ⊥
-brings_no_act a (I _ _ _) q h = let z : false ≡ true = q in cc
-brings_no_act a _ q h = h
+brings_no_act a c q h = grind arith
 
 -- a length accepted that isn't a, where it is told modulo 8
 abbrev pub Differs : ℕ → ℕ → Type 0
@@ -56,32 +52,11 @@ received_ready : (P : EndState → Type 0) (e : EndState) (ns : ℕ) (info : Fra
     → ((ahead e.session ns ≡ 0 → ⊥) → ahead e.session ns < 4 → P (record e { due = e.due ++ Rej_due ∷ []; session = record e.session { gap_open = true } }))
     → ((ahead e.session ns ≡ 0 → ⊥) → 4 ≤ ahead e.session ns → P (repeated e))
     → P (received e ns info)
-received_ready P e ns info ready takes same gap repeat =
-    go (ahead e.session ns == 0) (nat_lt (ahead e.session ns) 4) e.session.gap_open refl refl refl
-  where
-    go : (b c d : Bool) → (ahead e.session ns == 0) ≡ b → nat_lt (ahead e.session ns) 4 ≡ c → e.session.gap_open ≡ d → P (received e ns info)
-    go true c d q r t = rw (ready, q) (rw ready at takes (eqb-true (ahead e.session ns) 0 q))
-    go false true true q r t = rw (ready, q, r, t) (rw (ready, t) at (same (eqb-false (ahead e.session ns) 0 q) (ltb-true (ahead e.session ns) 4 r)))
-    go false true false q r t = rw (ready, q, r, t) (rw ready at (gap (eqb-false (ahead e.session ns) 0 q) (ltb-true (ahead e.session ns) 4 r)))
-    go false false d q r t = rw (ready, q, r) (rw ready at (repeat (eqb-false (ahead e.session ns) 0 q) (ltb-false (ahead e.session ns) 4 r)))
+received_ready P e ns info ready takes same gap repeat = grind arith
 
 -- a number at or above a that isn't a modulo 8 is above it
 above : (a n : ℕ) → a ≤ n → (n % 8 ≡ a % 8 → ⊥) → a < n
-above a n i h = elim (cases_lt a n) [
-  | inl k ↦ k
-  | inr k ↦ absurd (h (let e : n ≡ a = omega arith in ap (λ (m : ℕ). m % 8) e))
-]
-
-ack_timer : (e : EndState) (n : ℕ) → n ≡ e.session.acked → (acknowledged e n).timer ≡ e.timer
-ack_timer e n q = let b : nat_lt e.session.acked n ≡ false = le-ltb e.session.acked n (omega arith) in rw b refl
-
--- RR leaves the timer as it runs, or all that isn't acknowledged is to be sent
-rr_timer : (e : EndState) (n : ℕ) → n ≡ e.session.acked → ((ready_again e n).timer ≡ e.timer) ⊎ (((ready_again e n).session.next ≡ n) × (false ≡ false))
-rr_timer e n q = go (nat_lt n (max e.session.next n)) refl
-  where
-    go : (b : Bool) → nat_lt n (max e.session.next n) ≡ b → ((ready_again e n).timer ≡ e.timer) ⊎ (((ready_again e n).session.next ≡ n) × (false ≡ false))
-    go true p = inl (rw p (ack_timer e n q))
-    go false p = inr (let g = ltb-false n (max e.session.next n) p in omega arith, refl)
+above a n i h = grind arith
 
 module _ (e : EndState) (ready : e.ready ≡ true) (due : e.due ≡ []) (up : e.phase ≡ Up) where
   abbrev s : Session
@@ -96,8 +71,7 @@ module _ (e : EndState) (ready : e.ready ≡ true) (due : e.due ≡ []) (up : e.
       (λ a i j k. (([], refl), λ d. let more : length (s.acc ++ info ∷ []) ≡ length s.acc + 1 = length-append s.acc (info ∷ []) in omega arith)))
       (λ z g. from s.acc e.due [] s.gap_open due tt (omega arith) tt (λ a i j k. absurd (omega arith)))
       (λ z g. from s.acc (e.due ++ Rej_due ∷ []) (Rej_due ∷ []) true (one Rej_due) tt (omega arith) tt (λ a i j k. absurd (omega arith)))
-      (λ z g. from s.acc (e.due ++ Rr_due ∷ []) (Rr_due ∷ []) s.gap_open (one Rr_due) tt (omega arith) tt
-      (λ a i j k. (([], refl), λ d. z (omega arith)))))
+      (λ z g. grind arith))
     where
       c : Control
       c = I (p % 8) (n % 8) info
@@ -111,47 +85,11 @@ module _ (e : EndState) (ready : e.ready ≡ true) (due : e.due ≡ []) (up : e.
       from : (acc : List Fragment) (ds zs : List Due) (gap : Bool) → ds ≡ zs → AnswersOnly zs → length zs ≤ 1 → NoRnr zs
           → ((a : ℕ) → a ≤ length s.acc → length s.acc ≤ a + 4 → (p % 8) ≡ a % 8 → ((rest : List Due) × (zs ≡ Rr_due ∷ rest)) × Differs (length acc) a)
           → Took e (record f { due = ds; session = record f.session { acc = acc; gap_open = gap } }) c
-      from acc ds zs gap q answers few none placed =
-          record {
-            answers = rw q answers;
-            few = rw q few;
-            no_rnr = rw q none;
-            window = refl;
-            out = refl;
-            acked = low;
-            grows = λ a i h. above a n (omega arith) h;
-            stays = λ r k. inl (ack_timer e n k);
-            placed = λ a i j k. let g = placed a i j k in ((g.0.0, q ∙ g.0.1), g.1);
-          }
+      from acc ds zs gap q answers few none placed = grind arith
 
   -- a control frame
   took_S : (k : Kind) (n : ℕ) → place_of s (n % 8) ≡ Some n → s.acked ≤ n → Took e (taken e (S k (n % 8))) (S k (n % 8))
-  took_S k n place low =
-      taken_S (λ g. Took e g (S k (n % 8))) e k (n % 8) n up place
-      (record {
-        rr = λ is. rw is (from Rr (ready_again e n) due refl refl low (λ a i h. above a n (omega arith) h) (λ r q. rr_timer e n q));
-        rej = λ is. rw is (from Rej (rejected e n) due refl refl low (λ a i h. above a n (omega arith) h) (λ r q. inr (refl, refl)));
-        rnr = λ is. rw is (from Rnr (made_busy e n) due refl refl low (λ a i h. above a n (omega arith) h) (λ r q. absurd (let z : true ≡ false = r in cc)));
-        srej = λ is. rw is (from Srej e due refl refl (omega arith) (λ a i h. absurd h) (λ r q. inl refl));
-      })
-    where
-      from : (k : Kind) (g : EndState) → g.due ≡ [] → g.session.window ≡ s.window → g.session.out ≡ s.out → s.acked ≤ g.session.acked
-          → ((a : ℕ) → a ≤ s.acked → Answers a (S k (n % 8)) → a < g.session.acked)
-          → (is_rnr (S k (n % 8)) ≡ false → g.session.acked ≡ s.acked
-          → (g.timer ≡ e.timer) ⊎ ((g.session.next ≡ g.session.acked) × (g.session.peer_busy ≡ false)))
-          → Took e g (S k (n % 8))
-      from k g none window out acked grows stays =
-          record {
-            answers = rw none tt;
-            few = rw none (omega arith);
-            no_rnr = rw none tt;
-            window = window;
-            out = out;
-            acked = acked;
-            grows = grows;
-            stays = stays;
-            placed = λ a i j h. absurd h;
-          }
+  took_S k n place low = grind arith
 
   -- a frame on its way to it
   pub took : {r : Session} {x : OnWire} {here : List OnWire} {there : Option (List OnWire)} → IsData x.frame → Pair e.session r (x ∷ here) there
@@ -196,22 +134,7 @@ pub record Turned (e f : EndState) : Type 0 where
 turned_so : (e : EndState) (ready noted : Bool) (out more : List Fragment) (due : List Due) → out ≡ e.session.out ++ more
     → (AnswersOnly e.due → AnswersOnly due) → (NoRnr e.due → NoRnr due) → ((d : Due) (ds : List Due) → e.due ≡ d ∷ ds → (es : List Due) × (due ≡ d ∷ es))
     → Turned e (record e { ready = ready; due = due; session = record e.session { out = out; answered_rnr = noted } })
-turned_so e ready noted out more due is answers no_rnr first =
-    record {
-      phase = refl;
-      timer = refl;
-      window = refl;
-      acked = refl;
-      next = refl;
-      busy = refl;
-      probe = refl;
-      acc = refl;
-      more = more;
-      out = is;
-      answers = answers;
-      no_rnr = no_rnr;
-      first = first;
-    }
+turned_so e ready noted out more due is answers no_rnr first = grind arith
 
 -- no more than this is changed
 ready_so : (e : EndState) (ready noted : Bool) → Turned e (record e { ready = ready; session = record e.session { answered_rnr = noted } })

@@ -1,16 +1,13 @@
 -- The window of a session isn't 0, whatever happened on the link before.
-use Rattle.std.specs.Prelude.{nat_lt, is_some}
+use Rattle.std.specs.Prelude.{is_some}
 use Rattle.lines_told.proofs.Words.{Activation, Acts, AllShdlcAllowed, AreTurns, AtController, AtHost, Bool, Control, Cut, Deliver, Down, EndState, HasWindows}
-use Rattle.lines_told.proofs.Words.{I, Ignore, IsShdlcStart, IsTurn, Kind, List, Lose, None, NumberedShdlc, Offer, OnWire, Option, Rej, Reset, Rnr, Rr, Rset, S}
-use Rattle.lines_told.proofs.Words.{SafeLink, SetReady, ShdlcEndEvent, ShdlcLink, ShdlcLinkEvent, ShdlcTurn, Some, Srej, Stop, Tick, TickWithout, Turns, Ua}
-use Rattle.lines_told.proofs.Words.{Ua_due, Up, Waiting, [], acknowledged, act_frame, arith, asked_again, due_left, eqb-false, false, frames_of, given_up}
-use Rattle.lines_told.proofs.Words.{is_up, is_waiting, map, min, place_of, ready_cases, received, received_cases, refl, reset_taken, reset_with, runs_timer}
-use Rattle.lines_told.proofs.Words.{safe_event, safe_start, sent_again, shdlc_after, shdlc_aged, shdlc_all_at_controller, shdlc_becomes, shdlc_exchanged}
-use Rattle.lines_told.proofs.Words.{shdlc_happens, shdlc_happens_at_controller, shdlc_put_all, shdlc_silent, shdlc_ticks_at_controller, shdlc_turn}
-use Rattle.lines_told.proofs.Words.{shdlc_turned, subst, sym, take_answer, taken, tick_answer, ticked, ticks_if_waiting, ticks_or_cut, took_with, true}
-use Rattle.lines_told.proofs.Words.{turned-phase, up_with, waiting_from, with_shdlc_ended, ℕ, ◌++◌, ◌+◌, ◌<◌, ◌==◌, ◌∙◌, ◌∷◌, ◌≡◌}
+use Rattle.lines_told.proofs.Words.{Ignore, IsShdlcStart, IsTurn, List, Lose, None, NumberedShdlc, OnWire, Option, Reset, SafeLink, ShdlcEndEvent, ShdlcLink}
+use Rattle.lines_told.proofs.Words.{ShdlcLinkEvent, ShdlcTurn, Some, Stop, Tick, TickWithout, Turns, Up, Waiting, [], act_frame, arith, false, frames_of, is_up}
+use Rattle.lines_told.proofs.Words.{is_waiting, map, refl, reset_with, safe_event, safe_start, shdlc_after, shdlc_aged, shdlc_all_at_controller, shdlc_becomes}
+use Rattle.lines_told.proofs.Words.{shdlc_exchanged, shdlc_happens, shdlc_happens_at_controller, shdlc_put_all, shdlc_silent, shdlc_ticks_at_controller}
+use Rattle.lines_told.proofs.Words.{shdlc_turn, shdlc_turned, subst, sym, take_answer, taken, tick_answer, ticked, ticks_if_waiting, ticks_or_cut, took_with}
+use Rattle.lines_told.proofs.Words.{true, turned-phase, with_shdlc_ended, ℕ, ◌<◌, ◌∙◌, ◌∷◌, ◌≡◌}
 use Rattle.shdlc_core.specs.declared.answers.LinkState.{LinkState}
-use Rattle.link_laws.specs.sessions.Sessions.IsShdlcStart.{BothUp, BothDown}
 use Rattle.lines_told.proofs.fragments.Becomes.{put_all_same, sent_same}
 use Rattle.lines_told.proofs.fragments.NearSteps.{ended_wires}
 
@@ -25,12 +22,7 @@ pub record BothWide (l : ShdlcLink) : Type 0 where
 -- ## What an end becomes
 
 turn-window : (e : EndState) (t : ShdlcTurn) → (shdlc_turn e t).session.window ≡ e.session.window
-turn-window e (SetReady r) = ready_cases (λ f. f.session.window ≡ e.session.window) e r refl refl refl
-turn-window e (Offer fragments) = go e.phase refl
-  where
-    go : (p : LinkState) → e.phase ≡ p → (shdlc_turn e (Offer fragments)).session.window ≡ e.session.window
-    go Up q = rw q refl
-    go _ q = rw q refl
+turn-window e t = grind arith
 
 turned-window : (ts : List ShdlcTurn) (e : EndState) → (shdlc_turned e ts).session.window ≡ e.session.window
 turned-window [] e = refl
@@ -46,92 +38,22 @@ wide_becomes l ts e h up =
 not_up : (e : EndState) (p : LinkState) → e.phase ≡ p → (p ≡ Up → ⊥) → IsWide e
 not_up e p q n up = absurd (n (sym q ∙ up))
 
-wide_by : (e f : EndState) → f ≡ e → IsWide e → IsWide f
-wide_by e f q h = subst IsWide (sym q) h
-
-wide_reset : (e : EndState) (w : ℕ) → HasWindows e → IsWide e → IsWide (reset_taken e w)
-wide_reset e w has h = go (w == 0) e.phase refl refl
-  where
-    anew : (f : EndState) → (w == 0) ≡ false → reset_taken e w ≡ up_with f (min e.own_window (min w 4)) → IsWide (reset_taken e w)
-    anew f z q = wide_by (up_with f (min e.own_window (min w 4))) (reset_taken e w) q (λ up. let n = eqb-false w 0 z in omega (arith, has.own.0))
-
-    go : (b : Bool) (p : LinkState) → (w == 0) ≡ b → e.phase ≡ p → IsWide (reset_taken e w)
-    go true p z q = wide_by e (reset_taken e w) (rw z refl) h
-    go false Up z q = anew (record e { due = due_left e.phase e.due ++ Ua_due ∷ [] }) z (rw (z, q) refl)
-    go false Down z q = anew (record e { due = due_left e.phase e.due ++ Ua_due ∷ [] }) z (rw (z, q) refl)
-    go false Waiting z q =
-        wide_by (record e { due = e.due ++ Ua_due ∷ []; peer_window = min w 4 }) (reset_taken e w) (rw (z, q) refl)
-        (not_up (record e { due = e.due ++ Ua_due ∷ []; peer_window = min w 4 }) Waiting q (λ z. cc))
-
 wide_taken : (e : EndState) (c : Control) → HasWindows e → IsWide e → IsWide (taken e c)
-wide_taken e c has h = go e.phase c refl
-  where
-    same : (c : Control) → taken e c ≡ e → IsWide (taken e c)
-    same c q = wide_by e (taken e c) q h
-
-    fragment : (o : Option ℕ) (ns nr : ℕ) (info : List ℕ) → e.phase ≡ Up → place_of e.session nr ≡ o → IsWide (taken e (I ns nr info))
-    fragment None ns nr info up q = same (I ns nr info) (rw (up, q) refl)
-    fragment (Some x) ns nr info up q =
-        wide_by (received (acknowledged e x) ns info) (taken e (I ns nr info)) (rw (up, q) refl)
-        (received_cases IsWide (acknowledged e x) ns info (λ z. h) (λ z g. h) (λ z g. h) (λ z g. h) h)
-
-    control : (o : Option ℕ) (k : Kind) (nr : ℕ) → e.phase ≡ Up → place_of e.session nr ≡ o → IsWide (taken e (S k nr))
-    control None Rr nr up q = same (S Rr nr) (rw (up, q) refl)
-    control None Rej nr up q = same (S Rej nr) (rw (up, q) refl)
-    control None Rnr nr up q = same (S Rnr nr) (rw (up, q) refl)
-    control o Srej nr up q = same (S Srej nr) (rw up refl)
-    control (Some x) _ nr up q = λ u. rw (up, q) (h up)
-
-    go : (p : LinkState) (c : Control) → e.phase ≡ p → IsWide (taken e c)
-    go Up (I ns nr info) q = fragment (place_of e.session nr) ns nr info q refl
-    go Up (S k nr) q = control (place_of e.session nr) k nr q refl
-    go _ (Rset w caps) q = wide_by (reset_taken e w) (taken e (Rset w caps)) (rw q refl) (wide_reset e w has h)
-    go Waiting Ua q = λ u. rw q (omega (arith, has.own.0, has.peer.0))
-    go _ c q = same c (rw q refl)
+wide_taken e c has h = grind arith
 
 wide_ticked : (e : EndState) → IsWide e → IsWide (ticked e)
-wide_ticked e h = go e.phase (runs_timer e.session) (nat_lt (e.timer + 1) 10) (nat_lt e.tries 5) refl refl refl refl
-  where
-    by : (f : EndState) → ticked e ≡ f → IsWide f → IsWide (ticked e)
-    by f q g = wide_by f (ticked e) q g
-
-    go : (p : LinkState) (a b c : Bool) → e.phase ≡ p → runs_timer e.session ≡ a → nat_lt (e.timer + 1) 10 ≡ b → nat_lt e.tries 5 ≡ c → IsWide (ticked e)
-    go Down a b c p q r t = by e (rw p refl) h
-    go Up false b c p q r t = by e (rw (p, q) refl) h
-    go Up true true c p q r t = by (record e { timer = e.timer + 1 }) (rw (p, q, r) refl) h
-    go Up true false true p q r t = by (sent_again e) (rw (p, q, r, t) refl) h
-    go Up true false false p q r t = by (waiting_from e) (rw (p, q, r, t) refl) (not_up (waiting_from e) Waiting refl (λ z. cc))
-    go Waiting a true c p q r t = by (record e { timer = e.timer + 1 }) (rw (p, r) refl) h
-    go Waiting a false true p q r t = by (asked_again e) (rw (p, r, t) refl) h
-    go Waiting a false false p q r t = by (given_up e) (rw (p, r, t) refl) (not_up (given_up e) Down refl (λ z. cc))
+wide_ticked e h = grind arith
 
 wide_asked : (e : EndState) (w : ℕ) → IsWide e → IsWide (reset_with e w)
-wide_asked e w h = go e.phase refl
-  where
-    go : (p : LinkState) → e.phase ≡ p → IsWide (reset_with e w)
-    go Waiting q = wide_by e (reset_with e w) (rw q refl) h
-    go _ q =
-        wide_by (waiting_from (record e { own_window = w })) (reset_with e w) (rw q refl)
-        (not_up (waiting_from (record e { own_window = w })) Waiting refl (λ z. cc))
+wide_asked e w h = grind arith
 
 -- ## What happens at the controller's end
 
 pub silent_host : (l : ShdlcLink) (e : EndState) → (shdlc_silent l e).host ≡ l.host
-silent_host l e = go l.controller.side.phase refl
-  where
-    go : (p : LinkState) → l.controller.side.phase ≡ p → (shdlc_silent l e).host ≡ l.host
-    go Up q = rw q refl
-    go _ q = rw q refl
+silent_host l e = grind arith
 
 silent_wide : (l : ShdlcLink) (e : EndState) → e.phase ≡ Down → IsWide (shdlc_silent l e).controller.side
-silent_wide l e down = go l.controller.side.phase refl
-  where
-    none : IsWide e
-    none = not_up e Down down (λ z. cc)
-
-    go : (p : LinkState) → l.controller.side.phase ≡ p → IsWide (shdlc_silent l e).controller.side
-    go Up q = rw q none
-    go _ q = rw q none
+silent_wide l e down = grind arith
 
 -- what it does leaves it wide, and the other end as it is
 record WideHere (l n : ShdlcLink) : Type 0 where
@@ -255,8 +177,7 @@ wide_after (e ∷ es) l a s h =
     wide_after es (shdlc_happens l e) safe.1 safe.0 (wide_event l e es a s h)
 
 wide_start : (l : ShdlcLink) → IsShdlcStart l → BothWide l
-wide_start l BothUp = record { controller = λ up. omega arith; host = λ up. omega arith }
-wide_start l BothDown = record { controller = λ up. cc; host = λ up. cc }
+wide_start l a = grind arith
 
 pub wide : (l : ShdlcLink) → IsShdlcStart l → (events : List ShdlcLinkEvent) → AllShdlcAllowed events → BothWide (shdlc_after l events)
 wide l s events a = wide_after events l a (safe_start l s) (wide_start l s)

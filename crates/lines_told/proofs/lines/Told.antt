@@ -3,18 +3,17 @@ use Rattle.std.proofs.lemmas.List.Sums.{fold-append}
 use Rattle.std.specs.List.{flat_map}
 use Rattle.std.specs.Prelude.{if◌then◌else◌, replicate}
 use Rattle.lines_told.proofs.Words.{AllByRecursion, AreFewPlays, Bool, Cause, Contains, Controller, End, Entry, Header, Host, IsEndOf, IsFirstRest, IsLineOf}
-use Rattle.lines_told.proofs.Words.{IsPlayFor, IsPlayedLine, IsTrue, Line, LineOutcome, Link, List, MayBegin, MayFollow, NodeWorld, None, NoneIsMisread}
-use Rattle.lines_told.proofs.Words.{Occurrence, Play, Round, Said, Site, [], after_steps, all_happen, ap, append-nil, append_assoc, arith, bare_link}
-use Rattle.lines_told.proofs.Words.{bare_link_behind, causes_in, causes_of, end_c, end_h, end_of, end_takes_all, ends_in_order, ends_take_all, entries_below}
-use Rattle.lines_told.proofs.Words.{entries_in, events_at, false, flat_map as flat_map_of_words, flat_map-append, fold, frames_at, frames_to, goes_on, host_of}
-use Rattle.lines_told.proofs.Words.{inl, inr, is_clear, is_running, is_settling, length, line_step, lines_of_play, lines_played, lines_played_of, lines_said}
-use Rattle.lines_told.proofs.Words.{link_after, link_after_all, link_after_line, link_after_lines, link_rests, map, misread, misread_below, misread_in}
-use Rattle.lines_told.proofs.Words.{new_world, node_of, nodes_behind, not, noted, noted_below, noted_lines, outcome_of, plays_of, plays_of_line, refl, refusal}
-use Rattle.lines_told.proofs.Words.{refusal_in, rests_behind, round_behind, round_in, round_on, rounds_of_world, rounds_played, rounds_to_rest, slice_index}
-use Rattle.lines_told.proofs.Words.{steps_to_rest, subst, suc, sym, taking_in, taking_on, told_behind, told_below, told_of_line, told_of_rounds, true}
-use Rattle.lines_told.proofs.Words.{true≢false, world_after, world_after_round, world_rests, world_round, world_rounds_to_settle, world_settling, zero, ℕ, ◌&&◌}
-use Rattle.lines_told.proofs.Words.{◌*◌, ◌++◌, ◌+◌, ◌<◌, ◌∙◌, ◌∷◌, ◌≡◌, ◌≤◌}
-use Rattle.history.specs.Histories.Cause.{Taken, Ticked}
+use Rattle.lines_told.proofs.Words.{IsPlayFor, IsPlayedLine, Line, LineOutcome, Link, List, MayBegin, MayFollow, NodeWorld, None, NoneIsMisread, Occurrence}
+use Rattle.lines_told.proofs.Words.{Play, Round, Said, Site, [], after_steps, all_happen, ap, append-nil, append_assoc, arith, bare_link, bare_link_behind}
+use Rattle.lines_told.proofs.Words.{causes_in, causes_of, end_c, end_h, end_of, end_takes_all, ends_in_order, ends_take_all, entries_below, entries_in}
+use Rattle.lines_told.proofs.Words.{events_at, false, flat_map as flat_map_of_words, flat_map-append, fold, frames_at, frames_to, goes_on, host_of, inl, inr}
+use Rattle.lines_told.proofs.Words.{is_clear, is_running, is_settling, length, line_step, lines_of_play, lines_played, lines_played_of, lines_said, link_after}
+use Rattle.lines_told.proofs.Words.{link_after_all, link_after_line, link_after_lines, link_rests, map, misread, misread_below, misread_in, new_world, node_of}
+use Rattle.lines_told.proofs.Words.{nodes_behind, not, noted_below, noted_lines, outcome_of, plays_of, plays_of_line, refl, refusal, refusal_in, rests_behind}
+use Rattle.lines_told.proofs.Words.{round_behind, round_in, round_on, rounds_of_world, rounds_played, rounds_to_rest, slice_index, steps_to_rest, subst, suc}
+use Rattle.lines_told.proofs.Words.{sym, taking_in, taking_on, told_behind, told_below, told_of_line, told_of_rounds, true, world_after, world_after_round}
+use Rattle.lines_told.proofs.Words.{world_rests, world_round, world_rounds_to_settle, world_settling, zero, ℕ, ◌&&◌, ◌*◌, ◌++◌, ◌+◌, ◌<◌, ◌∙◌, ◌∷◌, ◌≡◌, ◌≤◌}
+use Rattle.history.specs.Histories.Cause.{Ticked}
 use Rattle.history.specs.Histories.Outcome.{Caused}
 use Rattle.link_laws.specs.sessions.Sessions.{OnWire}
 use Rattle.node_machine.specs.world.World.Happening.{Takes, Ticks}
@@ -142,8 +141,7 @@ module _ (header : Header) where
   -- ### A schedule in which no line lets the links settle
 
   stays_said : (before : List Play) (line : Line) → is_settling line ≡ false → plays_of_line header before line ≡ Said line ∷ []
-  stays_said before (saying.Settle n) stays = absurd (cc stays)
-  stays_said before line stays = refl
+  stays_said before line stays = grind arith
 
   lines_stay : (lines said : List Line) (before : List Play) → AllByRecursion (λ (line : Line). is_settling line ≡ false) lines
       → lines_played header before ≡ said
@@ -186,9 +184,7 @@ module _ (h : ℕ) where
   takes_on l e = go (frames_to l e) refl
     where
       go : (frames : List OnWire) → frames_to l e ≡ frames → link_after_lines h l (taking_on l e) ≡ link_after_all l (causes_in l (saying.Deliver e None))
-      go [] q =
-          ap (λ (xs : List OnWire). link_after_lines h l (taken_if e xs)) q
-          ∙ sym (ap (λ (xs : List OnWire). link_after_all l (replicate (length xs) (Taken e))) q)
+      go [] q = grind arith
       go (x ∷ xs) q =
           let line : Line = saying.Deliver e None in
           let none : refusal l line ≡ None = rw q refl in
@@ -272,15 +268,10 @@ pub record TakesSo (w : NodeWorld) (e : End) : Type 0 where
   pub told : told_in w (taking_in w e) ≡ entries_in (end_takes_all w e).1
 
 pub none_taken : (k : ℕ) (w : NodeWorld) (e : End) → is_running w (node_of e) ≡ false → all_happen w (replicate k (Takes e)) ≡ (w, [])
-none_taken zero w e q = refl
-none_taken (suc k) w e q = rw q refl
+none_taken k w e q = grind arith
 
 nothing : (w : NodeWorld) (e : End) → taking_in w e ≡ [] → end_takes_all w e ≡ (w, []) → TakesSo w e
-nothing w e line taken =
-    record {
-      world = ap (world_after w) line ∙ sym (ap (λ (r : NodeWorld × List Occurrence). r.0) taken);
-      told = ap (told_in w) line ∙ sym (ap (λ (r : NodeWorld × List Occurrence). entries_in r.1) taken);
-    }
+nothing w e line taken = grind arith
 
 -- the lines of a taking, where its node runs or not and these frames stand
 abbrev taken_if_of_node_rounds : End → Bool → List OnWire → List Line
@@ -290,11 +281,8 @@ pub takes_so : (w : NodeWorld) (e : End) → TakesSo w e
 takes_so w e = go (is_running w (node_of e)) (frames_at w e) refl refl
   where
     go : (runs : Bool) (frames : List OnWire) → is_running w (node_of e) ≡ runs → frames_at w e ≡ frames → TakesSo w e
-    go false frames p q =
-        nothing w e (ap (λ (b : Bool). taken_if_of_node_rounds e b (frames_at w e)) p) (none_taken (length (frames_at w e)) w e p)
-    go true [] p q =
-        nothing w e (ap (λ (b : Bool). taken_if_of_node_rounds e b (frames_at w e)) p ∙ ap (taken_if_of_node_rounds e true) q)
-        (ap (λ (xs : List OnWire). all_happen w (replicate (length xs) (Takes e))) q)
+    go false frames p q = grind arith
+    go true [] p q = grind arith
     go true (x ∷ xs) p q =
         let line : Line = saying.Deliver e None in
         let some : taking_in w e ≡ line ∷ [] = ap (λ (b : Bool). taken_if_of_node_rounds e b (frames_at w e)) p ∙ ap (taken_if_of_node_rounds e true) q in
@@ -350,11 +338,7 @@ round_told w =
 -- ### None is misread
 
 sure_taking : (w : NodeWorld) (e : End) → NoneIsMisread w (taking_in w e)
-sure_taking w e = either (is_running w (node_of e) && not (is_clear (frames_at w e)))
-  where
-    either : (b : Bool) → NoneIsMisread w (if b then saying.Deliver e None ∷ [] else [])
-    either true = (refl, tt)
-    either false = tt
+sure_taking w e = grind arith
 
 pub sure_round : (ends : List End) (w : NodeWorld) → NoneIsMisread w (round_in w ends)
 sure_round [] w = (refl, tt)
@@ -412,18 +396,8 @@ module _ (header : Header) (nodes : header.hci ≡ true) where
 -- ### What may be played in a bare world
 
 module _ (header : Header) (bare : header.hci ≡ false) where
-  no_nodes : IsTrue header.hci → ⊥
-  no_nodes nodes = true≢false (sym nodes ∙ bare)
-
   pub bare_line : (line : Line) → IsPlayedLine header line → IsLineOf header line
-  bare_line (saying.Boot node) may = absurd (no_nodes may.may_follow.0)
-  bare_line (saying.Cut node) may = absurd (no_nodes may.may_follow.0)
-  bare_line (saying.Activate host sync power) may = absurd (no_nodes may.may_follow.0)
-  bare_line (saying.Arm node nth fill) may = absurd (no_nodes may.may_follow.0)
-  bare_line (saying.Init e identity pipes) may = absurd (no_nodes may.may_follow.0)
-  bare_line (saying.Tables node) may = absurd (no_nodes may.may_follow.0)
-  bare_line (saying.Settle rounds) may = absurd (true≢false may.settles_not)
-  bare_line line may = may.may_follow
+  bare_line line may = grind arith
 
   pub bare_lines : (lines : List Line) → AllByRecursion (IsPlayedLine header) lines → AllByRecursion (IsLineOf header) lines
   bare_lines [] may = tt
@@ -433,36 +407,21 @@ module _ (header : Header) (bare : header.hci ≡ false) where
 
 module _ (header : Header) where
   pub may_play : (line : Line) → IsRoundLine header line → IsPlayedLine header line
-  may_play (saying.Deliver e None) is = record { may_follow = (is, tt); settles_not = refl }
-  may_play (saying.Tick None) is = record { may_follow = tt; settles_not = refl }
-  may_play line is = absurd is
+  may_play line is = grind arith
 
   pub sure_on : (line : Line) → IsRoundLine header line → (l : Link) → misread l line ≡ None
-  sure_on (saying.Deliver e None) is l = refl
-  sure_on (saying.Tick None) is l = refl
-  sure_on line is l = absurd is
-
-  sure_in : (line : Line) → IsRoundLine header line → (w : NodeWorld) → misread_in w line ≡ None
-  sure_in (saying.Deliver e None) is w = refl
-  sure_in (saying.Tick None) is w = refl
-  sure_in line is w = absurd is
+  sure_on line is l = grind arith
 
   pub sure_below : (line : Line) → IsRoundLine header line → (before : List Line) → misread_below header before line ≡ None
-  sure_below line is before = either header.hci
-    where
-      either : (b : Bool) → (if b then misread_in (nodes_behind header before) line else misread (bare_link_behind header before) line) ≡ None
-      either true = sure_in line is (nodes_behind header before)
-      either false = sure_on line is (bare_link_behind header before)
+  sure_below line is before = grind arith
 
   -- ### The lines of a round are such lines
 
   one_taken : (b : Bool) (e : End) → IsEndOf header e → AllByRecursion (IsRoundLine header) (if b then saying.Deliver e None ∷ [] else [])
-  one_taken true e known = (known, tt)
-  one_taken false e known = tt
+  one_taken b e known = grind arith
 
   none_or_taken : (b : Bool) (e : End) → IsEndOf header e → AllByRecursion (IsRoundLine header) (if b then [] else saying.Deliver e None ∷ [])
-  none_or_taken true e known = tt
-  none_or_taken false e known = (known, tt)
+  none_or_taken b e known = grind arith
 
   lines_in : (ends : List End) (w : NodeWorld) → AllByRecursion (IsEndOf header) ends → AllByRecursion (IsRoundLine header) (round_in w ends)
   lines_in [] w known = (tt, tt)
@@ -562,16 +521,10 @@ alike rests next so on f r s (suc n) x =
 
 module _ (header : Header) where
   pub nodes_rest : header.hci ≡ true → (plays : List Play) → rests_behind header plays ≡ world_rests (nodes_behind header (lines_played header plays))
-  nodes_rest nodes plays =
-      ap (λ (b : Bool). if b
-      then world_rests (nodes_behind header (lines_played header plays))
-      else link_rests (bare_link_behind header (lines_played header plays))) nodes
+  nodes_rest nodes plays = grind arith
 
   pub bare_rests : header.hci ≡ false → (plays : List Play) → rests_behind header plays ≡ link_rests (bare_link_behind header (lines_played header plays))
-  bare_rests bare plays =
-      ap (λ (b : Bool). if b
-      then world_rests (nodes_behind header (lines_played header plays))
-      else link_rests (bare_link_behind header (lines_played header plays))) bare
+  bare_rests bare plays = grind arith
 
   pub nodes_come_to_rest : header.hci ≡ true → (plays : List Play) (n : ℕ)
       → rounds_to_rest header plays n ≡ world_rounds_to_settle n (nodes_behind header (lines_played header plays))
@@ -654,8 +607,7 @@ module _ (header : Header) (nodes : header.hci ≡ true) where
   told_nodes (line ∷ lines) before =
       let w : NodeWorld = nodes_behind header before in
       let now : List Entry = entries_below (noted_below (line_step w line).1) in
-      let one : told_below header before line ≡ now =
-      ap (λ (b : Bool). if b then now else noted (outcome_of (host_of header) (bare_link_behind header before) line)) nodes in
+      let one : told_below header before line ≡ now = grind arith in
       ap (λ (es : List Entry). es ++ told_behind header (before ++ line ∷ []) lines) one
       ∙ ap (λ (es : List Entry). now ++ es)
       (told_nodes lines (before ++ line ∷ [])

@@ -1,17 +1,16 @@
 -- The law over messages: their rounds are rounds of the link over their fragments.
 use Rattle.std.proofs.lemmas.List.{append-nil}
 use Rattle.std.proofs.lemmas.List.Elements.{filter_map-append}
-use Rattle.lines_told.proofs.Words.{Act, AllAllowed, AllOrdinary, AllOrdinaryOnLink, AreLinkRounds, AreOrdinaryOwn, AreOrdinaryTurns, AreRounds, AreUndisturbed}
-use Rattle.lines_told.proofs.Words.{Bool, BothTakeFragments, Control, CoreAtController, CoreAtHost, CoreEarlierDelivered, CoreEndEvent, CoreInOrder, CoreLink}
+use Rattle.lines_told.proofs.Words.{AllAllowed, AllOrdinary, AllOrdinaryOnLink, AreLinkRounds, AreOrdinaryOwn, AreOrdinaryTurns, AreRounds, AreUndisturbed}
+use Rattle.lines_told.proofs.Words.{Bool, BothTakeFragments, CoreAtController, CoreAtHost, CoreEarlierDelivered, CoreEndEvent, CoreInOrder, CoreLink}
 use Rattle.lines_told.proofs.Words.{CoreLinkEvent, CoreTick, CoreTurn, Down, EarlierGot, EndEvent, Ending, Good, IsEvent, IsFirstRest, IsLinkRound}
-use Rattle.lines_told.proofs.Words.{IsLinkStretch, IsLinkUndisturbed, IsOrdinary, IsOrdinaryOnLink, IsOrdinaryStep, IsPrefix, IsRound, IsStart, IsStretch, Link}
-use Rattle.lines_told.proofs.Words.{LinkEnd, LinkEvent, List, Message, NumberedEnd, OnWire, Option, Reached, Some, Talk, Turn, Up, [], after_input}
-use Rattle.lines_told.proofs.Words.{after_link_events, after_steps, aged, and_parts, ap, append_assoc, arith, come_here, come_to_controller, come_to_host}
-use Rattle.lines_told.proofs.Words.{core_after, core_all, core_event, core_events, core_here, core_of, core_take, core_tick, core_tick_rest, core_turns}
-use Rattle.lines_told.proofs.Words.{eqb-true, event_step, exchanged, false, fragments_left, happens, happens_at_controller, is_clear, is_open, leb-false}
+use Rattle.lines_told.proofs.Words.{IsLinkStretch, IsLinkUndisturbed, IsOrdinary, IsOrdinaryOnLink, IsPrefix, IsRound, IsStart, IsStretch, Link, LinkEnd}
+use Rattle.lines_told.proofs.Words.{LinkEvent, List, Message, NumberedEnd, Option, Reached, Some, Talk, Turn, Up, [], after_input, after_link_events, aged, ap}
+use Rattle.lines_told.proofs.Words.{append_assoc, arith, come_to_controller, come_to_host, core_after, core_all, core_event, core_events, core_of, core_tick}
+use Rattle.lines_told.proofs.Words.{core_tick_rest, core_turns, eqb-true, event_step, false, fragments_left, happens, happens_at_controller, is_open, leb-false}
 use Rattle.lines_told.proofs.Words.{length, length-append, length-map, link_rests, map, messages_got, nat_le, reached_more, refl, run, steps_to_rest, subst}
 use Rattle.lines_told.proofs.Words.{suc, sym, take, take_all, taken_at_controller, taken_at_host, taken_here, talk_now, ticks_among, ticks_at_controller}
-use Rattle.lines_told.proofs.Words.{times_among, to_deliver, true, whole_acked, whole_among, zero, ℕ, ◌&&◌, ◌*◌, ◌++◌, ◌+◌, ◌-◌, ◌<◌, ◌∙◌, ◌∷◌, ◌≡◌, ◌≤◌}
+use Rattle.lines_told.proofs.Words.{times_among, to_deliver, true, whole_acked, whole_among, zero, ℕ, ◌*◌, ◌++◌, ◌+◌, ◌-◌, ◌∙◌, ◌∷◌, ◌≡◌, ◌≤◌}
 use Rattle.hcp_packet.proofs.Joining.{joined_again, packets_are_counted, whole_messages_have_come}
 use Rattle.hcp_packet.specs.Packets.{IsFrontOf, fragments_of, good_messages_of, good_of, message_ended_by, messages_after, messages_of, packet_bytes}
 use Rattle.hcp_packet.specs.Packets.{packet_count, packet_of, packets_in, packets_of}
@@ -22,7 +21,7 @@ use Rattle.link_laws.proofs.messages.Runs.{sendable, start_good, start_reached}
 use Rattle.link_laws.proofs.sending.TakenLemmas.{all_given}
 use Rattle.link_laws.specs.machine.AtRest.{end_rests}
 use Rattle.link_laws.specs.machine.Machine.LinkInput.{Tick as InputTick}
-use Rattle.link_laws.specs.messages.Links.Comes.{NextFrame, NoInput}
+use Rattle.link_laws.specs.messages.Links.Comes.{NoInput}
 use Rattle.link_laws.specs.messages.Links.EndEvent.{Step}
 use Rattle.link_laws.specs.messages.Links.Ending.{GoesOut}
 use Rattle.link_laws.specs.messages.Links.LinkEvent.{AtController, AtHost, Ticks}
@@ -34,20 +33,12 @@ use Rattle.lines_told.proofs.fragments.Law.{undisturbed_parts}
 -- ## The first rest is the first
 
 pub first_rest : {W : Type 0} (rests : W → Bool) (next : W → W) (n : ℕ) (w : W) → IsFirstRest rests next n w (steps_to_rest rests next n w)
-first_rest rests next zero w =
-    record { most = omega arith; rests_then = λ i. absurd (omega (arith, i)); moves_before = λ k i. absurd (omega (arith, i)) }
+first_rest rests next zero w = grind arith
 first_rest {W} rests next (suc n) w = go (rests w) refl (first_rest rests next n (next w))
   where
     go : (b : Bool) → rests w ≡ b → IsFirstRest rests next n (next w) (steps_to_rest rests next n (next w))
         → IsFirstRest rests next (suc n) w (steps_to_rest rests next (suc n) w)
-    go true q later =
-        rw q (record { most = omega arith; rests_then = λ i. q; moves_before = λ k i. absurd (omega (arith, i)) })
-    go false q later =
-        rw q (record { most = omega (arith, later.most); rests_then = λ i. later.rests_then (omega (arith, i)); moves_before = moves })
-      where
-        moves : (k : ℕ) → k < suc (steps_to_rest rests next n (next w)) → rests (after_steps next k w) ≡ false
-        moves zero i = q
-        moves (suc k) i = later.moves_before k (omega (arith, i))
+    go b q later = grind arith
 
 -- ## Rounds of a link over messages are rounds of the link over their fragments
 
@@ -85,21 +76,6 @@ at_host (e ∷ es) n k =
     let more = at_host es (all_taken es) (record { ordinary = k.ordinary.1; taken = refl }) in
     record { ordinary = (k.ordinary.0, more.ordinary); controller = more.controller; host = omega (arith, more.host, k.taken); ticks = more.ticks }
 
--- a frame comes to an end that is open
-take_comes : (e : LinkEnd) (c : Control) (ts : List Turn) → is_open e.role ≡ true → Comes (core_take e c ts ++ []) 1
-take_comes e (Act a b) ts q = record { ordinary = (tt, (tt, tt)); taken = refl }
-take_comes e _ ts q = rw q (record { ordinary = (tt, tt); taken = refl })
-
-here_comes : (l : Link) (e : EndEvent) → IsOrdinaryStep e → is_open l.controller.side.role ≡ true → Comes (core_here l e) (come_here l e)
-here_comes l (Step NextFrame ts GoesOut) o q = go l.to_controller
-  where
-    go : (w : List OnWire) → Comes (core_here (record l { to_controller = w }) (Step NextFrame ts GoesOut))
-        (come_here (record l { to_controller = w }) (Step NextFrame ts GoesOut))
-    go [] = record { ordinary = tt; taken = refl }
-    go (x ∷ xs) = take_comes l.controller.side x.frame ts q
-here_comes l (Step NoInput ts GoesOut) o q = record { ordinary = (tt, tt); taken = refl }
-here_comes l _ o q = absurd o
-
 own_turns : (es : List EndEvent) (l : Link) → AreOrdinaryOwn es → AreOrdinaryTurns (core_all l es)
 own_turns [] l o = tt
 own_turns (Step NoInput ts GoesOut ∷ es) l o = own_turns es (happens_at_controller l (Step NoInput ts GoesOut)) o
@@ -109,11 +85,7 @@ own_turns _ l o = absurd o
 
 -- an end that is up is open
 pub open_up : (h : NumberedEnd) → (is_open h.side.role ≡ false → h.side.shdlc.phase ≡ Down) → h.side.shdlc.phase ≡ Up → is_open h.side.role ≡ true
-open_up h closed up = go (is_open h.side.role) refl
-  where
-    go : (b : Bool) → is_open h.side.role ≡ b → is_open h.side.role ≡ true
-    go true q = q
-    go false q = absurd (let z = sym (closed q) ∙ up in cc)
+open_up h closed up = grind arith
 
 -- an open end has its tick, and nothing else happens there
 tick_open : (e : LinkEnd) (ts : List Turn) (ending : Ending) → ending ≡ GoesOut → is_open e.role ≡ true
@@ -127,12 +99,8 @@ tick_does there p q o r t = rw (p, q, r, t) (record { ordinary = (o, tt); contro
 
 event_does : (l : Link) (e : LinkEvent) → IsOrdinaryOnLink e → is_open l.controller.side.role ≡ true → is_open l.host.side.role ≡ true
     → DoesOfProjected (core_event l e) (come_to_controller l (e ∷ [])) (come_to_host l (e ∷ [])) (times_among (e ∷ []))
-event_does l (AtController e) o p q =
-    let d = at_controller (core_here l e) (come_here l e) (here_comes l e o p) in
-    record { ordinary = d.ordinary; controller = omega (arith, d.controller); host = d.host; ticks = d.ticks }
-event_does l (AtHost e) o p q =
-    let d = at_host (core_here (exchanged l) e) (come_here (exchanged l) e) (here_comes (exchanged l) e o q) in
-    record { ordinary = d.ordinary; controller = d.controller; host = omega (arith, d.host); ticks = d.ticks }
+event_does l (AtController e) o p q = grind arith
+event_does l (AtHost e) o p q = grind arith
 event_does l (Ticks c es h) o p q =
     let a = tick_open l.controller.side c.turns c.ending o.0 p in
     let b = tick_open l.host.side h.turns h.ending o.2 q in
@@ -174,20 +142,16 @@ does_then es fs a b =
 -- an event and those behind it
 come_more : (l : Link) (e : LinkEvent) (es : List LinkEvent)
     → come_to_controller l (e ∷ es) ≡ come_to_controller l (e ∷ []) + come_to_controller (happens l e) es
-come_more l (AtController e) es = omega arith
-come_more l _ es = omega arith
+come_more l e es = grind arith
 
 come_more_there : (l : Link) (e : LinkEvent) (es : List LinkEvent) → come_to_host l (e ∷ es) ≡ come_to_host l (e ∷ []) + come_to_host (happens l e) es
-come_more_there l (AtController e) es = omega arith
-come_more_there l _ es = omega arith
+come_more_there l e es = grind arith
 
 times_more : (e : LinkEvent) (es : List LinkEvent) → times_among (e ∷ es) ≡ times_among (e ∷ []) + times_among es
-times_more (AtController e) es = omega arith
-times_more _ es = omega arith
+times_more e es = grind arith
 
 does_as : {es : List CoreLinkEvent} {c h t c' h' t' : ℕ} → c ≡ c' → h ≡ h' → t ≡ t' → DoesOfProjected es c h t → DoesOfProjected es c' h' t'
-does_as p q r d =
-    record { ordinary = d.ordinary; controller = d.controller ∙ p; host = d.host ∙ q; ticks = d.ticks ∙ r }
+does_as p q r d = grind arith
 
 -- what is known of a link between events
 pub record Known (l : Link) : Type 0 where
@@ -254,25 +218,13 @@ in_parts es fs l a k u =
     subst (AreUndisturbed (core_of l)) (events-append es fs l) u in
     let calm = undisturbed_parts (core_events l es) (core_events (after_link_events l es) fs) (core_of l) all in
     let P : CoreLink → Type 0 = λ c. AreUndisturbed c (core_events (after_link_events l es) fs) in
-    record {
-      first = allowed.0;
-      second = allowed.1;
-      known = after.0;
-      core = after.1;
-      calm_first = calm.0;
-      calm_second = subst P (sym after.1) calm.1;
-    }
+    grind arith
 
 stretch_core : (es : List LinkEvent) (l : Link) {c h t : ℕ} → AllAllowed l es → Known l → IsLinkUndisturbed l es → IsLinkStretch l es c h t
     → IsStretch (core_events l es) c h t
 stretch_core es l a k u is =
     let d = all_does es l a k u is.ordinary in
-    record {
-      ordinary = d.ordinary;
-      at_controller = d.controller ∙ is.at_controller;
-      at_host = d.host ∙ is.at_host;
-      ticked = d.ticks ∙ is.passes;
-    }
+    grind arith
 
 round_core : (l : Link) (events : List LinkEvent) → AllAllowed l events → Known l → IsLinkUndisturbed l events → IsLinkRound l events
     → IsRound (core_of l) (core_events l events)
@@ -284,8 +236,7 @@ round_core l events a k u is =
     let o : Link = after_link_events m is.second in
     let one = in_parts is.first rest l all.0 k all.1 in
     let two = in_parts is.second is.third m one.second one.known one.calm_second in
-    let length_there : length m.to_host ≡ length (core_after (core_of l) (core_events l is.first)).to_host =
-    ap (λ (c : CoreLink). length c.to_host) one.core in
+    let length_there : length m.to_host ≡ length (core_after (core_of l) (core_events l is.first)).to_host = grind arith in
     let Q : ℕ → Type 0 = λ n. IsStretch (core_events m is.second) 0 n 0 in
     record {
       first = core_events l is.first;
@@ -361,16 +312,13 @@ in_messages : (before now other : Talk) → Says before → Says now → CoreInO
 in_messages before now other was says order d =
     let front = d.given in
     let accepted = order.front in
-    let of_late : IsFrontOf (fragments_of before.sent) (fragments_of now.sent) =
-    (front.0, ap (λ fs. fs ++ front.0) (sym was.out) ∙ (front.1 ∙ says.out)) in
-    let of_acc : IsFrontOf (fragments_of before.sent) other.session.acc =
-    (d.accepted.0, ap (λ fs. fs ++ d.accepted.0) (sym was.out) ∙ d.accepted.1) in
+    let of_late : IsFrontOf (fragments_of before.sent) (fragments_of now.sent) = grind arith in
+    let of_acc : IsFrontOf (fragments_of before.sent) other.session.acc = grind arith in
     let within : IsFrontOf other.session.acc (fragments_of now.sent) = (accepted.0, accepted.1 ∙ says.out) in
     let given : messages_got other.session ≡ good_messages_of other.session.acc = ap good_of (all_given now.sent other.session.acc says.short within) in
     let got = whole_messages_have_come before.sent other.session.acc (sendable before.sent was.short) of_acc in
     let sent = sent_front before.sent now.sent was.short says.short of_late in
-    let few : length (fragments_of before.sent) ≤ now.session.acked =
-    (let e : length before.session.out ≡ length (fragments_of before.sent) = ap (λ (fs : List (List ℕ)). length fs) was.out in omega (arith, d.acked, e)) in
+    let few : length (fragments_of before.sent) ≤ now.session.acked = grind arith in
     record {
       got = (got.0, got.1 ∙ sym given);
       acked = let w = whole_front before.sent sent.0 now.session.acked few in subst (λ ms. length before.sent ≤ whole_among ms now.session.acked) sent.1 w;
@@ -409,10 +357,7 @@ does k c es g =
 
 -- both ends of a link that is at rest are at rest
 rests_parts : (l : Link) → link_rests l ≡ true → (end_rests l.controller.side ≡ true) × (end_rests l.host.side ≡ true)
-rests_parts l q =
-    let clear : Bool = is_clear l.to_controller && is_clear l.to_host in
-    let both = and_parts (clear && end_rests l.controller.side) (end_rests l.host.side) q in
-    ((and_parts clear (end_rests l.controller.side) both.0).1, both.1)
+rests_parts l q = grind arith
 
 -- an end that is up and at rest has all fragments acknowledged
 all_acked : (e : LinkEnd) → Says (talk_now e) → e.shdlc.phase ≡ Up → end_rests e ≡ true → length e.shdlc.session.out ≤ e.shdlc.session.acked
@@ -422,8 +367,7 @@ all_acked e says up q =
     let low : length (fragments_of (take (whole_among e.sent e.shdlc.session.acked) e.sent)) ≤ e.shdlc.session.acked =
     whole_acked_before e.sent e.shdlc.session.acked in
     let out : length e.shdlc.session.out ≡ length (fragments_of e.sent) = ap (λ (fs : List (List ℕ)). length fs) says.out in
-    let all : length (fragments_of (take (whole_among e.sent e.shdlc.session.acked) e.sent)) ≡ length (fragments_of e.sent) =
-    ap (λ (ms : List Message). length (fragments_of ms)) whole in
+    let all : length (fragments_of (take (whole_among e.sent e.shdlc.session.acked) e.sent)) ≡ length (fragments_of e.sent) = grind arith in
     omega arith
 
 module _ (l : Link) (s : IsStart l) (before : List LinkEvent) (a : AllAllowed l before) (k : ℕ) (rounds : List LinkEvent)

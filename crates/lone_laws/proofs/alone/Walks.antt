@@ -1,21 +1,18 @@
 -- What one walk over a history of a node alone finds says whether a fact of its answers holds; ticks are computed, and nothing is written
 -- in a step.
-use Rattle.lone_laws.proofs.Words.{AllByRecursion, AnsweredAlone, AreInTurn, Ascending, AtEachLoneEvent, AtEachNoted, Bool, Core, Cut, Deed, Done, Due, Emit}
-use Rattle.lone_laws.proofs.Words.{EndForm, Entry, Fact, FrameComes, FrameIsRefused, Heard, HearsFirstAlone, Held, InTurn, IsDueAlone, IsHeldAlone}
-use Rattle.lone_laws.proofs.Words.{IsRepliedAlone, IsResetAlone, List, LoneEvent, Lost, NodeInput, None, Noted, OnLine, Option, Port, Replied, Restarted, Sends}
-use Rattle.lone_laws.proofs.Words.{Short, Side, Some, StartComes, StopComes, TickComes, Took, TurnsAscendAlone, Work, [], both_are, core_since, deeds_of}
-use Rattle.lone_laws.proofs.Words.{end_causes, entries_of_events_alone, entry_of, entry_written, false, first_lack_since, holds_in, is_asked_down}
-use Rattle.lone_laws.proofs.Words.{is_done_alone, is_fact, is_reset_alone, is_short_alone, lack_since, list_any, noted_since, own_side, refl, replicate}
-use Rattle.lone_laws.proofs.Words.{reply_since, steps, sync_due, true, ℕ, ◌++◌, ◌∷◌, ◌≡◌}
+use Rattle.lone_laws.proofs.Words.{AllByRecursion, AnsweredAlone, AreInTurn, Ascending, AtEachLoneEvent, AtEachNoted, Bool, Core, Deed, Done, Due, EndForm}
+use Rattle.lone_laws.proofs.Words.{Entry, Fact, FrameComes, FrameIsRefused, Heard, HearsFirstAlone, Held, InTurn, IsDueAlone, IsHeldAlone, IsRepliedAlone}
+use Rattle.lone_laws.proofs.Words.{IsResetAlone, List, LoneEvent, NodeInput, None, Noted, OnLine, Option, Port, Replied, Short, Side, Some, StartComes}
+use Rattle.lone_laws.proofs.Words.{StopComes, TickComes, TurnsAscendAlone, Work, [], arith, core_since, deeds_of, end_causes, entries_of_events_alone, entry_of}
+use Rattle.lone_laws.proofs.Words.{entry_written, false, first_lack_since, holds_in, is_asked_down, is_done_alone, is_fact, is_reset_alone, is_short_alone}
+use Rattle.lone_laws.proofs.Words.{lack_since, list_any, noted_since, own_side, refl, replicate, reply_since, steps, sync_due, true, ℕ, ◌++◌, ◌∷◌, ◌≡◌}
 use Rattle.gate_admin.specs.View.{hosts_where}
 use Rattle.journal_laws.specs.Records.{found_from}
-use Rattle.link_laws.specs.entries.Entries.Entry.{Tick}
 use Rattle.node_laws.proofs.answers.OneFact.{AllOthers, OnlyFails, all_others_hold, answers_found, answers_wanted, at_each, first_found, first_so, first_wanted}
 use Rattle.node_laws.proofs.answers.OneFact.{heard_so, itself, none_behind, rise_ascends, same_at, same_behind, turns_rise}
 use Rattle.node_laws.proofs.answers.OneFact.Fact.{Reset}
 use Rattle.node_laws.proofs.readings.Noting.{IsBeside, IsOwnNote, NotesSo, steps_note}
-use Rattle.node_laws.proofs.telling.Accounts.{AreMute, IsMute, IsPlain, deeds_mute}
-use Rattle.node_machine.specs.Parts.Deed.{Ends}
+use Rattle.node_laws.proofs.telling.Accounts.{AreMute, IsMute, deeds_mute}
 use Rattle.pipe_table.specs.PipeRows.{lowest_free}
 use Rattle.swp_base.specs.Bits.{bits_of_byte}
 use Rattle.lone_laws.proofs.alone.Examples.{c1_record, clf, uicc}
@@ -90,29 +87,16 @@ abbrev pub IsUnwritten : Entry → Type 0
 IsUnwritten x = (form : EndForm) (number : ℕ) → entry_written form number x ≡ []
 
 own_unwritten : (who : Side) (h : ℕ) (x : Noted) → IsOwnNote who x → AllByRecursion IsUnwritten (entry_of h x)
-own_unwritten who h (Emit side frame) own = absurd own
-own_unwritten who h (Took side frame) own = absurd own
-own_unwritten who h (Lost side frame why) own = absurd own
-own_unwritten who h Tick own = absurd own
-own_unwritten who h (Restarted side) own = absurd own
-own_unwritten who h (Cut side) own = absurd own
-own_unwritten who h _ own = ((λ form number. refl), tt)
+own_unwritten who h x own = grind arith
 
 beside_unwritten : (n : ℕ) (x : Entry) → IsBeside n x → IsUnwritten x
-beside_unwritten n (entry.Emit e lpdu) own = absurd own
-beside_unwritten n x own = λ form number. refl
-
-plain_unwritten : (x : Entry) → IsPlain x → IsUnwritten x
-plain_unwritten (entry.Emit e lpdu) own = absurd own
-plain_unwritten x own = λ form number. refl
+beside_unwritten n x own = grind arith
 
 mute_unwritten : (deeds : List Deed) → AreMute deeds → AllByRecursion (NotesSo IsUnwritten) deeds
 mute_unwritten [] all = tt
 mute_unwritten (d ∷ deeds) all = (one d all.0, mute_unwritten deeds all.1) where
   one : (d : Deed) → IsMute d → NotesSo IsUnwritten d
-  one (Sends to m) i = tt
-  one (Ends y) m = plain_unwritten y m
-  one _ m = tt
+  one d i = grind arith
 
 any_ends : (ports : List Port) → AllByRecursion (λ (p : Port). Unit {0}) ports
 any_ends [] = tt
@@ -162,8 +146,7 @@ module _ (core : Core) (h : ℕ) where
   turn_wanted t _ behind = None
 
   turn_so : (t : List Entry) (x : Entry) (behind : List Entry) → turn_found t x behind ≡ turn_wanted t x behind → IsRepliedAlone core h t x behind
-  turn_so t (entry.Turn e pid message) behind same = both_are _ _ same
-  turn_so t _ behind same = tt
+  turn_so t x behind same = grind arith
 
   -- where a message is noted as held, whether it was so before, and what the first one lacks
   abbrev held_found : List Entry → Entry → List Entry → Option (Bool × Option (ℕ × ℕ))
@@ -175,8 +158,7 @@ module _ (core : Core) (h : ℕ) where
   held_wanted t _ behind = None
 
   held_so : (t : List Entry) (x : Entry) (behind : List Entry) → held_found t x behind ≡ held_wanted t x behind → IsHeldAlone core h t x behind
-  held_so t (entry.Held e need spare) behind same = both_are _ _ same
-  held_so t _ behind same = tt
+  held_so t x behind same = grind arith
 
   -- ### Facts
 

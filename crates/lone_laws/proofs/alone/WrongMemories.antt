@@ -41,10 +41,7 @@ finds_another k = true≢false (sym (ap no_syncs k.finds.tables_are))
 
 another_is_ready : IsReadyMemory other_record × Counts other_record 0
 unfolding found_from image_fault
-another_is_ready = (
-  record { size = leb-true 65536 (length other_record) refl; sound = refl; version = refl },
-  record { all = counts_all other_record refl; count_is = refl },
-)
+another_is_ready = grind arith
 
 -- ## Another count
 
@@ -70,11 +67,7 @@ is_of_version_01 k = let same : 1 ≡ 2 = k.finds.ready.version in omega (arith,
 
 version_alone : (image_fault other_version ≡ None) × (close (tables_of other_version) ≡ close (tables_of blank)) × Counts other_version 0
 unfolding found_from image_fault
-version_alone = (
-  refl,
-  refl,
-  record { all = counts_all other_version refl; count_is = refl },
-)
+version_alone = grind arith
 
 -- ## Power
 

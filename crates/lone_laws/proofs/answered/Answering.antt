@@ -2,7 +2,7 @@
 use Rattle.std.specs.Prelude.{Option, Some, None}
 use Rattle.lone_laws.proofs.Words.{AllByRecursion, BeginWithTurn, BeginsBehind, Bool, ComesTo, Control, Core, Deed, End, Entry, Hold, IsHeldAlone, IsTurnSo}
 use Rattle.lone_laws.proofs.Words.{LastsOverTurns, LinkInput, List, Lone, LoneCause, Message, Port, Running, Work, [], after_turn, ap, append-nil, append_assoc}
-use Rattle.lone_laws.proofs.Words.{by_test, comes_so, count_of, deeds_of, emits_behind, end_of_node, end_of_node_alone, eqb, errors_found, false}
+use Rattle.lone_laws.proofs.Words.{arith, by_test, comes_so, count_of, deeds_of, emits_behind, end_of_node, end_of_node_alone, eqb, errors_found, false}
 use Rattle.lone_laws.proofs.Words.{first_lack_since, handles, holds_back, lack_since, lacking, lets, link_of_turn, lone_input, lpdu_of, map, noted_by_deeds}
 use Rattle.lone_laws.proofs.Words.{noted_of, noted_since, noting, oldest, option_map_or, port_at, refl, reply_since, session_now, session_with, subst, sym}
 use Rattle.lone_laws.proofs.Words.{takes_up, true, turn_at, unhandled_in, waiting_at, with_desk, ℕ, ◌++◌, ◌∙◌, ◌∷◌, ◌≡◌, ◌≤◌}
@@ -31,8 +31,7 @@ none_until (entry.Held f need spare ∷ later) emits mute begin each =
 none_until (_ ∷ later) emits mute begin each = absurd (cc begin)
 
 hold_noted_none : (core : Core) (b : Bool) (o : Option Port) → option_map_or (noted_of core (Hold b)) o [] ≡ []
-hold_noted_none core b None = refl
-hold_noted_none core b (Some p) = refl
+hold_noted_none core b o = grind arith
 
 module _ (rest : Core) (number h : ℕ) (some : 1 ≤ h) (most : h ≤ 7) (s : ℕ) (t : List Entry) (its : eqb number 0 ≡ false → number ≡ h) where
   abbrev F : Core
@@ -142,9 +141,7 @@ module _ (rest : Core) (number h : ℕ) (some : 1 ≤ h) (most : h ≤ 7) (s : �
 
 pub replied_silent : (F : Core) (h : ℕ) (t : List Entry) (x : Entry) (behind : List Entry) → link_of_turn x ≡ None
     → IsRepliedOwn F h t x behind × IsHeldAlone F h t x behind
-replied_silent F h t (entry.Turn f pid message) behind q = absurd (cc q)
-replied_silent F h t (entry.Held f need spare) behind q = absurd (cc q)
-replied_silent F h t _ behind q = (tt, tt)
+replied_silent F h t x behind q = grind arith
 
 module _ (rest : Core) (t : List Entry) (l : Lone) (some : 1 ≤ l.link) (most : l.link ≤ 7) (its : eqb l.number 0 ≡ false → l.number ≡ l.link) (n : Running)
     (c : LoneCause) (i : LinkInput) (comes : lone_input c ≡ Some i) where
@@ -169,9 +166,7 @@ module _ (rest : Core) (t : List Entry) (l : Lone) (some : 1 ≤ l.link) (most :
     each_is : (front back : List Entry) (x : Entry) → all_of ≡ front ++ (x ∷ back) → BeginsBehind x back
     each_is front back x q = by x ((pass_noted G t l some most n keeps c i comes).each front back x q).1 where
       by : (y : Entry) → IsTurnSo (ComesTo B) B front y back → BeginsBehind y back
-      by (entry.Held f need spare) a = a.next
-      by (entry.Turn f pid message) a = tt
-      by _ a = tt
+      by y a = grind arith
 
     turn_is : (front back : List Entry) (x : Entry) → all_of ≡ front ++ (x ∷ back) → B.cut ≡ false → IsTurnSo (ComesTo B) B front x back
         → OrderAt (t ++ (B.entries ++ front)) x (back ++ tail)

@@ -1,14 +1,13 @@
 -- A node with one link in a step before its pass: something comes to its end, and an identifier may be kept; nothing else is done.
-use Rattle.lone_laws.proofs.Words.{ActStart, ActStop, ActTick, AtEnd, Bool, Core, End, Entry, LinkEnd, LinkInput, List, NodeInput, None, Port, Reset, Some}
-use Rattle.lone_laws.proofs.Words.{Start, Stop, Take, TakeUnknown, Tick, TimePasses, Work, [], after_input, after_sessions, all_come, all_done, all_owed, ap}
-use Rattle.lone_laws.proofs.Words.{append-nil, ap₂, comes_to_pass, cond, cond_both, deactivated, end_of, end_of_node_alone, eqb, false, flat_map, forgets}
-use Rattle.lone_laws.proofs.Words.{forgets_same, forgotten, got_by, had_tick, has_come, has_come_so, has_freed, has_synced, input_at, is_late, is_open, is_over}
-use Rattle.lone_laws.proofs.Words.{is_some, list_any, map, moved, node_input, own_side, refl, report, reset_late, same_end, same_end_itself, started, stopped}
-use Rattle.lone_laws.proofs.Words.{sym, syncs_in, tick_answer, ticked, times_out, told_at, told_late, true, unless_cut, whole_acked, with_older, without_notice}
-use Rattle.lone_laws.proofs.Words.{ℕ, ◌++◌, ◌∙◌, ◌∷◌, ◌≡◌}
+use Rattle.lone_laws.proofs.Words.{ActStart, ActStop, AtEnd, Bool, End, Entry, LinkEnd, LinkInput, List, NodeInput, None, Port, Reset, Some, Start, Stop, Take}
+use Rattle.lone_laws.proofs.Words.{TakeUnknown, Tick, TimePasses, Work, [], after_input, after_sessions, all_come, all_done, all_owed, ap, append-nil, ap₂}
+use Rattle.lone_laws.proofs.Words.{arith, comes_to_pass, deactivated, end_of, end_of_node_alone, flat_map, forgets, forgotten, got_by, had_tick, has_come}
+use Rattle.lone_laws.proofs.Words.{has_come_so, has_freed, has_synced, input_at, is_open, map, moved, node_input, own_side, refl, report, reset_late, same_end}
+use Rattle.lone_laws.proofs.Words.{same_end_itself, started, stopped, sym, syncs_in, times_out, told_at, told_late, true, unless_cut, whole_acked, with_older}
+use Rattle.lone_laws.proofs.Words.{without_notice, ℕ, ◌++◌, ◌∙◌, ◌∷◌, ◌≡◌}
 use Rattle.link_laws.proofs.machine.Reports.{activated_got, moved_got, reset_got, took_got}
 use Rattle.node_laws.proofs.steps.StepWalks.{unless}
-use Rattle.lone_laws.proofs.answered.Reading.{eqb_same, Read, read_all, told_read, reads_of, Alone, read_more, alone_as}
+use Rattle.lone_laws.proofs.answered.Reading.{Read, read_all, told_read, reads_of, Alone, read_more, alone_as}
 use Rattle.lone_laws.proofs.answered.Turning.{own_end}
 
 -- ## What comes
@@ -31,8 +30,7 @@ lone_got e (Take c) a = took_got e c
 lone_got e TakeUnknown a = nothing_more e (after_input e TakeUnknown) refl
 lone_got e Tick a = nothing_more e (after_input e Tick) (go (is_open e.role) refl) where
   go : (b : Bool) → is_open e.role ≡ b → (had_tick e).got ≡ e.got
-  go true q = let b : Bool = is_some (tick_answer e.shdlc).ended in rw q (moved_got e b (ticked e.shdlc))
-  go false q = rw q (activated_got e ActTick)
+  go b q = grind arith
 lone_got e (Reset window) a = nothing_more e (after_input e (Reset window)) (reset_got e window)
 lone_got e (Start value) a =
     nothing_more e (started e value) (activated_got (moved e true (stopped e.shdlc)) (ActStart value) ∙ moved_got e true (stopped e.shdlc))
@@ -42,38 +40,15 @@ lone_got e _ a = absurd a
 
 -- it comes to the end
 pub comes_there : (h : ℕ) (i : LinkInput) (p : Port) → p.desk.host ≡ h → input_at (node_input h i) p ≡ Some i
-comes_there h Tick p q = refl
-comes_there h i p q = ap (λ b. cond b (Some i) None) (ap (λ n. eqb n h) q ∙ eqb_same h)
+comes_there h i p q = grind arith
 
 -- ## Without notices
 
 older_none : (p : Port) → p.desk.notice ≡ None → with_older p ≡ p
 older_none p q = rw q refl
 
-late_none : (p : Port) → p.desk.notice ≡ None → is_late p ≡ false
-late_none p q = rw q refl
-
-reset_none : (p : Port) → p.desk.notice ≡ None → reset_late p ≡ p
-reset_none p q = ap (λ b. cond b (record p { side = after_input p.side (Reset None); late = true }) p) (late_none p q)
-
 without_none : (p : Port) → p.desk.notice ≡ None → without_notice p ≡ p
-without_none p q = cond_both (is_over p) (record p { desk = record p.desk { notice = None } }) p (λ x. x ≡ p)
-    (λ _. ap (λ n. record p { desk = record p.desk { notice = n } }) (sym q)) (λ _. refl)
-
-owed_none : (p : Port) → p.desk.notice ≡ None → all_owed (p ∷ []) ≡ []
-owed_none p q = go p.ended p.late where
-  go : (a b : Bool) → all_owed (record p { ended = a; late = b } ∷ []) ≡ []
-  go true true = rw q refl
-  go true false = rw q refl
-  go false true = rw q refl
-  go false false = refl
-
-forgotten_none : (p : Port) → p.desk.notice ≡ None → forgotten (p ∷ []) ≡ []
-forgotten_none p q = rw q refl
-
-sessions_none : (core : Core) (ports : List Port) → core.command ≡ None → core.init ≡ None → after_sessions core ports ≡ core
-sessions_none core ports command init = cond_both (list_any is_over ports) (record core { command = None; init = None }) core (λ x. x ≡ core)
-    (λ _. ap₂ (λ c i. record core { command = c; init = i }) (sym command) (sym init)) (λ _. refl)
+without_none p q = grind arith
 
 -- ## Before the pass
 
@@ -86,29 +61,19 @@ times_none : (input : NodeInput) (v : Work) (q : Port) → v.ports ≡ q ∷ [] 
 times_none (AtEnd k i) v q ports none = refl
 times_none TimePasses v q ports none =
     let older : with_older q ≡ q = older_none q none in
-    let told : told_late v.core (with_older q) ≡ [] =
-    ap (told_late v.core) older ∙ ap (λ b. cond b (told_at v.core q (Some (Reset None))) []) (late_none q none) in
-    let es : flat_map (told_late v.core) (map with_older v.ports) ≡ [] =
-    ap (λ ps. flat_map (told_late v.core) (map with_older ps)) ports ∙ ap (λ z. z ++ []) told in
-    let ps : map reset_late (map with_older v.ports) ≡ v.ports =
-    ap (λ z. map reset_late (map with_older z)) ports ∙ (ap (λ z. z ∷ []) (ap reset_late older ∙ reset_none q none) ∙ sym ports) in
+    let told : told_late v.core (with_older q) ≡ [] = grind arith in
+    let es : flat_map (told_late v.core) (map with_older v.ports) ≡ [] = grind arith in
+    let ps : map reset_late (map with_older v.ports) ≡ v.ports = grind arith in
     ap₂ (λ z es. record v { ports = z; entries = v.entries ++ es }) ps es ∙ ap (λ z. record v { entries = z }) (append-nil v.entries)
 
 -- nothing is forgotten
 freed_none : (v : Work) (q : Port) → v.ports ≡ q ∷ [] → q.desk.notice ≡ None → v.core.command ≡ None → v.core.init ≡ None
     → all_done 0 (forgotten v.ports)
     (record v { core = after_sessions v.core v.ports; ports = map without_notice (map (forgets v.ports) v.ports) }) ≡ v
-freed_none v q ports none command init =
-    let freed : forgotten v.ports ≡ [] = ap forgotten ports ∙ forgotten_none q none in
-    let ps : map without_notice (map (forgets v.ports) v.ports) ≡ v.ports =
-    ap (λ z. map without_notice (map (forgets v.ports) z)) ports
-    ∙ (ap (λ z. z ∷ []) (ap without_notice (forgets_same v.ports q none) ∙ without_none q none) ∙ sym ports) in
-    ap (λ d. all_done 0 d (record v { core = after_sessions v.core v.ports; ports = map without_notice (map (forgets v.ports) v.ports) })) freed
-    ∙ ap₂ (λ c z. record v { core = c; ports = z }) (sessions_none v.core v.ports command init) ps
+freed_none v q ports none command init = grind arith
 
 owed_left : (v : Work) (q : Port) → v.ports ≡ q ∷ [] → q.desk.notice ≡ None → all_owed (map (forgets v.ports) v.ports) ≡ []
-owed_left v q ports none =
-    ap (λ z. all_owed (map (forgets v.ports) z)) ports ∙ (ap (λ z. all_owed (z ∷ [])) (forgets_same v.ports q none) ∙ owed_none q none)
+owed_left v q ports none = grind arith
 
 module _ (number h : ℕ) (r : Read) (t : List Entry) where
   abbrev e : End

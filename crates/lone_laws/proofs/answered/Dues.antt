@@ -1,23 +1,17 @@
 -- Before the first turn in an event a node alone answers what is due.
 use Rattle.std.specs.Prelude.{Option, Some, None, not}
-use Rattle.lone_laws.proofs.Words.{ActEvent, ActStart, ActStop, ActTake, ActTick, AllByRecursion, AllByRecursion-append, Bare, BeginsBehind, Bool, Clf, ComesTo}
-use Rattle.lone_laws.proofs.Words.{Commits, Control, Core, Deed, End, Entry, Err, FrameComes, FrameIsRefused, IsTurnSo, LinkEnd, LinkInput, List, Lone}
-use Rattle.lone_laws.proofs.Words.{LoneCause, LpduFault, Ok, Port, Report, ResetComes, Result, Role, Running, Side, StartComes, StopComes, Sync, TickComes}
-use Rattle.lone_laws.proofs.Words.{Uicc, Work, [], act_event, act_out, after_input, all_come, all_done, ap, append-nil, append_assoc, by_test, cond, cond_both}
-use Rattle.lone_laws.proofs.Words.{control_of, core_since, count_of, deeds_note, emits_behind, end_of_node_alone, entries_for, entry_of, eqb, false, filter}
-use Rattle.lone_laws.proofs.Words.{finds_room, flat_map, frames_behind, goes_in, input_at, is_kept_sync, is_open, list_any, lone_arrival, lone_end, lone_input}
-use Rattle.lone_laws.proofs.Words.{lpdu_input, node_input, noted_by_deeds, noted_since, own_side, refl, report, session_now, session_with, subst, sym, sync_due}
-use Rattle.lone_laws.proofs.Words.{synced, syncs_in, ticked_sync, to_command, told, told_all, told_at, true, whole_acked, ℕ, ◌&&◌, ◌++◌, ◌||◌, ◌∙◌, ◌∷◌, ◌≡◌}
-use Rattle.lone_laws.proofs.Words.{◌≤◌}
+use Rattle.lone_laws.proofs.Words.{ActEvent, ActTake, AllByRecursion, AllByRecursion-append, BeginsBehind, ComesTo, Commits, Control, Core, Deed, End, Entry}
+use Rattle.lone_laws.proofs.Words.{Err, FrameComes, FrameIsRefused, IsTurnSo, LinkEnd, LinkInput, List, Lone, LoneCause, LpduFault, Ok, Port, Report}
+use Rattle.lone_laws.proofs.Words.{ResetComes, Result, Role, Running, Side, StartComes, StopComes, Sync, TickComes, Work, [], act_event, act_out, after_input}
+use Rattle.lone_laws.proofs.Words.{all_come, all_done, ap, append-nil, append_assoc, arith, by_test, cond, control_of, core_since, count_of, deeds_note}
+use Rattle.lone_laws.proofs.Words.{emits_behind, end_of_node_alone, entries_for, entry_of, eqb, false, finds_room, flat_map, frames_behind, is_kept_sync}
+use Rattle.lone_laws.proofs.Words.{lone_arrival, lone_end, lone_input, lpdu_input, node_input, noted_by_deeds, noted_since, own_side, refl, report, session_now}
+use Rattle.lone_laws.proofs.Words.{session_with, subst, sym, sync_due, synced, syncs_in, told, told_all, told_at, true, whole_acked, ℕ, ◌&&◌, ◌++◌, ◌||◌, ◌∙◌}
+use Rattle.lone_laws.proofs.Words.{◌∷◌, ◌≡◌, ◌≤◌}
 use Rattle.trace_model.specs.declared.entry.Entry.TheVariants as entry
 use Rattle.swp_base.specs.declared.control_frames.Act.TheVariants.{SyncId, Ready, PowerMode}
-use Rattle.swp_act.specs.declared.Phase.{Phase}
-use Rattle.swp_act.specs.declared.Phase.TheVariants.{Inactive}
-use Rattle.swp_act.specs.declared.clf.ClfAct.{ClfAct}
-use Rattle.swp_act.specs.Activation.{clf_step}
-use Rattle.node_laws.proofs.worlds.Late.{uicc_sync}
-use Rattle.lone_laws.proofs.answered.Replying.{AnswersOwn, AreUntil, IsDueOwn, IsMuteEntry, IsNotedSo, commit_told, deeds_answer, entries_of_deeds}
-use Rattle.lone_laws.proofs.answered.Replying.{is_own_answer, is_own_cut, noted_answers, noted_as_reply, to_turn}
+use Rattle.lone_laws.proofs.answered.Replying.{AnswersOwn, AreUntil, IsDueOwn, IsMuteEntry, IsNotedSo, deeds_answer, entries_of_deeds, noted_answers}
+use Rattle.lone_laws.proofs.answered.Replying.{noted_as_reply}
 use Rattle.lone_laws.proofs.answered.Reading.{Read, Alone, core_is}
 use Rattle.lone_laws.proofs.answered.Coming.{comes_there, came_entries, pass_is}
 use Rattle.lone_laws.proofs.answered.Stepping.{lone_comes}
@@ -35,31 +29,11 @@ abbrev wanted : ActEvent → Option ℕ
 wanted (ActTake (SyncId id) false) = Some id
 wanted _ = None
 
-clf_sync : (s : ClfAct) (event : ActEvent) → (clf_step s event).1.sync ≡ wanted event
-clf_sync s (ActStart value) = refl
-clf_sync s (ActTake (SyncId id) true) = refl
-clf_sync s (ActTake _ true) = refl
-clf_sync s (ActTake (SyncId id) false) = go s.phase refl where
-  go : (p : Phase) → s.phase ≡ p → (clf_step s (ActTake (SyncId id) false)).1.sync ≡ Some id
-  go Inactive q = rw q refl
-  go _ q = rw q refl
-clf_sync s (ActTake Ready false) = go s.phase refl where
-  go : (p : Phase) → s.phase ≡ p → (clf_step s (ActTake Ready false)).1.sync ≡ None
-  go Inactive q = rw q refl
-  go _ q = rw q refl
-clf_sync s (ActTake (PowerMode code) false) = refl
-clf_sync s ActTick = ticked_sync s.phase s.last
-clf_sync s ActStop = refl
-
 out_none : (r : Role) (o : Option ActEvent) → kind_of r ≡ Some false → (act_out r o).sync ≡ None
-out_none Bare o q = absurd (cc q)
-out_none (Clf s) o q = absurd (cc q)
-out_none (Uicc s) None q = refl
-out_none (Uicc s) (Some event) q = uicc_sync s event
+out_none r o q = grind arith
 
 clf_out : (r : Role) (event : ActEvent) → kind_of r ≡ Some true → (act_out r (Some event)).sync ≡ wanted event
-clf_out (Clf s) event q = clf_sync s event
-clf_out _ event q = absurd (cc q)
+clf_out r event q = grind arith
 
 -- the command that keeps an identifier
 abbrev of_sync : Core → ℕ → Option ℕ → List Deed
@@ -69,9 +43,7 @@ of_sync core h (Some id) = cond (not (is_kept_sync core.tables.syncs h id) && fi
 synced_is : (core : Core) (h : ℕ) (i : LinkInput) (p : Port) (o : Option ℕ) → p.desk.host ≡ h → (report p.side i).sync ≡ o
     → synced core (node_input h i) p ≡ of_sync core h o
 synced_is core h i p None host q = rw (comes_there h i p host, q) refl
-synced_is core h i p (Some id) host q =
-    (let is : input_at (node_input h i) p ≡ Some i = comes_there h i p host in rw (is, q) refl)
-    ∙ ap (λ k. of_sync core k (Some id)) host
+synced_is core h i p (Some id) host q = grind arith
 
 frame_due : (core : Core) (h : ℕ) (s : LinkEnd) (bytes : List ℕ) → eqb core.node 0 ≡ true → kind_of s.role ≡ Some true
     → of_sync core h (report s (lpdu_input bytes)).sync ≡ sync_due core h (FrameComes bytes)
@@ -83,19 +55,12 @@ frame_due core h s bytes zero kind = go (control_of bytes) refl where
   go (Err fault) q = rw (q, zero) refl
   go (Ok (control.Act (SyncId id) false)) q = rw (q, zero) (ap (of_sync core h) (act (ActTake (SyncId id) false)))
   go (Ok (control.Act (SyncId id) true)) q = rw (q, zero) (ap (of_sync core h) (act (ActTake (SyncId id) true)))
-  go (Ok (control.Act Ready again)) q = rw (q, zero) (ap (of_sync core h) (act (ActTake Ready again) ∙ ready again)) where
-    ready : (b : Bool) → wanted (ActTake Ready b) ≡ None
-    ready true = refl
-    ready false = refl
-  go (Ok (control.Act (PowerMode code) again)) q = rw (q, zero) (ap (of_sync core h) (act (ActTake (PowerMode code) again) ∙ power again)) where
-    power : (b : Bool) → wanted (ActTake (PowerMode code) b) ≡ None
-    power true = refl
-    power false = refl
+  go (Ok (control.Act Ready again)) q = grind arith
+  go (Ok (control.Act (PowerMode code) again)) q = grind arith
   go (Ok _) q = rw (q, zero) refl
 
 other_due : (core : Core) (h : ℕ) (c : LoneCause) → eqb core.node 0 ≡ false → sync_due core h c ≡ []
-other_due core h (FrameComes bytes) another = rw another refl
-other_due core h _ another = refl
+other_due core h c another = grind arith
 
 input_due : (core : Core) (h : ℕ) (s : LinkEnd) (c : LoneCause) (i : LinkInput) → lone_input c ≡ Some i → kind_of s.role ≡ Some (eqb core.node 0)
     → of_sync core h (report s i).sync ≡ sync_due core h c
@@ -107,19 +72,10 @@ input_due core h s c i comes kind = by_test (eqb core.node 0)
           let is : lpdu_input bytes ≡ i = cc in
           subst (λ x. of_sync core h (report s x).sync ≡ sync_due core h (FrameComes bytes)) is (frame_due core h s bytes zero (kind ∙ ap (λ b. Some b) zero))
       clf zero (FrameIsRefused fault) q = absurd (cc q)
-      clf zero TickComes q =
-          let is : Rattle.link_laws.specs.machine.Machine.LinkInput.Tick ≡ i = cc in
-          subst (λ x. of_sync core h (report s x).sync ≡ []) is
-          (cond_both (is_open s.role) None (Some ActTick) (λ o. of_sync core h (act_out s.role o).sync ≡ []) (λ _. refl)
-          (λ _. ap (of_sync core h) (clf_out s.role ActTick (kind ∙ ap (λ b. Some b) zero))))
-      clf zero (ResetComes window) q =
-          let is : Rattle.link_laws.specs.machine.Machine.LinkInput.Reset window ≡ i = cc in subst (λ x. of_sync core h (report s x).sync ≡ []) is refl
-      clf zero (StartComes value) q =
-          let is : Rattle.link_laws.specs.machine.Machine.LinkInput.Start value ≡ i = cc in
-          subst (λ x. of_sync core h (report s x).sync ≡ []) is (ap (of_sync core h) (clf_out s.role (ActStart value) (kind ∙ ap (λ b. Some b) zero)))
-      clf zero StopComes q =
-          let is : Rattle.link_laws.specs.machine.Machine.LinkInput.Stop ≡ i = cc in
-          subst (λ x. of_sync core h (report s x).sync ≡ []) is (ap (of_sync core h) (clf_out s.role ActStop (kind ∙ ap (λ b. Some b) zero)))
+      clf zero TickComes q = grind arith
+      clf zero (ResetComes window) q = grind arith
+      clf zero (StartComes value) q = grind arith
+      clf zero StopComes q = grind arith
 
 -- ## What is noted first
 
@@ -130,15 +86,10 @@ told_mute h who n acked rep =
     (λ k. ((refl, refl, refl), tt)) ((refl, refl, refl), tt) (λ m. ((refl, refl, refl), tt)) (λ c. ((refl, refl, refl), tt)) rep)
 
 arrival_mute : (l : Lone) (c : LoneCause) → AllByRecursion IsMuteEntry (lone_arrival l c)
-arrival_mute l (FrameComes bytes) = ((refl, refl, refl), tt)
-arrival_mute l _ = tt
+arrival_mute l c = grind arith
 
 mute_answers : (x : Entry) (es answers : List Entry) → IsMuteEntry x → AnswersOwn es answers → AnswersOwn (x ∷ es) answers
-mute_answers x es answers mute a =
-    ap (λ b. filter is_own_answer (cond b [] (x ∷ to_turn es))) mute.1
-    ∙ (ap (λ b. cond b (x ∷ filter is_own_answer (to_turn es)) (filter is_own_answer (to_turn es))) mute.0
-    ∙ (a ∙ sym (ap (λ b. cond (list_any is_own_cut (cond b [] (x ∷ to_turn es))) (to_command answers) answers) mute.1
-    ∙ ap (λ b. cond (b || list_any is_own_cut (to_turn es)) (to_command answers) answers) mute.2)))
+mute_answers x es answers mute a = grind arith
 
 mutes_answer : (xs es answers : List Entry) → AllByRecursion IsMuteEntry xs → AnswersOwn es answers → AnswersOwn (xs ++ es) answers
 mutes_answer [] es answers mute a = a
@@ -148,27 +99,11 @@ mutes_answer (x ∷ xs) es answers mute a = mute_answers x (xs ++ es) answers mu
 sync_noted : (number h : ℕ) (e : End) (session : Option ℕ) (u : Work) (o : Option ℕ) → u.cut ≡ false → u.core.node ≡ number
     → IsNotedSo number h (all_done 0 (of_sync u.core h o) u).cut (noted_by_deeds 0 (of_sync u.core h o) u) (entries_of_deeds u.core e session
     (of_sync u.core h o))
-sync_noted number h e session u None on node = subst (λ b. IsNotedSo number h b [] []) (sym on) refl
-sync_noted number h e session u (Some id) on node =
-    cond_both (not (is_kept_sync u.core.tables.syncs h id) && finds_room u.core (Sync h id)) (Commits (Sync h id) ∷ []) []
-    (λ D. IsNotedSo number h (all_done 0 D u).cut (noted_by_deeds 0 D u) (entries_of_deeds u.core e session D))
-    (λ _. commits (goes_in (Sync h id) u) refl) (λ _. subst (λ b. IsNotedSo number h b [] []) (sym on) refl) where
-      D : List Deed
-      D = Commits (Sync h id) ∷ []
-
-      commits : (b : Bool) → goes_in (Sync h id) u ≡ b
-          → IsNotedSo number h (all_done 0 (Commits (Sync h id) ∷ []) u).cut (noted_by_deeds 0 (Commits (Sync h id) ∷ []) u)
-          (entries_of_deeds u.core e session (Commits (Sync h id) ∷ []))
-      commits true q = rw q (Sync h id, [], ap (λ n. entry.Command n (Sync h id) ∷ []) node, ap (λ n. entry.Command n (Sync h id) ∷ entry.Cut n ∷ []) node)
-      commits false q = rw (q, on) (refl)
+sync_noted number h e session u o on node = grind arith
 
 due_as_reply : (number h : ℕ) (session : Option ℕ) (core : Core) (count : ℕ) (o : Option ℕ) → core.node ≡ number
     → noted_as_reply number h session core count (of_sync core h o) ≡ entries_of_deeds core (end_of_node_alone number h) session (of_sync core h o)
-due_as_reply number h session core count None node = refl
-due_as_reply number h session core count (Some id) node =
-    cond_both (not (is_kept_sync core.tables.syncs h id) && finds_room core (Sync h id)) (Commits (Sync h id) ∷ []) []
-    (λ D. noted_as_reply number h session core count D ≡ entries_of_deeds core (end_of_node_alone number h) session D)
-    (λ _. commit_told number h session core node count (Sync h id)) (λ _. refl)
+due_as_reply number h session core count o node = grind arith
 
 -- ## A step
 
@@ -229,9 +164,7 @@ module _ (rest : Core) (t : List Entry) (l : Lone) (some : 1 ≤ l.link) (most :
   each_is : (front back : List Entry) (x : Entry) → more ≡ front ++ (x ∷ back) → BeginsBehind x back
   each_is front back x q = by x ((pass_noted G t l some most n k.keep c i comes).each front back x q).1 where
     by : (y : Entry) → IsTurnSo (ComesTo B) B front y back → BeginsBehind y back
-    by (entry.Held f need spare) a = a.next
-    by (entry.Turn f pid message) a = tt
-    by _ a = tt
+    by y a = grind arith
 
   core_read : core_since G t ≡ n.core
   core_read = sym (core_is e t R) ∙ ap (λ (z : Read). z.core) k.keep.read

@@ -1,24 +1,22 @@
 -- Each session of a node alone has a greater number than those before it: behind each one that waits an RSET went out.
-use Rattle.lone_laws.proofs.Words.{About, Act, ActDue, ActEvent, ActFrame, ActStart, ActStop, ActTake, ActTick, AllByRecursion, Asked, AsksFor, Begins, Bool}
-use Rattle.lone_laws.proofs.Words.{Clt, Command, Commits, Control, Deed, Desk, EndState, Ends, FetchMessage, Fragment, Give, Hold, I, IsAnswered, Lasts}
-use Rattle.lone_laws.proofs.Words.{LinkEnd, LinkInput, LinkState, List, Message, NodeInput, None, Option, Orders, Port, Rej_due, Release, Releases, Renews}
-use Rattle.lone_laws.proofs.Words.{Reset, Rests, Rnr_due, Rr_due, Rset, Rset_due, S, Sends, SetAside, SetsErrors, Shift, Some, Sound, Start, Stays, Stop, Take}
-use Rattle.lone_laws.proofs.Words.{TakeUnknown, Tells, Tick, Turn, Ua, Ua_due, Waiting, Work, [], acknowledged, act_answer, activated, after_frames}
-use Rattle.lone_laws.proofs.Words.{after_input, after_sessions, after_turn, all_changed, all_come, all_map, all_owed, among, and_parts, anyone, ap, arith}
-use Rattle.lone_laws.proofs.Words.{aside_refusal, asked_at, began_by, body_of, by_list, by_option, by_test, commit, commit_writes, cond, control_due, done}
-use Rattle.lone_laws.proofs.Words.{drop, due_left, eqb, fails_within, false, fetch_cases, fetched, filter, flat_map, forgets, forgotten, frames_of, frames_out}
-use Rattle.lone_laws.proofs.Words.{give_refusal, got_at, heard, if_up, inl, inr, is_faulty, is_forgotten, is_open, is_over, is_rset, is_some, is_waiting}
-use Rattle.lone_laws.proofs.Words.{length, length-append, map, most_frames, moved, nat_lt, not, notified, noting, place_of, put_down, received, received_cases}
-use Rattle.lone_laws.proofs.Words.{refl, reset_refusal, reset_with, rest_lasts, role_after, rsets_among, rsets_due, rsets_since, runs_timer, sent_again}
-use Rattle.lone_laws.proofs.Words.{sent_all, steps, stopped, subst, suc, sym, synced, take, take_answer, take_so, taken, tick_answer, ticked, times_out, true}
-use Rattle.lone_laws.proofs.Words.{true≢false, turn, turn_at, waiting_from, window_of, with_act, with_desk, with_port, with_ready, without_notice, zero, ℕ}
-use Rattle.lone_laws.proofs.Words.{◌++◌, ◌+◌, ◌-◌, ◌<◌, ◌==◌, ◌∙◌, ◌∷◌, ◌≡◌, ◌≤◌, ◌⊎◌}
+use Rattle.lone_laws.proofs.Words.{About, ActDue, ActEvent, ActFrame, ActStart, ActStop, ActTake, ActTick, AllByRecursion, Asked, AsksFor, Bool, Clt, Command}
+use Rattle.lone_laws.proofs.Words.{Commits, Control, Deed, Desk, EndState, FetchMessage, Fragment, Give, Hold, I, IsAnswered, Lasts, LinkEnd, LinkInput}
+use Rattle.lone_laws.proofs.Words.{LinkState, List, Message, NodeInput, None, Orders, Port, Rej_due, Release, Releases, Reset, Rnr_due, Rr_due, Rset, Rset_due}
+use Rattle.lone_laws.proofs.Words.{S, Sends, SetAside, SetsErrors, Some, Sound, Start, Stop, Take, TakeUnknown, Tells, Tick, Turn, Ua, Ua_due, Waiting, Work}
+use Rattle.lone_laws.proofs.Words.{[], acknowledged, activated, after_frames, after_input, after_sessions, after_turn, all_changed, all_come, all_map, all_owed}
+use Rattle.lone_laws.proofs.Words.{among, anyone, ap, arith, aside_refusal, asked_at, began_by, body_of, by_list, by_option, by_test, commit, commit_writes}
+use Rattle.lone_laws.proofs.Words.{cond, done, drop, due_left, eqb, fails_within, false, fetch_cases, fetched, filter, flat_map, forgets, forgotten, frames_of}
+use Rattle.lone_laws.proofs.Words.{frames_out, give_refusal, got_at, heard, if_up, inl, inr, is_faulty, is_forgotten, is_open, is_over, is_rset, is_some}
+use Rattle.lone_laws.proofs.Words.{is_waiting, length, length-append, map, most_frames, moved, nat_lt, not, notified, noting, place_of, put_down, received}
+use Rattle.lone_laws.proofs.Words.{received_cases, refl, reset_refusal, reset_with, rest_lasts, rsets_among, rsets_due, rsets_since, runs_timer, sent_all}
+use Rattle.lone_laws.proofs.Words.{steps, stopped, suc, sym, synced, take, take_answer, taken, tick_answer, ticked, times_out, true, true≢false, turn, turn_at}
+use Rattle.lone_laws.proofs.Words.{waiting_from, window_of, with_desk, with_port, with_ready, without_notice, zero, ℕ, ◌++◌, ◌+◌, ◌-◌, ◌<◌, ◌==◌, ◌∙◌, ◌∷◌, ◌≡◌}
+use Rattle.lone_laws.proofs.Words.{◌≤◌, ◌⊎◌}
 use Rattle.link_laws.proofs.sessions.Sending.{at_most_one}
 use Rattle.node_machine.specs.Parts.About.{Removed, Waits}
 use Rattle.shdlc_core.specs.declared.answers.Due.{Due}
 use Rattle.shdlc_core.specs.declared.answers.LinkState.TheVariants.{Down, Up}
 use Rattle.swp_base.specs.declared.control_frames.Kind.{Kind}
-use Rattle.swp_base.specs.declared.control_frames.Kind.TheVariants.{Rej, Rnr, Rr, Srej}
 use Rattle.lone_laws.proofs.answered.Coming.{IsLoneInput}
 use Rattle.trace_model.specs.declared.entry.Entry.TheVariants as entry
 
@@ -68,16 +66,7 @@ up_I e ns nr info up still = by_option (place_of e.session nr)
 
 up_S : (e : EndState) (kind : Kind) (nr : ℕ) → e.phase ≡ Up → is_waiting e ≡ false
     → IsOneMore e (taken e (S kind nr)) × (is_waiting (taken e (S kind nr)) ≡ false)
-up_S e kind nr up still = go kind (place_of e.session nr) refl where
-  same : (kind : Kind) → taken e (S kind nr) ≡ e → IsOneMore e (taken e (S kind nr)) × (is_waiting (taken e (S kind nr)) ≡ false)
-  same kind is = (same_more e (taken e (S kind nr)) is, ap is_waiting is ∙ still)
-
-  go : (kind : Kind) (o : Option ℕ) → place_of e.session nr ≡ o → IsOneMore e (taken e (S kind nr)) × (is_waiting (taken e (S kind nr)) ≡ false)
-  go Srej o q = same Srej (rw up refl)
-  go Rr None q = same Rr (rw (up, q) refl)
-  go Rej None q = same Rej (rw (up, q) refl)
-  go Rnr None q = same Rnr (rw (up, q) refl)
-  go _ (Some x) q = rw (up, q) (omega arith, refl)
+up_S e kind nr up still = grind arith
 
 taken_more : (e : EndState) (c : Control) → IsOneMore e (taken e c)
 taken_more e c = go e.phase refl c where
@@ -100,29 +89,12 @@ taken_more e c = go e.phase refl c where
 
 -- a frame makes no end wait
 taken_still : (e : EndState) (c : Control) → is_waiting e ≡ false → is_waiting (taken e c) ≡ false
-taken_still e c still = go e.phase refl c where
-  same : (c : Control) → taken e c ≡ e → is_waiting (taken e c) ≡ false
-  same c q = ap is_waiting q ∙ still
-
-  reset : (w caps : ℕ) (p : LinkState) → e.phase ≡ p → (b : Bool) → (w == 0) ≡ b → is_waiting (taken e (Rset w caps)) ≡ false
-  reset w caps Up p true q = same (Rset w caps) (rw (p, q) refl)
-  reset w caps Up p false q = rw (p, q) refl
-  reset w caps Waiting p b q = absurd (true≢false (sym (rw p refl) ∙ still))
-  reset w caps Down p true q = same (Rset w caps) (rw (p, q) refl)
-  reset w caps Down p false q = rw (p, q) refl
-
-  go : (p : LinkState) → e.phase ≡ p → (c : Control) → is_waiting (taken e c) ≡ false
-  go p q (Rset w caps) = reset w caps p q (w == 0) refl
-  go Up p (I ns nr info) = (up_I e ns nr info p still).1
-  go Up p (S kind nr) = (up_S e kind nr p still).1
-  go Waiting p c = absurd (true≢false (sym (rw p refl) ∙ still))
-  go _ p c = same c (rw p refl)
+taken_still e c still = grind arith
 
 -- ### A tick and a reset
 
 left_few : (p : LinkState) (ds : List Due) → length (due_left p ds) ≤ length ds
-left_few Up ds = omega arith
-left_few _ ds = omega arith
+left_few p ds = grind arith
 
 waiting_more : (e : EndState) → IsOneMore e (waiting_from e)
 waiting_more e = let z = one_more (due_left e.phase e.due) Rset_due in let w = left_few e.phase e.due in omega (arith, z, w)
@@ -139,17 +111,9 @@ ticked_so e = go e.phase (runs_timer e.session) (nat_lt (e.timer + 1) 10) (nat_l
   go Waiting r false true p t u v = ((rw (p, u, v) (one_more e.due Rset_due)), waits p)
   go Waiting r false false p t u v = ((rw (p, u, v) (omega arith)), waits p)
   go Up false a b p t u v = let is : ticked e ≡ e = rw (p, t) refl in (same_more e (ticked e) is, λ still. inl (ap is_waiting is ∙ still))
-  go Up true true b p t u v =
-      let is : ticked e ≡ record e { timer = e.timer + 1 } = rw (p, t, u) refl in
-      ((let z = ap (λ (s : EndState). length s.due) is in omega (arith, z)), λ still. inl (ap is_waiting is ∙ still))
-  go Up true false true p t u v =
-      let is : ticked e ≡ sent_again e = rw (p, t, u, v) refl in
-      ((let z = ap (λ (s : EndState). length s.due) is in omega (arith, z)), λ still. inl (ap is_waiting is ∙ still))
-  go Up true false false p t u v =
-      let is : ticked e ≡ waiting_from e = rw (p, t, u, v) refl in (
-        (let z = ap (λ (s : EndState). length s.due) is in let w = waiting_more e in omega (arith, z, w)),
-        λ still. inr (let z = ap (λ (s : EndState). rsets_among s.due) is in let w = rset_last (due_left e.phase e.due) in omega (arith, z, w)),
-      )
+  go Up true true b p t u v = grind arith
+  go Up true false true p t u v = grind arith
+  go Up true false false p t u v = grind arith
 
 reset_so : (s : EndState) (w : ℕ) → IsOneMore s (reset_with s w) × (is_waiting s ≡ false → Asks (reset_with s w))
 reset_so s w = go (is_waiting s) refl where
@@ -167,31 +131,16 @@ abbrev IsAsked : EndState → LinkEnd → Type 0
 IsAsked e f = IsOneMore e f.shdlc × (is_waiting e ≡ false → Asks f.shdlc)
 
 moved_asked : (e : LinkEnd) (b : Bool) (s : EndState) → IsOneMore e.shdlc s × (is_waiting e.shdlc ≡ false → Asks s) → IsAsked e.shdlc (moved e b s)
-moved_asked e true s a = a
-moved_asked e false s a = a
+moved_asked e b s a = grind arith
 
 still_asked : (s : EndState) (e : LinkEnd) → e.shdlc ≡ s → IsAsked s e
 still_asked s e q = (same_more s e.shdlc q, λ still. inl (ap is_waiting q ∙ still))
 
 down_asked : (b : Bool) (e : LinkEnd) → IsAsked e.shdlc (put_down b e)
-down_asked false e = still_asked e.shdlc e refl
-down_asked true e = go e.shdlc.phase refl where
-  go : (p : LinkState) → e.shdlc.phase ≡ p → IsAsked e.shdlc (put_down true e)
-  go Down q = rw q (omega arith, λ still. inl still)
-  go _ q = rw q (omega arith, λ still. inl refl)
-
-act_shdlc : (o : Option Act) (e : LinkEnd) → (with_act o e).shdlc ≡ e.shdlc
-act_shdlc None e = refl
-act_shdlc (Some act) e = refl
-
-same_asked : (s : EndState) (e f : LinkEnd) → f.shdlc ≡ e.shdlc → IsAsked s e → IsAsked s f
-same_asked s e f q a = subst (λ x. IsOneMore s x × (is_waiting s ≡ false → Asks x)) (sym q) a
+down_asked b e = grind arith
 
 activated_asked : (e : LinkEnd) (event : ActEvent) → IsAsked e.shdlc (activated e event)
-activated_asked e event =
-    same_asked e.shdlc (put_down (act_answer e.role event).ended_link e) (activated e event)
-    (act_shdlc (act_answer e.role event).send (record (put_down (act_answer e.role event).ended_link e) { role = role_after e.role event }))
-    (down_asked (act_answer e.role event).ended_link e)
+activated_asked e event = grind arith
 
 heard_asked : (e : LinkEnd) (c : Control) → IsAsked e.shdlc (heard e c)
 heard_asked e c = by_test (is_faulty (taken e.shdlc c).session)
@@ -204,11 +153,7 @@ open_asked e c = by_test (is_open e.role) (λ q. rw q (heard_asked e c)) (λ q. 
 
 -- an end that starts anew or stops
 anew_asked : (s : EndState) (e : LinkEnd) (event : ActEvent) → e.shdlc ≡ stopped s → IsAsked s (activated e event)
-anew_asked s e event q =
-    let a = activated_asked e event in
-    let none = ap (λ (x : EndState). length x.due) q in
-    let few : length (activated e event).shdlc.due ≤ 1 = let z = a.0 in omega (arith, z, none) in
-    (let z = few in omega (arith, z), λ _. a.1 (ap is_waiting q))
+anew_asked s e event q = grind arith
 
 input_asked : (e : LinkEnd) (i : LinkInput) → IsLoneInput i → IsAsked e.shdlc (after_input e i)
 input_asked e (Take (ActFrame act again)) a = activated_asked e (ActTake act again)
@@ -240,37 +185,23 @@ pub record IsTurned (s f : LinkEnd) : Type 0 where
   pub few : most_due f.shdlc ≤ most_due s.shdlc
 
 same_turned : (s f g : LinkEnd) → g.shdlc ≡ f.shdlc → IsTurned s f → IsTurned s g
-same_turned s f g q a = record {
-  waits = ap is_waiting q ∙ a.waits;
-  asks = let z = ap (λ (e : EndState). rsets_among e.due) q in let w = a.asks in omega (arith, z, w);
-  few = let z = ap most_due q in let w = a.few in omega (arith, z, w);
-}
+same_turned s f g q a = grind arith
 
 held_turned : (e : EndState) (r : Bool)
     → (is_waiting (with_ready e r) ≡ is_waiting e) × (rsets_among e.due ≤ rsets_among (with_ready e r).due) × (most_due (with_ready e r) ≤ most_due e)
 held_turned e r = go e.ready r e.session.answered_rnr refl refl where
   same : (f : EndState) → f ≡ e → (is_waiting f ≡ is_waiting e) × (rsets_among e.due ≤ rsets_among f.due) × (most_due f ≤ most_due e)
-  same f q = (
-    ap is_waiting q,
-    (let z = ap (λ (x : EndState). rsets_among x.due) q in omega (arith, z)),
-    (let z = ap most_due q in omega (arith, z)),
-  )
+  same f q = grind arith
 
   fewer : (b : Bool) → length e.due + 0 ≤ length e.due + cond b 1 0
-  fewer true = omega arith
-  fewer false = omega arith
+  fewer b = grind arith
 
   go : (was now noted : Bool) → e.ready ≡ was → e.session.answered_rnr ≡ noted
       → (let f : EndState = with_ready e now in
       (is_waiting f ≡ is_waiting e) × (rsets_among e.due ≤ rsets_among f.due) × (most_due f ≤ most_due e))
   go true true noted p q = same (with_ready e true) (rw p refl)
   go false false noted p q = same (with_ready e false) (rw p refl)
-  go true false noted p q =
-      let is : with_ready e false ≡ record e { ready = false; session = record e.session { answered_rnr = false } } = rw p refl in (
-        ap is_waiting is,
-        (let z = ap (λ (x : EndState). rsets_among x.due) is in omega (arith, z)),
-        (let z = ap most_due is in let w = fewer e.session.answered_rnr in omega (arith, z, w)),
-      )
+  go true false noted p q = grind arith
   go false true true p q =
       let is : with_ready e true ≡ record e { ready = true; due = e.due ++ Rr_due ∷ []; session = record e.session { answered_rnr = false } } =
       rw (p, q) refl in (
@@ -278,22 +209,13 @@ held_turned e r = go e.ready r e.session.answered_rnr refl refl where
         (let z = ap (λ (x : EndState). rsets_among x.due) is in let w = no_fewer e.due Rr_due in omega (arith, z, w)),
         (let z = ap most_due is in let w = one_more e.due Rr_due in let o = ap (λ b. length e.due + cond b 1 0) q in omega (arith, z, w, o)),
       )
-  go false true false p q =
-      let is : with_ready e true ≡ record e { ready = true; session = record e.session { answered_rnr = false } } = rw (p, q) refl in (
-        ap is_waiting is,
-        (let z = ap (λ (x : EndState). rsets_among x.due) is in omega (arith, z)),
-        (let z = ap most_due is in let w = fewer e.session.answered_rnr in omega (arith, z, w)),
-      )
+  go false true false p q = grind arith
 
 turn_turned : (s f : LinkEnd) (x : Turn) → IsTurned s f → IsTurned s (turn f x)
 turn_turned s f (Give m) a = by_option (give_refusal f m) (λ q. rw q (record { waits = a.waits; asks = a.asks; few = a.few })) (λ why q. rw q a)
 turn_turned s f (Hold held) a =
     let z = held_turned f.shdlc (not held) in
-    record {
-      waits = z.0 ∙ a.waits;
-      asks = let v = z.1 in let w = a.asks in omega (arith, v, w);
-      few = let v = z.2 in let w = a.few in omega (arith, v, w);
-    }
+    grind arith
 turn_turned s f SetAside a = by_option (aside_refusal f) (λ q. rw q (record { waits = a.waits; asks = a.asks; few = a.few })) (λ why q. rw q a)
 turn_turned s f x a = same_turned s f (turn f x) refl a
 
@@ -408,12 +330,7 @@ frames_rsets zero e few = by_list e.due (λ q. rw q (omega arith)) (λ d ds q. a
 frames_rsets (suc n) e few = go e.due refl (λ ds more. frames_rsets n (record e { due = ds }) more) where
   go : (ds : List Due) → e.due ≡ ds
       → ((ds : List Due) → length ds ≤ n → rsets_among ds ≤ rsets_of (frames_of n (record e { due = ds }))) → rsets_among e.due ≤ rsets_of (frames_of (suc n) e)
-  go [] q later = rw q (omega arith)
-  go (d ∷ ds) q later = let z = ap (λ (l : List Due). length l) q in rw q (by d (later ds (omega (arith, few, z)))) where
-    by : (d : Due) → rsets_among ds ≤ rsets_of (frames_of n (record e { due = ds }))
-        → rsets_among (d ∷ ds) ≤ rsets_of (control_due e d ∷ frames_of n (record e { due = ds }))
-    by Rset_due z = omega (arith, z)
-    by _ z = z
+  go ds q later = grind arith
 
 -- all RSETs that are due go out
 out_rsets : (f : LinkEnd) → length f.shdlc.due ≤ most_frames → rsets_due f ≤ rsets_of (frames_out f)
@@ -425,8 +342,7 @@ none_left : (n : ℕ) (e : EndState) → length e.due ≤ n → (after_frames n 
 none_left zero e few = by_list e.due (λ q. q) (λ d ds q. absurd (let z = ap (λ (l : List Due). length l) q in omega (arith, few, z)))
 none_left (suc n) e few =
     none_left n (fetched e)
-    (fetch_cases (λ f o. length f.due ≤ n) e (λ d ds q. let z = ap (λ (l : List Due). length l) q in omega (arith, few, z))
-    (λ q r. let z = ap (λ (l : List Due). length l) q in omega (arith, z)) (λ info q r. let z = ap (λ (l : List Due). length l) q in omega (arith, z)))
+    (grind arith)
 
 after_waits : (n : ℕ) (e : EndState) → is_waiting (after_frames n e) ≡ is_waiting e
 after_waits zero e = refl
@@ -435,57 +351,12 @@ after_waits (suc n) e =
 
 -- ### Sessions that begin
 
-no_input : (began : Bool) → began ≡ false → began ≡ true → ⊥
-no_input began q r = true≢false (sym r ∙ q)
-
--- a session begins with a greater number, where each that waits has put an RSET on the link since the last one began
-pub began_more : (e : LinkEnd) (i : LinkInput) (rsets session : ℕ) → session ≤ rsets → (is_waiting e.shdlc ≡ true → session < rsets)
-    → began_by e i ≡ true → session < rsets_since i rsets
-began_more e (Take c) rsets session low waits began = go c (and_parts (is_open e.role) (take_answer e.shdlc c).began began).1 where
-  go : (c : Control) → (take_answer e.shdlc c).began ≡ true → session < rsets_since (Take c) rsets
-  go (Rset window caps) b = omega (arith, low)
-  go (I ns nr info) b = absurd (by e.shdlc.phase refl) where
-    by : (p : LinkState) → e.shdlc.phase ≡ p → ⊥
-    by Up p = no_input (take_answer e.shdlc (I ns nr info)).began (rw p refl) b
-    by _ p = no_input (take_answer e.shdlc (I ns nr info)).began (rw p refl) b
-  go (S kind nr) b = absurd (by e.shdlc.phase refl) where
-    by : (p : LinkState) → e.shdlc.phase ≡ p → ⊥
-    by Up p = no_input (take_answer e.shdlc (S kind nr)).began (rw p refl) b
-    by _ p = no_input (take_answer e.shdlc (S kind nr)).began (rw p refl) b
-  go Ua b = by e.shdlc.phase refl where
-    by : (p : LinkState) → e.shdlc.phase ≡ p → session < rsets
-    by Waiting p = waits (rw p refl)
-    by _ p = absurd (no_input (take_answer e.shdlc Ua).began (rw p refl) b)
-  go (ActFrame act again) b = absurd (by e.shdlc.phase refl) where
-    by : (p : LinkState) → e.shdlc.phase ≡ p → ⊥
-    by Up p = no_input (take_answer e.shdlc (ActFrame act again)).began (rw p refl) b
-    by _ p = no_input (take_answer e.shdlc (ActFrame act again)).began (rw p refl) b
-  go Clt b = absurd (by e.shdlc.phase refl) where
-    by : (p : LinkState) → e.shdlc.phase ≡ p → ⊥
-    by Up p = no_input (take_answer e.shdlc Clt).began (rw p refl) b
-    by _ p = no_input (take_answer e.shdlc Clt).began (rw p refl) b
-began_more e _ rsets session low waits began = absurd (true≢false (sym began))
-
 -- and the end is up then
 began_up : (e : LinkEnd) (i : LinkInput) → Sound e → began_by e i ≡ true → is_waiting (after_input e i).shdlc ≡ false
-began_up e (Take c) sound began = go (take_so e c sound).shift where
-  f : LinkEnd
-  f = after_input e (Take c)
-
-  up : f.shdlc.phase ≡ Up → is_waiting f.shdlc ≡ false
-  up p = rw p refl
-
-  go : {ended : Bool} → Shift e.shdlc f.shdlc ended (began_by e (Take c)) → is_waiting f.shdlc ≡ false
-  go (Stays p q g) = absurd (true≢false (sym began ∙ q))
-  go (Ends p q u n s) = absurd (true≢false (sym began ∙ q))
-  go (Renews p q u new) = up new.is
-  go (Begins p q n new) = up new.is
-  go (Rests p q n m s) = absurd (true≢false (sym began ∙ q))
-began_up e _ sound began = absurd (true≢false (sym began))
+began_up e i sound began = grind arith
 
 since_more : (i : LinkInput) (rsets : ℕ) → rsets ≤ rsets_since i rsets
-since_more (Take c) rsets = by_test (is_rset c) (λ q. rw q (omega arith)) (λ q. rw q (omega arith))
-since_more _ rsets = omega arith
+since_more i rsets = grind arith
 
 -- ### Between events
 

@@ -1,11 +1,11 @@
 -- Between events of a node alone all that is read of it is what it keeps.
 use Rattle.std.specs.Prelude.{◌+◌, length, Some, None}
-use Rattle.lone_laws.proofs.Words.{AllByRecursion, ComesTo, Commits, Control, Core, Deed, Desk, End, Entry, FrameComes, LinkEnd, LinkInput, List, Lone}
-use Rattle.lone_laws.proofs.Words.{LoneCause, Port, Running, Work, [], after_input, all_come, all_do, all_done, all_synced_hold, ap, append_assoc, arith}
-use Rattle.lone_laws.proofs.Words.{by_list, by_test, cond, done, emits_behind, eqb, errors_found, false, filter, fine_at, frames_behind, frames_out, goes_in}
-use Rattle.lone_laws.proofs.Words.{is_rset, lone_arrival, lone_behind_step, lone_end, lone_input, lone_port, lpdu_of, map, node_input, own_side, passes}
-use Rattle.lone_laws.proofs.Words.{port_at, refl, report, rsets_since, sent_all, session_with, side_behind, sound_sent, steps_are, subst, sym, syncs_in}
-use Rattle.lone_laws.proofs.Words.{told_at, true, true≢false, whole_acked, ℕ, ◌++◌, ◌∙◌, ◌∷◌, ◌≡◌, ◌≤◌}
+use Rattle.lone_laws.proofs.Words.{AllByRecursion, ComesTo, Commits, Control, Core, Deed, Desk, End, Entry, LinkEnd, LinkInput, List, Lone, LoneCause, Port}
+use Rattle.lone_laws.proofs.Words.{Running, Work, [], after_input, all_come, all_do, all_done, all_synced_hold, ap, append_assoc, arith, by_list, by_test, cond}
+use Rattle.lone_laws.proofs.Words.{done, emits_behind, eqb, errors_found, false, filter, fine_at, frames_behind, frames_out, goes_in, is_rset, lone_arrival}
+use Rattle.lone_laws.proofs.Words.{lone_behind_step, lone_end, lone_input, lone_port, lpdu_of, map, node_input, own_side, passes, port_at, refl, report}
+use Rattle.lone_laws.proofs.Words.{rsets_since, sent_all, session_with, side_behind, sound_sent, steps_are, subst, sym, syncs_in, told_at, true, true≢false}
+use Rattle.lone_laws.proofs.Words.{whole_acked, ℕ, ◌++◌, ◌∙◌, ◌∷◌, ◌≡◌, ◌≤◌}
 use Rattle.trace_model.specs.declared.entry.Entry.TheVariants as entry
 use Rattle.lone_laws.proofs.answered.Reading.{eqb_same, Read, Alone}
 use Rattle.lone_laws.proofs.answered.Coming.{IsLoneInput, pass_is, came_is, came_ports, came_entries}
@@ -23,8 +23,7 @@ errors_of [] = 0
 errors_of (d ∷ desks) = d.errors
 
 errors_work : (side : LinkEnd) (s : ℕ) (desks : List Desk) → desk_errors (map (lone_port side s) desks) ≡ errors_of desks
-errors_work side s [] = refl
-errors_work side s (d ∷ desks) = refl
+errors_work side s desks = grind arith
 
 abbrev pub core_of : Core → ℕ → Core
 core_of rest number = record rest { node = number }
@@ -36,8 +35,7 @@ pub record KeepsAll (rest : Core) (t : List Entry) (l : Lone) (n : Running) : Ty
   pub errs : ErrorsAre (lone_end l) (errors_found (core_of rest l.number)) t (errors_of n.desks)
 
 arrival_settled : (e : End) (l : Lone) (c : LoneCause) → AllByRecursion (IsSettled e) (lone_arrival l c)
-arrival_settled e l (FrameComes bytes) = (((λ z. refl), tt), tt)
-arrival_settled e l _ = tt
+arrival_settled e l c = grind arith
 
 pub emits_settled : (e f : End) (frames : List Control) → AllByRecursion (IsSettled e) (map (λ c. entry.Emit f (lpdu_of c)) frames)
 emits_settled e f [] = tt
@@ -153,8 +151,7 @@ module _ (rest : Core) (t : List Entry) (l : Lone) (some : 1 ≤ l.link) (most :
       let side : side_behind l last ≡ talks.port.side = side_is R t l last alone still ∙ ap (λ (p : Port). p.side) (sym ports) in
       let own : eqb talks.port.desk.host l.link ≡ true = ap (λ x. eqb x l.link) talks.host ∙ eqb_same l.link in
       let its_turns : IsTurned (after_input l.side i) talks.port.side = (subst (AreTurned (after_input l.side i)) talks.ports_are last_turned).0 in
-      let here : port_at last.ports l.link ≡ Some talks.port =
-      ap (λ ps. port_at ps l.link) talks.ports_are ∙ ap (λ z. cond z (Some talks.port) None) own in
+      let here : port_at last.ports l.link ≡ Some talks.port = grind arith in
       subst (λ (x : LinkEnd). LoneTalks (t ++ (last.entries ++ emits)) (record behind { side = sent_all x })) (sym side)
       (record {
         talk =

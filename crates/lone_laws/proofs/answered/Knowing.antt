@@ -1,23 +1,23 @@
 -- What is known of a node alone at each turn of a step: what it keeps is read, over all events, and messages have their turns in order.
 use Rattle.std.specs.Prelude.{None, Option, Some, is_none, is_some, min, ◌+◌, ◌⊎◌}
 use Rattle.lone_laws.proofs.Words.{AllByRecursion, AllByRecursion-append, AreFine, AreInTurn, AreNoTurns, ArePassed, AreSendable, AreTables, AtEachNoted}
-use Rattle.lone_laws.proofs.Words.{BeginWithTurn, Bool, ComesTo, Control, Core, Deed, Desk, End, Entry, FetchMessage, FrameComes, FrameIsRefused, Hold}
-use Rattle.lone_laws.proofs.Words.{IsBehind, IsFine, IsFinePort, IsFineWork, IsFirstThere, IsNoTurn, IsTrueDesk, IsTurnSo, JoinTwo, LastsOverTurns, LinkEnd}
-use Rattle.lone_laws.proofs.Words.{LinkInput, List, Lone, LoneCause, LoneEvent, Message, Port, Reset, Running, Sound, Start, Stop, Take, TakeUnknown, Tick}
-use Rattle.lone_laws.proofs.Words.{Work, [], after_input, all_come, all_do, all_done, all_done_fine, all_synced_hold, ap, append-nil, append_assoc, ap₂}
-use Rattle.lone_laws.proofs.Words.{before_entries, before_none, began_by, by_option, by_test, came_fine, changed_if, comes_lasts, comes_to_pass, cond}
-use Rattle.lone_laws.proofs.Words.{deeds_fine, deeds_of, does_by_power, does_with_input, emits_behind, end_of_node, entries_of_events_alone, eqb, false}
-use Rattle.lone_laws.proofs.Words.{fine_at, firsts_in_turn, frames_behind, goes_through_ends, handles, handles_fine, holds_back, holds_fine, holds_in}
-use Rattle.lone_laws.proofs.Words.{hosts_of_ends, inl, inr, is_at_rest, is_held_at, lets, lets_fine, link_of_turn, lone_arrival, lone_behind_step, lone_end}
-use Rattle.lone_laws.proofs.Words.{lone_events, lone_input, lone_port, lone_step, lone_work, lpdu_of, map, node_input, noted_before_pass, noted_of_refused}
-use Rattle.lone_laws.proofs.Words.{noting, oldest, option_map_or, own_side, passes, port_at, refl, report, rsets_since, session_with, side_behind, sound_input}
-use Rattle.lone_laws.proofs.Words.{steps, steps_are, subst, sym, syncs_in, takes_up, told_at, true, true≢false, turn_at, unhandled_in, waiting_at, whole_acked}
-use Rattle.lone_laws.proofs.Words.{with_desk, with_refusal, ℕ, ◌++◌, ◌<◌, ◌||◌, ◌∙◌, ◌∷◌, ◌≡◌, ◌≤◌}
+use Rattle.lone_laws.proofs.Words.{BeginWithTurn, Bool, ComesTo, Control, Core, Deed, Desk, End, Entry, FetchMessage, FrameIsRefused, Hold, IsBehind, IsFine}
+use Rattle.lone_laws.proofs.Words.{IsFineWork, IsFirstThere, IsNoTurn, IsTurnSo, JoinTwo, LastsOverTurns, LinkEnd, LinkInput, List, Lone, LoneCause, LoneEvent}
+use Rattle.lone_laws.proofs.Words.{Message, Port, Reset, Running, Sound, Start, Stop, Take, TakeUnknown, Tick, Work, [], after_input, all_come, all_do}
+use Rattle.lone_laws.proofs.Words.{all_done, all_done_fine, all_synced_hold, ap, append-nil, append_assoc, ap₂, arith, before_entries, before_none, began_by}
+use Rattle.lone_laws.proofs.Words.{by_option, by_test, came_fine, changed_if, comes_lasts, comes_to_pass, cond, deeds_fine, deeds_of, does_by_power}
+use Rattle.lone_laws.proofs.Words.{does_with_input, emits_behind, end_of_node, entries_of_events_alone, eqb, false, fine_at, firsts_in_turn, frames_behind}
+use Rattle.lone_laws.proofs.Words.{goes_through_ends, handles, handles_fine, holds_back, holds_fine, holds_in, hosts_of_ends, inl, inr, is_at_rest, is_held_at}
+use Rattle.lone_laws.proofs.Words.{lets, lets_fine, link_of_turn, lone_arrival, lone_behind_step, lone_end, lone_events, lone_input, lone_port, lone_step}
+use Rattle.lone_laws.proofs.Words.{lone_work, lpdu_of, map, node_input, noted_before_pass, noted_of_refused, noting, oldest, option_map_or, own_side, passes}
+use Rattle.lone_laws.proofs.Words.{port_at, refl, report, rsets_since, session_with, side_behind, sound_input, steps, steps_are, subst, sym, syncs_in, takes_up}
+use Rattle.lone_laws.proofs.Words.{told_at, true, true≢false, turn_at, unhandled_in, waiting_at, whole_acked, with_desk, with_refusal, ℕ, ◌++◌, ◌||◌, ◌∙◌, ◌∷◌}
+use Rattle.lone_laws.proofs.Words.{◌≡◌, ◌≤◌}
 use Rattle.node_laws.proofs.passes.Passing.{leaves_behind}
 use Rattle.node_laws.specs.passes.Passing.{Stays}
 use Rattle.node_laws.specs.passes.Passing.ComesTo.{Begins}
 use Rattle.lone_laws.proofs.answered.Coming.{IsLoneInput, came_entries, came_is, came_port, came_ports, own_side_end, pass_is}
-use Rattle.lone_laws.proofs.answered.Growing.{IsNumbered, began_more}
+use Rattle.lone_laws.proofs.answered.Growing.{IsNumbered}
 use Rattle.lone_laws.proofs.answered.Memories.{IsOwnDeed}
 use Rattle.lone_laws.proofs.answered.Reading.{Alone, AreNothing, Read, eqb_same, held_is, left_is, nothing_read, read-append, read_all, reads_of}
 use Rattle.lone_laws.proofs.answered.Talking.{AreSilent, Reads, Talk, input_aside, input_grows, input_kind, input_talk, kind_of, reads_silent, talk_of_side}
@@ -45,10 +45,7 @@ pub record InSecond {X : Type 0} (a b front behind : List X) (x : X) : Type 0 wh
 pub split_at : {X : Type 0} (a b front behind : List X) (x : X) → a ++ b ≡ front ++ (x ∷ behind)
     → InFirst a b front behind x ⊎ InSecond a b front behind x
 split_at [] b front behind x q = inr (record { more = front; front_is = refl; second = q })
-split_at (y ∷ a) b [] behind x q =
-    let same : y ≡ x = cc in
-    let rest : a ++ b ≡ behind = cc in
-    inl (record { rest = a; first = ap (λ z. z ∷ a) same; behind_is = sym rest })
+split_at (y ∷ a) b [] behind x q = grind arith
 split_at (y ∷ a) b (z ∷ front) behind x q =
     let same : y ≡ z = cc in
     let rest : a ++ b ≡ front ++ (x ∷ behind) = cc in
@@ -75,9 +72,7 @@ module _ (Q : List Entry → Entry → List Entry → Type 0) (silent : (t : Lis
       → (front behind : List Entry) (x : Entry) → (a ++ m) ++ emits ≡ front ++ (x ∷ behind) → Q front x behind
   each_entry passed front behind x q = by_part (split_at a (m ++ emits) front behind x (sym (append_assoc a m emits) ∙ q)) where
     by_rest : (s : InSecond a (m ++ emits) front behind x) → InFirst m emits s.more behind x ⊎ InSecond m emits s.more behind x → Q front x behind
-    by_rest s (inl g) =
-        let P : List Entry → Type 0 = λ l. Q l x behind in
-        subst P (sym s.front_is) (subst (Q (a ++ s.more) x) (sym g.behind_is) (passed s.more g.rest x g.first))
+    by_rest s (inl g) = grind arith
     by_rest s (inr g) = silent front x behind (none_at (λ y. link_of_turn y ≡ None) g.more behind x (subst AreNoTurns g.second (emits_turnless f frames)))
 
     by_part : InFirst a (m ++ emits) front behind x ⊎ InSecond a (m ++ emits) front behind x → Q front x behind
@@ -162,8 +157,7 @@ IfKeeps r t l = (n : Running) → l.node ≡ Some n → LoneKeeps r t l n
 -- ### A step
 
 pub arrival_nothing : (l : Lone) (c : LoneCause) → AreNothing (lone_end l) (lone_arrival l c)
-arrival_nothing l (FrameComes bytes) = ((λ z. refl), tt)
-arrival_nothing l _ = tt
+arrival_nothing l c = grind arith
 
 emits_nothing : (e f : End) (frames : List Control) → AreNothing e (map (λ c. entry.Emit f (lpdu_of c)) frames)
 emits_nothing e f [] = tt
@@ -190,11 +184,7 @@ begins_alone r t l n i noted nothing k =
 
 -- its end behind the step
 pub side_is : (r : Read) (t : List Entry) (l : Lone) (w : Work) (a : Alone l.number l.link r t w) → w.cut ≡ false → side_behind l w ≡ a.port.side
-side_is r t l w a on =
-    let own : eqb a.port.desk.host l.link ≡ true = ap (λ n. eqb n l.link) a.host ∙ eqb_same l.link in
-    rw on
-    (ap (λ ps. option_map_or (λ (p : Port). p.side) (port_at ps l.link) l.side) a.ports_are
-    ∙ ap (λ b. option_map_or (λ (p : Port). p.side) (cond b (Some a.port) None) l.side) own)
+side_is r t l w a on = grind arith
 
 pub step_is : (l : Lone) (n : Running) (c : LoneCause) (i : LinkInput) → l.node ≡ Some n → lone_input c ≡ Some i
     → (let w : Work = steps (node_input l.link i) (lone_work l n i (lone_arrival l c)) in
@@ -208,9 +198,7 @@ keeps_work r t l i w all = by_test w.cut
     (λ off. λ n runs. let gone : None ≡ Some n = sym (ap (λ b. cond b None (Some on_still)) off) ∙ runs in absurd (cc gone))
     (λ on. λ n runs.
     let a : Alone l.number l.link r t w = all on in
-    let is : record { core = w.core; desks = map (λ (p : Port). p.desk) w.ports } ≡ n =
-    (let some : Some (record { core = w.core; desks = map (λ (p : Port). p.desk) w.ports }) ≡ Some n =
-    sym (ap (λ b. cond b None (Some (record { core = w.core; desks = map (λ (p : Port). p.desk) w.ports }))) on) ∙ runs in cc) in
+    let is : record { core = w.core; desks = map (λ (p : Port). p.desk) w.ports } ≡ n = grind arith in
     subst (LoneKeeps r (t ++ (w.entries ++ emits_behind l w)) (lone_behind_step l i w)) is (record {
       desk = a.port.desk;
       desks_are = ap (map (λ (p : Port). p.desk)) a.ports_are;
@@ -239,8 +227,7 @@ counted_keeps r t l n es nothing k = go (eqb k.desk.host l.link) refl where
 
   same : (b : Bool) → ((changed_if b f k.desk).host ≡ k.desk.host) × ((changed_if b f k.desk).notice ≡ k.desk.notice)
       × ((changed_if b f k.desk).holds ≡ k.desk.holds)
-  same true = (refl, refl, refl)
-  same false = (refl, refl, refl)
+  same b = grind arith
 
   go : (b : Bool) → eqb k.desk.host l.link ≡ b → LoneKeeps r (t ++ es) (record l { node = Some (with_refusal l.link n) }) (with_refusal l.link n)
   go b q = record {
@@ -295,9 +282,7 @@ OrderAt t (entry.Held f need spare) behind = holds_in t f ≡ false
 OrderAt t _ behind = Unit {0}
 
 pub order_silent : (t : List Entry) (x : Entry) (behind : List Entry) → link_of_turn x ≡ None → OrderAt t x behind
-order_silent t (entry.Turn f pid message) behind q = absurd (cc q)
-order_silent t (entry.Held f need spare) behind q = absurd (cc q)
-order_silent t _ behind q = tt
+order_silent t x behind q = grind arith
 
 -- a turn, or a message that is held, is at this end
 abbrev pub IsAtEnd : End → Entry → Type 0
@@ -306,24 +291,14 @@ IsAtEnd e (entry.Held f need spare) = f ≡ e
 IsAtEnd e _ = Unit {0}
 
 end_silent : (e : End) (x : Entry) → link_of_turn x ≡ None → IsAtEnd e x
-end_silent e (entry.Turn f pid message) q = absurd (cc q)
-end_silent e (entry.Held f need spare) q = absurd (cc q)
-end_silent e _ q = tt
+end_silent e x q = grind arith
 
 arrival_turnless : (l : Lone) (c : LoneCause) → AreNoTurns (lone_arrival l c)
-arrival_turnless l (FrameComes bytes) = (refl, tt)
-arrival_turnless l _ = tt
+arrival_turnless l c = grind arith
 
 nothing_there : (front back : List Entry) (x : Entry) → [] ≡ front ++ (x ∷ back) → ⊥
 nothing_there [] back x z = cc z
 nothing_there (y ∷ front) back x z = cc z
-
-rest_by : (ms : List Message) (b : Bool) → ms ≡ [] → (is_none (oldest ms) || b) ≡ true
-rest_by ms b q = ap (λ z. is_none (oldest z) || b) q
-
-rest_held : (ms : List Message) (b : Bool) → b ≡ true → (is_none (oldest ms) || b) ≡ true
-rest_held [] b q = refl
-rest_held (m ∷ ms) b q = q
 
 -- ### A step
 
@@ -375,12 +350,7 @@ module _ (found : Core) (t : List Entry) (l : Lone) (some : 1 ≤ l.link) (most 
     }
     go false q =
         let p : ArePassed (ComesTo begun) (hosts_of_ends begun.ports) begun (passes begun) = passed l.number l.link some most r t begun q in
-        record {
-          more = p.more;
-          entries = ap (λ (w : Work). w.entries) (steps_are (node_input l.link i) start) ∙ (rw q p.entries);
-          begin = p.begin;
-          each = λ front back x z. (q, p.each front back x z);
-        }
+        grind arith
 
   abbrev pub noted : List Entry
   noted = ended.entries ++ emits_behind l ended
@@ -414,9 +384,7 @@ module _ (found : Core) (t : List Entry) (l : Lone) (some : 1 ≤ l.link) (most 
       let here : IsHere u.port a.host a.message a.messages = alone_here l.number l.link some most r t a.host a.message a.messages a.work u a.waiting in
       let its : f ≡ lone_end l =
       a.its_end ∙ own_end a.work.core l.number l.link a.host u.node (link_is l.number l.link some most r t a.host u.port u.host here.own) in
-      let holds : u.port.desk.holds ≡ false =
-      sym (ap (λ b. option_map_or (λ (p : Port). p.desk.holds) (cond b (Some u.port) None) false) here.own)
-      ∙ (sym (ap (λ ps. is_held_at ps a.host) u.ports_are) ∙ a.fresh) in
+      let holds : u.port.desk.holds ≡ false = grind arith in
       let held : holds_in (t ++ a.work.entries) (lone_end l) ≡ false =
       sym (held_is (lone_end l) (t ++ a.work.entries) r) ∙ (ap (λ (z : Read). z.held) u.read ∙ holds) in
       ap (λ z. holds_in (t ++ (begun.entries ++ front)) z) its ∙ (ap (λ es. holds_in (t ++ es) (lone_end l)) (sym a.entries) ∙ held)
@@ -464,17 +432,13 @@ module _ (found : Core) (t : List Entry) (l : Lone) (some : 1 ≤ l.link) (most 
   rests_at still a =
       let b : IsBehind (ComesTo begun) begun ended [] l.link [] = left_so still in
       let own : eqb a.port.desk.host l.link ≡ true = ap (λ k. eqb k l.link) a.host ∙ eqb_same l.link in
-      let got : waiting_at ended.ports l.link ≡ a.port.side.got =
-      ap (λ ps. waiting_at ps l.link) a.ports_are ∙ ap (λ z. option_map_or (λ (p : Port). p.side.got) (cond z (Some a.port) None) []) own in
-      let holds : is_held_at ended.ports l.link ≡ a.port.desk.holds =
-      ap (λ ps. is_held_at ps l.link) a.ports_are ∙ ap (λ z. option_map_or (λ (p : Port). p.desk.holds) (cond z (Some a.port) None) false) own in
+      let got : waiting_at ended.ports l.link ≡ a.port.side.got = grind arith in
+      let holds : is_held_at ended.ports l.link ≡ a.port.desk.holds = grind arith in
       go b.work b.own (waiting_at b.work.ports l.link) refl b.stays (sym got ∙ b.waits) (sym holds) where
         go : (u : Work) (own : List Entry) (ms : List Message) → waiting_at u.ports l.link ≡ ms → Stays u ended l.link own (waiting_at u.ports l.link)
             → a.port.side.got ≡ waiting_at u.ports l.link → a.port.desk.holds ≡ is_held_at ended.ports l.link
             → (is_none (oldest a.port.side.got) || a.port.desk.holds) ≡ true
-        go u own [] q stays got holds = rest_by a.port.side.got a.port.desk.holds (got ∙ q)
-        go u own (m ∷ ms) q stays got holds =
-            let s = subst (Stays u ended l.link own) q stays in rest_held a.port.side.got a.port.desk.holds (holds ∙ s.2)
+        go u own ms q stays got holds = grind arith
 
   pub at_rest : ended.cut ≡ false → is_at_rest (lone_end l) (t ++ noted) ≡ true
   at_rest still =
@@ -569,8 +533,7 @@ pub record LoneTalks (t : List Entry) (l : Lone) : Type 0 where
   pub clean : AreSendable l.side.got
 
 arrival_silent : (l : Lone) (c : LoneCause) → AreSilent (lone_arrival l c)
-arrival_silent l (Rattle.lone_laws.specs.alone.Lone.LoneCause.FrameComes bytes) = (tt, tt)
-arrival_silent l _ = tt
+arrival_silent l c = grind arith
 
 lone_sound : (s : LinkEnd) (i : LinkInput) → IsLoneInput i → Sound s → Sound (after_input s i)
 lone_sound s (Take c) may a = sound_input s (Take c) tt a
@@ -593,15 +556,7 @@ module _ (found : Core) (t : List Entry) (l : Lone) (some : 1 ≤ l.link) (most 
   start_is = start_alone found t l some most n keeps c i comes
 
   start_fine : IsFineWork begins
-  start_fine =
-      subst (AllByRecursion IsFinePort) (sym (ap (map (lone_port l.side (session_with l i))) keeps.desks_are)) (
-        record {
-          turns = tt;
-          clean = talk.clean;
-          desk = subst (λ o. IsTrueDesk (record keeps.desk { notice = o })) (sym keeps.none) tt;
-        },
-        tt,
-      )
+  start_fine = grind arith
 
   -- as something has come to the end
   abbrev come : Work
@@ -639,8 +594,7 @@ module _ (found : Core) (t : List Entry) (l : Lone) (some : 1 ≤ l.link) (most 
             (subst (Reads e l.number k ((t ++ first) ++ told_it)) (input_talk l.side i may talk.sound k l.session same)
             (told_reads e l.number keeps.desk.host (own_side begins.core) (own_side_end l.number l.link R t i may begins a) l.session k
             (whole_acked (after_input l.side i)) (t ++ first) (report l.side i) X
-            (λ q. subst (λ j. l.session < j) (sym (ap (λ b. cond b (rsets_since i l.rsets) l.session) q))
-            (began_more l.side i l.rsets l.session talk.numbers.low talk.numbers.waits q))
+            (λ q. grind arith)
             (λ q. sym (same q)) (λ q. input_grows l.side i may talk.sound k l.session same q)
             (reads_silent e l.number l.session t first X (arrival_silent l c) talk.talk))));
       }

@@ -2,21 +2,20 @@
 use Rattle.std.proofs.lemmas.Bool.{ltb-true}
 use Rattle.lone_laws.proofs.Words.{AllByRecursion, Answer, AreTables, AreTables-apply, Ask, Bool, CanCompact, Command, Commit, Commits, Core, Counts, Creation}
 use Rattle.lone_laws.proofs.Words.{Decision, Deed, Drops, Entry, FindsRoom, HasRoomForBody, HciTables, HoldsTables, Init, IsAnswered, IsCommand, IsCut}
-use Rattle.lone_laws.proofs.Words.{IsLeftBetween, IsRecordable, IsRecordableDecision, IsSome, IsSound, JoinTwo, Journal, LinkView, List, MayBeDone, Memory}
-use Rattle.lone_laws.proofs.Words.{Message, None, OfDecision, Option, Plain, Plainly, Port, Releases, Says, SaysOk, Sends, SetsErrors, Some, State, Tells, Work}
-use Rattle.lone_laws.proofs.Words.{Write, [], after-append, after_commands, after_planned, after_planned-append, after_writes, all_done, all_of_controller}
-use Rattle.lone_laws.proofs.Words.{all_ordered, all_recordable, and_cases, and_from, and_parts, ap, append-nil, append_assoc, append_count, append_writes}
-use Rattle.lone_laws.proofs.Words.{appended, apply, are_bodies, are_commands, arith, asked_at, body_in, body_of, by_test, command_of, commands_of_entries}
-use Rattle.lone_laws.proofs.Words.{commit, commit_writes, committed, compact_count, compact_writes, compacted, cond, controller_deeds, count_of, counted}
-use Rattle.lone_laws.proofs.Words.{creation_in, current, cut-append, decided, decided_holds, decided_tells_others, dest_in, done, end_of_node, end_view, eqb}
-use Rattle.lone_laws.proofs.Words.{eqb-false, eqb-true, fails_within, false, false≢true, first_other, fold-append, format_all_or_nothing, format_writes}
-use Rattle.lone_laws.proofs.Words.{formatted, gate_at, has, holds_more, holds_snapshot, holds_still, host_deeds, host_holds, hosts_where, inl, inr, is_body}
-use Rattle.lone_laws.proofs.Words.{is_connected, is_connected_at, is_some, journal, keeps, leb-true, left, length, length-append, list_all, loses_power}
-use Rattle.lone_laws.proofs.Words.{mask_of, min, nat_lt, no_records_then, not, not-false, not-true, not_from_false, noting, option_map_or, own_view}
-use Rattle.lone_laws.proofs.Words.{plainly_desk, plainly_noting, plainly_turn, plan_behind, planned_cut, planned_whole, port_at, record_fits, records, refl}
-use Rattle.lone_laws.proofs.Words.{room_count, room_writes, same_count, says_either, says_formatted, snapshot_bodies, snapshot_fits, snapshot_of, some_other}
-use Rattle.lone_laws.proofs.Words.{state_of, subst, sym, tests_to_create, true, true≢false, unless_cut, view_for, view_of, with_room, ℕ, ◌&&◌, ◌++◌, ◌+◌, ◌-◌}
-use Rattle.lone_laws.proofs.Words.{◌<◌, ◌^◌, ◌∙◌, ◌∷◌, ◌≡◌, ◌≤◌, ◌⊎◌}
+use Rattle.lone_laws.proofs.Words.{IsLeftBetween, IsRecordable, IsRecordableDecision, IsSome, IsSound, JoinTwo, LinkView, List, MayBeDone, Memory, Message}
+use Rattle.lone_laws.proofs.Words.{None, OfDecision, Option, Plain, Plainly, Port, Releases, Says, SaysOk, Sends, SetsErrors, Some, State, Work, Write, []}
+use Rattle.lone_laws.proofs.Words.{after-append, after_commands, after_planned, after_planned-append, after_writes, all_done, all_of_controller, all_ordered}
+use Rattle.lone_laws.proofs.Words.{all_recordable, and_cases, and_parts, ap, append-nil, append_assoc, append_count, append_writes, appended, apply, are_bodies}
+use Rattle.lone_laws.proofs.Words.{are_commands, arith, asked_at, body_in, body_of, by_test, command_of, commands_of_entries, commit, commit_writes, committed}
+use Rattle.lone_laws.proofs.Words.{compact_writes, compacted, cond, controller_deeds, count_of, current, cut-append, decided, decided_holds}
+use Rattle.lone_laws.proofs.Words.{decided_tells_others, dest_in, done, end_of_node, end_view, eqb, eqb-false, eqb-true, fails_within, false, false≢true}
+use Rattle.lone_laws.proofs.Words.{first_other, fold-append, format_all_or_nothing, format_writes, formatted, gate_at, has, holds_more, holds_snapshot}
+use Rattle.lone_laws.proofs.Words.{holds_still, host_deeds, host_holds, hosts_where, inl, inr, is_body, is_connected, is_connected_at, is_some, journal, keeps}
+use Rattle.lone_laws.proofs.Words.{leb-true, left, length, length-append, list_all, loses_power, mask_of, min, nat_lt, no_records_then, not, not-false}
+use Rattle.lone_laws.proofs.Words.{not-true, not_from_false, noting, option_map_or, own_view, plainly_desk, plainly_noting, plainly_turn, plan_behind}
+use Rattle.lone_laws.proofs.Words.{planned_cut, planned_whole, port_at, record_fits, records, refl, room_count, room_writes, says_either, says_formatted}
+use Rattle.lone_laws.proofs.Words.{snapshot_bodies, snapshot_fits, snapshot_of, some_other, state_of, subst, sym, tests_to_create, true, true≢false, unless_cut}
+use Rattle.lone_laws.proofs.Words.{view_for, view_of, with_room, ℕ, ◌&&◌, ◌++◌, ◌+◌, ◌-◌, ◌<◌, ◌^◌, ◌∙◌, ◌∷◌, ◌≡◌, ◌≤◌, ◌⊎◌}
 use Rattle.gate_admin.proofs.CreationLemmas.{AllFalse, all_false}
 use Rattle.hci_store.proofs.Committed.{recordable-apply}
 use Rattle.hci_store.specs.Image.{image_fault}
@@ -67,8 +66,7 @@ module _ (t : HciTables) (p : Port) where
   connected_is : (h x : ℕ) → is_connected (view_for t (p ∷ []) h) x ≡ true → eqb p.desk.host x ≡ true
   connected_is h x q = go (eqb p.desk.host x) refl (from_mask (λ k. option_map_or (is_connected_at t) (port_at (p ∷ []) k) false) x q) where
     go : (b : Bool) → eqb p.desk.host x ≡ b → option_map_or (is_connected_at t) (cond b (Some p) None) false ≡ true → eqb p.desk.host x ≡ true
-    go true e z = e
-    go false e z = absurd (true≢false (sym z))
+    go b e z = grind arith
 
 -- of two tests of which not the first alone holds, the second where the first one does
 second : (a b : Bool) → a ≡ true → (a && not b) ≡ false → b ≡ true
@@ -119,12 +117,7 @@ module _ (t : HciTables) (p : Port) (h : ℕ) (host : p.desk.host ≡ h) where
       })
 
   own_decision : (n : ℕ) (d : Decision) → TellsNobody d → IsRecordableDecision d → OfDecision (IsOwnDeed n) h d
-  own_decision n (Answer answer) a b = tt
-  own_decision n (Commit c answer tell notice) a b = (λ _. b, nobody_at (hosts_where (has tell)) a) where
-    nobody_at : (hosts : List ℕ) → AllByRecursion (λ (y : ℕ). ⊥) hosts → AllByRecursion (λ y. IsOwnDeed n (Tells y notice.items)) hosts
-    nobody_at [] a = tt
-    nobody_at (y ∷ hosts) a = absurd a.0
-  own_decision n (Ask dest notice c answer) a b = absurd a
+  own_decision n d a b = grind arith
 
 -- What a controller does with a message of the host of its one link.
 pub controller_own : (n : ℕ) (core : Core) (p : Port) (h : ℕ) (m : Message) → p.desk.host ≡ h → p.desk.notice ≡ None → 1 ≤ h → h ≤ 7
@@ -140,10 +133,7 @@ controller_own n core p h m host none some most sorted two =
     (λ q c here asked. absurd (unasked q c here asked)) (λ errors k value command gate is. tt)
   where
     unasked : (q : Port) (c : Creation) → port_at (p ∷ []) h ≡ Some q → asked_at q ≡ Some c → ⊥
-    unasked q c here asked = go (eqb p.desk.host h) refl here where
-      go : (b : Bool) → eqb p.desk.host h ≡ b → cond b (Some p) None ≡ Some q → ⊥
-      go true e z = let is : p ≡ q = cc in let gone : None ≡ Some c = sym (ap creation_in (sym (ap (λ (x : Port). x.desk.notice) is) ∙ none)) ∙ asked in cc gone
-      go false e z = cc z
+    unasked q c here asked = grind arith
 
 -- What a host does with a message, where no command of it waits for its answer.
 pub host_own : (n : ℕ) → eqb n 0 ≡ false → (core : Core) (p : Port) (m : Message) → core.command ≡ None
@@ -154,8 +144,7 @@ host_own n another core p m none =
       drops = (tt, tt);
       goes = (tt, tt);
       ordered = λ k is.
-          all_ordered (IsOwnDeed n) core (plain n) (λ c zero. absurd (true≢false (sym zero
-          ∙ another))) p.desk.errors m.0 k (body_in m.1) (λ link value sets. tt);
+          all_ordered (IsOwnDeed n) core (plain n) (λ c zero. absurd (true≢false (grind arith))) p.desk.errors m.0 k (body_in m.1) (λ link value sets. tt);
       heard = λ code order is. let gone : None ≡ Some order = sym none ∙ is in absurd (cc gone);
     })
 
@@ -169,8 +158,7 @@ none_is_other j [] q = refl
 none_is_other j (b ∷ bodies) q = by (is_some (command_of b)) refl (none_is_other (j + 1) bodies) q where
   by : (c : Bool) → is_some (command_of b) ≡ c → (first_other (j + 1) bodies ≡ None → are_commands bodies ≡ true)
       → cond c (first_other (j + 1) bodies) (Some j) ≡ None → are_commands (b ∷ bodies) ≡ true
-  by true z later y = and_from (is_some (command_of b)) (are_commands bodies) z (later y)
-  by false z later y = absurd (cc y)
+  by c z later y = grind arith
 
 -- a memory with which nothing is wrong is sound, and its records are commands
 pub fault_none : (content : List ℕ) → image_fault content ≡ None → IsSound (journal content) × (are_commands (records content) ≡ true)
@@ -215,49 +203,18 @@ module _ (E : Type 0) where
     pub in_use : IsSome state.in_use
     pub finds : FindsIf content tables (count_of state)
 
-  counts_still : (content new : List ℕ) (many : ℕ) → Counts content many → journal new ≡ journal content → Counts new many
-  counts_still content new many c same = record {
-    all = subst (λ (j : Journal). j.head.snapshot ≤ j.head.base + length j.found.bodies) (sym same) c.all;
-    count_is = same_count new content same ∙ c.count_is;
-  }
-
   -- a memory that says what another one says
   finds_still : (content new : List ℕ) (t : HciTables) (many : ℕ) → FindsIf content t many → length new ≡ length content → journal new ≡ journal content
       → FindsIf new t many
-  finds_still content new t many f size same = record {
-    size = omega (arith, size, f.size);
-    version = ap (λ (j : Journal). j.head.version) same ∙ f.version;
-    sound = subst IsSound (sym same) f.sound;
-    holds = holds_still content new t f.holds (ap (λ (j : Journal). j.found.bodies) same);
-    counts = λ e. counts_still content new many (f.counts e) same;
-  }
+  finds_still content new t many f size same = grind arith
 
   -- a count that is as great, where counts are said
   pub finds_counting : (content : List ℕ) (t : HciTables) (m n : ℕ) → FindsIf content t m → (E → m ≡ n) → FindsIf content t n
-  finds_counting content t m n f same = record {
-    size = f.size;
-    version = f.version;
-    sound = f.sound;
-    holds = f.holds;
-    counts = λ e. subst (Counts content) (same e) (f.counts e);
-  }
+  finds_counting content t m n f same = grind arith
 
   pub knows_from : (content : List ℕ) (s : State) (t : HciTables) → Says content s → IsSome s.in_use → s.version ≡ 2
       → (E → s.snapshot ≤ s.base + s.many) → HoldsTables content t → KnowsIf content s t
-  knows_from content s t says some version enough holds = record {
-    state_is = says.state_is;
-    in_use = some;
-    finds = record {
-      size = says.size;
-      version = ap (λ (x : State). x.version) says.state_is ∙ version;
-      sound = says.sound;
-      holds = holds;
-      counts = λ e. record {
-        all = subst (λ (x : State). x.snapshot ≤ x.base + x.many) (sym says.state_is) (enough e);
-        count_is = ap count_of says.state_is;
-      };
-    };
-  }
+  knows_from content s t says some version enough holds = grind arith
 
   left_finds : (writes : List Write) (content left : List ℕ) (t u : HciTables) (m n : ℕ) → IsLeftBetween writes content left
       → FindsIf content t m → FindsIf (after_writes writes content) u n → FindsIf left t m ⊎ FindsIf left u n
@@ -320,8 +277,7 @@ module _ (E : Type 0) where
           (record { at = j; whole = compacting.all_or_nothing content (snapshot_bodies t) s says_of can; cut = cut }) k.finds compact_knows.finds)
         where
           either : FindsIf left t (count_of s) ⊎ FindsIf left t (count_of (compacted s (snapshot_bodies t))) → FindsIf left t (count_of s)
-          either (inl before) = before
-          either (inr later) = subst (λ n. FindsIf left t n) (compact_count s (snapshot_bodies t)) later
+          either a = grind arith
 
   -- ### A commit
 
@@ -406,8 +362,7 @@ module _ (E : Type 0) where
         (holds_still content (after_writes format_writes content) t f.holds (no_records_then content (state_of content) says_unused none))
 
     count_formatted : count_of formatted ≡ many
-    count_formatted =
-        counted content (state_of content) formatted says_unused (ap (λ o. option_map_or (λ _. state_of content) o formatted) (sym none)) ∙ counts_now
+    count_formatted = grind arith
 
     pub left_formatted : (j : ℕ) (left : List ℕ) → IsCut j format_writes content left → FindsIf left t many
     left_formatted j left cut =
@@ -415,8 +370,7 @@ module _ (E : Type 0) where
         (record { at = j; whole = format_all_or_nothing content (state_of content) says_unused none; cut = cut }) f
         (subst (λ k. FindsIf (after_writes format_writes content) t k) count_formatted knows_formatted.finds)) where
           either : FindsIf left t many ⊎ FindsIf left t many → FindsIf left t many
-          either (inl x) = x
-          either (inr x) = x
+          either a = grind arith
 
 -- ## The memory of a node alone holds its commands, or all but the last one where its power went in that one's writes
 
@@ -492,35 +446,14 @@ module _ (E : Type 0) (tables : HciTables) (many : ℕ) (before : List Command) 
       ap (λ l. before ++ l) (ap commands_of_entries p.entries
       ∙ (commands_more w.entries p.more
       ∙ (ap (λ l. commands_of_entries w.entries ++ l) (plain_none p.more p.plain) ∙ append-nil (commands_of_entries w.entries)))) in
-      record {
-        on = p.cut ∙ h.on;
-        memory = h.memory;
-        written = λ more. ap (λ l. after_planned (l ++ more) old) p.writes ∙ h.written more;
-        plan_is = p.plan ∙ h.plan_is;
-        knows = subst (λ s. KnowsIf E h.memory.content s v.core.tables) (sym p.journal)
-            (subst (KnowsIf E h.memory.content w.core.journal) (sym p.tables) h.knows);
-        sorted = subst AreTables (sym p.tables) h.sorted;
-        recordable = subst IsRecordable (sym p.tables) h.recordable;
-        tables_are = p.tables ∙ (h.tables_are ∙ ap (after_commands tables) (sym same));
-        count_is = λ e. ap count_of p.journal ∙ (h.count_is e ∙ ap (λ (l : List Command). min (many + length l) (2 ^ 32 - 1)) (sym same));
-      }
+      grind arith
 
   -- it is noted that a command is answered
   counted_holds : (w : Work) (n k : ℕ) → Holds w → Holds (noting (entry.AnyOk n k ∷ []) w)
   counted_holds w n k h =
       let same : before ++ commands_of_entries (w.entries ++ entry.AnyOk n k ∷ []) ≡ before ++ commands_of_entries w.entries =
       ap (λ l. before ++ l) (commands_more w.entries (entry.AnyOk n k ∷ []) ∙ append-nil (commands_of_entries w.entries)) in
-      record {
-        on = h.on;
-        memory = h.memory;
-        written = h.written;
-        plan_is = h.plan_is;
-        knows = h.knows;
-        sorted = h.sorted;
-        recordable = h.recordable;
-        tables_are = h.tables_are ∙ ap (after_commands tables) (sym same);
-        count_is = λ e. h.count_is e ∙ ap (λ (l : List Command). min (many + length l) (2 ^ 32 - 1)) (sym same);
-      }
+      grind arith
 
   -- ### A commit
 
@@ -587,13 +520,7 @@ module _ (E : Type 0) (tables : HciTables) (many : ℕ) (before : List Command) 
       either : FindsIf E left w.core.tables (count_of w.core.journal)
           ⊎ FindsIf E left (apply w.core.tables c) (count_of (committed w.core.journal w.core.tables (body_of c)))
           → FindsMore E tables many (noted w ++ c ∷ []) left ⊎ FindsLess E tables many (noted w ++ c ∷ []) left
-      either (inl found) = inr (record {
-        front = noted w;
-        last = c;
-        are = refl;
-        finds = subst (λ t. FindsIf E left t (min (many + length (noted w)) (2 ^ 32 - 1))) h.tables_are
-            (finds_counting E left w.core.tables (count_of w.core.journal) (min (many + length (noted w)) (2 ^ 32 - 1)) found h.count_is);
-      })
+      either (inl found) = grind arith
       either (inr found) = inl (subst (λ t. FindsIf E left t (min (many + length (noted w ++ c ∷ [])) (2 ^ 32 - 1))) tables_then
           (finds_counting E left (apply w.core.tables c) (count_of (committed w.core.journal w.core.tables (body_of c)))
           (min (many + length (noted w ++ c ∷ [])) (2 ^ 32 - 1)) found count_then))

@@ -1,14 +1,13 @@
 -- What a node with one link keeps in a step is what is read off all entries until there: its tables and its journal, the messages that wait,
 -- and whether the first of them was noted as held.
-use Rattle.std.specs.Prelude.{◌+◌, nat_lt, length, Option, Some, None}
+use Rattle.std.specs.Prelude.{nat_lt, length, Option, None}
 use Rattle.lone_laws.proofs.Words.{Acked, Active, AllByRecursion, AreTables, AreTables-apply, Bool, Command, Commits, Core, Deed, Desk, Down, Drops, End}
 use Rattle.lone_laws.proofs.Words.{EndedBy, Entry, FetchMessage, GaveUp, Give, Got, IsAnswered, IsCommand, JoinTwo, JoinTwo-after, LinkEnd, List, Message}
-use Rattle.lone_laws.proofs.Words.{Noted, Port, Refused, Release, Releases, Report, SaysOk, Sends, SetAside, SetsErrors, Side, Turn, Up, Work, [], after_turn}
-use Rattle.lone_laws.proofs.Words.{ap, append-nil, append_assoc, arith, aside_refusal, body_of, by_test, changed_if, commit, commit_writes, common_steps, cond}
-use Rattle.lone_laws.proofs.Words.{core_noted, core_with, done, end_of, end_of_node, end_of_node_alone, entries_for, eqb, fails_within, false, fold}
-use Rattle.lone_laws.proofs.Words.{fold-append, give_refusal, given, holds_after, if_so, keeps, map, noted_of, noting, option_map_or, option_to_list, own_side}
-use Rattle.lone_laws.proofs.Words.{port_at, refl, same_end, sym, told, true, true≢false, turn, turn_at, unhandled_after, unless, with_desk, with_port, ℕ, ◌++◌}
-use Rattle.lone_laws.proofs.Words.{◌∙◌, ◌∷◌, ◌≡◌}
+use Rattle.lone_laws.proofs.Words.{Noted, Port, Release, Releases, Report, SaysOk, Sends, SetsErrors, Side, Turn, Up, Work, [], after_turn, ap, append-nil}
+use Rattle.lone_laws.proofs.Words.{append_assoc, arith, body_of, by_test, commit, commit_writes, common_steps, cond, core_noted, core_with, done, end_of}
+use Rattle.lone_laws.proofs.Words.{end_of_node, end_of_node_alone, entries_for, eqb, fails_within, false, fold, fold-append, holds_after, if_so, keeps, map}
+use Rattle.lone_laws.proofs.Words.{noted_of, noting, option_map_or, option_to_list, port_at, refl, same_end, sym, told, true, true≢false, turn, turn_at}
+use Rattle.lone_laws.proofs.Words.{unhandled_after, with_desk, with_port, ℕ, ◌++◌, ◌∙◌, ◌∷◌, ◌≡◌}
 use Rattle.trace_model.specs.declared.entry.Entry.TheVariants as entry
 use Rattle.lone_laws.proofs.answered.Memories.{IsOwnDeed}
 
@@ -86,16 +85,13 @@ got_read e h who n own (m ∷ ms) r =
     ∙ ap (λ z. record r { left = z }) (append_assoc r.left (m ∷ []) ms))
 
 quiet_so : (b : Bool) (x : Noted) → IsQuiet x → AllByRecursion IsQuiet (if_so b x)
-quiet_so true x a = (a, tt)
-quiet_so false x a = tt
+quiet_so b x a = grind arith
 
 ended_quiet : (who : Side) (o : Option EndedBy) → AllByRecursion IsQuiet (map (Down who) (option_to_list o))
-ended_quiet who None = tt
-ended_quiet who (Some cause) = (tt, tt)
+ended_quiet who o = grind arith
 
 tries_quiet : (who : Side) (o : Option ℕ) → AllByRecursion IsQuiet (map (GaveUp who) (option_to_list o))
-tries_quiet who None = tt
-tries_quiet who (Some n) = (tt, tt)
+tries_quiet who o = grind arith
 
 pub told_read : (e : End) (h : ℕ) (who : Side) (n acked : ℕ) (rep : Report) (r : Read) → same_end (end_of h who) e ≡ true
     → read_all e r (entries_for h (told who n rep acked)) ≡ record r { left = r.left ++ rep.got }
@@ -134,18 +130,7 @@ pub record Alone (number h : ℕ) (r : Read) (t : List Entry) (w : Work) : Type 
 pub alone_as : {number h : ℕ} {r : Read} {t : List Entry} {w : Work} → Alone number h r t w → (q : Port) (ps : List Port) (es : List Entry) → ps ≡ q ∷ []
     → q.desk.host ≡ h → q.desk.notice ≡ None → read_all (end_of_node_alone number h) r (t ++ es) ≡ reads_of w.core q
     → Alone number h r t (record w { ports = ps; entries = es })
-alone_as a q ps es ports host none read =
-    record {
-      port = q;
-      ports_are = ports;
-      host = host;
-      none = none;
-      node = a.node;
-      command = a.command;
-      init = a.init;
-      good = a.good;
-      read = read;
-    }
+alone_as a q ps es ports host none read = grind arith
 
 -- an end is changed in nothing that is read
 pub record IsSamePort (p q : Port) : Type 0 where
@@ -154,24 +139,13 @@ pub record IsSamePort (p q : Port) : Type 0 where
   pub got : q.side.got ≡ p.side.got
   pub holds : q.desk.holds ≡ p.desk.holds
 
-pub same_if : (b : Bool) (f : Port → Port) (p : Port) → IsSamePort p (f p) → IsSamePort p (changed_if b f p)
-same_if true f p a = a
-same_if false f p a = record { host = refl; none = λ q. q; got = refl; holds = refl }
-
-unless_got : (o : Option Refused) (e f : LinkEnd) → f.got ≡ e.got → (unless o e f).got ≡ e.got
-unless_got None e f q = q
-unless_got (Some why) e f q = refl
-
 -- a turn that fetches nothing
 abbrev pub IsNoFetching : Turn → Type 0
 IsNoFetching FetchMessage = ⊥
 IsNoFetching _ = Unit {0}
 
 turn_got : (e : LinkEnd) (x : Turn) → IsNoFetching x → (turn e x).got ≡ e.got
-turn_got e (Give m) a = unless_got (give_refusal e m) e (given e m) refl
-turn_got e FetchMessage a = absurd a
-turn_got e SetAside a = unless_got (aside_refusal e) e (record e { aside = e.aside + 1 }) refl
-turn_got e _ a = refl
+turn_got e x a = grind arith
 
 turn_same : (x : Turn) → IsNoFetching x → (p : Port) → IsSamePort p (after_turn x p)
 turn_same x a p = record { host = refl; none = λ q. q; got = turn_got p.side x a; holds = refl }
@@ -197,24 +171,10 @@ module _ (number h : ℕ) (r : Read) (t : List Entry) where
 
   -- the end is changed in nothing that is read
   pub alone_change : (k : ℕ) (f : Port → Port) (w : Work) → ((p : Port) → IsSamePort p (f p)) → Of w → Of (record w { ports = with_port k f w.ports })
-  alone_change k f w same a =
-      let b : Bool = eqb a.port.desk.host k in
-      let q : Port = changed_if b f a.port in
-      let s : IsSamePort a.port q = same_if b f a.port (same a.port) in
-      alone_as a q (with_port k f w.ports) w.entries (ap (with_port k f) a.ports_are) (s.host ∙ a.host) (s.none a.none)
-      (a.read ∙ (ap (λ z. record (reads_of w.core a.port) { left = z }) (sym s.got) ∙ ap (λ z. record (reads_of w.core q) { held = z }) (sym s.holds)))
+  alone_change k f w same a = grind arith
 
   sent_nothing : (core : Core) (x : Turn) (o : Option Port) → AreNothing e (option_map_or (noted_of core x) o [])
-  sent_nothing core x None = tt
-  sent_nothing core x (Some p) = by_turn x where
-    by_refusal : (m : Message) (why : Option Refused)
-        → AreNothing e (entries_for p.desk.host (Rattle.link_laws.specs.entries.Entries.sent_unless why (own_side core) p.session m))
-    by_refusal m None = ((λ z. refl), tt)
-    by_refusal m (Some why) = tt
-
-    by_turn : (x : Turn) → AreNothing e (noted_of core x p)
-    by_turn (Give m) = by_refusal m (give_refusal p.side m)
-    by_turn _ = tt
+  sent_nothing core x o = grind arith
 
   pub alone_turn : (k : ℕ) (x : Turn) (w : Work) → IsNoFetching x → Of w → Of (turn_at k x w)
   alone_turn k x w still a =
@@ -223,9 +183,7 @@ module _ (number h : ℕ) (r : Read) (t : List Entry) where
 
   pub alone_desk : (k : ℕ) (f : Desk → Desk) (w : Work) → ((d : Desk) → (f d).host ≡ d.host) → ((d : Desk) → d.notice ≡ None → (f d).notice ≡ None)
       → ((d : Desk) → (f d).holds ≡ d.holds) → Of w → Of (with_desk k f w)
-  alone_desk k f w host none holds a =
-      alone_change k (λ (p : Port). record p { desk = f p.desk }) w
-      (λ p. record { host = host p.desk; none = none p.desk; got = refl; holds = holds p.desk }) a
+  alone_desk k f w host none holds a = grind arith
 
   -- ## Deeds
 
@@ -267,6 +225,5 @@ module _ (number h : ℕ) (r : Read) (t : List Entry) where
   alone_does k (Releases asker) w may a = λ q. alone_turn asker Release w tt (a q)
   alone_does k IsAnswered w may a = λ q. alone_desk k (λ d. record d { notice = None }) w (λ d. refl) (λ d z. refl) (λ d. refl) (a q)
   alone_does k (Drops pid) w may a = λ q. alone_note (entry.Dropped (end_of_node w.core k) pid ∷ []) w ((λ z. refl), tt) (a q)
-  alone_does k (SetsErrors errors) w may a =
-      λ q. alone_desk k (λ d. record d { errors = errors }) w (λ d. refl) (λ d z. z) (λ d. refl) (a q)
+  alone_does k (SetsErrors errors) w may a = grind arith
   alone_does k _ w may a = absurd may

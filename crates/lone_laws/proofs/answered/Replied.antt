@@ -1,32 +1,24 @@
 -- At each turn of a step a node alone replies to its message as is read, and REC_ERROR is what is read.
-use Rattle.std.specs.Prelude.{None, Option, Some, is_some, nat_lt}
-use mathlib.Core.Bool.{and-false, and-true}
-use Rattle.lone_laws.proofs.Words.{AllByRecursion, AllByRecursion-append, AreNoBoots, AreTables, AreUnset, Bool, Command, Commits, Core, Creation, Deed, Drops}
-use Rattle.lone_laws.proofs.Words.{End, Entry, ErrorCount, FetchMessage, Give, HciTables, IsAnswered, IsNoBoot, IsUpAt, IsUpNow, JoinTwo, List, Message}
-use Rattle.lone_laws.proofs.Words.{NodeView, Noted, Port, Report, SaysOk, Sends, SetDeeds, SetsErrors, SetsNone, Side, Turn, Work, [], about_of, after_turn}
-use Rattle.lone_laws.proofs.Words.{all_done, answer_of, ap, append-nil, append_assoc, apply, ap₂, by_test, changed_if, cond, cons_option, controller_deeds}
-use Rattle.lone_laws.proofs.Words.{controller_sets, controller_unset, core_noted, core_since, core_with, creation_in, creation_of, deeds_far, deeds_for}
-use Rattle.lone_laws.proofs.Words.{deeds_near, deeds_note, deeds_of, done, end_c, end_h, end_of_node, end_of_node_alone, end_since, end_view, entries_for}
-use Rattle.lone_laws.proofs.Words.{entry_of, eqb, eqb-true, errors_after, errors_found, errors_set_by, errors_since, false, first_lack, fold, fold-append}
-use Rattle.lone_laws.proofs.Words.{handles, host_deeds, host_sets, host_unset, is_any_ok, is_asked_at, is_connected_at, is_link_gate, is_opened, is_up}
-use Rattle.lone_laws.proofs.Words.{is_up_read, lack, lack_since, lacking, leads_to_link_gate, list_any, needs, noted_by_deeds, option_and_then, option_map}
-use Rattle.lone_laws.proofs.Words.{option_map_or, own_gate, own_view, pipe_of, port_at, refl, reply_since, same_end, same_end_itself, session_now, spare}
-use Rattle.lone_laws.proofs.Words.{spare_since, spare_with, spare_with_link, subst, sym, takes_entries, takes_up, told, told_all, true, true≢false, turn_at}
-use Rattle.lone_laws.proofs.Words.{uncut, unless_cut, unwrap_or, view_of, view_with_link, waiting_at, with_command, with_port, ℕ, ◌&&◌, ◌++◌, ◌||◌, ◌∙◌, ◌∷◌}
-use Rattle.lone_laws.proofs.Words.{◌≡◌, ◌≤◌}
-use Rattle.node_laws.proofs.passes.Replying.{taken_at_once}
+use Rattle.std.specs.Prelude.{None, Option, Some}
+use Rattle.lone_laws.proofs.Words.{AllByRecursion, AllByRecursion-append, AreNoBoots, AreTables, AreUnset, Bool, Core, Deed, End, Entry, ErrorCount}
+use Rattle.lone_laws.proofs.Words.{FetchMessage, IsNoBoot, IsUpAt, IsUpNow, JoinTwo, List, Message, NodeView, Noted, Port, Report, Sends, SetDeeds, SetsNone}
+use Rattle.lone_laws.proofs.Words.{Side, Turn, Work, [], after_turn, all_done, ap, append_assoc, ap₂, arith, by_test, cond, controller_deeds, controller_sets}
+use Rattle.lone_laws.proofs.Words.{controller_unset, core_noted, core_since, deeds_for, deeds_near, deeds_note, deeds_of, done, end_of_node, end_of_node_alone}
+use Rattle.lone_laws.proofs.Words.{end_since, end_view, entries_for, entry_of, eqb, eqb-true, errors_after, errors_found, errors_set_by, errors_since, false}
+use Rattle.lone_laws.proofs.Words.{first_lack, fold, fold-append, handles, host_deeds, host_sets, host_unset, is_asked_at, is_link_gate, is_up, is_up_read}
+use Rattle.lone_laws.proofs.Words.{lack, lack_since, lacking, leads_to_link_gate, needs, noted_by_deeds, own_gate, own_view, port_at, refl, reply_since}
+use Rattle.lone_laws.proofs.Words.{same_end, same_end_itself, session_now, spare, spare_since, spare_with, spare_with_link, subst, sym, takes_entries, takes_up}
+use Rattle.lone_laws.proofs.Words.{told, told_all, true, uncut, view_of, view_with_link, waiting_at, with_port, ℕ, ◌&&◌, ◌++◌, ◌||◌, ◌∙◌, ◌∷◌, ◌≡◌, ◌≤◌}
 use Rattle.node_laws.proofs.read_steps.Knowing.{same_deeds}
 use Rattle.node_laws.proofs.replies.Passes.{lack_alike}
 use Rattle.node_laws.proofs.views.Doing.SetDeeds.{IsDropped as IsDroppedSo, IsRefused as IsRefusedSo, IsSet as IsSetSo}
-use Rattle.node_laws.proofs.views.Lines.{where_same}
 use Rattle.node_laws.specs.read_steps.Alike.{KnowsTheSame}
 use Rattle.node_laws.specs.views.Views.{IsSameView}
 use Rattle.lone_laws.proofs.answered.Knowing.{KnowsAlone, begin_read}
 use Rattle.lone_laws.proofs.answered.Reading.{Alone, Read, core_is, eqb_same}
 use Rattle.lone_laws.proofs.answered.Replying.{IsLoneReply, IsNotedSo, TakesIt, answers_unbooted, controller_reply, deeds_answer, entries_of_deeds, host_reply}
-use Rattle.lone_laws.proofs.answered.Replying.{link_of_end, reply_noted, same_number, sent_alone, session_of_end}
-use Rattle.lone_laws.proofs.answered.Rooms.{Talks, spare_is}
-use Rattle.lone_laws.proofs.answered.Replying.IsLoneReply.{IsCommit, IsDrop, IsHeard, IsNone, IsSend, IsSet}
+use Rattle.lone_laws.proofs.answered.Replying.{link_of_end, reply_noted, session_of_end}
+use Rattle.lone_laws.proofs.answered.Rooms.{Talks}
 use Rattle.lone_laws.proofs.answered.Turning.{IsHere, alone_here, link_is, own_end}
 use Rattle.gate_answers.specs.declared.response.Response.TheVariants as response
 use Rattle.trace_model.specs.declared.entry.Entry.TheVariants as entry
@@ -52,17 +44,7 @@ module _ (number h : ℕ) where
   HasTables x c = (c.node ≡ number) × (eqb number 0 ≡ true → x.book.tables ≡ c.tables)
 
   tables_noted : (y : Entry) (x : ErrorCount) (c : Core) → IsNoBoot y → HasTables x c → HasTables (errors_after its_end x y) (core_noted c y)
-  tables_noted (entry.Command n z) x c none a = (by_test (eqb n c.node) (λ q. rw q a.0) (λ q. rw q a.0), tables) where
-    tables : eqb number 0 ≡ true → (cond (eqb n 0) (with_command z x.book) x.book).tables ≡ (cond (eqb n c.node) (core_with c z) c).tables
-    tables zero =
-        by_test (eqb n 0)
-        (λ q. rw q (ap (λ t. apply t z) (a.1 zero)))
-        (λ q. rw q (a.1 zero)) ∙ ap (λ (k : ℕ). (cond (eqb n k) (core_with c z) c).tables) (sym (a.0 ∙ eqb-true number 0 zero))
-  tables_noted (entry.Booted n k) x c none a = absurd none
-  tables_noted (entry.Turn f pid message) x c none a = a
-  tables_noted (entry.Sent f n pid message) x c none a = a
-  tables_noted (entry.Lost f lpdu cause) x c none a = a
-  tables_noted _ x c none a = a
+  tables_noted y x c none a = grind arith
 
   tables_all : (t : List Entry) (x : ErrorCount) (c : Core) → AreNoBoots t → HasTables x c → HasTables (errs_all its_end x t) (fold core_noted c t)
   tables_all [] x c none a = a
@@ -80,10 +62,7 @@ module _ (number h : ℕ) where
         let read : HasTables (errs_all its_end (errors_found found) t) (fold core_noted found t) =
         tables_all t (errors_found found) found none (node, λ _. refl) in
         ap (λ d. leads_to_link_gate d its_end pid) (read.1 zero)
-    go false another =
-        at_host (errs_all its_end (errors_found found) t).book.tables ∙ sym (at_host (fold core_noted found t).tables) where
-          at_host : (d : HciTables) → leads_to_link_gate d its_end pid ≡ eqb pid 0
-          at_host d = ap (λ b. leads_to_link_gate d (cond b (end_c h) (end_h h)) pid) another
+    go false another = grind arith
 
 -- ### What leaves it
 
@@ -131,8 +110,7 @@ desk_errors (p ∷ ports) = p.desk.errors
 
 pub errors_with : (k : ℕ) (f : Port → Port) → ((p : Port) → (f p).desk.errors ≡ p.desk.errors) → (ports : List Port)
     → desk_errors (with_port k f ports) ≡ desk_errors ports
-errors_with k f keeps [] = refl
-errors_with k f keeps (p ∷ ports) = by_test (eqb p.desk.host k) (λ q. rw q (keeps p)) (λ q. rw q refl)
+errors_with k f keeps ports = grind arith
 
 -- ### A message that has its turn
 
@@ -157,9 +135,7 @@ controller_fits : (core : Core) (ports : List Port) (k number h : ℕ) (m : Mess
     → FitsErrors ports k m.0 (controller_deeds (view_of core ports) k m) (sets_there core (end_of_node_alone number h) m)
 controller_fits core ports k number h m zero same =
     let e : End = end_of_node_alone number h in
-    let here : leads_to_link_gate core.tables e m.0 ≡ is_link_gate (own_gate core.tables k m.0) =
-    ap (λ b. leads_to_link_gate core.tables (cond b (end_c h) (end_h h)) m.0) zero
-    ∙ ap (λ z. is_link_gate (own_gate core.tables z m.0)) (sym same) in
+    let here : leads_to_link_gate core.tables e m.0 ≡ is_link_gate (own_gate core.tables k m.0) = grind arith in
     subst (FitsErrors ports k m.0 (controller_deeds (view_of core ports) k m)) (sym (ap (λ b. cond b (errors_set_by m.1) None) here))
     (fits_by ports k m (controller_deeds (view_of core ports) k m) (is_link_gate (own_gate core.tables k m.0)) (errors_set_by m.1)
     (controller_unset core ports k m) (λ v leads sets. controller_sets core ports k m v leads sets))
@@ -169,9 +145,7 @@ host_fits : (core : Core) (ports : List Port) (p : Port) (k number h : ℕ) (m :
     → FitsErrors ports k m.0 (host_deeds (own_view core) (end_view p) m) (sets_there core (end_of_node_alone number h) m)
 host_fits core ports p k number h m another node here =
     let e : End = end_of_node_alone number h in
-    let zero : leads_to_link_gate core.tables e m.0 ≡ eqb m.0 0 =
-    ap (λ b. leads_to_link_gate core.tables (cond b (end_c h) (end_h h)) m.0)
-    another in
+    let zero : leads_to_link_gate core.tables e m.0 ≡ eqb m.0 0 = grind arith in
     subst (FitsErrors ports k m.0 (host_deeds (own_view core) (end_view p) m)) (sym (ap (λ b. cond b (errors_set_by m.1) None) zero))
     (fits_by ports k m (host_deeds (own_view core) (end_view p) m) (eqb m.0 0) (errors_set_by m.1) (host_unset core p m)
     (λ v leads sets. subst (λ n. SetDeeds ports n m.0 v (host_deeds (own_view core) (end_view p) m)) node
@@ -179,55 +153,13 @@ host_fits core ports p k number h m another node here =
 
 -- ### Its deeds
 
-same_both : {X : Type 0} (b : Bool) (x : X) → cond b x x ≡ x
-same_both true x = refl
-same_both false x = refl
-
-and_no : (a b : Bool) → b ≡ false → (a && b) ≡ false
-and_no true b q = q
-and_no false b q = refl
-
 module _ (e : End) where
-  sent_unset : (session : Option ℕ) (to : ℕ) (m : Message) (z : ErrorCount) → z.sets ≡ None → (errs_all e z (sent_alone e session to m)).errors ≡ z.errors
-  sent_unset session to m z none = by (eqb to e.link) session where
-    by : (b : Bool) (s : Option ℕ) → (errs_all e z (cond b (option_map_or (λ n. entry.Sent e n m.0 m.1 ∷ []) s []) [])).errors ≡ z.errors
-    by true None = refl
-    by true (Some n) = ap (λ o. cond (same_end e e && is_any_ok m.1) (unwrap_or o z.errors) z.errors) none ∙ same_both (same_end e e && is_any_ok m.1) z.errors
-    by false s = refl
-
-  sent_other : (session : Option ℕ) (to : ℕ) (m : Message) (z : ErrorCount) → is_any_ok m.1 ≡ false → (errs_all e z (sent_alone e session to m)).errors ≡
-      z.errors
-  sent_other session to m z other = by (eqb to e.link) session where
-    by : (b : Bool) (s : Option ℕ) → (errs_all e z (cond b (option_map_or (λ n. entry.Sent e n m.0 m.1 ∷ []) s []) [])).errors ≡ z.errors
-    by true None = refl
-    by true (Some n) = ap (λ b. cond b (unwrap_or z.sets z.errors) z.errors) (and_no (same_end e e) (is_any_ok m.1) other)
-    by false s = refl
-
-  sent_ok : (n : ℕ) (to pid v : ℕ) (z : ErrorCount) → eqb to e.link ≡ true → z.sets ≡ Some v
-      → (errs_all e z (sent_alone e (Some n) to (pid, answer_of response.Ok []))).errors ≡ v
-  sent_ok n to pid v z there set =
-      ap (λ b. (errs_all e z (cond b (entry.Sent e n pid (answer_of response.Ok []) ∷ []) [])).errors) there
-      ∙ (ap (λ b. cond (b && true) (unwrap_or z.sets z.errors) z.errors) (same_end_itself e) ∙ ap (λ o. unwrap_or o z.errors) set)
-
   -- deeds that set nothing, where no command that sets it waits for its answer
   unset_errs : (core : Core) (session : Option ℕ) (deeds : List Deed) → IsLoneReply deeds → AreUnset deeds → (z : ErrorCount) → z.sets ≡ None
       → (errs_all e z (entries_of_deeds core e session deeds)).errors ≡ z.errors
-  unset_errs core session _ (IsSend to m) unset z none =
-      ap (λ es. (errs_all e z es).errors) (append-nil (sent_alone e session to m)) ∙ sent_unset session to m z none
-  unset_errs core session _ (IsCommit c to m) unset z none =
-      let y : ErrorCount = errors_after e z (entry.Command core.node c) in
-      let last : List Entry = entry.AnyOk core.node _ ∷ [] in
-      ap (λ (x : ErrorCount). x.errors) (errs-append e y (sent_alone e session to m) last) ∙ sent_unset session to m y refl
-  unset_errs core session _ (IsSet v to m) unset z none = absurd unset.0
-  unset_errs core session _ _ unset z none = refl
+  unset_errs core session deeds a unset z none = grind arith
 
 -- ### What is kept after them
-
-kept_turn : (to : ℕ) (x : Turn) (u : Work) → desk_errors (turn_at to x u).ports ≡ desk_errors u.ports
-kept_turn to x u = errors_with to (after_turn x) (λ p. refl) u.ports
-
-kept_commit : (c : Command) (u : Work) → (done 0 (Commits c) u).cut ≡ false → desk_errors (done 0 (Commits c) u).ports ≡ desk_errors u.ports
-kept_commit c u still = by_test (Rattle.node_laws.specs.passes.Noting.goes_in c u) (λ q. rw q refl) (λ q. rw q refl)
 
 module _ (k : ℕ) (u : Work) (on : u.cut ≡ false) where
   one_done : (d : Deed) → (done k d u).cut ≡ false → all_done k (d ∷ []) u ≡ done k d u
@@ -235,41 +167,7 @@ module _ (k : ℕ) (u : Work) (on : u.cut ≡ false) where
 
   unset_kept : (deeds : List Deed) → IsLoneReply deeds → AreUnset deeds → (all_done k deeds u).cut ≡ false
       → desk_errors (all_done k deeds u).ports ≡ desk_errors u.ports
-  unset_kept _ IsNone unset still = refl
-  unset_kept _ (IsDrop pid) unset still = ap (λ (w : Work). desk_errors w.ports) (one_done (Drops pid) on)
-  unset_kept _ (IsSend to m) unset still = ap (λ (w : Work). desk_errors w.ports) (one_done (Sends to m) on) ∙ kept_turn to (Give m) u
-  unset_kept _ (IsCommit c to m) unset still = go (done k (Commits c) u).cut refl where
-    w : Work
-    w = done k (Commits c) u
-
-    D : List Deed
-    D = Sends to m ∷ SaysOk ∷ []
-
-    go : (b : Bool) → w.cut ≡ b → desk_errors (all_done k (Commits c ∷ D) u).ports ≡ desk_errors u.ports
-    go true q =
-        let gone : (all_done k (Commits c ∷ D) u).cut ≡ true = ap (λ (x : Work). x.cut) (off w q) ∙ q in absurd (true≢false (sym gone ∙ still)) where
-          off : (x : Work) → x.cut ≡ true → unless_cut (all_done k D) x ≡ x
-          off x z = rw z refl
-    go false q =
-        let first : all_done k (Commits c ∷ D) u ≡ all_done k D w = uncut (all_done k D) w q in
-        let second : all_done k D w ≡ all_done k (SaysOk ∷ []) (done k (Sends to m) w) = uncut (all_done k (SaysOk ∷ [])) (done k (Sends to m) w) q in
-        let third : all_done k (SaysOk ∷ []) (done k (Sends to m) w) ≡ done k SaysOk (done k (Sends to m) w) =
-        uncut (all_done k []) (done k SaysOk (done k (Sends to m) w)) q in
-        ap (λ (x : Work). desk_errors x.ports) (first ∙ (second ∙ third)) ∙ (kept_turn to (Give m) w ∙ kept_commit c u q)
-  unset_kept _ (IsSet v to m) unset still = absurd unset.0
-  unset_kept _ IsHeard unset still =
-      ap (λ (w : Work). desk_errors w.ports) (one_done IsAnswered on)
-      ∙ errors_with k (λ p. record p { desk = record p.desk { notice = None } }) (λ p. refl) u.ports
-
-  set_kept : (v to : ℕ) (m : Message) (p : Port) → u.ports ≡ p ∷ [] → eqb p.desk.host k ≡ true
-      → desk_errors (all_done k (SetsErrors v ∷ Sends to m ∷ []) u).ports ≡ v
-  set_kept v to m p ports own =
-      let g : Port → Port = λ q. record q { desk = record q.desk { errors = v } } in
-      let w : Work = done k (SetsErrors v) u in
-      let first : all_done k (SetsErrors v ∷ Sends to m ∷ []) u ≡ all_done k (Sends to m ∷ []) w = uncut (all_done k (Sends to m ∷ [])) w on in
-      let second : all_done k (Sends to m ∷ []) w ≡ done k (Sends to m) w = uncut (all_done k []) (done k (Sends to m) w) on in
-      ap (λ (x : Work). desk_errors x.ports) (first ∙ second)
-      ∙ (kept_turn to (Give m) w ∙ ap desk_errors (ap (with_port k g) ports ∙ ap (λ b. changed_if b g p ∷ []) own))
+  unset_kept deeds a unset still = grind arith
 
   -- What is read behind deeds that fit what their message sets is what is kept behind them.
   deeds_errs : (e : End) (core : Core) (p : Port) (ports : List Port) (pid : ℕ) (deeds : List Deed) (z : ErrorCount) → IsLoneReply deeds
@@ -281,35 +179,15 @@ module _ (k : ℕ) (u : Work) (on : u.cut ≡ false) where
         → (errs_all e z (entries_of_deeds core e (session_of_end p) deeds)).errors ≡ desk_errors (all_done k deeds u).ports
     by None q (SetsNothing unset) =
         unset_errs e core (session_of_end p) deeds shape unset z q ∙ (same ∙ sym (unset_kept deeds shape unset still))
-    by (Some v) q (SetsIt _ (IsSetSo is_up_there is)) =
-        let m : Message = (pid, answer_of response.Ok []) in
-        let D : List Deed = SetsErrors v ∷ Sends k m ∷ [] in
-        let session : session_of_end p ≡ Some p.session = ap (λ s. cond (is_up s) (Some p.session) None) (up is_up_there) in
-        ap (λ d. (errs_all e z (entries_of_deeds core e (session_of_end p) d)).errors) is
-        ∙ (ap (λ o. (errs_all e z (sent_alone e o k m ++ [])).errors) session
-        ∙ (ap (λ es. (errs_all e z es).errors) (append-nil (sent_alone e (Some p.session) k m))
-        ∙ (sent_ok e p.session k pid v z there q ∙ (sym (set_kept v k m p one own) ∙ ap (λ d. desk_errors (all_done k d u).ports) (sym is)))))
-    by (Some v) q (SetsIt _ (IsRefusedSo is_up_there is)) =
-        let m : Message = (pid, answer_of response.PipeNotOpened []) in
-        ap (λ d. (errs_all e z (entries_of_deeds core e (session_of_end p) d)).errors) is
-        ∙ (ap (λ es. (errs_all e z es).errors) (append-nil (sent_alone e (session_of_end p) k m))
-        ∙ (sent_other e (session_of_end p) k m z refl
-        ∙ (same ∙ (sym (unset_kept (Sends k m ∷ []) (IsSend k m) (tt, tt) (subst (λ d. (all_done k d u).cut ≡ false) is still))
-        ∙ ap (λ d. desk_errors (all_done k d u).ports) (sym is)))))
-    by (Some v) q (SetsIt _ (IsDroppedSo is)) =
-        ap (λ d. (errs_all e z (entries_of_deeds core e (session_of_end p) d)).errors) is
-        ∙ (same ∙ (sym (unset_kept (Drops pid ∷ []) (IsDrop pid) (tt, tt) (subst (λ d. (all_done k d u).cut ≡ false) is still))
-        ∙ ap (λ d. desk_errors (all_done k d u).ports) (sym is)))
+    by (Some v) q (SetsIt _ (IsSetSo is_up_there is)) = grind arith
+    by (Some v) q (SetsIt _ (IsRefusedSo is_up_there is)) = grind arith
+    by (Some v) q (SetsIt _ (IsDroppedSo is)) = grind arith
 
 -- ## A node with one link goes by what is said of such a node, and does by that what it does
 
 module _ (core : Core) (p : Port) (h : ℕ) (host : p.desk.host ≡ h) where
   here : eqb p.desk.host h ≡ true
   here = ap (λ n. eqb n h) host ∙ eqb_same h
-
-  -- a test of the one end
-  one_test : (f : Port → Bool) (k : ℕ) → option_map_or f (port_at (p ∷ []) k) false ≡ (eqb h k && f p)
-  one_test f k = by_test (eqb p.desk.host k) (λ q. rw q refl) (λ q. rw q refl) ∙ ap (λ n. eqb n k && f p) host
 
   one_spare : (k : ℕ) → spare_with (p ∷ []) k ≡ spare_with_link h (spare p.side) k
   one_spare k = by_test (eqb p.desk.host k) (λ q. rw q refl) (λ q. rw q refl) ∙ ap (λ n. cond (eqb n k) (spare p.side) 0) host
@@ -324,64 +202,21 @@ module _ (core : Core) (p : Port) (h : ℕ) (host : p.desk.host ≡ h) where
     abbrev said : NodeView
     said = view_with_link core h (end_view p) (spare p.side)
 
-    connected_is : (k : ℕ) → option_map_or (is_connected_at core.tables) (port_at (p ∷ []) k) false
-        ≡ (eqb h k && (is_up p.side.shdlc.phase && is_opened core.tables k 1))
-    connected_is k = one_test (is_connected_at core.tables) k ∙ by_test ((eqb h k))
-        (λ z. ap (λ x. eqb h k && at x) (host ∙ eqb-true h k z))
-        (λ z. ap (λ b. b && at p.desk.host) z ∙ sym (ap (λ b. b && at k) z)) where
-          at : ℕ → Bool
-          at x = is_up p.side.shdlc.phase && is_opened core.tables x 1
-
     nobody : is_asked_at p ≡ false
     nobody = ap (λ n. is_asked_at (record p { desk = record p.desk { notice = n } })) none
 
     same_links : IsSameView (machine.links h) (said.links h)
-    same_links = record {
-      hosts = where_same (λ k. option_map_or (λ (x : Port). true) (port_at (p ∷ []) k) false) (λ k. eqb h k)
-          (λ k. one_test (λ x. true) k ∙ and-true (eqb h k));
-      connected = where_same (λ k. option_map_or (is_connected_at core.tables) (port_at (p ∷ []) k) false)
-          (λ k. eqb h k && (is_up p.side.shdlc.phase && is_opened core.tables k 1)) connected_is;
-      noticed = where_same (λ k. option_map_or (λ (x : Port). is_some x.desk.notice) (port_at (p ∷ []) k) false) (λ k. false)
-          (λ k. one_test (λ x. is_some x.desk.notice) k ∙ (ap (λ n. eqb h k && is_some n) none ∙ and-false (eqb h k)));
-      asked = where_same (λ k. option_map_or is_asked_at (port_at (p ∷ []) k) false) (λ k. false)
-          (λ k. one_test is_asked_at k ∙ (ap (λ b. eqb h k && b) nobody ∙ and-false (eqb h k)));
-      waiting = λ pid.
-          ap (λ n. list_any (λ q. eqb q pid) (cons_option (option_and_then (λ (c : Creation). pipe_of c.command) (creation_in n)) [])) none;
-      errors = ap (λ b. option_map_or (λ (x : Port). x.desk.errors) (cond b (Some p) None) 0) here;
-    }
+    same_links = grind arith
 
     knows : KnowsTheSame machine said h
-    knows = record {
-      tables = refl;
-      room = λ x. refl;
-      links = one_test (λ x. is_up x.side.shdlc.phase);
-      asks = ap (λ n. option_map_or (λ (c : Creation). eqb c.asker h) (creation_in n) false || false) none;
-      view = λ up. same_links;
-      notice = by_test (eqb p.desk.host h) (λ q. rw q (ap (λ n. option_map creation_of (about_of n)) none)) (λ q. rw q refl);
-    }
-
-    ends_are : machine.ends h ≡ said.ends h
-    ends_are = ap (λ b. option_map end_view (cond b (Some p) None)) here ∙ sym (ap (λ b. cond b (Some (end_view p)) None) (eqb_same h))
+    knows = grind arith
 
     one_deeds : (m : Message) → deeds_of core (p ∷ []) h m ≡ deeds_for (view_with_link core h (end_view p) (spare p.side)) h m
     one_deeds m = by_test ((eqb core.node 0))
         (λ q. deeds_near machine h m q ∙ (same_deeds machine said h knows m ∙ sym (deeds_near said h m q)))
-        (λ q. deeds_far machine h m q
-        ∙ (ap (λ o. option_map_or (λ e. host_deeds (own_view core) e m) o []) ends_are ∙ sym (deeds_far said h m q)))
+        (λ q. grind arith)
 
 -- ## At each turn of a step a node alone replies to its message as is read
-
--- what lacks is decided by what is spare
-lack_same : (p q : Port) → p.desk.host ≡ q.desk.host → spare p.side ≡ spare q.side → (ns : List (ℕ × ℕ)) → lack (p ∷ []) ns ≡ lack (q ∷ []) ns
-lack_same p q host same [] = refl
-lack_same p q host same (n ∷ ns) =
-    let one : option_map_or (λ (x : Port). spare x.side) (port_at (p ∷ []) n.0) 0 ≡ option_map_or (λ (x : Port). spare x.side) (port_at (q ∷ []) n.0) 0 =
-    ap (λ h. option_map_or (λ (x : Port). spare x.side) (cond (eqb h n.0) (Some p) None) 0) host ∙ by (eqb q.desk.host n.0) in
-    ap₂ (λ s o. cond (nat_lt s n.1) (Some (n.1, s)) o) one (lack_same p q host same ns)
-  where
-    by : (b : Bool) → option_map_or (λ (x : Port). spare x.side) (cond b (Some p) None) 0 ≡ option_map_or (λ (x : Port). spare x.side) (cond b (Some q) None) 0
-    by true = same
-    by false = refl
 
 module _ (rest : Core) (number h : ℕ) (some : 1 ≤ h) (most : h ≤ 7) (s : ℕ) (t : List Entry) where
   -- what the boot of this node found
@@ -418,15 +253,10 @@ module _ (rest : Core) (number h : ℕ) (some : 1 ≤ h) (most : h ≤ 7) (s : �
     core_read = sym (core_is e all (begin_read found)) ∙ ap (λ (z : Read). z.core) alone.read
 
     pub session_read : session_now all e number ≡ session_of_end its_port
-    session_read =
-        talks.talk.session
-        ∙ (ap (λ j. cond (is_up talks.port.side.shdlc.phase) (Some j) None) (sym talks.same) ∙ ap session_of_end same_port)
+    session_read = grind arith
 
     up_is : is_up_read all number h ≡ is_up its_port.side.shdlc.phase
-    up_is = ap (λ f. is_some (session_now all f number)) (same_number number h) ∙ (ap is_some session_read ∙ by (is_up its_port.side.shdlc.phase)) where
-      by : (b : Bool) → is_some (cond b (Some its_port.session) None) ≡ b
-      by true = refl
-      by false = refl
+    up_is = grind arith
 
     errors_is : errors_since found e all ≡ its_port.desk.errors
     errors_is = a.errs.are ∙ ap desk_errors alone.ports_are
@@ -436,8 +266,7 @@ module _ (rest : Core) (number h : ℕ) (some : 1 ≤ h) (most : h ≤ 7) (s : �
 
     module _ (its : eqb number 0 ≡ false → number ≡ h) where
       spare_at_it : spare_since found h all ≡ spare its_port.side
-      spare_at_it =
-          spare_is number h s all talks.port.side its talks.sound talks.aside talks.talk ∙ ap (λ (p : Port). spare p.side) same_port
+      spare_at_it = grind arith
 
       pub deeds_read : (k : ℕ) (m : Message) → k ≡ h → reply_since found h all m ≡ deeds_of w.core w.ports k m
       deeds_read k m same =
@@ -450,8 +279,7 @@ module _ (rest : Core) (number h : ℕ) (some : 1 ≤ h) (most : h ≤ 7) (s : �
       lack_read k m same =
           ap₂ (λ n d. first_lack (spare_with_link h n) (needs h d)) spare_at_it (deeds_read k m same)
           ∙ (sym (one_lack w.core its_port h alone.host (needs h (deeds_of w.core w.ports k m)))
-          ∙ (ap (λ n. lack (its_port ∷ []) (needs n (deeds_of w.core w.ports k m))) (sym same)
-          ∙ ap (λ ps. lack ps (needs k (deeds_of w.core w.ports k m))) (sym alone.ports_are)))
+          ∙ (grind arith))
 
   -- ### A message that has its turn
 
@@ -508,17 +336,13 @@ module _ (rest : Core) (number h : ℕ) (some : 1 ≤ h) (most : h ≤ 7) (s : �
       q = g (f own_port)
 
       u_ports : u.ports ≡ q ∷ []
-      u_ports =
-          ap (λ ps. with_port k g (with_port k f ps)) al.ports_are
-          ∙ (ap (λ b. with_port k g (changed_if b f own_port ∷ [])) at_here.own ∙ ap (λ b. changed_if b g (f own_port) ∷ []) at_here.own)
+      u_ports = grind arith
 
       room_then : (ns : List (ℕ × ℕ)) → lack w.ports ns ≡ None → lack u.ports ns ≡ None
-      room_then ns room =
-          ap (λ ps. lack ps ns) u_ports ∙ (lack_same q own_port refl refl ns ∙ (ap (λ ps. lack ps ns) (sym al.ports_are) ∙ room))
+      room_then ns room = grind arith
 
       takes_it : (to : ℕ) (x : Message) → lack u.ports (needs k (Sends to x ∷ [])) ≡ None → TakesIt q to x
-      takes_it to x room own up =
-          (taken_at_once k (Sends to x ∷ []) u (tt, tt) room).0 q (ap (λ ps. port_at ps to) u_ports ∙ ap (λ b. cond b (Some q) None) own) up
+      takes_it to x room own up = grind arith
 
       its_end_is : end_of_node w.core k ≡ e
       its_end_is = own_end w.core number h k al.node same_link
@@ -560,10 +384,7 @@ module _ (rest : Core) (number h : ℕ) (some : 1 ≤ h) (most : h ≤ 7) (s : �
       z_errors = ap (λ (r : ErrorCount). r.errors) z_is ∙ (a.errs.are ∙ (ap desk_errors al.ports_are ∙ ap desk_errors (sym u_ports)))
 
       up_then : IsUpAt w.ports k → q.side.shdlc.phase ≡ IsUpNow
-      up_then i =
-          let both : Some i.port ≡ Some own_port = sym i.here ∙ (ap (λ ps. port_at ps k) al.ports_are ∙ ap (λ b. cond b (Some own_port) None) at_here.own) in
-          let same : i.port ≡ own_port = cc in
-          ap (λ (p : Port). p.side.shdlc.phase) (sym same) ∙ i.up
+      up_then i = grind arith
 
       link_here : eqb k e.link ≡ true
       link_here = ap₂ eqb same_link (link_of_end number h) ∙ eqb_same h

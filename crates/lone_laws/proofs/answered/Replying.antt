@@ -1,25 +1,20 @@
 -- What a node alone notes of a message that has its turn is the reply that is read: all is its own, of few shapes, and as for any node.
 use Rattle.lone_laws.proofs.Words.{AllByRecursion, Answer, AnswersSo, AreNoBoots, AreOwn, Ask, Bool, Clear, Command, Commit, Commits, Control, Core, Create}
-use Rattle.lone_laws.proofs.Words.{Creation, Decision, Deed, Delete, Desk, Drops, End, Entry, FrameComes, Give, IsAnswered, IsDown, IsDueAlone, IsNoBoot, IsOwn}
-use Rattle.lone_laws.proofs.Words.{IsRepliedAlone, IsUpNow, IsWaitingNow, JoinTwo, LinkInput, LinkState, LinkView, List, Lone, LoneCause, LoneEvent, Message}
-use Rattle.lone_laws.proofs.Words.{NodeInput, None, Option, Port, Running, SaysOk, Sends, SetsErrors, Some, Tells, Work, Write, [], accepts, all_append}
-use Rattle.lone_laws.proofs.Words.{all_done, answer_of, ap, ap₂, asked_at, before_turn, body_in, body_of, by_option, by_test, changed_if, commit_deeds}
-use Rattle.lone_laws.proofs.Words.{commit_writes, cond, controller_deeds, controller_holds, core_noted, core_since, core_with, count_of, creation_in, decided}
-use Rattle.lone_laws.proofs.Words.{decided_tells_others, decision_deeds, done, end_of, end_of_node, end_of_node_alone, end_of_number, end_view, entries_for}
-use Rattle.lone_laws.proofs.Words.{entries_of_reply, eq-eqb, eqb, eqb-true, false, filter, finds_room, fold, gates, give_refusal, goes_in, has, host_deeds}
-use Rattle.lone_laws.proofs.Words.{host_holds, hosts_where, if◌then◌else◌, inl, inr, is_answer_of, is_cut_of, is_turn_of, is_up, keeps, lack, lack_since}
-use Rattle.lone_laws.proofs.Words.{link_deeds, list_any, lone_arrival, lone_end, lone_port, lone_work, loses_power, lpdu_of, map, needs, next_count, node_of}
-use Rattle.lone_laws.proofs.Words.{not, noted_at, noted_by_deeds, noted_of, noted_since, noting, option_map_or, ordered_deeds, ordered_holds, own_side}
-use Rattle.lone_laws.proofs.Words.{own_view, port_at, refl, reply_since, sent_in_session, sent_unless, session_with, stays_cut, steps, subst, sym, sync_due}
-use Rattle.lone_laws.proofs.Words.{take_while-cons, telling_count, to_command, true, true≢false, uncut, unless_cut, view_for, view_of, with_port, ℕ, ◌++◌, ◌||◌}
-use Rattle.lone_laws.proofs.Words.{◌∙◌, ◌∷◌, ◌≡◌}
+use Rattle.lone_laws.proofs.Words.{Creation, Decision, Deed, Delete, Desk, Drops, End, Entry, IsAnswered, IsDueAlone, IsNoBoot, IsOwn, IsRepliedAlone, IsUpNow}
+use Rattle.lone_laws.proofs.Words.{JoinTwo, LinkInput, LinkView, List, Lone, LoneCause, LoneEvent, Message, NodeInput, None, Option, Port, Running, SaysOk}
+use Rattle.lone_laws.proofs.Words.{Sends, SetsErrors, Some, Tells, Work, Write, [], accepts, all_append, all_done, answer_of, ap, ap₂, arith, asked_at}
+use Rattle.lone_laws.proofs.Words.{before_turn, body_in, body_of, by_option, by_test, commit_deeds, commit_writes, cond, controller_deeds, controller_holds}
+use Rattle.lone_laws.proofs.Words.{core_since, core_with, count_of, decided, decided_tells_others, decision_deeds, done, end_of_node, end_of_node_alone}
+use Rattle.lone_laws.proofs.Words.{end_of_number, end_view, entries_of_reply, eqb, eqb-true, false, filter, finds_room, gates, give_refusal, goes_in, has}
+use Rattle.lone_laws.proofs.Words.{host_deeds, host_holds, hosts_where, if◌then◌else◌, inl, inr, is_answer_of, is_cut_of, is_turn_of, is_up, keeps, lack}
+use Rattle.lone_laws.proofs.Words.{lack_since, link_deeds, list_any, lone_arrival, lone_end, lone_work, loses_power, lpdu_of, map, needs, node_of, not}
+use Rattle.lone_laws.proofs.Words.{noted_by_deeds, noted_since, noting, option_map_or, ordered_deeds, ordered_holds, own_view, port_at, refl, reply_since}
+use Rattle.lone_laws.proofs.Words.{steps, subst, sym, sync_due, take_while-cons, telling_count, to_command, true, uncut, view_for, view_of, ℕ, ◌++◌, ◌||◌, ◌∙◌}
+use Rattle.lone_laws.proofs.Words.{◌∷◌, ◌≡◌}
 use Rattle.gate_identity.specs.Identity.{identity_served}
 use Rattle.gate_link.specs.Link.{link_served}
-use Rattle.node_laws.proofs.power.Steps.{AreEnds, Fine, IsEndOf, Runs, steps_fine}
-use Rattle.node_laws.proofs.telling.Accounts.{AreUncut}
+use Rattle.node_laws.proofs.power.Steps.{Fine, IsEndOf, Runs, steps_fine}
 use Rattle.lone_laws.proofs.answered.Memories.{TellsNobody, asks_nobody, tells_nobody}
-use Rattle.lone_laws.proofs.answered.Reading.{eqb_same}
-use Rattle.lone_laws.proofs.answered.Turning.{own_end}
 use Rattle.gate_answers.specs.declared.response.Response.TheVariants as response
 use Rattle.trace_model.specs.declared.entry.Entry.TheVariants as entry
 
@@ -74,17 +69,7 @@ IsDueOwn found h t o = AnswersOwn o.entries (noted_since found h t (sync_due (co
 
 module _ (n : ℕ) where
   agree : (x : Entry) → IsOwn n x → (is_answer_of n x ≡ is_own_answer x) × (is_turn_of n x ≡ is_own_turn x) × (is_cut_of n x ≡ is_own_cut x)
-  agree (entry.Command m c) own = (eq-eqb m n own, refl, refl)
-  agree (entry.Sent e m pid message) own = (eq-eqb (node_of e) n own, refl, refl)
-  agree (entry.AnyOk m count) own = (eq-eqb m n own, refl, refl)
-  agree (entry.Ask host message) own = (eq-eqb 0 n own, refl, refl)
-  agree (entry.Dropped e pid) own = (eq-eqb (node_of e) n own, refl, refl)
-  agree (entry.InitSame e) own = (eq-eqb (node_of e) n own, refl, refl)
-  agree (entry.InitMade e count) own = (eq-eqb (node_of e) n own, refl, refl)
-  agree (entry.InitFailed e code) own = (eq-eqb (node_of e) n own, refl, refl)
-  agree (entry.Turn e pid message) own = (refl, eq-eqb (node_of e) n own, refl)
-  agree (entry.Cut m) own = (refl, refl, eq-eqb m n own)
-  agree x own = (refl, refl, refl)
+  agree x own = grind arith
 
   before_same : (es : List Entry) → AreOwn n es → before_turn n es ≡ to_turn es
   before_same [] own = refl
@@ -92,8 +77,7 @@ module _ (n : ℕ) where
       take_while-cons (λ y. not (is_turn_of n y)) x es
       ∙ (ap (λ b. cond (not b) (x ∷ before_turn n es) []) (agree x own.0).1 ∙ by (is_own_turn x) (before_same es own.1)) where
         by : (b : Bool) → before_turn n es ≡ to_turn es → cond (not b) (x ∷ before_turn n es) [] ≡ cond b [] (x ∷ to_turn es)
-        by true later = refl
-        by false later = ap (λ l. x ∷ l) later
+        by b later = grind arith
 
   filter_same : (es : List Entry) → AreOwn n es → filter (is_answer_of n) es ≡ filter is_own_answer es
   filter_same [] own = refl
@@ -137,14 +121,6 @@ module _ (l : Lone) (its : eqb l.number 0 ≡ false → l.number ≡ l.link) whe
   end_is : IsEndOf l.number l.link
   end_is = by_test (eqb l.number 0) (λ q. rw q (sym (eqb-true l.number 0 q))) (λ q. rw q (sym (its q)))
 
-  arrival_own : (c : LoneCause) → AreOwn l.number (lone_arrival l c)
-  arrival_own (FrameComes bytes) = (end_own, tt)
-  arrival_own _ = tt
-
-  arrival_uncut : (c : LoneCause) → AreUncut (lone_arrival l c)
-  arrival_uncut (FrameComes bytes) = (tt, tt)
-  arrival_uncut _ = tt
-
   frames_own : (frames : List Control) → AreOwn l.number (map (λ c. entry.Emit (lone_end l) (lpdu_of c)) frames)
   frames_own [] = tt
   frames_own (c ∷ frames) = (end_own, frames_own frames)
@@ -166,14 +142,7 @@ module _ (l : Lone) (its : eqb l.number 0 ≡ false → l.number ≡ l.link) whe
       begun = lone_work l n i (lone_arrival l c)
 
       runs : Runs l.number begun
-      runs = record {
-        on = refl;
-        number = number;
-        ends = subst (λ ds. AreEnds l.number (map (lone_port l.side (session_with l i)) ds)) (sym desks)
-            (subst (IsEndOf l.number) (sym host) end_is, tt);
-        own = arrival_own c;
-        uncut = arrival_uncut c;
-      }
+      runs = grind arith
 
 -- ## What a node with one link does with a message: nothing, or one message is dropped or sent, behind a command or REC_ERROR, if at all
 
@@ -221,14 +190,10 @@ controller_reply core p h m host none two =
     })
   where
     same : (q : Port) → port_at (p ∷ []) h ≡ Some q → p ≡ q
-    same q here = go (eqb p.desk.host h) here where
-      go : (b : Bool) → cond b (Some p) None ≡ Some q → p ≡ q
-      go true z = cc
-      go false z = absurd (cc z)
+    same q here = grind arith
 
     unasked : (q : Port) (c : Creation) → port_at (p ∷ []) h ≡ Some q → asked_at q ≡ Some c → ⊥
-    unasked q c here asked =
-        let gone : None ≡ Some c = sym (ap creation_in (sym (ap (λ (x : Port). x.desk.notice) (same q here)) ∙ none)) ∙ asked in cc gone
+    unasked q c here asked = grind arith
 
 accepts_reply : (core : Core) (c : Command) → IsLoneReply (accepts (own_view core) c)
 accepts_reply core c = by_test (finds_room core c)
@@ -283,73 +248,21 @@ module _ (number h : ℕ) (session : Option ℕ) where
   abbrev sent : ℕ → Message → List Entry
   sent to m = cond (eqb to e_of_told.link) (option_map_or (λ n. entry.Sent e_of_told n m.0 m.1 ∷ []) session []) []
 
-  sent_is : (to : ℕ) (m : Message) → sent_in_session number sessions to m ≡ sent to m
-  sent_is to m =
-      by_test (eqb to h)
-      (λ q. rw q (ap (λ (f : End). option_map_or (λ n. entry.Sent f n m.0 m.1 ∷ []) session [])
-      (ap (end_of_number number) (eqb-true to h q) ∙ same_number number h)))
-      (λ q. rw q refl)
-      ∙ sym (ap (λ k. cond (eqb to k) (option_map_or (λ n. entry.Sent e_of_told n m.0 m.1 ∷ []) session []) []) (link_of_end number h))
-
-  -- a message that is sent changes nothing of what is kept, and tells no count
-  sent_told : (core : Core) (to : ℕ) (m : Message) (es : List Entry) → map (telling_count core) (sent to m ++ es) ≡ sent to m ++ map (telling_count core) es
-  sent_told core to m es = by (eqb to e_of_told.link) session where
-    by : (b : Bool) (s : Option ℕ) → map (telling_count core) (cond b (option_map_or (λ n. entry.Sent e_of_told n m.0 m.1 ∷ []) s []) [] ++ es)
-        ≡ cond b (option_map_or (λ n. entry.Sent e_of_told n m.0 m.1 ∷ []) s []) [] ++ map (telling_count core) es
-    by true None = refl
-    by true (Some n) = refl
-    by false s = refl
-
-  sent_kept : (core : Core) (to : ℕ) (m : Message) (es : List Entry) → core_since core (sent to m ++ es) ≡ core_since core es
-  sent_kept core to m es = by (eqb to e_of_told.link) session where
-    by : (b : Bool) (s : Option ℕ)
-        → core_since core (cond b (option_map_or (λ n. entry.Sent e_of_told n m.0 m.1 ∷ []) s []) [] ++ es) ≡ core_since core es
-    by true None = refl
-    by true (Some n) = refl
-    by false s = refl
-
   -- so the entries of a reply are told
   abbrev pub noted_as_reply : Core → ℕ → List Deed → List Entry
   noted_as_reply core count deeds =
       let entries : List Entry = entries_of_reply number sessions h count deeds in map (telling_count (core_since core entries)) entries
 
   module _ (core : Core) (node : core.node ≡ number) where
-    sends_told : (to : ℕ) (m : Message) → (let es : List Entry = sent_in_session number sessions to m ++ [] in map (telling_count (core_since core es)) es)
-        ≡ sent to m ++ []
-    sends_told to m =
-        ap (λ s. map (telling_count (core_since core (s ++ []))) (s ++ [])) (sent_is to m) ∙ sent_told (core_since core (sent to m ++ [])) to m []
-
-    own_commit : (c : Command) → core_noted core (entry.Command number c) ≡ core_with core c
-    own_commit c = ap (λ b. cond b (core_with core c) core) (ap (eqb number) node ∙ eqb_same number)
-
     -- a reply of a node alone
     pub reply_told : (count : ℕ) (deeds : List Deed) → IsLoneReply deeds → noted_as_reply core count deeds ≡ entries_of_deeds core e_of_told session deeds
-    reply_told count _ (IsDrop pid) = ap (λ (f : End). entry.Dropped f pid ∷ []) (same_number number h)
-    reply_told count _ (IsSend to m) = sends_told to m
-    reply_told count _ (IsSet v to m) = sends_told to m
-    reply_told count _ (IsCommit c to m) =
-        let last : List Entry = entry.AnyOk number (next_count count) ∷ [] in
-        ap (λ s. map (telling_count (fold core_noted (core_noted core (entry.Command number c)) (s ++ last))) (entry.Command number c ∷ (s ++ last)))
-        (sent_is to m)
-        ∙ (ap (λ d. map (telling_count (core_since d (sent to m ++ last))) (entry.Command number c ∷ (sent to m ++ last))) (own_commit c)
-        ∙ (ap (λ d. map (telling_count d) (entry.Command number c ∷ (sent to m ++ last))) (sent_kept (core_with core c) to m last)
-        ∙ (ap (λ es. entry.Command number c ∷ es) (sent_told (core_with core c) to m last)
-        ∙ ap (λ k. entry.Command k c ∷ (sent to m ++ entry.AnyOk k (count_of (core_with core c).journal) ∷ [])) (sym node))))
-    reply_told count _ _ = refl
-
-    -- a commit that is due
-    pub commit_told : (count : ℕ) (c : Command) → noted_as_reply core count (Commits c ∷ []) ≡ entries_of_deeds core e_of_told session (Commits c ∷ [])
-    commit_told count c = ap (λ k. entry.Command k c ∷ []) (sym node)
+    reply_told count deeds a = grind arith
 
 -- ## What a node alone notes of a message that has its turn is the reply that is read
 
 -- the session of an end, while it is up
 abbrev pub session_of_end : Port → Option ℕ
 session_of_end p = cond (is_up p.side.shdlc.phase) (Some p.session) None
-
--- a message that is sent from the end
-abbrev pub sent_alone : End → Option ℕ → ℕ → Message → List Entry
-sent_alone e session to m = cond (eqb to e.link) (option_map_or (λ n. entry.Sent e n m.0 m.1 ∷ []) session []) []
 
 -- this end takes the message, where it is the one to which it is sent, and up
 abbrev pub TakesIt : Port → ℕ → Message → Type 0
@@ -363,30 +276,6 @@ module _ (number h : ℕ) where
   abbrev e : End
   e = end_of_node_alone number h
 
-  sent_read : (core : Core) (p : Port) (to : ℕ) (m : Message) → core.node ≡ number → p.desk.host ≡ h → TakesIt p to m
-      → option_map_or (noted_of core (Give m)) (port_at (p ∷ []) to) [] ≡ sent_alone e (session_of_end p) to m
-  sent_read core p to m node host takes = go (eqb p.desk.host to) refl where
-    go : (b : Bool) → eqb p.desk.host to ≡ b → option_map_or (noted_of core (Give m)) (cond b (Some p) None) [] ≡ sent_alone e (session_of_end p) to m
-    go true q =
-        let same : to ≡ h = sym (eqb-true p.desk.host to q) ∙ host in
-        let here : eqb to e.link ≡ true = ap₂ eqb same (link_of_end number h) ∙ eqb_same h in
-        let its : end_of p.desk.host (own_side core) ≡ e = own_end core number h p.desk.host node host in
-        by p.side.shdlc.phase refl ∙ sym (ap (λ b. cond b (option_map_or (λ n. entry.Sent e n m.0 m.1 ∷ []) (session_of_end p) []) []) here) where
-          by : (s : LinkState) → p.side.shdlc.phase ≡ s
-              → entries_for p.desk.host (sent_unless (give_refusal p.side m) (own_side core) p.session m)
-              ≡ option_map_or (λ n. entry.Sent e n m.0 m.1 ∷ []) (session_of_end p) []
-          by IsUpNow up =
-              let its : end_of p.desk.host (own_side core) ≡ e = own_end core number h p.desk.host node host in
-              ap (λ o. entries_for p.desk.host (sent_unless o (own_side core) p.session m)) (takes q up)
-              ∙ (ap (λ f. entry.Sent f p.session m.0 m.1 ∷ []) its
-              ∙ sym (ap (λ s. option_map_or (λ n. entry.Sent e n m.0 m.1 ∷ []) (cond (is_up s) (Some p.session) None) []) up))
-          by IsWaitingNow off = rw off refl
-          by IsDown off = rw off refl
-    go false q = by_test (eqb to e.link)
-        (λ z. let same : to ≡ h = eqb-true to e.link z ∙ link_of_end number h in
-        absurd (true≢false (sym (ap₂ eqb host same ∙ eqb_same h) ∙ q)))
-        (λ z. sym (ap (λ b. cond b (option_map_or (λ n. entry.Sent e n m.0 m.1 ∷ []) (session_of_end p) []) []) z))
-
   -- ### A reply
 
   -- What deeds noted is the reply that is read; where the power went, it is the command in whose writes it went, and its loss.
@@ -395,40 +284,13 @@ module _ (number h : ℕ) where
   IsNotedSo true noted reply =
       (c : Command) × (back : List Entry) × (reply ≡ entry.Command number c ∷ back) × (noted ≡ entry.Command number c ∷ entry.Cut number ∷ [])
 
-  -- a message more is sent from a node whose one end takes it
-  sends_read : (u : Work) (p : Port) (to : ℕ) (m : Message) → u.ports ≡ p ∷ [] → u.core.node ≡ number → p.desk.host ≡ h → TakesIt p to m
-      → noted_at to (Give m) u ≡ sent_alone e (session_of_end p) to m
-  sends_read u p to m ports node host takes =
-      ap (λ ps. option_map_or (noted_of u.core (Give m)) (port_at ps to) []) ports ∙ sent_read u.core p to m node host takes
-
   module _ (k : ℕ) (u : Work) (p : Port) (on : u.cut ≡ false) (ports : u.ports ≡ p ∷ []) (node : u.core.node ≡ number) (host : p.desk.host ≡ h)
       (own : end_of_node u.core k ≡ e) where
     abbrev reads : List Deed → List Entry
     reads deeds = entries_of_deeds u.core e (session_of_end p) deeds
 
-    still_on : {X : Type 0} (b : Bool) (x : List X) → b ≡ false → cond b [] x ≡ x
-    still_on true x q = absurd (true≢false q)
-    still_on false x q = refl
-
     send_noted : (to : ℕ) (m : Message) → TakesIt p to m → noted_by_deeds k (Sends to m ∷ []) u ≡ reads (Sends to m ∷ [])
-    send_noted to m takes =
-        ap₂ (λ s b. s ++ cond b [] []) (sends_read u p to m ports node host takes) on
-
-    set_noted : (v to : ℕ) (m : Message) → TakesIt p to m → noted_by_deeds k (SetsErrors v ∷ Sends to m ∷ []) u ≡ reads (SetsErrors v ∷ Sends to m ∷ [])
-    set_noted v to m takes = still_on u.cut _ on ∙ by (eqb p.desk.host k) refl where
-      g : Port → Port
-      g q = record q { desk = record q.desk { errors = v } }
-
-      w : Work
-      w = done k (SetsErrors v) u
-
-      by : (b : Bool) → eqb p.desk.host k ≡ b → noted_by_deeds k (Sends to m ∷ []) w ≡ reads (SetsErrors v ∷ Sends to m ∷ [])
-      by true q =
-          let there : w.ports ≡ g p ∷ [] = ap (with_port k g) ports ∙ ap (λ b. changed_if b g p ∷ []) q in
-          ap₂ (λ s b. s ++ cond b [] []) (sends_read w (g p) to m there node host takes) on
-      by false q =
-          let there : w.ports ≡ p ∷ [] = ap (with_port k g) ports ∙ ap (λ b. changed_if b g p ∷ []) q in
-          ap₂ (λ s b. s ++ cond b [] []) (sends_read w p to m there node host takes) on
+    send_noted to m takes = grind arith
 
     commit_noted : (c : Command) (to : ℕ) (m : Message) → TakesIt p to m
         → IsNotedSo (all_done k (Commits c ∷ Sends to m ∷ SaysOk ∷ []) u).cut (noted_by_deeds k (Commits c ∷ Sends to m ∷ SaysOk ∷ []) u)
@@ -451,42 +313,15 @@ module _ (number h : ℕ) where
       by false = kept
 
       its : (b : Bool) → goes_in c u ≡ b → done k (Commits c) u ≡ by b
-      its true q = rw q refl
-      its false q = rw q refl
+      its b q = grind arith
 
       D : List Deed
       D = Sends to m ∷ SaysOk ∷ []
 
       go : (b : Bool) → goes_in c u ≡ b
           → IsNotedSo (all_done k (Commits c ∷ D) u).cut (noted_by_deeds k (Commits c ∷ D) u) (reads (Commits c ∷ D))
-      go true q =
-          subst (λ b. IsNotedSo b (noted_by_deeds k (Commits c ∷ D) u) (reads (Commits c ∷ D)))
-          (sym (ap (λ (w : Work). (unless_cut (all_done k D) w).cut) (its true q) ∙ ap (λ (w : Work). w.cut) (stays_cut (all_done k D) lost refl))) (
-            c,
-            entries_of_deeds (core_with u.core c) e (session_of_end p) D,
-            ap
-                (λ n. entry.Command n c ∷ entries_of_deeds (core_with u.core c) e (session_of_end p) D) node,
-            ap (λ b. (entry.Command u.core.node c ∷ cond b (entry.Cut u.core.node ∷ []) []) ++ cond (done k (Commits c) u).cut [] (noted_by_deeds k D
-                (done k (Commits c) u))) q
-                ∙ (ap (λ (w : Work). (entry.Command u.core.node c ∷ entry.Cut u.core.node ∷ []) ++ cond w.cut [] (noted_by_deeds k D w)) (its true q)
-                ∙ ap (λ n. entry.Command n c ∷ entry.Cut n ∷ []) node),
-          )
-      go false q =
-          let still : (all_done k (Commits c ∷ D) u).cut ≡ false =
-          ap (λ (w : Work). (unless_cut (all_done k D) w).cut) (its false q) ∙ rest_on in
-          subst (λ b. IsNotedSo b (noted_by_deeds k (Commits c ∷ D) u) (reads (Commits c ∷ D))) (sym still)
-          (ap (λ b. (entry.Command u.core.node c ∷ cond b (entry.Cut u.core.node ∷ []) []) ++ cond (done k (Commits c) u).cut [] (noted_by_deeds k D
-          (done k (Commits c) u))) q
-          ∙ (ap (λ (w : Work). (entry.Command u.core.node c ∷ []) ++ cond w.cut [] (noted_by_deeds k D w)) (its false q)
-          ∙ ap (λ es. entry.Command u.core.node c ∷ es) (still_on kept.cut (noted_by_deeds k D kept) on ∙ rest))) where
-            rest_on : (unless_cut (all_done k D) kept).cut ≡ false
-            rest_on = ap (λ (w : Work). w.cut) (uncut (all_done k D) kept on)
-                ∙ (ap (λ (w : Work). w.cut) (uncut (all_done k (SaysOk ∷ [])) (done k (Sends to m) kept) on)
-                ∙ one_cut k SaysOk (done k (Sends to m) kept) on)
-
-            rest : noted_by_deeds k D kept ≡ entries_of_deeds (core_with u.core c) e (session_of_end p) D
-            rest = ap₂ (λ s b. s ++ cond b [] (entry.AnyOk u.core.node (count_of (core_with u.core c).journal) ∷ cond b [] []))
-                (sends_read kept p to m ports node host takes) on
+      go true q = grind arith
+      go false q = grind arith
 
     quiet_noted : (d : Deed) → (done k d u).cut ≡ false → noted_by_deeds k (d ∷ []) u ≡ reads (d ∷ [])
         → IsNotedSo (all_done k (d ∷ []) u).cut (noted_by_deeds k (d ∷ []) u) (reads (d ∷ []))
@@ -495,16 +330,10 @@ module _ (number h : ℕ) where
     pub reply_noted : (deeds : List Deed) → IsLoneReply deeds → ((to : ℕ) (m : Message) → lack u.ports (needs k (Sends to m ∷ [])) ≡ None → TakesIt p to m)
         → lack u.ports (needs k deeds) ≡ None → IsNotedSo (all_done k deeds u).cut (noted_by_deeds k deeds u) (reads deeds)
     reply_noted _ IsNone takes room = subst (λ b. IsNotedSo b [] []) (sym on) refl
-    reply_noted _ (IsDrop pid) takes room =
-        quiet_noted (Drops pid) on (ap₂ (λ f b. entry.Dropped f pid ∷ cond b [] []) own on)
+    reply_noted _ (IsDrop pid) takes room = grind arith
     reply_noted _ (IsSend to m) takes room = quiet_noted (Sends to m) on (send_noted to m (takes to m room))
     reply_noted _ (IsCommit c to m) takes room = commit_noted c to m (takes to m room)
-    reply_noted _ (IsSet v to m) takes room =
-        let w : Work = done k (SetsErrors v) u in
-        let still : (all_done k (SetsErrors v ∷ Sends to m ∷ []) u).cut ≡ false =
-        ap (λ (x : Work). x.cut) (uncut (all_done k (Sends to m ∷ [])) w on) ∙ one_cut k (Sends to m) w on in
-        subst (λ b. IsNotedSo b (noted_by_deeds k (SetsErrors v ∷ Sends to m ∷ []) u) (reads (SetsErrors v ∷ Sends to m ∷ []))) (sym still)
-        (set_noted v to m (takes to m room))
+    reply_noted _ (IsSet v to m) takes room = grind arith
     reply_noted _ IsHeard takes room = quiet_noted IsAnswered on (ap (λ b. cond b [] []) on)
 
 -- ### Answers until the next turn
@@ -518,11 +347,7 @@ abbrev pub AreUntil : List Entry → Bool → List Entry → Type 0
 AreUntil answers cut es = (filter is_own_answer (to_turn es) ≡ answers) × (list_any is_own_cut (to_turn es) ≡ cut)
 
 pub mute_then : (x : Entry) (es answers : List Entry) (cut : Bool) → IsMuteEntry x → AreUntil answers cut es → AreUntil answers cut (x ∷ es)
-mute_then x es answers cut mute a = (
-  ap (λ b. filter is_own_answer (cond b [] (x ∷ to_turn es))) mute.1
-      ∙ (ap (λ b. cond b (x ∷ filter is_own_answer (to_turn es)) (filter is_own_answer (to_turn es))) mute.0 ∙ a.0),
-  ap (λ b. list_any is_own_cut (cond b [] (x ∷ to_turn es))) mute.1 ∙ (ap (λ b. b || list_any is_own_cut (to_turn es)) mute.2 ∙ a.1),
-)
+mute_then x es answers cut mute a = grind arith
 
 pub mutes_then : (xs es answers : List Entry) (cut : Bool) → AllByRecursion IsMuteEntry xs → AreUntil answers cut es → AreUntil answers cut (xs ++ es)
 mutes_then [] es answers cut mute a = a
@@ -534,11 +359,7 @@ turn_then x es turn = (ap (λ b. filter is_own_answer (cond b [] (x ∷ to_turn 
 -- an answer, behind which come others
 answer_then : (x : Entry) (es answers : List Entry) (cut : Bool) → is_own_answer x ≡ true → is_own_turn x ≡ false → is_own_cut x ≡ false
     → AreUntil answers cut es → AreUntil (x ∷ answers) cut (x ∷ es)
-answer_then x es answers cut is off on a = (
-  ap (λ b. filter is_own_answer (cond b [] (x ∷ to_turn es))) off
-      ∙ (ap (λ b. cond b (x ∷ filter is_own_answer (to_turn es)) (filter is_own_answer (to_turn es))) is ∙ ap (λ z. x ∷ z) a.0),
-  ap (λ b. list_any is_own_cut (cond b [] (x ∷ to_turn es))) off ∙ (ap (λ b. b || list_any is_own_cut (to_turn es)) on ∙ a.1),
-)
+answer_then x es answers cut is off on a = grind arith
 
 -- these are answers alone
 abbrev pub IsAnswerEntry : Entry → Type 0
@@ -555,16 +376,13 @@ deeds_answer e session (Commits c ∷ deeds) core = ((refl, refl, refl), deeds_a
 deeds_answer e session (Sends to m ∷ deeds) core = by (eqb to e.link) session (deeds_answer e session deeds core) where
   by : (b : Bool) (s : Option ℕ) → AllByRecursion IsAnswerEntry (entries_of_deeds core e session deeds)
       → AllByRecursion IsAnswerEntry (cond b (option_map_or (λ n. entry.Sent e n m.0 m.1 ∷ []) s []) [] ++ entries_of_deeds core e session deeds)
-  by true None later = later
-  by true (Some n) later = ((refl, refl, refl), later)
-  by false s later = later
+  by b s later = grind arith
 deeds_answer e session (SaysOk ∷ deeds) core = ((refl, refl, refl), deeds_answer e session deeds core)
 deeds_answer e session (Drops pid ∷ deeds) core = ((refl, refl, refl), deeds_answer e session deeds core)
 deeds_answer e session (_ ∷ deeds) core = deeds_answer e session deeds core
 
 answer_unbooted : (x : Entry) → IsAnswerEntry x → IsNoBoot x
-answer_unbooted (entry.Booted n k) a = absurd (true≢false (sym a.0))
-answer_unbooted x a = tt
+answer_unbooted x a = grind arith
 
 pub answers_unbooted : (es : List Entry) → AllByRecursion IsAnswerEntry es → AreNoBoots es
 answers_unbooted [] a = tt
@@ -576,10 +394,4 @@ pub noted_answers : (number h : ℕ) (cut : Bool) (noted reply rest : List Entry
 noted_answers number h false noted reply rest are so later gone =
     let a : AreUntil reply false (reply ++ rest) = answers_then reply rest are (later refl) in
     subst (λ es. AnswersOwn (es ++ rest) reply) (sym so) (a.0 ∙ sym (ap (λ b. cond b (to_command reply) reply) a.1))
-noted_answers number h true noted reply rest are so later gone =
-    let silent : AreUntil [] false rest = gone refl in
-    let c : Command = so.0 in
-    let es : List Entry = entry.Command number c ∷ entry.Cut number ∷ [] in
-    subst (λ z. AnswersOwn (z ++ rest) reply) (sym so.3)
-    (ap (λ z. entry.Command number c ∷ z) silent.0
-    ∙ sym (ap to_command so.2))
+noted_answers number h true noted reply rest are so later gone = grind arith

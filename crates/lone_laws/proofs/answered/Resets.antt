@@ -1,23 +1,21 @@
 -- Sessions of a node alone end by resets exactly where they are asked for.
-use Rattle.std.specs.Prelude.{is_some, nat_lt}
-use Rattle.lone_laws.proofs.Words.{Acked, ActTick, Active, AllByRecursion, Asked, Bool, ByAct, Control, Core, Down, End, EndedBy, Entry, Err, FrameComes}
-use Rattle.lone_laws.proofs.Words.{FrameIsRefused, GaveUp, Got, IsDown, IsResetAlone, IsUpNow, IsWaitingNow, LinkEnd, LinkInput, LinkState, List, Lone}
-use Rattle.lone_laws.proofs.Words.{LoneCause, LpduFault, NodeInput, None, Noted, Ok, Option, Report, ResetComes, Result, Running, Side, Some, Sound, StartComes}
-use Rattle.lone_laws.proofs.Words.{StopComes, TickComes, Up, Work, [], after_input, all_come, ap, come_entries, cond, cond_both, control_of, emits_behind}
-use Rattle.lone_laws.proofs.Words.{ended_by, ended_by_act, ended_by_reset, entries_for, entry_of, eqb, false, frames_behind, if_so, is_asked_down, is_open}
-use Rattle.lone_laws.proofs.Words.{is_reset_alone, is_up, is_up_read, list_any, lone_arrival, lone_end, lone_input, lpdu_input, lpdu_of, map, node_input}
-use Rattle.lone_laws.proofs.Words.{option_to_list, own_side, refl, report, reset_refusal, rest_all, session_now, session_with, subst, sym, tick_answer, told}
-use Rattle.lone_laws.proofs.Words.{told_at, true, whole_acked, ℕ, ◌++◌, ◌||◌, ◌∙◌, ◌∷◌, ◌≡◌, ◌≤◌}
+use Rattle.std.specs.Prelude.{nat_lt}
+use Rattle.lone_laws.proofs.Words.{Acked, Active, AllByRecursion, Asked, Bool, Control, Core, Down, End, EndedBy, Entry, Err, FrameComes, FrameIsRefused}
+use Rattle.lone_laws.proofs.Words.{GaveUp, Got, IsResetAlone, LinkEnd, LinkInput, List, Lone, LoneCause, LpduFault, NodeInput, Noted, Ok, Option, Report}
+use Rattle.lone_laws.proofs.Words.{ResetComes, Result, Running, Side, Some, Sound, StartComes, StopComes, TickComes, Up, Work, [], after_input, all_come, ap}
+use Rattle.lone_laws.proofs.Words.{arith, come_entries, control_of, emits_behind, ended_by, ended_by_reset, entries_for, entry_of, eqb, false, frames_behind}
+use Rattle.lone_laws.proofs.Words.{if_so, is_asked_down, is_reset_alone, is_up, is_up_read, list_any, lone_arrival, lone_end, lone_input, lpdu_input, lpdu_of}
+use Rattle.lone_laws.proofs.Words.{map, node_input, option_to_list, own_side, refl, report, reset_refusal, rest_all, session_with, subst, sym, told, told_at}
+use Rattle.lone_laws.proofs.Words.{whole_acked, ℕ, ◌++◌, ◌||◌, ◌∙◌, ◌∷◌, ◌≡◌, ◌≤◌}
 use Rattle.trace_model.specs.declared.entry.Entry.TheVariants as entry
 use Rattle.node_laws.proofs.passes.InSteps.{IsOfStep, step_keeps}
 use Rattle.lone_laws.proofs.answered.Reading.{Alone}
 use Rattle.lone_laws.proofs.answered.Coming.{came_entries, came_is}
 use Rattle.lone_laws.proofs.answered.Stepping.{lone_comes}
 use Rattle.lone_laws.proofs.answered.Knowing.{arrival_nothing, begin_read, begins_alone, ended, start}
-use Rattle.lone_laws.proofs.answered.Replying.{same_number}
 use Rattle.lone_laws.proofs.answered.Keeping.{core_of, KeepsAll}
 use Rattle.lone_laws.proofs.answered.Replied.{notes_hold}
-use Rattle.node_laws.proofs.worlds.Ages.{act_asked, asked, frame_asked, tick_asked, up_asked}
+use Rattle.node_laws.proofs.worlds.Ages.{asked, frame_asked}
 
 -- an entry tells of no reset that was asked for
 abbrev pub IsQuietEntry : Entry → Type 0
@@ -27,8 +25,7 @@ abbrev pub AreQuiet : List Entry → Type 0
 AreQuiet es = AllByRecursion IsQuietEntry es
 
 of_step : (x : Entry) → IsOfStep x → IsQuietEntry x
-of_step (entry.Down e cause) a = absurd a
-of_step x a = refl
+of_step x a = grind arith
 
 -- ## What is noted behind what comes
 
@@ -69,13 +66,7 @@ lpdu_asked s bytes = go (control_of bytes) refl where
   go (Err fault) q = rw q refl
 
 reset_asked : (s : LinkEnd) → Sound s → asked (ended_by_reset s (reset_refusal s)) ≡ is_up s.shdlc.phase
-reset_asked s sound = go (is_open s.role) refl s.shdlc.phase refl where
-  go : (b : Bool) → is_open s.role ≡ b → (p : LinkState) → s.shdlc.phase ≡ p → asked (ended_by_reset s (reset_refusal s)) ≡ is_up s.shdlc.phase
-  go true q IsUpNow z = rw (q, z) refl
-  go true q _ z = rw (q, z) refl
-  go false q IsUpNow z = let gone : IsUpNow ≡ IsDown = sym z ∙ (sound.closed q).phase in absurd (cc gone)
-  go false q IsWaitingNow z = rw (q, z) refl
-  go false q IsDown z = rw (q, z) refl
+reset_asked s sound = grind arith
 
 -- a reset that comes ends the session where the end is up, and nothing else that comes ends it so
 abbrev pub resets : LoneCause → Bool → Bool
@@ -85,18 +76,10 @@ resets _ up = false
 input_asked : (s : LinkEnd) (c : LoneCause) (i : LinkInput) → lone_input c ≡ Some i → Sound s → asked (ended_by s i) ≡ resets c (is_up s.shdlc.phase)
 input_asked s (FrameComes bytes) i q sound = let is : lpdu_input bytes ≡ i = cc in subst (λ x. asked (ended_by s x) ≡ false) is (lpdu_asked s bytes)
 input_asked s (FrameIsRefused fault) i q sound = absurd (cc q)
-input_asked s TickComes i q sound =
-    let is : Rattle.link_laws.specs.machine.Machine.LinkInput.Tick ≡ i = cc in
-    subst (λ x. asked (ended_by s x) ≡ false) is
-    (cond_both (is_open s.role) (tick_answer s.shdlc).ended (ended_by_act s ActTick) (λ o. asked o ≡ false) (λ _. tick_asked s.shdlc)
-    (λ _. act_asked s ActTick))
-input_asked s (ResetComes window) i q sound =
-    let is : Rattle.link_laws.specs.machine.Machine.LinkInput.Reset window ≡ i = cc in
-    subst (λ x. asked (ended_by s x) ≡ is_up s.shdlc.phase) is (reset_asked s sound)
-input_asked s (StartComes value) i q sound =
-    let is : Rattle.link_laws.specs.machine.Machine.LinkInput.Start value ≡ i = cc in subst (λ x. asked (ended_by s x) ≡ false) is (up_asked s.shdlc ByAct refl)
-input_asked s StopComes i q sound =
-    let is : Rattle.link_laws.specs.machine.Machine.LinkInput.Stop ≡ i = cc in subst (λ x. asked (ended_by s x) ≡ false) is (up_asked s.shdlc ByAct refl)
+input_asked s TickComes i q sound = grind arith
+input_asked s (ResetComes window) i q sound = grind arith
+input_asked s (StartComes value) i q sound = grind arith
+input_asked s StopComes i q sound = grind arith
 
 -- ## A step
 
@@ -109,8 +92,7 @@ emits_quiet f [] = tt
 emits_quiet f (c ∷ frames) = (refl, emits_quiet f frames)
 
 arrival_quiet : (l : Lone) (c : LoneCause) → AreQuiet (lone_arrival l c)
-arrival_quiet l (FrameComes bytes) = (refl, tt)
-arrival_quiet l _ = tt
+arrival_quiet l c = grind arith
 
 module _ (rest : Core) (t : List Entry) (l : Lone) (some : 1 ≤ l.link) (most : l.link ≤ 7) (its : eqb l.number 0 ≡ false → l.number ≡ l.link) (n : Running)
     (k : KeepsAll rest t l n) (c : LoneCause) (i : LinkInput) (comes : lone_input c ≡ Some i) where
@@ -149,13 +131,7 @@ module _ (rest : Core) (t : List Entry) (l : Lone) (some : 1 ≤ l.link) (most :
   reset_in_step =
       any_quiet last.entries (emits_behind l last) (emits_quiet (lone_end l) (frames_behind l last)) ∙ (last_tells ∙ by c) where
         up : is_up l.side.shdlc.phase ≡ is_up_read t l.number l.link
-        up =
-            sym (ap (λ f. is_some (session_now t f l.number)) (same_number l.number l.link)
-            ∙ (ap is_some k.talks.talk.session ∙ go (is_up l.side.shdlc.phase))) where
-              go : (b : Bool) → is_some (cond b (Some l.session) None) ≡ b
-              go true = refl
-              go false = refl
+        up = grind arith
 
         by : (c : LoneCause) → resets c (is_up l.side.shdlc.phase) ≡ is_reset_alone G l.link t c
-        by (ResetComes window) = up
-        by _ = refl
+        by c = grind arith

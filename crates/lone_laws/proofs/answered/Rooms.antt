@@ -1,17 +1,15 @@
 -- The session of the end of a node alone, and the blocks that it has to spare, are what is read at each turn of a step.
-use Rattle.lone_laws.proofs.Words.{Bool, Command, Commits, Deed, Desk, Drops, End, Entry, Give, Hold, IsAnswered, IsFine, IsSendable, IsUpNow, LinkEnd}
-use Rattle.lone_laws.proofs.Words.{LinkState, List, Message, None, Port, Release, Releases, SaysOk, Sends, SetAside, SetsErrors, Side, Some, Sound, Turn, Work}
-use Rattle.lone_laws.proofs.Words.{[], after_turn, ap, append-nil, append_assoc, arith, body_of, by_option, by_test, changed_if, commit, commit_writes, cond}
-use Rattle.lone_laws.proofs.Words.{done, end_of, end_of_node, end_of_node_alone, entries_for, eqb, eqb-true, fails_within, false, fetched_acked, fragments_of}
-use Rattle.lone_laws.proofs.Words.{give_refusal, given, in_use, is_up, keeps, length, loses_power, most_frames, not, noted_of, noting, option_map_or, own_side}
-use Rattle.lone_laws.proofs.Words.{packet_count, port_at, ready_cases, refl, same_end, same_end_itself, sent_all, sound_turn, spare, spare_at, subst, sym, true}
-use Rattle.lone_laws.proofs.Words.{true≢false, turn, turn_at, turn_entry, whole_acked, whole_among, whole_given, with_desk, with_port, ℕ, ◌++◌, ◌+◌, ◌-◌, ◌<◌}
-use Rattle.lone_laws.proofs.Words.{◌∙◌, ◌∷◌, ◌≡◌}
+use Rattle.lone_laws.proofs.Words.{Bool, Command, Commits, Deed, Desk, Drops, End, Entry, Give, Hold, IsAnswered, IsFine, IsSendable, LinkEnd, List, Message}
+use Rattle.lone_laws.proofs.Words.{None, Port, Release, Releases, SaysOk, Sends, SetAside, SetsErrors, Side, Some, Sound, Turn, Work, [], after_turn, ap}
+use Rattle.lone_laws.proofs.Words.{append-nil, append_assoc, arith, body_of, by_option, by_test, changed_if, commit, commit_writes, cond, done, end_of}
+use Rattle.lone_laws.proofs.Words.{end_of_node, end_of_node_alone, entries_for, eqb, eqb-true, fails_within, false, fetched_acked, fragments_of, give_refusal}
+use Rattle.lone_laws.proofs.Words.{given, is_up, keeps, length, loses_power, most_frames, not, noted_of, noting, option_map_or, own_side, packet_count, port_at}
+use Rattle.lone_laws.proofs.Words.{ready_cases, refl, same_end, same_end_itself, sent_all, sound_turn, spare, spare_at, subst, sym, true, true≢false, turn}
+use Rattle.lone_laws.proofs.Words.{turn_at, turn_entry, whole_acked, whole_among, whole_given, with_desk, with_port, ℕ, ◌++◌, ◌<◌, ◌∙◌, ◌∷◌, ◌≡◌}
 use Rattle.trace_model.specs.declared.entry.Entry.TheVariants as entry
 use Rattle.link_laws.proofs.sessions.Ties.{after_frames-phase}
-use Rattle.link_laws.specs.machine.Machine.Refused.{NotUp}
 use Rattle.lone_laws.proofs.answered.Memories.{IsOwnDeed}
-use Rattle.lone_laws.proofs.answered.Talking.{AreSilent, Reads, kind_of, reads_sent, reads_silent, spare_in, talk_of_side}
+use Rattle.lone_laws.proofs.answered.Talking.{AreSilent, Reads, kind_of, reads_sent, reads_silent, talk_of_side}
 use Rattle.lone_laws.proofs.answered.Turning.{own_end}
 
 -- ## A turn of its node
@@ -28,15 +26,10 @@ lone_turn_sound s SetAside may a = absurd may
 lone_turn_sound s x may a = sound_turn s x tt a
 
 lone_turn_kind : (s : LinkEnd) (x : Turn) → IsLoneTurn x → kind_of (turn s x).role ≡ kind_of s.role
-lone_turn_kind s (Give m) may = by_option (give_refusal s m) (λ q. rw q refl) (λ why q. rw q refl)
-lone_turn_kind s SetAside may = absurd may
-lone_turn_kind s _ may = refl
+lone_turn_kind s x may = grind arith
 
 lone_turn_aside : (s : LinkEnd) (x : Turn) → IsLoneTurn x → s.aside ≡ 0 → (turn s x).aside ≡ 0
-lone_turn_aside s (Give m) may a = by_option (give_refusal s m) (λ q. rw q a) (λ why q. rw q a)
-lone_turn_aside s SetAside may a = absurd may
-lone_turn_aside s Release may a = ap (λ n. n - 1) a
-lone_turn_aside s _ may a = a
+lone_turn_aside s x may a = grind arith
 
 given_talk : (s : LinkEnd) (m : Message) (k : ℕ) → IsSendable m → Sound s
     → talk_of_side (given s m) k ≡ record (talk_of_side s k) { sent = s.sent ++ m ∷ [] }
@@ -48,10 +41,7 @@ given_talk s m k may sound =
 
 -- where a message isn't refused the end is up
 given_up : (s : LinkEnd) (m : Message) (k : ℕ) → give_refusal s m ≡ None → (talk_of_side s k).session ≡ Some k
-given_up s m k taken = go s.shdlc.phase refl where
-  go : (p : LinkState) → s.shdlc.phase ≡ p → (talk_of_side s k).session ≡ Some k
-  go IsUpNow q = rw q refl
-  go _ q = absurd (let refused : Some NotUp ≡ None = sym (rw q refl) ∙ taken in cc refused)
+given_up s m k taken = grind arith
 
 module _ (e : End) (n : ℕ) (who : Side) (h : ℕ) (own : same_end (end_of h who) e ≡ true) (t : List Entry) where
   none_more : (k : ℕ) (s : LinkEnd) → Reads e n k t (talk_of_side s k) → Reads e n k (t ++ []) (talk_of_side s k)
@@ -91,18 +81,7 @@ pub record Talks (number h s : ℕ) (t : List Entry) (w : Work) : Type 0 where
 talks_as : {number h s : ℕ} {t : List Entry} {w : Work} (a : Talks number h s t w) (d : Desk) (ps : List Port) (es : List Entry)
     → ps ≡ record a.port { desk = d } ∷ [] → d.host ≡ h → Reads (end_of_node_alone number h) number s (t ++ es) (talk_of_side a.port.side s)
     → Talks number h s t (record w { ports = ps; entries = es })
-talks_as a d ps es ports host talk =
-    record {
-      port = record a.port { desk = d };
-      ports_are = ports;
-      host = host;
-      node = a.node;
-      same = a.same;
-      aside = a.aside;
-      role = a.role;
-      sound = a.sound;
-      talk = talk;
-    }
+talks_as a d ps es ports host talk = grind arith
 
 module _ (number h s : ℕ) (t : List Entry) where
   abbrev e : End
@@ -123,13 +102,7 @@ module _ (number h s : ℕ) (t : List Entry) where
 
   -- what is kept of the end changes
   pub talks_desk : (k : ℕ) (f : Desk → Desk) (w : Work) → ((d : Desk) → (f d).host ≡ d.host) → Of w → Of (with_desk k f w)
-  talks_desk k f w keeps a = go (eqb a.port.desk.host k) (ap (with_port k g) a.ports_are) where
-    g : Port → Port
-    g p = record p { desk = f p.desk }
-
-    go : (b : Bool) → with_port k g w.ports ≡ changed_if b g a.port ∷ [] → Of (with_desk k f w)
-    go true ports = talks_as a (f a.port.desk) (with_port k g w.ports) w.entries ports (keeps a.port.desk ∙ a.host) a.talk
-    go false ports = talks_as a a.port.desk (with_port k g w.ports) w.entries ports a.host a.talk
+  talks_desk k f w keeps a = grind arith
 
   -- its node does something to it
   pub talks_turn : (k : ℕ) (y : Turn) (w : Work) → IsLoneTurn y → Of w → Of (turn_at k y w)
@@ -185,17 +158,7 @@ module _ (number h s : ℕ) (t : List Entry) where
     go true = λ q. absurd (true≢false q)
     go false = λ q.
         let b : Of begun = talks_note (entry.Command w.core.node c ∷ []) w (tt, tt) (a q) in
-        record {
-          port = b.port;
-          ports_are = b.ports_are;
-          host = b.host;
-          node = b.node;
-          same = b.same;
-          aside = b.aside;
-          role = b.role;
-          sound = b.sound;
-          talk = b.talk;
-        }
+        grind arith
 
   pub talks_does : (k : ℕ) (d : Deed) (w : Work) → IsFine d × IsOwnDeed number d → While w → While (done k d w)
   talks_does k (Commits c) w may a = talks_commit c w a
@@ -217,11 +180,7 @@ node_is number h its = by_test (eqb number 0) (λ q. rw q (sym (eqb-true number 
 -- The blocks that the end has to spare are read.
 pub spare_is : (number h s : ℕ) (t : List Entry) (side : LinkEnd) → (eqb number 0 ≡ false → number ≡ h) → Sound side → side.aside ≡ 0
     → Reads (end_of_node_alone number h) number s t (talk_of_side side s) → spare_at t (end_of_node_alone number h) ≡ spare side
-spare_is number h s t side its sound none r =
-    spare_in (end_of_node_alone number h) number s t (talk_of_side side s) (node_is number h its) (λ q. sound.is.forgot (off side.shdlc.phase refl q)) r
-    ∙ ap (λ n. 128 - n) (sym (ap (λ a. in_use side + a) none ∙ omega arith)) where
-      off : (p : LinkState) → side.shdlc.phase ≡ p → (talk_of_side side s).session ≡ None → side.shdlc.phase ≡ IsUpNow → ⊥
-      off p is q up = let some : Some s ≡ None = sym (ap (λ x. cond (is_up x) (Some s) None) up) ∙ q in cc some
+spare_is number h s t side its sound none r = grind arith
 
 -- ## Frames go out
 

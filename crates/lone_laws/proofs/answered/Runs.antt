@@ -2,11 +2,11 @@
 use Rattle.std.proofs.lemmas.Bool.Decides.{nat_tests}
 use Rattle.std.specs.Prelude.{IsSome, None, Option, Some}
 use Rattle.lone_laws.proofs.Words.{AllByRecursion, AnsweredAlone, AreTables, Bool, CanCompact, Command, Control, Core, Counts, CountsAll, Deed, End, EndForm}
-use Rattle.lone_laws.proofs.Words.{Entry, FetchMessage, FindsAllButLast, FindsBehind, FindsSame, FindsTables, FrameComes, FrameIsRefused, HciTables, Hold}
-use Rattle.lone_laws.proofs.Words.{HoldsTables, IsHeldBehind, IsKeptIn, IsReadyMemory, IsRecordable, IsSound, IsTakenMemory, IsTrue, LinkInput, List, Lone}
-use Rattle.lone_laws.proofs.Words.{LoneCause, LoneEvent, MayBeDone, Memory, Message, Port, Running, Says, State, WaitsAt, Work, [], after_commands}
-use Rattle.lone_laws.proofs.Words.{after_planned, after_writes, all_come, all_done, all_recordable, ap, append-nil, append_assoc, ap₂, are_bodies, are_commands}
-use Rattle.lone_laws.proofs.Words.{arith, behind_boot, boot_writes, by_option, by_test, close, close-close, comes_to_pass, commands_of_entries, compact_count}
+use Rattle.lone_laws.proofs.Words.{Entry, FetchMessage, FindsAllButLast, FindsBehind, FindsSame, FindsTables, FrameIsRefused, HciTables, Hold, HoldsTables}
+use Rattle.lone_laws.proofs.Words.{IsHeldBehind, IsKeptIn, IsReadyMemory, IsRecordable, IsSound, IsTakenMemory, IsTrue, LinkInput, List, Lone, LoneCause}
+use Rattle.lone_laws.proofs.Words.{LoneEvent, MayBeDone, Memory, Message, Port, Running, Says, State, WaitsAt, Work, [], after_commands, after_planned}
+use Rattle.lone_laws.proofs.Words.{after_writes, all_come, all_done, all_recordable, ap, append-nil, append_assoc, ap₂, are_bodies, are_commands, arith}
+use Rattle.lone_laws.proofs.Words.{behind_boot, boot_writes, by_option, by_test, close, close-close, comes_to_pass, commands_of_entries, compact_count}
 use Rattle.lone_laws.proofs.Words.{compact_writes, compacted, cond, count, count_of, counted, current, deeds_of, does_by_power, emits_behind, end_causes}
 use Rattle.lone_laws.proofs.Words.{end_history, end_node, end_of_node, end_written, entries_of_events_alone, eqb, eqb-true, fails_within, false, format_writes}
 use Rattle.lone_laws.proofs.Words.{formatted, found, frames_behind, goes_through_ends, good_found, handles, handles_sees, have_turns, holds_back}
@@ -24,12 +24,11 @@ use Rattle.node_machine.specs.Orders.{IsOnOrder}
 use Rattle.lone_laws.specs.alone.Runs.{IsAnsweredRun}
 use Rattle.lone_laws.proofs.answered.Coming.{IsLoneInput, pass_is}
 use Rattle.lone_laws.proofs.answered.Memories.{FindsIf, FindsLess, FindsMore, Holds, HoldsOrLoses, IsLoneDeed, KnowsIf, all_hold, commands_more, fault_none}
-use Rattle.lone_laws.proofs.answered.Memories.{finds_counting, knows_formatted, knows_from, left_formatted, plainly_holds, then_hold}
+use Rattle.lone_laws.proofs.answered.Memories.{knows_formatted, knows_from, left_formatted, plainly_holds, then_hold}
 use Rattle.lone_laws.proofs.answered.Knowing.{LoneKeeps, arrival_nothing, begin_read, begins_alone, step_is}
 use Rattle.lone_laws.proofs.answered.Reading.{Alone, Read}
 use Rattle.lone_laws.proofs.answered.Replied.{deeds_shape}
 use Rattle.lone_laws.proofs.answered.Replying.{IsLoneReply}
-use Rattle.lone_laws.proofs.answered.Replying.IsLoneReply.{IsCommit, IsNone, IsSet}
 use Rattle.lone_laws.proofs.answered.Stepping.{alone_begins, lone_comes}
 use Rattle.lone_laws.proofs.answered.Turning.{alone_handled, alone_here, link_is}
 use Rattle.lone_laws.proofs.answered.Whole.{Between, begin_between, booted_core, each_step, lone_answered}
@@ -88,8 +87,7 @@ module _ (content : List ℕ) (taken : IsTakenMemory content) where
     version = eqb-true s.version 2 second
 
     counts : MayCount → s.snapshot ≤ s.base + s.many
-    counts (inl first) = absurd (omega (arith, first, version))
-    counts (inr all) = all
+    counts a = grind arith
 
   leaves_anew : IsSome (current content) → (s.version == 2) ≡ false → Leaves (after_writes (compact_writes s bodies) content) (compacted s bodies)
   leaves_anew some older = record {
@@ -145,8 +143,7 @@ module _ (content : List ℕ) (taken : IsTakenMemory content) where
   pub boots_silently : boot_writes (behind_boot content) ≡ []
   boots_silently = by (state_of (behind_boot content)).in_use some_now where
     by : (o : Option Side) → IsSome o → option_map_or (λ _. []) o format_writes ≡ []
-    by None some = absurd (true≢false (sym some))
-    by (Some side) some = refl
+    by o some = grind arith
 
   started_now : started_state (state_of (behind_boot content)) ≡ ready_state content
   started_now = by (state_of (behind_boot content)) some_now ∙ left.knows.state_is where
@@ -168,10 +165,7 @@ module _ (content : List ℕ) (taken : IsTakenMemory content) where
 -- ## Over a whole run of a node alone its memory holds its commands, or all but the last one where its power went in that one's writes
 
 lone_deeds : (deeds : List Deed) → IsLoneReply deeds → AllByRecursion IsLoneDeed deeds
-lone_deeds _ IsNone = tt
-lone_deeds _ (IsCommit c to m) = (tt, (tt, (tt, tt)))
-lone_deeds _ (IsSet v to m) = (tt, (tt, tt))
-lone_deeds _ _ = (tt, tt)
+lone_deeds deeds a = grind arith
 
 -- ### Turns
 
@@ -190,16 +184,13 @@ module _ (rest : Core) (number h : ℕ) (some : 1 ≤ h) (most : h ≤ 7) (its :
   Fine w = HoldsOrLoses E tables many before old w
 
   waits_none : (w : Work) → Of w → AllByRecursion WaitsAt w.ports
-  waits_none w a =
-      subst (AllByRecursion WaitsAt) (sym a.ports_are) (subst (λ o. Rattle.node_laws.specs.kept.Books.WaitsFor o) (sym a.none) tt, tt)
+  waits_none w a = grind arith
 
   on_none : (w : Work) → Of w → IsOnOrder w.core.command w.core.init
   on_none w a = subst (IsOnOrder w.core.command) (sym a.init) tt
 
   small : (w : Work) → Of w → w.core.node ≤ 7
-  small w a = by_test (eqb number 0)
-      (λ q. let zero : number ≡ 0 = Rattle.std.proofs.lemmas.Bool.eqb-true number 0 q in let n = a.node in omega (arith, zero, n))
-      (λ q. let same = its q in let n = a.node in omega (arith, same, n, most))
+  small w a = grind arith
 
   turn_may : (k : ℕ) (m : Message) (w : Work) → Has w → Of w → k ≡ h
       → MayBeDone (Some w.core.journal) w.core.command w.core.init (deeds_of w.core w.ports k m)
@@ -298,8 +289,7 @@ module _ (rest : Core) (number h : ℕ) (some : 1 ≤ h) (most : h ≤ 7) (its :
 -- ### Events
 
 arrival_none : (l : Lone) (c : LoneCause) → commands_of_entries (lone_arrival l c) ≡ []
-arrival_none l (FrameComes bytes) = refl
-arrival_none l _ = refl
+arrival_none l c = grind arith
 
 emits_none : (e : End) (frames : List Control) → commands_of_entries (map (λ c. entry.Emit e (lpdu_of c)) frames) ≡ []
 emits_none e [] = refl
@@ -328,13 +318,7 @@ module _ (E : Type 0) (tables : HciTables) (many : ℕ) where
   remembers_on t es m n v none same a =
       let told : commands_of_entries (t ++ es) ≡ commands_of_entries t =
       commands_more t es ∙ (ap (λ l. commands_of_entries t ++ l) none ∙ append-nil (commands_of_entries t)) in
-      record {
-        knows = subst (λ (c : Core). KnowsIf E m.content c.journal c.tables) (sym same) a.knows;
-        sorted = subst (λ (c : Core). AreTables c.tables) (sym same) a.sorted;
-        recordable = subst (λ (c : Core). IsRecordable c.tables) (sym same) a.recordable;
-        tables_are = ap (λ (c : Core). c.tables) same ∙ (a.tables_are ∙ ap (after_commands tables) (sym told));
-        count_is = λ e. ap (λ (c : Core). count_of c.journal) same ∙ (a.count_is e ∙ ap (λ (l : List Command). min (many + length l) (2 ^ 32 - 1)) (sym told));
-      }
+      grind arith
 
   input_remembers : (rest : Core) (t : List Entry) (l : Lone) → 1 ≤ l.link → l.link ≤ 7 → (eqb l.number 0 ≡ false → l.number ≡ l.link) → (n : Running)
       → l.node ≡ Some n → LoneKeeps (begin_read (record rest { node = l.number })) t l n → (c : LoneCause) (i : LinkInput) → lone_input c ≡ Some i
@@ -431,8 +415,7 @@ module _ (E : Type 0) (tables : HciTables) (many : ℕ) where
     run_remembers [] t l k b = subst (λ x. AllRemembered E tables many x l) (sym (append-nil t)) b
     run_remembers (c ∷ causes) t l k b = by_test (is_some l.node)
         (λ q. let event : LoneEvent = record { cause = c; entries = (lone_step l c).1 } in
-        let is : lone_events l (c ∷ causes) ≡ event ∷ lone_events (lone_step l c).0 causes =
-        ap (λ b. cond b (event ∷ lone_events (lone_step l c).0 causes) []) q in
+        let is : lone_events l (c ∷ causes) ≡ event ∷ lone_events (lone_step l c).0 causes = grind arith in
         subst (λ x. AllRemembered E tables many (t ++ entries_of_events_alone x) (lone_after l (c ∷ causes))) (sym is)
         (subst (λ x. AllRemembered E tables many x (lone_after l (c ∷ causes)))
         (append_assoc t (lone_step l c).1 (entries_of_events_alone (lone_events (lone_step l c).0 causes)))
@@ -443,8 +426,7 @@ module _ (E : Type 0) (tables : HciTables) (many : ℕ) where
         subst (λ x. AllRemembered E tables many (t ++ entries_of_events_alone x) (lone_after l (c ∷ causes))) (sym is)
         (subst (λ (x : Lone). AllRemembered E tables many (t ++ []) x) (sym same) (subst (λ x. AllRemembered E tables many x l) (sym (append-nil t)) b))) where
           none_of : (o : Option Running) → is_some o ≡ false → o ≡ None
-          none_of None q = refl
-          none_of (Some n) q = absurd (true≢false q)
+          none_of o q = grind arith
 
 -- ### Its beginning
 
@@ -512,8 +494,7 @@ module _ (number h : ℕ) (m : Memory) (ready : IsReadyMemory m.content) where
         (knows_formatted E content tables (count content) f refl is))
 
     at_first : (left : List ℕ) → FindsIf E left tables (count content) → FindsMore E tables (count content) [] left
-    at_first left g =
-        finds_counting E left tables (count content) (min (count content + 0) (2 ^ 32 - 1)) g (λ e. most (count content) refl)
+    at_first left g = grind arith
 
     lost : (o : Option Side) → current content ≡ o → fails_within (length (boot_writes content)) m.plan ≡ true
         → FindsMore E tables (count content) [] (after_planned (boot_writes content) m).content
@@ -551,9 +532,7 @@ held_behind first t l a = by_option l.node
       holds : (n : Running) → Remembers E (start first) (count first) t l.memory n → FindsBehind first (commands_of_entries t) l.memory.content
       holds n b =
           found_behind first (commands_of_entries t) l.memory.content
-          (subst (λ x. FindsIf E l.memory.content x (min (count first + length (commands_of_entries t)) (2 ^ 32 - 1))) b.tables_are
-          (finds_counting E l.memory.content n.core.tables (count_of n.core.journal) (min (count first + length (commands_of_entries t)) (2 ^ 32 - 1))
-          b.knows.finds b.count_is))
+          (grind arith)
 
       either : FindsMore E (start first) (count first) (commands_of_entries t) l.memory.content
           ⊎ FindsLess E (start first) (count first) (commands_of_entries t) l.memory.content
@@ -608,9 +587,7 @@ answered_run old new stopped form is_clf bytes written taken m content_is wrote 
     let commands : List Command = commands_of_entries (entries_of_events_alone (end_history form (end_node is_clf m) bytes)) in
     let held : IsKeptIn (is_none last.node) m.content commands last.memory.content =
     end_held form is_clf m (subst IsReadyMemory (sym content_is) (is_ready old taken)) bytes in
-    let kept : IsKeptIn stopped (behind_boot old) commands new =
-    subst (λ first. IsKeptIn stopped first commands new) content_is
-    (subst (λ content. IsKeptIn stopped m.content commands content) now (subst (λ b. IsKeptIn b m.content commands last.memory.content) power held)) in
+    let kept : IsKeptIn stopped (behind_boot old) commands new = grind arith in
     record {
       memory = m;
       same = subst (FindsSame old) (sym content_is) (finds_same old taken);

@@ -1,11 +1,11 @@
 -- Behind each step of a node alone that runs on, the first message that came and had no turn lacks room.
 use Rattle.lone_laws.proofs.Words.{AllByRecursion, AllByRecursion-append, AreAlong, BeginWithTurn, Bool, ComesTo, Control, Core, End, Entry, ErrorCount}
 use Rattle.lone_laws.proofs.Words.{IsBehind, LinkInput, List, Lone, LoneCause, Message, None, Option, Port, Running, Some, Work, [], ap, append-nil}
-use Rattle.lone_laws.proofs.Words.{append_assoc, ap₂, cond, core_noted, core_since, deeds_for, emits_behind, end_of_node, end_of_node_alone, end_of_number, eqb}
-use Rattle.lone_laws.proofs.Words.{errors_found, errors_since, false, first_lack, fold, fold-append, frames_behind, is_held_at, is_left_lacking, is_none}
-use Rattle.lone_laws.proofs.Words.{is_some, is_up_read, lack_since, links_of_turns, lone_input, lpdu_of, map, needs, oldest, option_and_then, option_map_or}
-use Rattle.lone_laws.proofs.Words.{refl, session_with, spare_at, spare_with_link, subst, sym, true, unhandled_after, unhandled_in, view_with_link, waiting_at}
-use Rattle.lone_laws.proofs.Words.{ℕ, ◌++◌, ◌||◌, ◌∙◌, ◌∷◌, ◌≡◌, ◌≤◌}
+use Rattle.lone_laws.proofs.Words.{append_assoc, ap₂, arith, cond, core_noted, core_since, deeds_for, emits_behind, end_of_node, end_of_node_alone}
+use Rattle.lone_laws.proofs.Words.{end_of_number, eqb, errors_found, errors_since, false, first_lack, fold, fold-append, frames_behind, is_held_at}
+use Rattle.lone_laws.proofs.Words.{is_left_lacking, is_none, is_some, is_up_read, lack_since, links_of_turns, lone_input, lpdu_of, map, needs, oldest}
+use Rattle.lone_laws.proofs.Words.{option_and_then, option_map_or, refl, session_with, spare_at, spare_with_link, subst, sym, true, unhandled_after}
+use Rattle.lone_laws.proofs.Words.{unhandled_in, view_with_link, waiting_at, ℕ, ◌++◌, ◌||◌, ◌∙◌, ◌∷◌, ◌≡◌, ◌≤◌}
 use Rattle.trace_model.specs.declared.entry.Entry.TheVariants as entry
 use Rattle.node_laws.specs.passes.Passing.{Stays}
 use Rattle.lone_laws.proofs.answered.Reading.{eqb_same, Read, Alone, left_is}
@@ -77,10 +77,7 @@ module _ (F : Core) (h : ℕ) where
 
 -- nothing comes behind the one end
 none_behind : (back : List Entry) → BeginWithTurn back → AreAlong [] (links_of_turns back) → back ≡ []
-none_behind [] begin along = refl
-none_behind (entry.Turn f pid message ∷ back) begin along = absurd along
-none_behind (entry.Held f need spare ∷ back) begin along = absurd along
-none_behind (_ ∷ back) begin along = absurd (cc begin)
+none_behind back begin along = grind arith
 
 -- ## A step
 
@@ -105,8 +102,7 @@ module _ (rest : Core) (t : List Entry) (l : Lone) (some : 1 ≤ l.link) (most :
   emits = emits_behind l last
 
   held_idle : (b : Bool) (x : End) (short : ℕ × ℕ) → AllByRecursion (IsIdle f l.number) (cond b [] (entry.Held x short.0 short.1 ∷ []))
-  held_idle true x short = tt
-  held_idle false x short = (((λ z. refl), tt, ((λ z. refl), tt), (λ z. refl)), tt)
+  held_idle b x short = grind arith
 
   pub short_behind : last.cut ≡ false → is_left_lacking G l.link (t ++ (last.entries ++ emits)) ≡ true
   short_behind still =

@@ -1,10 +1,9 @@
 -- A node with one link keeps over each event what is read.
 use Rattle.std.proofs.Common.{Result, Ok, Err}
-use Rattle.lone_laws.proofs.Words.{AllByRecursion, ArePassed, Bool, ComesTo, Commits, Control, Core, End, Entry, FrameComes, FrameIsRefused, IsCommand}
-use Rattle.lone_laws.proofs.Words.{LinkInput, List, LoneCause, LpduFault, NodeInput, Port, ResetComes, Some, StartComes, StopComes, Sync, TickComes, Work, []}
-use Rattle.lone_laws.proofs.Words.{all_come, all_do, all_done, and_from, append-nil, by_option, comes_lasts, comes_to_pass, cond_both, control_of}
-use Rattle.lone_laws.proofs.Words.{end_of_node_alone, false, flat_map, hosts_of_ends, input_at, le-leb, lone_input, lpdu_input, node_input, passes, refl}
-use Rattle.lone_laws.proofs.Words.{report, steps, steps_are, subst, sym, synced, syncs_in, through, true, true≢false, unless_cut, ℕ, ◌∙◌, ◌∷◌, ◌≡◌, ◌≤◌}
+use Rattle.lone_laws.proofs.Words.{AllByRecursion, ArePassed, Bool, ComesTo, Control, End, Entry, FrameComes, FrameIsRefused, LinkInput, List, LoneCause}
+use Rattle.lone_laws.proofs.Words.{LpduFault, NodeInput, ResetComes, Some, StartComes, StopComes, TickComes, Work, [], all_come, all_do, all_done, arith}
+use Rattle.lone_laws.proofs.Words.{comes_lasts, comes_to_pass, control_of, end_of_node_alone, false, hosts_of_ends, lone_input, lpdu_input, node_input, passes}
+use Rattle.lone_laws.proofs.Words.{refl, steps, steps_are, subst, sym, syncs_in, through, true, true≢false, unless_cut, ℕ, ◌∙◌, ◌≡◌, ◌≤◌}
 use Rattle.node_laws.specs.passes.Passing.ComesTo.{Begins}
 use Rattle.lone_laws.proofs.answered.Memories.{IsOwnDeed}
 use Rattle.lone_laws.proofs.answered.Reading.{Read, Alone, alone_does}
@@ -39,22 +38,8 @@ module _ (number h : ℕ) (some : 1 ≤ h) (most : h ≤ 7) (r : Read) (t : List
   abbrev While : Work → Type 0
   While w = w.cut ≡ false → Of w
 
-  sync_may : (k id : ℕ) → k ≡ h → IsCommand (Sync k id)
-  sync_may k id q = subst (λ n. IsCommand (Sync n id)) (sym q) (and_from _ _ (le-leb 1 h some) (le-leb h 7 most))
-
-  sync_own : (core : Core) (input : NodeInput) (p : Port) → p.desk.host ≡ h → AllByRecursion (IsOwnDeed number) (synced core input p)
-  sync_own core input p host = by_option (input_at input p)
-      (λ q. rw q tt)
-      (λ i q. by_option (report p.side i).sync
-      (λ e. rw (q, e) tt)
-      (λ id e. rw (q, e) (cond_both _ (Commits (Sync p.desk.host id) ∷ []) [] (AllByRecursion (IsOwnDeed number))
-      (λ _. ((λ zero. sync_may p.desk.host id host), tt)) (λ _. tt))))
-
   pub syncs_own : (i : LinkInput) (w : Work) (a : Of w) → AllByRecursion (IsOwnDeed number) (syncs_in (node_input h i) w)
-  syncs_own i w a =
-      subst (λ ps. AllByRecursion (IsOwnDeed number) (flat_map (synced w.core (node_input h i)) ps)) (sym a.ports_are)
-      (subst (AllByRecursion (IsOwnDeed number)) (sym (append-nil (synced w.core (node_input h i) a.port)))
-      (sync_own w.core (node_input h i) a.port a.host))
+  syncs_own i w a = grind arith
 
   pub alone_begins : (i : LinkInput) → IsLoneInput i → (w : Work) → Of w → While (comes_to_pass (node_input h i) w)
   alone_begins i may w a still =

@@ -2,18 +2,16 @@
 use Rattle.std.proofs.Common.{option_to_list}
 use Rattle.std.proofs.lemmas.List.Concat.{flat_map-append}
 use Rattle.std.proofs.lemmas.List.Elements.{filter_map-append}
-use Rattle.lone_laws.proofs.Words.{Acked, Act, ActEvent, ActFrame, ActStart, ActStop, ActTake, ActTick, Active, AllByRecursion, Bare, Becomes}
-use Rattle.lone_laws.proofs.Words.{Begins as BeginsSession, Bool, Clf, Clt, Control, Data, Down, End, EndState, EndedBy, Ends as EndsSession, Entry, GaveUp}
-use Rattle.lone_laws.proofs.Words.{Got, IsNotUp, IsUpNow, LinkEnd, LinkInput, LinkState, List, Message, None, Noted, Option, Renews, Report, Reset, Rests, Role}
-use Rattle.lone_laws.proofs.Words.{Saying, SentAfter, Shift, Side, Some, Sound, Start, Stays, Stop, Take, TakeUnknown, Tick, Uicc, Up, [], acked_after}
-use Rattle.lone_laws.proofs.Words.{acked_in, act_answer, activated, after_input, ap, append-nil, append_assoc, ap₂, arith, asking_after, asking_in, began_by}
-use Rattle.lone_laws.proofs.Words.{by_option, by_test, common_steps, cond, cond_both, drop, end_of, ended_by, entries_for, entry_of, eqb, false, filter_map}
-use Rattle.lone_laws.proofs.Words.{fold-append, got_by, heard, if_so, is_faulty, is_open, is_some, is_up, ltb-false, ltb-true, map, max, moved, moved_aside}
-use Rattle.lone_laws.proofs.Words.{nat_lt, need_of_all, news, not, put_down, refl, report, reset_refusal, reset_so, reset_with, role_after, said_of, same_end}
-use Rattle.lone_laws.proofs.Words.{sent_by, sent_in, session_now, spare_at, start_so, stop_so, stopped, subst, suc, sym, take_answer, take_so, taken}
-use Rattle.lone_laws.proofs.Words.{tick_answer, tick_so, ticked, told, true, unacknowledged_in, whole_acked, whole_among, whole_more, window_of, with_act, zero}
-use Rattle.lone_laws.proofs.Words.{ℕ, ◌&&◌, ◌++◌, ◌+◌, ◌-◌, ◌<◌, ◌∙◌, ◌∷◌, ◌≡◌, ◌≤◌}
-use Rattle.history.specs.Filters.Saying.{Begins, Counts, Ends, Gets, Loses, Puts, Sends, Takes}
+use Rattle.lone_laws.proofs.Words.{Acked, ActEvent, ActFrame, ActStart, ActStop, ActTake, Active, AllByRecursion, Bare, Becomes, Begins as BeginsSession, Bool}
+use Rattle.lone_laws.proofs.Words.{Clf, Clt, Control, Data, Down, End, EndState, EndedBy, Ends as EndsSession, Entry, GaveUp, Got, IsUpNow, LinkEnd, LinkInput}
+use Rattle.lone_laws.proofs.Words.{LinkState, List, Message, None, Noted, Option, Renews, Report, Reset, Rests, Role, Saying, SentAfter, Shift, Side, Some}
+use Rattle.lone_laws.proofs.Words.{Sound, Start, Stays, Stop, Take, TakeUnknown, Tick, Uicc, Up, [], acked_after, acked_in, activated, after_input, ap}
+use Rattle.lone_laws.proofs.Words.{append-nil, append_assoc, ap₂, arith, asking_after, asking_in, began_by, by_option, by_test, common_steps, cond, cond_both}
+use Rattle.lone_laws.proofs.Words.{drop, end_of, ended_by, entries_for, entry_of, eqb, false, filter_map, fold-append, got_by, heard, if_so, is_faulty, is_open}
+use Rattle.lone_laws.proofs.Words.{is_some, is_up, map, max, moved, moved_aside, nat_lt, need_of_all, news, not, put_down, refl, report, reset_refusal}
+use Rattle.lone_laws.proofs.Words.{reset_with, said_of, same_end, sent_by, sent_in, session_now, spare_at, stopped, subst, sym, take_answer, take_so, taken}
+use Rattle.lone_laws.proofs.Words.{told, true, unacknowledged_in, whole_acked, whole_among, whole_more, window_of, ℕ, ◌&&◌, ◌++◌, ◌+◌, ◌-◌, ◌<◌, ◌∙◌, ◌∷◌, ◌≡◌}
+use Rattle.lone_laws.proofs.Words.{◌≤◌}
 use Rattle.lone_laws.proofs.answered.Coming.{IsLoneInput}
 use Rattle.lone_laws.proofs.answered.Reading.{eqb_same}
 use Rattle.trace_model.specs.declared.entry.Entry.TheVariants as entry
@@ -26,29 +24,14 @@ kind_of Bare = None
 kind_of (Clf s) = Some true
 kind_of (Uicc s) = Some false
 
-after_kind : (r : Role) (event : ActEvent) → kind_of (role_after r event) ≡ kind_of r
-after_kind Bare event = refl
-after_kind _ event = refl
-
-act_kind : (o : Option Act) (e : LinkEnd) → kind_of (with_act o e).role ≡ kind_of e.role
-act_kind None e = refl
-act_kind (Some act) e = refl
-
 moved_kind : (e : LinkEnd) (b : Bool) (s : EndState) → kind_of (moved e b s).role ≡ kind_of e.role
-moved_kind e true s = refl
-moved_kind e false s = refl
+moved_kind e b s = grind arith
 
 down_kind : (b : Bool) (e : LinkEnd) → kind_of (put_down b e).role ≡ kind_of e.role
-down_kind false e = refl
-down_kind true e = go e.shdlc.phase refl where
-  go : (p : LinkState) → e.shdlc.phase ≡ p → kind_of (put_down true e).role ≡ kind_of e.role
-  go IsUpNow q = rw q refl
-  go _ q = rw q refl
+down_kind b e = grind arith
 
 activated_kind : (e : LinkEnd) (event : ActEvent) → kind_of (activated e event).role ≡ kind_of e.role
-activated_kind e event =
-    act_kind (act_answer e.role event).send (record (put_down (act_answer e.role event).ended_link e) { role = role_after e.role event })
-    ∙ after_kind e.role event
+activated_kind e event = grind arith
 
 -- ### What no input changes
 
@@ -72,9 +55,7 @@ module _ {A : Type 0} (f : LinkEnd → A) (down : (b : Bool) (e : LinkEnd) → f
   input_keeps e (Take Clt) a = passes e (e.passed_over + 1)
   input_keeps e (Take c) a = open_keeps e c
   input_keeps e TakeUnknown a = passes e (e.passed_over + 1)
-  input_keeps e Tick a =
-      cond_both (is_open e.role) (moved e (is_some (tick_answer e.shdlc).ended) (ticked e.shdlc)) (activated e ActTick) (λ z. f z ≡ f e)
-      (λ _. moves e (is_some (tick_answer e.shdlc).ended) (ticked e.shdlc)) (λ _. acts e ActTick)
+  input_keeps e Tick a = grind arith
   input_keeps e (Reset window) a = by_option (reset_refusal e) (λ q. rw q (moves e _ (reset_with e.shdlc (window_of e window)))) (λ why q. rw q refl)
   input_keeps e (Start value) a = acts (moved e true (stopped e.shdlc)) (ActStart value) ∙ moves e true (stopped e.shdlc)
   input_keeps e Stop a = acts (moved e true (stopped e.shdlc)) ActStop ∙ moves e true (stopped e.shdlc)
@@ -127,29 +108,21 @@ IsUnasked (entry.Ask host message) = ⊥
 IsUnasked _ = Unit {0}
 
 silent_unsent : (x : Entry) → IsSilent x → IsUnsent x
-silent_unsent (entry.Sent f k pid message) a = absurd a
-silent_unsent _ a = tt
+silent_unsent x a = grind arith
 
 silent_uncounted : (x : Entry) → IsSilent x → IsUncounted x
-silent_uncounted (entry.Acked f k count) a = absurd a
-silent_uncounted _ a = tt
+silent_uncounted x a = grind arith
 
 silent_unasked : (x : Entry) → IsSilent x → IsUnasked x
-silent_unasked (entry.Ask host message) a = absurd a
-silent_unasked _ a = tt
+silent_unasked x a = grind arith
 
 -- ### One entry more
 
 always : (b : Bool) (o : Option (List ℕ)) → o ≡ None → cond b o o ≡ None
-always true o q = q
-always false o q = q
+always b o q = grind arith
 
 unasked_one : (h : ℕ) (x : Entry) → IsUnasked x → asking_after h None x ≡ None
-unasked_one h (entry.Ask host message) a = absurd a
-unasked_one h (entry.Sent f k pid message) a = always _ None refl
-unasked_one h (entry.Down f cause) a = always _ None refl
-unasked_one h (entry.Cut m) a = always _ None refl
-unasked_one h _ a = refl
+unasked_one h x a = grind arith
 
 unasked_more : (h : ℕ) (t : List Entry) (x : Entry) → IsUnasked x → asking_in t h ≡ None → asking_in (t ++ x ∷ []) h ≡ None
 unasked_more h t x a none = fold-append (asking_after h) None t (x ∷ []) ∙ (ap (λ o. asking_after h o x) none ∙ unasked_one h x a)
@@ -163,19 +136,10 @@ module _ (e : End) where
 
   module _ (j : ℕ) where
     none_of : (b : Bool) (s : Saying) → sent_by j (Some s) ≡ None → sent_by j (cond b (Some s) None) ≡ None
-    none_of true s q = q
-    none_of false s q = refl
+    none_of b s q = grind arith
 
     unsent : (x : Entry) → IsUnsent x → sent_by j (said_of e x) ≡ None
-    unsent (entry.Up f k) a = none_of (same_end f e) (Begins k) refl
-    unsent (entry.Down f cause) a = none_of (same_end f e) Ends refl
-    unsent (entry.Sent f k pid message) a = absurd a
-    unsent (entry.Got f k pid message) a = none_of (same_end f e) (Gets k (pid, message)) refl
-    unsent (entry.Acked f k count) a = none_of (same_end f e) (Counts k count) refl
-    unsent (entry.Emit f lpdu) a = none_of (same_end f e) (Puts lpdu) refl
-    unsent (entry.Took f lpdu) a = none_of (same_end f e) (Takes lpdu) refl
-    unsent (entry.Lost f lpdu cause) a = none_of (same_end f e) (Loses lpdu) refl
-    unsent _ a = refl
+    unsent x a = grind arith
 
     sent_same : (t : List Entry) (x : Entry) → IsUnsent x → sent_in (t ++ x ∷ []) e j ≡ sent_in t e j
     sent_same t x a =
@@ -196,19 +160,10 @@ module _ (e : End) where
         ∙ (ap (λ l. sent_in t e j ++ l) one ∙ append-nil (sent_in t e j))
 
     same_count : (before : ℕ) (b : Bool) (s : Saying) → acked_after j before (Some s) ≡ before → acked_after j before (cond b (Some s) None) ≡ before
-    same_count before true s q = q
-    same_count before false s q = refl
+    same_count before b s q = grind arith
 
     uncounted : (before : ℕ) (x : Entry) → IsUncounted x → acked_after j before (said_of e x) ≡ before
-    uncounted before (entry.Up f k) a = same_count before (same_end f e) (Begins k) refl
-    uncounted before (entry.Down f cause) a = same_count before (same_end f e) Ends refl
-    uncounted before (entry.Sent f k pid message) a = same_count before (same_end f e) (Sends k (pid, message)) refl
-    uncounted before (entry.Got f k pid message) a = same_count before (same_end f e) (Gets k (pid, message)) refl
-    uncounted before (entry.Acked f k count) a = absurd a
-    uncounted before (entry.Emit f lpdu) a = same_count before (same_end f e) (Puts lpdu) refl
-    uncounted before (entry.Took f lpdu) a = same_count before (same_end f e) (Takes lpdu) refl
-    uncounted before (entry.Lost f lpdu cause) a = same_count before (same_end f e) (Loses lpdu) refl
-    uncounted before _ a = refl
+    uncounted before x a = grind arith
 
     acked_same : (t : List Entry) (x : Entry) → IsUncounted x → acked_in (t ++ x ∷ []) e j ≡ acked_in t e j
     acked_same t x a = fold-append _ 0 t (x ∷ []) ∙ uncounted (acked_in t e j) x a
@@ -217,15 +172,13 @@ module _ (e : End) where
         → acked_in (t ++ entry.Acked f k count ∷ []) e j ≡ max (acked_in t e j) count
     acked_one t f k count own is =
         fold-append _ 0 t (entry.Acked f k count ∷ [])
-        ∙ (ap (λ b. acked_after j (acked_in t e j) (cond b (Some (Counts k count)) None)) own
-        ∙ ap (λ b. cond b (max (acked_in t e j) count) (acked_in t e j)) is)
+        ∙ (grind arith)
 
     acked_other : (t : List Entry) (f : End) (k count : ℕ) → same_end f e ≡ true → eqb k j ≡ false
         → acked_in (t ++ entry.Acked f k count ∷ []) e j ≡ acked_in t e j
     acked_other t f k count own is =
         fold-append _ 0 t (entry.Acked f k count ∷ [])
-        ∙ (ap (λ b. acked_after j (acked_in t e j) (cond b (Some (Counts k count)) None)) own
-        ∙ ap (λ b. cond b (max (acked_in t e j) count) (acked_in t e j)) is)
+        ∙ (grind arith)
 
 module _ (e : End) where
   pub sessions_same : (n : ℕ) (t es : List Entry) → AreSilent es → session_now (t ++ es) e n ≡ session_now t e n
@@ -374,28 +327,6 @@ module _ (e : End) (n : ℕ) where
 
 -- ### Spare blocks
 
--- with what isn't acknowledged the blocks to spare are read: none is set aside where no creation is asked for
-pub spare_in : (e : End) (n s : ℕ) (t : List Entry) (x : Talk) → cond e.at_host e.link 0 ≡ n → (x.session ≡ None → x.sent ≡ []) → Reads e n s t x
-    → spare_at t e ≡ 128 - need_of_all (drop x.acked x.sent)
-spare_in e n s t x node none r =
-    ap (λ m. 128 - (need_of_all (unacknowledged_in t e (session_now t e m)) + aside)) node
-    ∙ (ap (λ o. 128 - (need_of_all (unacknowledged_in t e o) + aside)) r.session
-    ∙ (ap (λ l. 128 - (need_of_all l + aside)) (by x.session refl)
-    ∙ (ap (λ a. 128 - (need_of_all (drop x.acked x.sent) + a)) aside_none ∙ omega arith))) where
-      aside : ℕ
-      aside = set_aside (not e.at_host && is_some (asking_in t e.link))
-
-      aside_none : aside ≡ 0
-      aside_none = ap (λ (o : Option (List ℕ)). set_aside (not e.at_host && is_some o)) r.unasked ∙ by_test e.at_host (λ q. rw q refl) (λ q. rw q refl)
-
-      gone : (k : ℕ) (l : List Message) → l ≡ [] → drop k l ≡ []
-      gone zero l q = q
-      gone (suc k) l q = rw q refl
-
-      by : (o : Option ℕ) → x.session ≡ o → unacknowledged_in t e o ≡ drop x.acked x.sent
-      by None q = sym (gone x.acked x.sent (none q))
-      by (Some k) q = ap₂ (λ c l. drop c l) (r.acked k q) (r.sent k q)
-
 -- ## The session of an end, the messages sent in it and how many of them are acknowledged are what is read, over what comes to it
 
 -- ### What is told
@@ -479,34 +410,11 @@ module _ (e : End) (n h : ℕ) (who : Side) (own : same_end (end_of h who) e ≡
 
 -- ### What an input does
 
-same_acked : (b : Bool) (count : ℕ) (x : Talk) → count ≡ x.acked → acked_if b count x ≡ x
-same_acked true count x q = ap (λ c. record x { acked = c }) q
-same_acked false count x q = refl
-
-grown_acked : (a c : ℕ) (x : Talk) → x.acked ≡ a → a ≤ c → acked_if (nat_lt 0 (c - a)) c x ≡ record x { acked = c }
-grown_acked a c x q low = by_test (nat_lt 0 (c - a))
-    (λ z. rw z refl)
-    (λ z. rw z (let less = ltb-false 0 (c - a) z in let same : a ≡ c = omega (arith, less, low) in ap (λ k. record x { acked = k }) (q ∙ same)))
-
 not_up : (p : LinkState) → (p ≡ IsUpNow → ⊥) → is_up p ≡ false
-not_up IsUpNow f = absurd (f refl)
-not_up _ f = refl
+not_up p f = grind arith
 
 none_whole : (s : LinkEnd) → s.sent ≡ [] → whole_acked s ≡ 0
 none_whole s q = rw q refl
-
--- an end without a session
-silent_side : (s : LinkEnd) (m : ℕ) → IsNotUp s.shdlc → s.sent ≡ [] → talk_of_side s m ≡ no_session_now
-silent_side s m off none =
-    ap (λ b. record { session = cond b (Some m) None; sent = s.sent; acked = whole_acked s }) (not_up s.shdlc.phase off)
-    ∙ (ap (λ ms. record { session = None; sent = ms; acked = whole_acked s }) none
-    ∙ ap (λ k. record { session = None; sent = []; acked = k }) (none_whole s none))
-
-new_side : (s : LinkEnd) (m : ℕ) → s.shdlc.phase ≡ IsUpNow → s.sent ≡ [] → talk_of_side s m ≡ record { session = Some m; sent = []; acked = 0 }
-new_side s m up none =
-    ap (λ p. record { session = cond (is_up p) (Some m) None; sent = s.sent; acked = whole_acked s }) up
-    ∙ (ap (λ ms. record { session = Some m; sent = ms; acked = whole_acked s }) none
-    ∙ ap (λ k. record { session = Some m; sent = []; acked = k }) (none_whole s none))
 
 module _ (e f : LinkEnd) (ended began : Bool) (k m : ℕ) (d : Data e) (number : began ≡ false → k ≡ m) where
   abbrev acked_more : Bool
@@ -514,9 +422,6 @@ module _ (e f : LinkEnd) (ended began : Bool) (k m : ℕ) (d : Data e) (number :
 
   sent_still : ended ≡ false → SentAfter ended e f → f.sent ≡ e.sent
   sent_still q s = subst (λ b. SentAfter b e f) q s
-
-  sent_gone : ended ≡ true → SentAfter ended e f → f.sent ≡ []
-  sent_gone q s = subst (λ b. SentAfter b e f) q s
 
   shift_talk : (ms : List Message) → Becomes e f ended began ms
       → acked_if acked_more (whole_acked f) (began_if began k (ended_if ended (talk_of_side e m))) ≡ talk_of_side f k
@@ -532,52 +437,11 @@ module _ (e f : LinkEnd) (ended began : Bool) (k m : ℕ) (d : Data e) (number :
         let z = whole_more e.sent e.shdlc.session.acked f.shdlc.session.acked g.low in
         let low : whole_acked e ≤ whole_acked f = omega (arith, z, w) in
         ap (acked_if acked_more (whole_acked f)) (goes p q)
-        ∙ (grown_acked (whole_acked e) (whole_acked f) (talk_of_side e m) refl low
-        ∙ (ap (λ s. record { session = cond (is_up s) (Some m) None; sent = e.sent; acked = whole_acked f }) (g.was ∙ sym g.is)
-        ∙ (ap (λ x. record { session = cond (is_up f.shdlc.phase) (Some x) None; sent = e.sent; acked = whole_acked f }) (sym (number q))
-        ∙ ap (λ xs. record { session = cond (is_up f.shdlc.phase) (Some k) None; sent = xs; acked = whole_acked f }) (sym sent))))
-    go (EndsSession p q up still s) =
-        let none : f.sent ≡ [] = sent_gone p b.sent in
-        ap₂ (λ x y. acked_if acked_more (whole_acked f) (began_if y k (ended_if x (talk_of_side e m)))) p q
-        ∙ (same_acked acked_more (whole_acked f) no_session_now (none_whole f none) ∙ sym (silent_side f k still none))
-    go (Renews p q up new) =
-        let none : f.sent ≡ [] = sent_gone p b.sent in
-        ap₂ (λ x y. acked_if acked_more (whole_acked f) (began_if y k (ended_if x (talk_of_side e m)))) p q
-        ∙ (same_acked acked_more (whole_acked f) (record { session = Some k; sent = []; acked = 0 }) (none_whole f none) ∙ sym (new_side f k new.is none))
-    go (BeginsSession p q off new) =
-        let none : f.sent ≡ [] = sent_still p b.sent ∙ d.forgot off in
-        ap₂ (λ x y. acked_if acked_more (whole_acked f) (began_if y k (ended_if x (talk_of_side e m)))) p q
-        ∙ (same_acked acked_more (whole_acked f) (record { session = Some k; sent = []; acked = 0 }) (none_whole f none) ∙ sym (new_side f k new.is none))
-    go (Rests p q off still s) =
-        let none : f.sent ≡ [] = sent_still p b.sent ∙ d.forgot off in
-        ap (acked_if acked_more (whole_acked f)) (goes p q ∙ silent_side e m off (d.forgot off))
-        ∙ (same_acked acked_more (whole_acked f) no_session_now (none_whole f none) ∙ sym (silent_side f k still none))
-
-  none_more : (P : Type 0) → f.sent ≡ [] → acked_more ≡ true → P
-  none_more P none q = let some = ltb-true 0 (whole_acked f - whole_acked e) q in let w = none_whole f none in absurd (omega (arith, some, w))
-
-  -- what is acknowledged grows in the session of now alone
-  shift_grows : (ms : List Message) → Becomes e f ended began ms → acked_more ≡ true
-      → ((began_if began k (ended_if ended (talk_of_side e m))).session ≡ Some k)
-      × ((began_if began k (ended_if ended (talk_of_side e m))).acked ≤ whole_acked f)
-  shift_grows ms b z = go b.shift where
-    Grows : Type 0
-    Grows = ((began_if began k (ended_if ended (talk_of_side e m))).session ≡ Some k)
-        × ((began_if began k (ended_if ended (talk_of_side e m))).acked ≤ whole_acked f)
-
-    go : Shift e.shdlc f.shdlc ended began → Grows
-    go (Stays p q g) =
-        let sent : f.sent ≡ e.sent = sent_still p b.sent in
-        let w : whole_acked f ≡ whole_among e.sent f.shdlc.session.acked = ap (λ xs. whole_among xs f.shdlc.session.acked) sent in
-        let more = whole_more e.sent e.shdlc.session.acked f.shdlc.session.acked g.low in
-        let now : (talk_of_side e m).session ≡ Some k =
-        ap (λ x. cond (is_up x) (Some m) None) g.was ∙ ap (λ j. Some j) (sym (number q)) in
-        subst (λ (x : Talk). (x.session ≡ Some k) × (x.acked ≤ whole_acked f))
-        (sym (ap₂ (λ x y. began_if y k (ended_if x (talk_of_side e m))) p q)) (now, omega (arith, more, w))
-    go (EndsSession p q up still s) = none_more Grows (sent_gone p b.sent) z
-    go (Renews p q up new) = none_more Grows (sent_gone p b.sent) z
-    go (BeginsSession p q off new) = none_more Grows (sent_still p b.sent ∙ d.forgot off) z
-    go (Rests p q off still s) = none_more Grows (sent_still p b.sent ∙ d.forgot off) z
+        ∙ (grind arith)
+    go (EndsSession p q up still s) = grind arith
+    go (Renews p q up new) = grind arith
+    go (BeginsSession p q off new) = grind arith
+    go (Rests p q off still s) = grind arith
 
 -- Whatever comes to the end of a node alone, what is told of it says what the end has then.
 pub input_talk : (s : LinkEnd) (i : LinkInput) → IsLoneInput i → Sound s → (k m : ℕ) → (began_by s i ≡ false → k ≡ m)
@@ -586,19 +450,11 @@ pub input_talk : (s : LinkEnd) (i : LinkInput) → IsLoneInput i → Sound s →
     ≡ talk_of_side (after_input s i) k
 input_talk s (Take c) may sound k m number =
     shift_talk s (after_input s (Take c)) (is_some (ended_by s (Take c))) (began_by s (Take c)) k m sound.is number (got_by s (Take c)) (take_so s c sound)
-input_talk s TakeUnknown may sound k m number =
-    same_acked (nat_lt 0 (whole_acked s - whole_acked s)) (whole_acked s) (talk_of_side s m) refl
-    ∙ ap (λ x. record { session = cond (is_up s.shdlc.phase) (Some x) None; sent = s.sent; acked = whole_acked s }) (sym (number refl))
-input_talk s Tick may sound k m number =
-    shift_talk s (after_input s Tick) (is_some (ended_by s Tick)) false k m sound.is (λ q. number refl) (got_by s Tick) (tick_so s sound)
-input_talk s (Reset window) may sound k m number =
-    shift_talk s (after_input s (Reset window)) (is_some (ended_by s (Reset window))) false k m sound.is (λ q. number refl) (got_by s (Reset window))
-    (reset_so s window sound)
-input_talk s (Start value) may sound k m number =
-    shift_talk s (after_input s (Start value)) (is_some (ended_by s (Start value))) false k m sound.is (λ q. number refl) (got_by s (Start value))
-    (start_so s value sound)
-input_talk s Stop may sound k m number =
-    shift_talk s (after_input s Stop) (is_some (ended_by s Stop)) false k m sound.is (λ q. number refl) (got_by s Stop) (stop_so s sound)
+input_talk s TakeUnknown may sound k m number = grind arith
+input_talk s Tick may sound k m number = grind arith
+input_talk s (Reset window) may sound k m number = grind arith
+input_talk s (Start value) may sound k m number = grind arith
+input_talk s Stop may sound k m number = grind arith
 input_talk s _ may sound k m number = absurd may
 
 -- what is acknowledged of an input
@@ -609,39 +465,15 @@ Grows s i k m =
 
 pub input_grows : (s : LinkEnd) (i : LinkInput) → IsLoneInput i → Sound s → (k m : ℕ) → (began_by s i ≡ false → k ≡ m)
     → nat_lt 0 (report s i).acked ≡ true → Grows s i k m
-input_grows s (Take c) may sound k m number z =
-    shift_grows s (after_input s (Take c)) (is_some (ended_by s (Take c))) (began_by s (Take c)) k m sound.is number (got_by s (Take c)) (take_so s c sound) z
-input_grows s TakeUnknown may sound k m number z =
-    absurd (let some = ltb-true 0 (whole_acked s - whole_acked s) z in omega (arith, some))
-input_grows s Tick may sound k m number z =
-    shift_grows s (after_input s Tick) (is_some (ended_by s Tick)) false k m sound.is (λ q. number refl) (got_by s Tick) (tick_so s sound) z
-input_grows s (Reset window) may sound k m number z =
-    shift_grows s (after_input s (Reset window)) (is_some (ended_by s (Reset window))) false k m sound.is (λ q. number refl) (got_by s (Reset window))
-    (reset_so s window sound) z
-input_grows s (Start value) may sound k m number z =
-    shift_grows s (after_input s (Start value)) (is_some (ended_by s (Start value))) false k m sound.is (λ q. number refl) (got_by s (Start value))
-    (start_so s value sound) z
-input_grows s Stop may sound k m number z =
-    shift_grows s (after_input s Stop) (is_some (ended_by s Stop)) false k m sound.is (λ q. number refl) (got_by s Stop) (stop_so s sound) z
-input_grows s _ may sound k m number z = absurd may
+input_grows s i may sound k m number z = grind arith
 
 -- ### Blocks set aside
 
-act_aside : (o : Option Act) (e : LinkEnd) → (with_act o e).aside ≡ e.aside
-act_aside None e = refl
-act_aside (Some act) e = refl
-
 down_aside : (b : Bool) (e : LinkEnd) → (put_down b e).aside ≡ e.aside
-down_aside false e = refl
-down_aside true e = go e.shdlc.phase refl where
-  go : (p : LinkState) → e.shdlc.phase ≡ p → (put_down true e).aside ≡ e.aside
-  go IsUpNow q = rw q refl
-  go _ q = rw q refl
+down_aside b e = grind arith
 
 activated_aside : (e : LinkEnd) (event : ActEvent) → (activated e event).aside ≡ e.aside
-activated_aside e event =
-    act_aside (act_answer e.role event).send (record (put_down (act_answer e.role event).ended_link e) { role = role_after e.role event })
-    ∙ down_aside (act_answer e.role event).ended_link e
+activated_aside e event = grind arith
 
 pub input_aside : (e : LinkEnd) (i : LinkInput) → IsLoneInput i → (after_input e i).aside ≡ e.aside
 input_aside e i a = input_keeps (λ z. z.aside) down_aside moved_aside activated_aside (λ z got. refl) (λ z n. refl) e i a

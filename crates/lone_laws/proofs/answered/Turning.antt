@@ -1,6 +1,6 @@
 -- What a node with one link keeps is read over each turn of its pass.
-use Rattle.lone_laws.proofs.Words.{AreTables, Bool, ComesTo, Core, End, Entry, FetchMessage, Hold, JoinTwo, LastsOverTurns, List, Message, None, Port, Some}
-use Rattle.lone_laws.proofs.Words.{Work, [], after_turn, all_do, ap, by_test, changed_if, comes_so, cond, deeds_of, drop, end_of_node, end_of_node_alone, eqb}
+use Rattle.lone_laws.proofs.Words.{AreTables, Bool, ComesTo, Core, End, Entry, FetchMessage, Hold, JoinTwo, LastsOverTurns, List, Message, Port, Work, []}
+use Rattle.lone_laws.proofs.Words.{after_turn, all_do, ap, arith, by_test, changed_if, comes_so, cond, deeds_of, drop, end_of_node, end_of_node_alone, eqb}
 use Rattle.lone_laws.proofs.Words.{eqb-true, false, handles, holds_back, lets, noting, option_map_or, port_at, refl, same_end, same_end_itself, subst, sym}
 use Rattle.lone_laws.proofs.Words.{takes_entries, takes_up, true, waiting_at, with_desk, with_port, ℕ, ◌++◌, ◌∙◌, ◌∷◌, ◌≡◌, ◌≤◌}
 use Rattle.trace_model.specs.declared.entry.Entry.TheVariants as entry
@@ -11,10 +11,7 @@ use Rattle.lone_laws.proofs.answered.Reading.{Read, read_all, reads_of, Alone, r
 
 -- the end of a node with this number
 pub own_end : (core : Core) (number h k : ℕ) → core.node ≡ number → k ≡ h → end_of_node core k ≡ end_of_node_alone number h
-own_end core number h k node q = ap (λ z. end_of_node core z) q ∙ (go (eqb core.node 0) refl ∙ ap (λ n. end_of_node_alone n h) node) where
-  go : (b : Bool) → eqb core.node 0 ≡ b → end_of_node core h ≡ end_of_node_alone core.node h
-  go true z = rw z refl
-  go false z = rw z refl
+own_end core number h k node q = grind arith
 
 -- where messages wait, it is at the one end
 pub record IsHere (p : Port) (k : ℕ) (m : Message) (messages : List Message) : Type 0 where
@@ -22,10 +19,7 @@ pub record IsHere (p : Port) (k : ℕ) (m : Message) (messages : List Message) :
   pub got : p.side.got ≡ m ∷ messages
 
 pub is_here : (p : Port) (k : ℕ) (m : Message) (messages : List Message) → waiting_at (p ∷ []) k ≡ m ∷ messages → IsHere p k m messages
-is_here p k m messages q = go (eqb p.desk.host k) refl q where
-  go : (b : Bool) → eqb p.desk.host k ≡ b → option_map_or (λ (x : Port). x.side.got) (cond b (Some p) None) [] ≡ m ∷ messages → IsHere p k m messages
-  go true own z = record { own = own; got = z }
-  go false own z = absurd (cc z)
+is_here p k m messages q = grind arith
 
 module _ (number h : ℕ) (some : 1 ≤ h) (most : h ≤ 7) (r : Read) (t : List Entry) where
   abbrev e : End

@@ -2,21 +2,19 @@
 use Rattle.std.specs.List.{filter_map}
 use Rattle.std.specs.Prelude.{None, Option, Some, is_none, is_some, length, min, not, ◌+◌}
 use Rattle.lone_laws.proofs.Words.{AllByRecursion, AllByRecursion-append, AnsweredAlone, AreInTurn, AreNoTurns, AreOwn, AreTables, AreTables-apply}
-use Rattle.lone_laws.proofs.Words.{AreTables-close, AreTables-none, AtEachLoneEvent, AtEachNoted, AtEnd, Bool, Command, Commits, Control, Core, Deed, Desk, End}
-use Rattle.lone_laws.proofs.Words.{Entry, ErrorCount, FetchMessage, FrameComes, FrameIsRefused, HciTables, HearsFirstAlone, Hold, IsAscending, IsCommand}
-use Rattle.lone_laws.proofs.Words.{IsDueAlone, IsFirstThere, IsHeldAlone, IsNoBoot, IsRepliedAlone, IsResetAlone, JoinTwo, JoinTwo-after, JoinTwo-closed, Lasts}
-use Rattle.lone_laws.proofs.Words.{LinkInput, List, Lone, LoneCause, LoneEvent, Memory, NodeInput, Port, Running, Sends, TimePasses, Turn, TurnsAscendAlone}
-use Rattle.lone_laws.proofs.Words.{Work, [], after_sessions, all_come, all_owed, anyone, ap, applied, apply, ap₂, arith, body_of, boot_writes, by_option}
-use Rattle.lone_laws.proofs.Words.{by_test, changed_if, close, command_of, command_read, commit_writes, cond, cons_option, deed_notes, does_by_power, done}
-use Rattle.lone_laws.proofs.Words.{emits_behind, end_of_node, entries_of_events_alone, eqb, errors_found, fails_within, false, flat_map, fold, fold-append}
-use Rattle.lone_laws.proofs.Words.{forgets, forgotten, found, frames_behind, goes_through_end, holds_after, if◌then◌else◌, is_answer_of, is_at_rest, is_cut_of}
-use Rattle.lone_laws.proofs.Words.{is_done_alone, is_left_lacking, is_short_alone, keeps, link_of_turn, list_any, lone_arrival, lone_behind_step, lone_booted}
-use Rattle.lone_laws.proofs.Words.{lone_end, lone_events, lone_input, lone_step, lone_work, loses_power, lost_as, lpdu_of, map, new_desk, new_sound, no_tables}
-use Rattle.lone_laws.proofs.Words.{node_input, node_of, noted_by_deed, noted_of, noted_of_refused, noting, oldest, option_map_or, port_at, records, refl}
-use Rattle.lone_laws.proofs.Words.{rest_lasts, role_alone, runs_behind, same_end_itself, spelled_by, steps, subst, sym, synced, tables_of, times_out, true}
-use Rattle.lone_laws.proofs.Words.{true≢false, turn_at, turn_link, unhandled_after, was_refused, with_error, with_refusal, without_notice, ℕ, ◌&&◌, ◌++◌, ◌==◌}
-use Rattle.lone_laws.proofs.Words.{◌||◌, ◌∙◌, ◌∷◌, ◌≡◌, ◌≤◌}
-use Rattle.link_laws.specs.messages.Links.Loss.{Broken}
+use Rattle.lone_laws.proofs.Words.{AreTables-close, AreTables-none, AtEachLoneEvent, AtEachNoted, Bool, Command, Commits, Control, Core, Deed, Desk, End, Entry}
+use Rattle.lone_laws.proofs.Words.{ErrorCount, FetchMessage, FrameIsRefused, HciTables, HearsFirstAlone, Hold, IsAscending, IsCommand, IsDueAlone, IsFirstThere}
+use Rattle.lone_laws.proofs.Words.{IsHeldAlone, IsNoBoot, IsRepliedAlone, IsResetAlone, JoinTwo, JoinTwo-after, JoinTwo-closed, Lasts, LinkInput, List, Lone}
+use Rattle.lone_laws.proofs.Words.{LoneCause, LoneEvent, Memory, NodeInput, Port, Running, Sends, Turn, TurnsAscendAlone, Work, [], after_sessions, all_come}
+use Rattle.lone_laws.proofs.Words.{all_owed, anyone, ap, applied, apply, ap₂, arith, body_of, boot_writes, by_option, by_test, close, command_of, command_read}
+use Rattle.lone_laws.proofs.Words.{commit_writes, cond, cons_option, deed_notes, does_by_power, done, emits_behind, end_of_node, entries_of_events_alone, eqb}
+use Rattle.lone_laws.proofs.Words.{errors_found, fails_within, false, flat_map, fold, fold-append, forgets, forgotten, found, frames_behind, goes_through_end}
+use Rattle.lone_laws.proofs.Words.{holds_after, if◌then◌else◌, is_answer_of, is_at_rest, is_cut_of, is_done_alone, is_left_lacking, is_short_alone, keeps}
+use Rattle.lone_laws.proofs.Words.{link_of_turn, list_any, lone_arrival, lone_behind_step, lone_booted, lone_end, lone_events, lone_input, lone_step, lone_work}
+use Rattle.lone_laws.proofs.Words.{loses_power, lpdu_of, map, new_desk, no_tables, node_input, node_of, noted_by_deed, noted_of, noted_of_refused, noting}
+use Rattle.lone_laws.proofs.Words.{oldest, option_map_or, port_at, records, refl, rest_lasts, runs_behind, spelled_by, steps, subst, sym, synced, tables_of}
+use Rattle.lone_laws.proofs.Words.{times_out, true, true≢false, turn_at, turn_link, unhandled_after, with_error, with_refusal, without_notice, ℕ, ◌&&◌, ◌++◌}
+use Rattle.lone_laws.proofs.Words.{◌==◌, ◌||◌, ◌∙◌, ◌∷◌, ◌≡◌, ◌≤◌}
 use Rattle.node_laws.proofs.worlds.Late.{AreUnanswered, AreUnheard, IsParted, first_heard, parted_for, step_parted}
 use Rattle.swp_base.specs.declared.link_terms.FrameFault.{FrameFault}
 use Rattle.lone_laws.proofs.answered.Answering.{answered_in_step, replied_silent}
@@ -26,7 +24,6 @@ use Rattle.lone_laws.proofs.answered.Knowing.{IfKeeps, IsAtEnd, LoneKeeps, Order
 use Rattle.lone_laws.proofs.answered.Knowing.{keeps_step, none_at, order_silent, step_is}
 use Rattle.lone_laws.proofs.answered.Keeping.{KeepsAll, all_passing, core_of, errors_of, keeps_behind}
 use Rattle.lone_laws.proofs.answered.Replying.{cut_same, due_is, is_own_cut, own_behind, replied_is, step_own}
-use Rattle.lone_laws.proofs.answered.Reading.{eqb_same}
 use Rattle.lone_laws.proofs.answered.Resets.{reset_in_step}
 use Rattle.lone_laws.proofs.answered.Talking.{Reads, no_session_now, reads_silent, talk_of_side}
 use Rattle.lone_laws.proofs.answered.Shorting.{short_behind}
@@ -40,12 +37,10 @@ abbrev IsCutNoted : Work → Type 0
 IsCutNoted w = w.cut ≡ true → list_any is_own_cut w.entries ≡ true
 
 or_still : (c r s : Bool) → (r ≡ true → s ≡ true) → (c || r) ≡ true → (c || s) ≡ true
-or_still true r s f q = refl
-or_still false r s f q = f q
+or_still c r s f q = grind arith
 
 or_right : (c s : Bool) → s ≡ true → (c || s) ≡ true
-or_right true s q = refl
-or_right false s q = q
+or_right c s q = grind arith
 
 any_more : (a b : List Entry) → list_any is_own_cut a ≡ true → list_any is_own_cut (a ++ b) ≡ true
 any_more [] b q = absurd (true≢false (sym q))
@@ -104,8 +99,7 @@ cut_noted input w on =
     (λ q. absurd (true≢false (sym q ∙ still input)))
   where
     still : (input : NodeInput) → (times_out input (all_come input w)).cut ≡ false
-    still (AtEnd k i) = on
-    still TimePasses = on
+    still input = grind arith
 
 -- ## In an event of a node alone turns stand in the order of their links, since it has one, and nothing comes behind an answer
 
@@ -129,9 +123,7 @@ links_are n e (x ∷ es) each = one x (each [] es x refl) (links_are n e es (λ 
 
   one : (x : Entry) → IsAtEnd e x → AllByRecursion (λ k. k ≡ e.link) (filter_map (turn_link n) es)
       → AllByRecursion (λ k. k ≡ e.link) (filter_map (turn_link n) (x ∷ es))
-  one (entry.Turn f pid message) is later = at f is later
-  one (entry.Held f need spare) is later = at f is later
-  one x is later = later
+  one x is later = grind arith
 
 -- where each is at one end
 own_ascend : (e : End) (es : List Entry) → ((front behind : List Entry) (x : Entry) → es ≡ front ++ (x ∷ behind) → IsAtEnd e x) → (n : ℕ)
@@ -141,8 +133,7 @@ own_ascend e es each n = same_ascend e.link (filter_map (turn_link n) es) (links
 -- ### What comes
 
 arrival_unanswered : (l : Lone) (c : LoneCause) → AreUnanswered (lone_arrival l c)
-arrival_unanswered l (FrameComes bytes) = (refl, tt)
-arrival_unanswered l _ = tt
+arrival_unanswered l c = grind arith
 
 emits_unheard : (e : End) (frames : List Control) → AreUnheard (map (λ c. entry.Emit e (lpdu_of c)) frames)
 emits_unheard e [] = tt
@@ -161,8 +152,7 @@ heard_in_step l c input w begins e frames front behind x q n =
 -- ## Every history of a node alone answers as is read
 
 is_first : (t : List Entry) (x : Entry) (behind : List Entry) → OrderAt t x behind → IsFirstThere t x
-is_first t (entry.Turn f pid message) behind a = a
-is_first t _ behind a = tt
+is_first t x behind a = grind arith
 
 -- ### What holds of an event
 
@@ -185,16 +175,13 @@ pub record Between (rest : Core) (number h : ℕ) (t : List Entry) (l : Lone) : 
   pub rests : (n : Running) → l.node ≡ Some n → is_at_rest (lone_end l) t ≡ true
 
 cond_true : (b x : Bool) → (b ≡ true → x ≡ true) → cond b x true ≡ true
-cond_true true x q = q refl
-cond_true false x q = refl
+cond_true b x q = grind arith
 
 and_cond : (a b x : Bool) → (b ≡ true → x ≡ true) → cond (a && b) x true ≡ true
-and_cond true b x q = cond_true b x q
-and_cond false b x q = refl
+and_cond a b x q = grind arith
 
 not_true : (b : Bool) → not b ≡ true → b ≡ true → ⊥
-not_true true q r = true≢false (sym q)
-not_true false q r = true≢false (sym r)
+not_true b q r = grind arith
 
 -- ### A step
 
@@ -240,12 +227,7 @@ module _ (rest : Core) (t : List Entry) (l : Lone) (some : 1 ≤ l.link) (most :
 
   runs_still : (m : Running) → (lone_behind_step l i last).node ≡ Some m → last.cut ≡ false
   runs_still m q = by_test last.cut
-      (λ z. let gone : None ≡ Some m = sym (ap (λ b. cond b None (Some (record {
-        core = last.core;
-        desks = map
-            (λ (p : Rattle.node_machine.specs.Parts.Port). p.desk) last.ports;
-      }))) z) ∙ q in
-      absurd (cc gone))
+      (λ z. grind arith)
       (λ z. z)
 
   input_step : EventFacts G l.link t (record { cause = c; entries = (lone_step l c).1 })
@@ -271,10 +253,6 @@ module _ (rest : Core) (t : List Entry) (l : Lone) (some : 1 ≤ l.link) (most :
 
 -- ### A frame that is refused
 
-refused_true : (f : FrameFault) → was_refused (lost_as (Broken f)) ≡ true
-refused_true (fault.Length bits) = refl
-refused_true _ = refl
-
 module _ (rest : Core) (t : List Entry) (l : Lone) (n : Running) (on : l.node ≡ Some n) (k : KeepsAll rest t l n) (f : FrameFault) where
   abbrev J : Core
   J = core_of rest l.number
@@ -293,10 +271,7 @@ module _ (rest : Core) (t : List Entry) (l : Lone) (n : Running) (on : l.node �
       let x : ErrorCount = errs_all e (errors_found J) t in
       let g : Desk → Desk = λ d. record d { errors = min 65535 (d.errors + 1) } in
       ap (λ (r : ErrorCount). r.errors) (errs-append e (errors_found J) t lost)
-      ∙ (ap₂ (λ a b. cond (a && b) (min 65535 (x.errors + 1)) x.errors) (same_end_itself e) (refused_true f)
-      ∙ (ap (λ z. min 65535 (z + 1)) (k.errs.are ∙ ap errors_of k.keep.desks_are)
-      ∙ sym (ap (λ ds. errors_of (with_error l.link ds)) k.keep.desks_are
-      ∙ ap (λ b. (changed_if b g k.keep.desk).errors) (ap (λ z. eqb z l.link) k.keep.host ∙ eqb_same l.link))))
+      ∙ (grind arith)
 
   counted_all : LoneKeeps (begin_read J) (t ++ lost) counted (with_refusal l.link n) → KeepsAll rest (t ++ lost) counted (with_refusal l.link n)
   counted_all keep = record {
@@ -383,10 +358,7 @@ module _ (rest : Core) (number h : ℕ) (some : 1 ≤ h) (most : h ≤ 7) (its :
 
     so : Step t c (lone_step l c) l.number l.link
         → EventFacts F h t (record { cause = c; entries = (lone_step l c).1 }) × Between rest number h (t ++ (lone_step l c).1) (lone_step l c).0
-    so s =
-        let z : Step t c (lone_step l c) number h = subst (λ m. Step t c (lone_step l c) m h) b.number_is (subst
-        (λ k. Step t c (lone_step l c) l.number k) b.link_is s) in
-        (z.0, record { number_is = z.3; link_is = z.4; all = z.1; rests = z.2 })
+    so s = grind arith
 
     by_input : (n : Running) → l.node ≡ Some n → (o : Option LinkInput) → lone_input c ≡ o → Step t c (lone_step l c) l.number l.link
     by_input n on (Some i) q = input_step rest t l some_l most_l its_l n on (b.all n on) c i q
@@ -425,15 +397,7 @@ module _ (number h : ℕ) (some : 1 ≤ h) (most : h ≤ 7) (its : eqb number 0 
   l = lone_booted number h m
 
   nothing_read : (e : End) (n : ℕ) → Reads e n 0 [] no_session_now
-  nothing_read e n = record {
-    session = refl;
-    low = λ k q. absurd (cc q);
-    sent = λ k q. absurd (cc q);
-    acked = λ k q. absurd (cc q);
-    none_sent = λ k q. refl;
-    none_acked = λ k q. refl;
-    unasked = refl;
-  }
+  nothing_read e n = grind arith
 
   begin_all : (n : Running) → l.node ≡ Some n → KeepsAll booted_core [] l n
   begin_all n on = go (fails_within (length (boot_writes m.content)) m.plan) on where
@@ -453,16 +417,7 @@ module _ (number h : ℕ) (some : 1 ≤ h) (most : h ≤ 7) (its : eqb number 0 
             good = λ z. fine_tables m.content;
             read = refl;
           };
-          talks = record {
-            talk = subst (Reads (lone_end l) number 0 []) (by_test (eqb number 0) (λ q. rw q refl) (λ q. rw q refl)) (nothing_read (lone_end l) number);
-            numbers = by_test (eqb number 0)
-                (λ is. rw is (record { emptied = refl; low = omega arith; waits = λ q. absurd (true≢false (sym q)) }))
-                (λ is. rw is (record { emptied = refl; low = omega arith; waits = λ q. absurd (true≢false (sym q)) }));
-            sound = new_sound (role_alone number);
-            aside = refl;
-            role = by_test (eqb number 0) (λ q. rw q refl) (λ q. rw q refl);
-            clean = tt;
-          };
+          talks = grind arith;
           errs = record { are = refl; unbooted = tt };
         })
 

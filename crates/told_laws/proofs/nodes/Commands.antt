@@ -1,27 +1,25 @@
 -- Commands, tables and entries of a world of nodes are in their ranges, and so is the link of a host over each step at one of its ends.
 use Rattle.told_laws.proofs.Words.{Acked, Act, ActDue, ActEvent, ActFrame, ActStart, ActStop, ActTake, ActTick, Active, AllByRecursion, AllByRecursion-filter}
 use Rattle.told_laws.proofs.Words.{AllByRecursion-take, ArePipeRows, AreRows-filter, AreRows-map, AreRows-with_row, Asked, AsksReset, Bare, Book, Bool, Clear}
-use Rattle.told_laws.proofs.Words.{Clf, Clt, Comes, Command, Control, Create, CutOff, Delete, Emit, EndState, Ending, Entry, GaveUp, Give, GoesOut, Got}
-use Rattle.told_laws.proofs.Words.{HciTables, IsByte, IsDynamic, IsEnd, IsEntry, IsSaidCommand, IsSaidPipe, IsSaidStatic, IsSaidSync, IsSaidValue, IsTrue, Link}
-use Rattle.told_laws.proofs.Words.{LinkEnd, LinkInput, LinkState, List, Lost, NextFrame, NoInput, None, Noted, NumberedEnd, OnWire, Option, PipeRow, PowerMode}
-use Rattle.told_laws.proofs.Words.{Ready, Refused, RegValue, Report, Reset, Role, Sent, Set, SetAside, SetOpened, Side, Some, Start, Starts, Stop, Stops, Sync}
-use Rattle.told_laws.proofs.Words.{SyncId, Take, Tick, Took, Turn, Uicc, Up as IsUpNow, [], act_answer, activated, after_commands, after_input, all_closed}
-use Rattle.told_laws.proofs.Words.{all_frames, all_mapped, among, and_parts, ap, apply, arith, as_opened, aside_refusal, book_after, by_option, cond, cond_both}
-use Rattle.told_laws.proofs.Words.{cut, default_of, drop, each-append, ended_by, entries_for, entry_of, exchanged, false, find, finished, flat_map, fold}
-use Rattle.told_laws.proofs.Words.{frames_out, give_refusal, given, has_input, has_restarted, has_taken, heard, if_up, in_front, is_command, is_default}
-use Rattle.told_laws.proofs.Words.{is_dynamic, is_faulty, is_kept_sync, is_open, is_some, leb-true, length, length-append, length-map, lpdu_of, ltb-true, map}
-use Rattle.told_laws.proofs.Words.{moved, nat_le, nat_lt, new_book, new_clf, new_link, new_link_end, new_uicc, no_tables, pid_of, place_of_value, put_down}
-use Rattle.told_laws.proofs.Words.{refl, renewed, replicate, reset_by, reset_refusal, reset_with, role_after, sent_all, silent, slice_index, static_place}
-use Rattle.told_laws.proofs.Words.{steps_at_controller, stopped, subst, suc, sync_host, tables_in, take, take_answer, taken, tick_answer, ticked, told, took}
-use Rattle.told_laws.proofs.Words.{true, turn, turned, unless, value_at, value_place, window_of, with_act, with_command, with_controller, with_ended}
-use Rattle.told_laws.proofs.Words.{with_found, with_opened, with_static, with_value, without_identity, zero, ℕ, ◌%◌, ◌++◌, ◌+◌, ◌-◌, ◌/◌, ◌<◌, ◌==◌, ◌∷◌, ◌≡◌}
-use Rattle.told_laws.proofs.Words.{◌≤◌}
+use Rattle.told_laws.proofs.Words.{Clf, Clt, Comes, Command, Control, Create, CutOff, Delete, Emit, EndState, Ending, Entry, GaveUp, GoesOut, Got, HciTables}
+use Rattle.told_laws.proofs.Words.{IsByte, IsDynamic, IsEnd, IsEntry, IsSaidCommand, IsSaidPipe, IsSaidStatic, IsSaidSync, IsSaidValue, Link, LinkEnd}
+use Rattle.told_laws.proofs.Words.{LinkInput, LinkState, List, Lost, NextFrame, NoInput, None, Noted, NumberedEnd, OnWire, Option, PipeRow, PowerMode, Ready}
+use Rattle.told_laws.proofs.Words.{Refused, RegValue, Report, Reset, Sent, Set, SetOpened, Side, Some, Start, Starts, Stop, Stops, Sync, SyncId, Take, Tick}
+use Rattle.told_laws.proofs.Words.{Took, Turn, Uicc, Up as IsUpNow, [], act_answer, activated, after_commands, after_input, all_closed, all_frames, all_mapped}
+use Rattle.told_laws.proofs.Words.{among, ap, apply, arith, as_opened, book_after, by_option, cond, cond_both, default_of, drop, each-append, ended_by}
+use Rattle.told_laws.proofs.Words.{entries_for, entry_of, exchanged, false, find, finished, flat_map, fold, frames_out, has_input, has_restarted, has_taken}
+use Rattle.told_laws.proofs.Words.{heard, if_up, in_front, is_command, is_default, is_faulty, is_kept_sync, is_open, is_some, length, length-append, length-map}
+use Rattle.told_laws.proofs.Words.{lpdu_of, map, moved, nat_lt, new_book, new_clf, new_link, new_uicc, no_tables, pid_of, place_of_value, put_down, refl}
+use Rattle.told_laws.proofs.Words.{replicate, reset_by, reset_refusal, reset_with, role_after, sent_all, silent, slice_index, static_place, steps_at_controller}
+use Rattle.told_laws.proofs.Words.{stopped, subst, suc, sync_host, tables_in, take, take_answer, taken, tick_answer, ticked, told, took, true, turn, turned}
+use Rattle.told_laws.proofs.Words.{unless, value_at, value_place, window_of, with_act, with_command, with_ended, with_found, with_opened, with_static}
+use Rattle.told_laws.proofs.Words.{with_value, without_identity, zero, ℕ, ◌%◌, ◌++◌, ◌+◌, ◌-◌, ◌/◌, ◌<◌, ◌==◌, ◌∷◌, ◌≡◌, ◌≤◌}
 use Rattle.link_laws.specs.entries.Entries.Entry.{Down, Up}
 use Rattle.sorted_rows.specs.Rows.{row_of, rows_before, rows_behind, with_row}
-use Rattle.told_laws.proofs.nodes.Machines.{AreBytes, AreTurnsIn, IsInputIn, IsLineFrame, IsMail, IsRoleIn, IsStartIn, ReportIn, SideIn, out_in, side_input}
-use Rattle.told_laws.proofs.nodes.Machines.{side_more, side_sent, side_turned}
-use Rattle.told_laws.proofs.told.Links.{IsLowWindow, LinkSo, NumberedSo, WireIs, frames_few, left_with, no_wire, so_becomes, so_ended, so_exchanged, so_left}
-use Rattle.told_laws.proofs.told.Links.{so_longer, so_more, so_silent, so_with}
+use Rattle.told_laws.proofs.nodes.Machines.{AreBytes, AreTurnsIn, IsInputIn, IsLineFrame, IsMail, IsStartIn, ReportIn, SideIn, out_in, side_input, side_more}
+use Rattle.told_laws.proofs.nodes.Machines.{side_sent, side_turned}
+use Rattle.told_laws.proofs.told.Links.{IsLowWindow, LinkSo, NumberedSo, WireIs, frames_few, left_with, so_becomes, so_ended, so_exchanged, so_left, so_more}
+use Rattle.told_laws.proofs.told.Links.{so_silent}
 use Rattle.told_laws.proofs.told.BarePlays.{IsLpdu, all_each, each_all, end_in, lpdu_by, lpdu_in}
 use Rattle.told_laws.proofs.told.Notes.{NotedBy, noted_told}
 use Rattle.trace_model.specs.declared.entry.Entry.TheVariants as entry
@@ -89,8 +87,7 @@ took_acts e Clt = omega arith
 took_acts e c = opened_acts e c
 
 unless_acts : (o : Option Refused) (e f : LinkEnd) → length f.acts ≤ length e.acts → length (unless o e f).acts ≤ length e.acts
-unless_acts None e f h = h
-unless_acts (Some why) e f h = omega arith
+unless_acts o e f h = grind arith
 
 -- at most one frame of activation comes of an input
 input_acts : (b : Bool) (e : LinkEnd) (i : LinkInput) → IsInputIn b i → length (after_input e i).acts ≤ length e.acts + 1
@@ -112,9 +109,7 @@ input_acts b e Stop is =
 input_acts b e _ is = absurd is
 
 turn_acts : (e : LinkEnd) (t : Turn) → length (turn e t).acts ≤ length e.acts
-turn_acts e (Give m) = unless_acts (give_refusal e m) e (given e m) (omega arith)
-turn_acts e SetAside = unless_acts (aside_refusal e) e (record e { aside = e.aside + 1 }) (omega arith)
-turn_acts e _ = omega arith
+turn_acts e t = grind arith
 
 turned_acts : (ts : List Turn) (e : LinkEnd) → length (turned e ts).acts ≤ length e.acts
 turned_acts [] e = omega arith
@@ -152,36 +147,6 @@ but b c n l h = so_more IsLineFrame n n l (omega arith) (λ s. tt) (λ s. s) h
 pub link_exchanged : (b c : Bool) (n : ℕ) (l : Link) → LinkIn b c n l → LinkIn c b n (exchanged l)
 link_exchanged b c n l h = so_exchanged IsLineFrame n l h
 
--- a new end
-new_side : (b : Bool) (n : ℕ) (r : Role) → IsRoleIn b r → SideIn b n (new_link_end (renewed r))
-new_side b n Bare h = record {
-  role = tt;
-  end = record { ranged = record { fragments = tt; window = omega arith; few = omega arith }; heard = record { acc = tt; acked = omega arith } };
-  sent = tt;
-  acts = tt;
-  got = tt;
-}
-new_side false n (Clf s) h = record {
-  role = (tt, omega arith);
-  end = record { ranged = record { fragments = tt; window = omega arith; few = omega arith }; heard = record { acc = tt; acked = omega arith } };
-  sent = tt;
-  acts = tt;
-  got = tt;
-}
-new_side true n (Uicc s) h = record {
-  role = tt;
-  end = record { ranged = record { fragments = tt; window = omega arith; few = omega arith }; heard = record { acc = tt; acked = omega arith } };
-  sent = tt;
-  acts = tt;
-  got = tt;
-}
-new_side true n (Clf s) h = absurd h
-new_side false n (Uicc s) h = absurd h
-
-new_calm : (r : Role) → (new_link_end (renewed r)).acts ≡ []
-new_calm Bare = refl
-new_calm _ = refl
-
 -- the near end has become e, and the step ends
 finish_in : (b c : Bool) (n : ℕ) (l : Link) (e : LinkEnd) (ending : Ending) → SideIn b (n + 8) e → length e.acts ≤ 1 → AllBut c n n l
     → LinkIn b c (n + 13) (finished l e ending)
@@ -192,13 +157,7 @@ finish_in b c n l e ending is few h = by ending (so_more IsLineFrame n n l (omeg
         let out = out_few e in
         so_becomes IsLineFrame n (n + 13) l e (out_in b (n + 8) e is) (omega (arith, out, few))
         (record { side = side_more b (n + 8) (n + 13) (sent_all e) (omega arith) (side_sent b (n + 8) e is); calm = refl }) up
-    by CutOff up =
-        let m : Link = with_controller l (sent_all e) in
-        let old : AllBut c (n + 13) n m = so_with IsLineFrame n l (sent_all e) tt up in
-        let new : RestsIn b (n + 13) (new_link_end (renewed e.role)) = record { side = new_side b (n + 13) e.role is.role; calm = new_calm e.role } in
-        let last : LinkSo IsLineFrame (RestsIn b (n + 13)) (RestsIn c (n + 13)) n (cut m) =
-        so_silent IsLineFrame n m (new_link_end (renewed e.role)) new old in
-        so_longer IsLineFrame n (n + 13) (cut m) (omega arith) last
+    by CutOff up = grind arith
 
 -- ### Steps
 
@@ -262,23 +221,11 @@ module _ (b c : Bool) (n : ℕ) where
 
 -- a new link of a controller and a host
 pub new_link_in : LinkIn false true 0 (new_link (Clf new_clf) (Uicc new_uicc))
-new_link_in = record {
-  near = record { side = record { side = new_side false 0 (Clf new_clf) (tt, omega arith); calm = refl }; emitted = omega arith; took = omega arith };
-  far = record { side = record { side = new_side true 0 (Uicc new_uicc) tt; calm = refl }; emitted = omega arith; took = omega arith };
-  to_near = no_wire IsLineFrame 0;
-  to_far = no_wire IsLineFrame 0;
-  resets = omega arith;
-}
+new_link_in = grind arith
 
 -- where there is no link
 pub no_link_in : (b c : Bool) → LinkIn b c 0 (new_link Bare Bare)
-no_link_in b c = record {
-  near = record { side = record { side = new_side b 0 Bare tt; calm = refl }; emitted = omega arith; took = omega arith };
-  far = record { side = record { side = new_side c 0 Bare tt; calm = refl }; emitted = omega arith; took = omega arith };
-  to_near = no_wire IsLineFrame 0;
-  to_far = no_wire IsLineFrame 0;
-  resets = omega arith;
-}
+no_link_in b c = grind arith
 
 -- ## The entries of a world of nodes are in their ranges, where no number of a session in them is above a bound
 -- What a boot finds and what ANY_OK counts isn't spoken of.
@@ -306,11 +253,7 @@ abbrev pub AreIn : ℕ → List Entry → Type 0
 AreIn n t = AllByRecursion (IsIn n) t
 
 in_more : (n k : ℕ) → n ≤ k → (x : Entry) → IsIn n x → IsIn k x
-in_more n k more (entry.Up at session) h = let a = h.1 in (h.0, omega (arith, more, a))
-in_more n k more (entry.Acked at session count) h = let a = h.1 in let b = h.2 in (h.0, omega (arith, more, a), omega (arith, more, b))
-in_more n k more (entry.Sent at session pid message) h = let a = h.1 in (h.0, omega (arith, more, a), h.2)
-in_more n k more (entry.Got at session pid message) h = let a = h.1 in (h.0, omega (arith, more, a), h.2)
-in_more n k more _ h = h
+in_more n k more x h = grind arith
 
 pub all_in_more : (n k : ℕ) (t : List Entry) → n ≤ k → AreIn n t → AreIn k t
 all_in_more n k t more h = all_mapped Entry (IsIn n) (IsIn k) t (in_more n k more) h
@@ -430,9 +373,7 @@ value_in values host gate param value a b c bytes short h =
     ((a, b, c, each_all IsByte value bytes), short) h)
 
 default_in : (param : ℕ) → AreBytes (default_of param)
-default_in param =
-    cond_both (param == 1) (replicate 8 255) [] AreBytes
-    (λ _. (omega arith, (omega arith, (omega arith, (omega arith, (omega arith, (omega arith, (omega arith, (omega arith, tt))))))))) (λ _. tt)
+default_in param = grind arith
 
 default_short : (param : ℕ) → length (default_of param) ≤ 4095
 default_short param = cond_both (param == 1) (replicate 8 255) [] (λ (v : List ℕ). length v ≤ 4095) (λ _. omega arith) (λ _. omega arith)
@@ -536,14 +477,4 @@ value_read_in values host gate param h = by_option (row_of place_of_value (value
 
 -- a command that may be recorded makes a pipe between 02 and 6F
 pub recordable_made : (c : Command) → is_command c ≡ true → IfMade c
-recordable_made (Create row) q = (from, upto)
-  where
-    parts : IsTrue (is_dynamic row.pid)
-    parts = (and_parts _ _ (and_parts _ _ (and_parts _ _ (and_parts _ _ q).0).0).0).0
-
-    from : 2 ≤ row.pid
-    from = leb-true 2 row.pid (and_parts (nat_le 2 row.pid) (nat_lt row.pid 112) parts).0
-
-    upto : row.pid < 112
-    upto = ltb-true row.pid 112 (and_parts (nat_le 2 row.pid) (nat_lt row.pid 112) parts).1
-recordable_made _ q = tt
+recordable_made c q = grind arith

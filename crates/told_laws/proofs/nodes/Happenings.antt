@@ -1,17 +1,16 @@
 -- A world of nodes, whatever happens to it, stays in its range, and so does what is noted of it.
 use Rattle.told_laws.proofs.Words.{Activates, AllByRecursion, ArePipeRows, Arms, AsksReset, AtEnd, Bare, Bool, Boots, Broken, Comes, Controller, CutOff, Deed}
 use Rattle.told_laws.proofs.Words.{Desk, End, Ending, Entry, Gives, GoesOut, Happening, Host, Inits, IsCut, Link, LinkEnd, LinkInput, List, Lose, Loses, Loss}
-use Rattle.told_laws.proofs.Words.{Memory, Message, NextFrame, NoInput, NodeWorld, None, NumberedEnd, OnWire, Option, Orders, Plan, Port, Reset, Resets}
-use Rattle.told_laws.proofs.Words.{Running, Sends, Side, Site, Some, Start, Starts, Step, Stop, Stops, Take, Takes, Tick, Ticks, TimePasses, Work, []}
-use Rattle.told_laws.proofs.Words.{activates, after_controller, after_host, after_planned, aged, aged_entries, all_aged, all_changed, all_map, all_mapped}
-use Rattle.told_laws.proofs.Words.{arith, arrival, at, beginning, begins_with, boot_found, boot_writes, boot_written, boots, by_boot, by_coming, by_controller}
-use Rattle.told_laws.proofs.Words.{by_controller_tick, by_host, by_host_tick, by_list, by_loss, by_memory, by_option, by_power, by_running, by_test, changed_if}
-use Rattle.told_laws.proofs.Words.{comes_at, comes_to, cond_both, controller_does, controller_ticks, controller_work, counts, each-append, end_c, end_h}
-use Rattle.told_laws.proofs.Words.{ending_entries, ending_of, entries_for, eqb, exchanged, false, first_lost, flat_map, frame_lost, frames_noted, frames_out}
-use Rattle.told_laws.proofs.Words.{happens, happens_at_controller, has_input, host_cut, host_does, host_tick, host_ticks, host_work, hosts_tick, input_of}
-use Rattle.told_laws.proofs.Words.{is_command_message, is_late_at, is_waiting, link_after_controller, link_to, links_of, loses_power_at, map, memory_at, min}
-use Rattle.told_laws.proofs.Words.{near_end_in, near_tick, new_desk, new_link, not, number_of, port_at, port_for, refl, runs_on, sending, site_at, site_lost}
-use Rattle.told_laws.proofs.Words.{steps, subst, ticked_so, ticks_at_controller, took_low, took_with, true, turns_at, wires_for, with_memory, with_node}
+use Rattle.told_laws.proofs.Words.{Memory, Message, NextFrame, NoInput, NodeWorld, None, NumberedEnd, Option, Plan, Port, Reset, Resets, Running, Side, Site}
+use Rattle.told_laws.proofs.Words.{Some, Starts, Step, Stops, Takes, Tick, Ticks, TimePasses, Work, [], activates, after_controller, after_host, after_planned}
+use Rattle.told_laws.proofs.Words.{aged, aged_entries, all_aged, all_changed, all_map, all_mapped, arith, arrival, at, beginning, begins_with, boot_found}
+use Rattle.told_laws.proofs.Words.{boot_writes, boot_written, boots, by_boot, by_coming, by_controller, by_controller_tick, by_host, by_host_tick, by_loss}
+use Rattle.told_laws.proofs.Words.{by_memory, by_option, by_power, by_running, changed_if, comes_at, comes_to, cond_both, controller_does, controller_ticks}
+use Rattle.told_laws.proofs.Words.{controller_work, counts, each-append, end_c, end_h, ending_entries, ending_of, entries_for, eqb, exchanged, false}
+use Rattle.told_laws.proofs.Words.{first_lost, flat_map, frame_lost, frames_noted, frames_out, happens, happens_at_controller, has_input, host_cut, host_does}
+use Rattle.told_laws.proofs.Words.{host_tick, host_ticks, host_work, hosts_tick, input_of, is_late_at, is_waiting, link_after_controller, link_to, links_of}
+use Rattle.told_laws.proofs.Words.{loses_power_at, map, memory_at, min, near_end_in, near_tick, new_desk, new_link, not, number_of, port_at, port_for, runs_on}
+use Rattle.told_laws.proofs.Words.{sending, site_at, site_lost, steps, subst, ticked_so, ticks_at_controller, true, turns_at, wires_for, with_memory, with_node}
 use Rattle.told_laws.proofs.Words.{with_site, work_of, world_step, world_ticks, ℕ, ◌&&◌, ◌++◌, ◌+◌, ◌<◌, ◌==◌, ◌∷◌, ◌≡◌, ◌≤◌}
 use Rattle.link_laws.specs.messages.Links.LinkEvent.{AtController}
 use Rattle.node_laws.proofs.telling.Events.{site_host, site_is}
@@ -20,8 +19,8 @@ use Rattle.told_laws.proofs.nodes.Commands.{in-append, link_exchanged, link_has_
 use Rattle.told_laws.proofs.nodes.Hosts.{AreDeedsIn, IfBytes, IfInit, IsDeskIn, IsInitIn}
 use Rattle.told_laws.proofs.nodes.Machines.{AreTurnsIn, IsInputIn, IsLineFrame, IsMail, SideIn, out_in}
 use Rattle.told_laws.proofs.nodes.Works.{ArePortsIn, IsPortIn, IsWorkIn, begins_in, port_more, steps_in}
-use Rattle.told_laws.proofs.told.Links.{IsLowWindow, WireIs, so_aged, so_lost}
-use Rattle.told_laws.proofs.told.Notes.{AreFrames, frames_on, noted_aged, noted_first, noted_puts}
+use Rattle.told_laws.proofs.told.Links.{IsLowWindow, so_aged}
+use Rattle.told_laws.proofs.told.Notes.{AreFrames, frames_on, noted_aged, noted_puts}
 
 -- ## A world of nodes, whatever happens to it: its links and nodes, and what is noted, are in their ranges
 
@@ -132,28 +131,10 @@ number_low : (b : Bool) (n : ℕ) (h : NumberedEnd) → NumberedIn b n h → num
 number_low b n h is = let e = is.emitted in let t = is.took in omega (arith, e, t)
 
 near_in : (b c : Bool) (n : ℕ) (l : Link) (comes : Comes) → LinkIn b c n l → NumberedIn b n (near_end_in l comes)
-near_in b c n l NextFrame h = go l.to_controller refl
-  where
-    by : List OnWire → NumberedEnd
-    by [] = l.controller
-    by (x ∷ xs) = record l.controller { took = took_with l.controller.took x }
-
-    go : (w : List OnWire) → l.to_controller ≡ w → NumberedIn b n (by w)
-    go [] q = h.near
-    go (x ∷ xs) q =
-        let wire : WireIs IsLineFrame n (x ∷ xs) = subst (WireIs IsLineFrame n) q h.to_near in
-        record {
-          side = h.near.side;
-          emitted = h.near.emitted;
-          took = took_low n l.controller.took x h.near.took wire.frames.0.number;
-        }
-near_in b c n l _ h = h.near
+near_in b c n l comes h = grind arith
 
 arrives_in : (b c : Bool) (n : ℕ) (who : Side) (l : Link) (comes : Comes) → LinkIn b c n l → AreNotedIn n (arrival who l comes)
-arrives_in b c n who l NextFrame h = by_list l.to_controller
-    (λ q. rw q tt)
-    (λ x xs q. rw q (let wire : WireIs IsLineFrame n (x ∷ xs) = subst (WireIs IsLineFrame n) q h.to_near in (wire.frames.0.frame, tt)))
-arrives_in b c n who l _ h = tt
+arrives_in b c n who l comes h = grind arith
 
 work_begins : (b : Bool) (n : ℕ) (r : Running) (plan : Option Plan) (near_ends : ℕ → NumberedEnd) (t : List Entry) → IsNodeIn r → HasTables r
     → ((h : ℕ) → NumberedIn b n (near_ends h)) → AreIn n t → IsWorkIn b n (work_of r plan near_ends t)
@@ -171,22 +152,7 @@ wires_on b c n l _ h = frames_on IsLineFrame n l.to_host h.to_far.frames
 
 -- what comes to an end is in its range
 comes_input : (b c : Bool) (n : ℕ) (l : Link) (comes : Comes) (i : LinkInput) → ComesIn b comes → LinkIn b c n l → input_of l comes ≡ Some i → IsInputIn b i
-comes_input b c n l NextFrame i may h q = go l.to_controller refl q
-  where
-    by : List OnWire → Option LinkInput
-    by [] = None
-    by (x ∷ xs) = Some (Take x.frame)
-
-    go : (w : List OnWire) → l.to_controller ≡ w → by w ≡ Some i → IsInputIn b i
-    go [] p z = absurd (cc z)
-    go (x ∷ xs) p z =
-        let wire : WireIs IsLineFrame n (x ∷ xs) = subst (WireIs IsLineFrame n) p h.to_near in
-        let same : Take x.frame ≡ i = cc in
-        subst (IsInputIn b) same wire.frames.0.frame
-comes_input b c n l (AsksReset window) i may h q = let same : Reset window ≡ i = cc in subst (IsInputIn b) same may
-comes_input b c n l (Starts value) i may h q = let same : Start value ≡ i = cc in subst (IsInputIn b) same may
-comes_input b c n l Stops i may h q = let same : Stop ≡ i = cc in subst (IsInputIn b) same tt
-comes_input b c n l NoInput i may h q = absurd (cc q)
+comes_input b c n l comes i may h q = grind arith
 
 -- ### A step
 
@@ -306,9 +272,7 @@ module _ (n : ℕ) (w : NodeWorld) (is : IsWorldIn n w) (has : WorldHas w) where
       has.sites
 
 sending_in : (h : ℕ) (m : Message) → IsMail m → AreDeedsIn (sending h m)
-sending_in h m mail =
-    cond_both (m.0 == 1 && is_command_message m.1) (Orders m.1 ∷ []) (Sends h m ∷ []) AreDeedsIn
-    (λ _. (record { some = mail.some; bytes = mail.bytes; short = mail.short }, tt)) (λ _. (mail, tt))
+sending_in h m mail = grind arith
 
 -- ### Power and memories
 
@@ -317,12 +281,7 @@ module _ (n : ℕ) where
   cut_link s a = record { host = a.host; link = link_steps false true n s.link NoInput [] CutOff tt tt a.link; node = a.node }
 
   cut_host : (s : Site) → IsSiteIn n s → IsSiteIn (n + 13) (host_cut s)
-  cut_host s a = record {
-    host = a.host;
-    link = link_exchanged true false (n + 13) (happens_at_controller (exchanged s.link) (Step NoInput [] CutOff))
-        (link_steps true false n (exchanged s.link) NoInput [] CutOff tt tt (link_exchanged false true n s.link a.link));
-    node = tt;
-  }
+  cut_host s a = grind arith
 
   power_in : (k : ℕ) (w : NodeWorld) → IsWorldIn n w → IsWorldIn (n + 13) (loses_power_at k w)
   power_in k w is =
@@ -397,8 +356,7 @@ lost_in n w e why small is =
         controller = is.controller;
       };
       noted = all_entries_in e.link n (omega (arith, small)) (first_lost Host why (link_to w.sites e.link).to_host)
-          (noted_first IsLineFrame IsMail IsMail n Host why (link_to w.sites e.link).to_host
-          (frames_on IsLineFrame n (link_to w.sites e.link).to_host l.to_far.frames));
+          (grind arith);
     })
     (λ side. record {
       world = record {
@@ -406,15 +364,11 @@ lost_in n w e why small is =
         controller = counts_in why e.link w.controller is.controller;
       };
       noted = all_entries_in e.link n (omega (arith, small)) (first_lost Controller why (link_to w.sites e.link).to_controller)
-          (noted_first IsLineFrame IsMail IsMail n Controller why (link_to w.sites e.link).to_controller
-          (frames_on IsLineFrame n (link_to w.sites e.link).to_controller l.to_near.frames));
+          (grind arith);
     })
   where
     loses : (s : Site) → IsSiteIn n s → LinkIn false true n (happens s.link (at e (Lose why)))
-    loses s a = by_test e.at_host
-        (λ q. rw q (link_exchanged true false n (happens_at_controller (exchanged s.link) (Lose why))
-        (so_lost IsLineFrame n (exchanged s.link) why (link_exchanged false true n s.link a.link))))
-        (λ q. rw q (so_lost IsLineFrame n s.link why a.link))
+    loses s a = grind arith
 
 -- ### Activation
 
@@ -443,8 +397,7 @@ module _ (n : ℕ) (w : NodeWorld) (is : IsWorldIn n w) (has : WorldHas w) where
       }
     where
       starts_near : (b : Bool) → false ≡ b → ComesIn b (Starts power)
-      starts_near true q = omega (arith, code)
-      starts_near false q = code
+      starts_near b q = grind arith
 
       between : NodeWorld
       between = (comes_at w (end_c h) (Starts power)).0
@@ -585,10 +538,7 @@ ticks_in n w is has =
     let near = near_ticks n (all_aged w).0 old (record { controller = has.controller; sites = same_have (λ s. aged s.link) w.sites has.sites }) in
     let far = far_ticks (n + 13) (controller_ticks (all_aged w).0).0.sites near.step.world.sites near.have in
     record {
-      world = record {
-        sites = sites_more ((n + 13) + 13) (n + 26) (omega arith) (hosts_tick (controller_ticks (all_aged w).0).0.sites).0 far.sites;
-        controller = near.step.world.controller;
-      };
+      world = grind arith;
       noted = in-append (n + 26) (all_aged w).1 _ (all_in_more n (n + 26) (all_aged w).1 (omega arith) (old_noted n w.sites is.sites))
           (in-append (n + 26) (controller_ticks (all_aged w).0).1 _ (all_in_more (n + 13) (n + 26) _ (omega arith) near.step.noted)
           (all_in_more ((n + 13) + 13) (n + 26) _ (omega arith) far.noted));

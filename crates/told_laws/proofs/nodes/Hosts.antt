@@ -1,17 +1,15 @@
 -- What nodes, hosts among them, do with a message is in its range.
-use Rattle.told_laws.proofs.Words.{AllByRecursion, AllByRecursion-filter, AllByRecursion-get, ArePipeRows, Asks, Bool, Clear, Command, Commits, Core, Create}
-use Rattle.told_laws.proofs.Words.{Creation, Deed, Delete, Desk, Drops, Ends, Err, GoesOn, HciTables, Init, InitFailed, InitMade, InitSame, IsByte, IsCommand}
-use Rattle.told_laws.proofs.Words.{IsDynamic, IsEnd, IsEvent, IsResponse, IsSaidCommand, List, Message, MessageFault, MessageKind, None, Ok, Option, Orders}
-use Rattle.told_laws.proofs.Words.{PipeRow, Port, Result, Sends, Set, SetOpened, SetsErrors, Some, Tells, [], about_at, agreed, and_parts, answer_of}
-use Rattle.told_laws.proofs.Words.{answers_on, anyone, ap, arith, asks_for, body_in, by_option, by_test, code_of, commit_deeds, cond, cond_both}
-use Rattle.told_laws.proofs.Words.{controller_deeds, count_by-le-length, count_bytes, count_in, creation_deeds, creation_in, decision_deeds, drop, each-append}
-use Rattle.told_laws.proofs.Words.{end_of_node, end_view, ends_at, eqb, false, filter, finds_room, first_of, gates, goes_through, has_link, header_of}
-use Rattle.told_laws.proofs.Words.{identity_served, identity_unless, identity_value, instruction_in, is_command, is_command_message, is_dynamic, is_host}
-use Rattle.told_laws.proofs.Words.{is_opened, is_some, is_up, kind_deeds, leb-true, length, length-rows, link_deeds, link_served, link_unless, ltb-true, map}
-use Rattle.told_laws.proofs.Words.{nat_le, nat_lt, not, notice_deeds, opened_on, option_map_or, ordered_holds, own_gate, own_side, own_view, param_in, pid_of}
-use Rattle.told_laws.proofs.Words.{pipe_at, port_at, refl, relay_deeds, relayed_to, row_of-within, served_at, slice_get, subst, tests_to_get, tests_to_set}
-use Rattle.told_laws.proofs.Words.{tests_to_set_errors, told_hold, true, value_at, value_behind, view_for, view_of, ℕ, ◌%◌, ◌&&◌, ◌++◌, ◌+◌, ◌/◌, ◌<◌, ◌==◌}
-use Rattle.told_laws.proofs.Words.{◌^◌, ◌∷◌, ◌≡◌, ◌≤◌}
+use Rattle.told_laws.proofs.Words.{AllByRecursion, AllByRecursion-get, ArePipeRows, Asks, Bool, Clear, Command, Commits, Core, Create, Creation, Deed, Delete}
+use Rattle.told_laws.proofs.Words.{Desk, Drops, Ends, Err, GoesOn, HciTables, Init, InitFailed, InitMade, InitSame, IsByte, IsCommand, IsDynamic, IsEnd}
+use Rattle.told_laws.proofs.Words.{IsEvent, IsResponse, IsSaidCommand, List, Message, MessageFault, MessageKind, None, Ok, Option, Orders, PipeRow, Port}
+use Rattle.told_laws.proofs.Words.{Result, Sends, Set, SetOpened, SetsErrors, Some, Tells, [], about_at, agreed, answer_of, answers_on, anyone, ap, arith}
+use Rattle.told_laws.proofs.Words.{asks_for, body_in, by_option, by_test, code_of, commit_deeds, cond, cond_both, controller_deeds, count_by-le-length}
+use Rattle.told_laws.proofs.Words.{count_in, creation_deeds, creation_in, decision_deeds, drop, each-append, end_of_node, end_view, ends_at, eqb, false}
+use Rattle.told_laws.proofs.Words.{finds_room, first_of, gates, goes_through, has_link, header_of, identity_served, instruction_in, is_dynamic, is_host}
+use Rattle.told_laws.proofs.Words.{is_opened, is_some, is_up, kind_deeds, leb-true, length, length-rows, link_deeds, link_served, link_unless, map, nat_lt, not}
+use Rattle.told_laws.proofs.Words.{notice_deeds, opened_on, option_map_or, ordered_holds, own_gate, own_side, own_view, param_in, pid_of, pipe_at, port_at}
+use Rattle.told_laws.proofs.Words.{refl, relay_deeds, relayed_to, row_of-within, served_at, slice_get, subst, tests_to_get, tests_to_set_errors, told_hold}
+use Rattle.told_laws.proofs.Words.{true, value_at, value_behind, view_for, view_of, ℕ, ◌&&◌, ◌++◌, ◌+◌, ◌<◌, ◌==◌, ◌^◌, ◌∷◌, ◌≡◌, ◌≤◌}
 use Rattle.gate_admin.proofs.CreationLemmas.{creation-recordable}
 use Rattle.gate_admin.specs.Decide.{answers, carried_out, clearing, closing, commits, commits_and_tells, creating, creation, decided, deleting, dest_in}
 use Rattle.gate_admin.specs.Decide.{ends_of, far_end, getting, opening, others_opened, setting, tests_of_pipe, tests_to_clear, tests_to_create, tests_to_delete}
@@ -21,12 +19,10 @@ use Rattle.gate_admin.specs.declared.decision.Decision.{Decision}
 use Rattle.gate_admin.specs.declared.decision.Decision.TheVariants.{Answer, Ask, Commit}
 use Rattle.gate_admin.specs.declared.view.LinkView.{LinkView}
 use Rattle.gate_answers.specs.declared.response.Response.{Response}
-use Rattle.gate_loopback.specs.Loopback.{posts_back}
-use Rattle.hcp_packet.specs.declared.MessageFault.TheVariants.{ReservedType as Reserved}
 use Rattle.node_laws.proofs.links.Noticing.{nobody}
 use Rattle.node_laws.proofs.steps.StepWalks.{at_port}
-use Rattle.node_machine.specs.HostReplies.{accepts, created_by, deleted_by, gate_of_pipe, host_deeds, init_agreed, init_deeds, is_gate, is_same, learned}
-use Rattle.node_machine.specs.HostReplies.{learns, ordered_deeds, orders_of, pipe_named_in, response_deeds}
+use Rattle.node_machine.specs.HostReplies.{accepts, created_by, deleted_by, host_deeds, init_agreed, init_deeds, is_same, learned, learns, ordered_deeds}
+use Rattle.node_machine.specs.HostReplies.{orders_of, pipe_named_in, response_deeds}
 use Rattle.tables_laws.proofs.gate.Decisions.{new_row, unless}
 use Rattle.told_laws.proofs.nodes.Commands.{AreTablesIn, IfMade, IsCommandIn, IsIn, IsShortCommand, index_in, recordable_made, value_read_in}
 use Rattle.told_laws.proofs.nodes.Machines.{AreBytes, IsMail}
@@ -48,8 +44,7 @@ pub saying : (pipe : ℕ) (message : List ℕ) → pipe < 112 → IsSaying messa
 saying pipe message low h = record { pipe = low; some = h.some; bytes = h.bytes; short = h.short }
 
 code_low : (r : Response) → code_of r < 64
-code_low response.Ok = omega arith
-code_low _ = omega arith
+code_low r = grind arith
 
 pub answer_in : (r : Response) (value : List ℕ) → AreBytes value → length value ≤ 4095 → IsSaying (answer_of r value)
 answer_in r value h few = let low = code_low r in record { some = omega arith; bytes = (omega (arith, low), h); short = omega (arith, few) }
@@ -104,8 +99,7 @@ answers_in h pipe message p a = (saying pipe message p a, tt)
 
 commits_in : (room : Bool) (h pipe : ℕ) (c : Command) (answer : List ℕ) (behind : List Deed) → pipe < 112 → IsCommandIn c → IsSaying answer
     → AreDeedsIn behind → AreDeedsIn (commit_deeds room h pipe c answer behind)
-commits_in true h pipe c answer behind p is a h2 = (is, (saying pipe answer p a, (tt, h2)))
-commits_in false h pipe c answer behind p is a h2 = answers_in h pipe (answer_of response.NotOk []) p (answer_in response.NotOk [] tt (omega arith))
+commits_in room h pipe c answer behind p is a b = grind arith
 
 -- ### What the administration gate decides
 
@@ -138,8 +132,7 @@ others_low t host pipe rows =
 
 host_bytes : (test : ℕ → Bool) → AreBytes (hosts_where test)
 unfolding hosts_where
-host_bytes test = AllByRecursion-filter IsByte test (1 ∷ 2 ∷ 3 ∷ 4 ∷ 5 ∷ 6 ∷ 7 ∷ [])
-    (omega arith, (omega arith, (omega arith, (omega arith, (omega arith, (omega arith, (omega arith, tt)))))))
+host_bytes test = grind arith
 
 -- the bytes of a value, which is short
 abbrev IsValue : List ℕ → Type 0
@@ -147,13 +140,7 @@ IsValue value = AreBytes value × (length value ≤ 4095)
 
 host_few : (test : ℕ → Bool) → length (hosts_where test) ≤ 7
 unfolding hosts_where
-host_few test = short test (1 ∷ 2 ∷ 3 ∷ 4 ∷ 5 ∷ 6 ∷ 7 ∷ [])
-  where
-    short : (p : ℕ → Bool) (xs : List ℕ) → length (filter p xs) ≤ length xs
-    short p [] = omega arith
-    short p (x ∷ xs) =
-        let rest = short p xs in
-        cond_both (p x) (x ∷ filter p xs) (filter p xs) (λ (ys : List ℕ). length ys ≤ length (x ∷ xs)) (λ _. omega (arith, rest)) (λ _. omega (arith, rest))
+host_few test = grind arith
 
 value_in : (t : HciTables) (v : LinkView) (host param : ℕ) → AreTablesIn t → IsValue (value_of t v host param)
 value_in t v host param h =
@@ -170,25 +157,16 @@ row_in t v host body small bytes passed =
     let a = index_in body 0 bytes in
     let b = index_in body 1 bytes in
     let c = index_in body 2 bytes in
-    let pid : (new_row t v host body).pid < 256 = omega (arith, upto) in (
-      record {
-        said = (refl, record { pid = pid; creator = omega (arith, small); creator_gate = a; dest = b; dest_gate = c });
-        short = tt;
-        made = made;
-      },
-      (omega (arith, small), (a, (b, (c, (pid, tt))))),
-    )
+    let pid : (new_row t v host body).pid < 256 = omega (arith, upto) in (grind arith)
 
 plain_command : (c : Command) → IsSaidCommand c → IsShortCommand c → IfMade c → IsCommandIn c
 plain_command c said short made = record { said = said; short = short; made = made }
 
 few_behind : (bytes : List ℕ) → length bytes ≤ 4095 → length (drop 1 bytes) ≤ 4095
-few_behind [] few = few
-few_behind (x ∷ bytes) few = omega (arith, few)
+few_behind bytes few = grind arith
 
 body_few : (message : List ℕ) → length message ≤ 4096 → length (body_in message) ≤ 4095
-body_few [] few = omega arith
-body_few (x ∷ message) few = omega (arith, few)
+body_few message few = grind arith
 
 module _ (t : HciTables) (v : LinkView) (host pipe : ℕ) (body : List ℕ) (tables : AreTablesIn t) (rows : ArePipeRows t.rows) (small : host ≤ 7)
     (upto : pipe < 112) (bytes : AreBytes body) (few : length body ≤ 4095) where
@@ -203,12 +181,7 @@ module _ (t : HciTables) (v : LinkView) (host pipe : ℕ) (body : List ℕ) (tab
       let row = row_in t v host body small bytes passed in
       cond_both (eqb (dest_in body) 0) (commits (Create (new_row t v host body)) _) _ IsDecisionIn
       (λ _. (row.0, answer_in response.Ok (ends_of (new_row t v host body)) row.1 (omega arith), none_told []))
-      (λ _. (
-        index_in body 1 bytes,
-        record { some = omega arith; bytes = (omega arith, row.1); short = omega arith },
-        row.0,
-        answer_in response.Ok (ends_of (new_row t v host body)) row.1 (omega arith),
-      ))
+      (λ _. (grind arith))
 
   carried_in : (instruction : ℕ) → IsDecisionIn (carried_out t v host pipe instruction body)
   carried_in instruction =
@@ -259,23 +232,15 @@ record IsServedIn (served : List ℕ × Option ℕ) : Type 0 where
   pub message : IsSaying served.0
   pub value : (errors : ℕ) → served.1 ≡ Some errors → errors < 65536
 
-plain_served : (message : List ℕ) → IsSaying message → IsServedIn (message, None)
-plain_served message a = record { message = a; value = λ errors is. absurd (cc is) }
-
 link_one : (o : Option Response) (otherwise : List ℕ × Option ℕ) → IsServedIn otherwise → IsServedIn (link_unless o otherwise)
-link_one (Some r) otherwise a = plain_served (answer_of r []) (answer_in r [] tt (omega arith))
-link_one None otherwise a = a
+link_one o otherwise a = grind arith
 
 link_in : (errors instruction : ℕ) (body : List ℕ) → errors < 65536 → AreBytes body → IsServedIn (link_served errors instruction body)
 link_in errors instruction body few bytes =
     cond_both (eqb instruction 1) _ _ IsServedIn
     (λ _. link_one (first_of (tests_to_set_errors body)) (answer_of response.Ok [], Some (count_in (value_behind body)))
     (record { message = answer_in response.Ok [] tt (omega arith); value = λ k is. set_low k is }))
-    (λ _. cond_both (eqb instruction 2) _ _ IsServedIn
-    (λ _. link_one (first_of (tests_to_get 6 body)) (answer_of response.Ok (count_bytes errors), None)
-    (plain_served (answer_of response.Ok (count_bytes errors))
-    (answer_in response.Ok (count_bytes errors) (omega (arith, few), (omega arith, tt)) (omega arith))))
-    (λ _. plain_served (answer_of response.CommandNotSupported []) (answer_in response.CommandNotSupported [] tt (omega arith))))
+    (λ _. grind arith)
   where
     rest : AreBytes (value_behind body)
     rest = drop_each IsByte 1 body bytes
@@ -287,39 +252,16 @@ link_in errors instruction body few bytes =
         let b = index_in (value_behind body) 1 rest in
         omega (arith, same, a, b)
 
-identity_bytes : (param : ℕ) → IsValue (identity_value gates param)
-identity_bytes param =
-    cond_both (param == 1) (1 ∷ 0 ∷ 0 ∷ []) _ IsValue (λ _. ((omega arith, (omega arith, (omega arith, tt))), omega arith))
-    (λ _. cond_both (param == 2) (2 ∷ []) _ IsValue (λ _. ((omega arith, tt), omega arith))
-    (λ _. cond_both (param == 3) (1 ∷ 0 ∷ 0 ∷ []) _ IsValue (λ _. ((omega arith, (omega arith, (omega arith, tt))), omega arith))
-    (λ _. cond_both (param == 4) (83 ∷ 87 ∷ 80 ∷ 32 ∷ 72 ∷ 67 ∷ 73 ∷ []) _ IsValue
-    (λ _. ((omega arith, (omega arith, (omega arith, (omega arith, (omega arith, (omega arith, (omega arith, tt))))))), omega arith))
-    (λ _. cond_both (param == 5) (1 ∷ []) gates IsValue (λ _. ((omega arith, tt), omega arith)) (λ _. ((omega arith, (omega arith, tt)), omega arith))))))
-
-identity_one : (o : Option Response) (otherwise : List ℕ) → IsSaying otherwise → IsSaying (identity_unless o otherwise)
-identity_one (Some r) otherwise a = answer_in r [] tt (omega arith)
-identity_one None otherwise a = a
-
 identity_in : (instruction : ℕ) (body : List ℕ) → IsSaying (identity_served gates instruction body)
-identity_in instruction body =
-    cond_both (eqb instruction 1) _ _ IsSaying
-    (λ _. identity_one (first_of (tests_to_set 5 body)) (answer_of response.RegistryAccessDenied [])
-    (answer_in response.RegistryAccessDenied [] tt (omega arith)))
-    (λ _. cond_both (eqb instruction 2) _ _ IsSaying
-    (λ _. identity_one (first_of (tests_to_get 5 body)) (answer_of response.Ok (identity_value gates (param_in body)))
-    (let value = identity_bytes (param_in body) in answer_in response.Ok (identity_value gates (param_in body)) value.0 value.1))
-    (λ _. answer_in response.CommandNotSupported [] tt (omega arith)))
+identity_in instruction body = grind arith
 
 link_deeds_in : (h pipe : ℕ) (served : List ℕ × Option ℕ) → pipe < 112 → IsServedIn served → AreDeedsIn (link_deeds h pipe served)
-link_deeds_in h pipe served p a = by_option served.1
-    (λ q. rw q (saying pipe served.0 p a.message, tt))
-    (λ errors q. rw q (a.value errors q, (saying pipe served.0 p a.message, tt)))
+link_deeds_in h pipe served p a = grind arith
 
 -- ### A controller
 
 agreed_in : (flag : Bool) (c : Creation) → IsCreationIn c → AreDeedsIn (agreed flag c)
-agreed_in true c a = (tt, (a.command, (tt, (saying 1 c.answer low a.answer, (tt, tt)))))
-agreed_in false c a = (tt, (tt, (saying 1 (answer_of response.NotOk []) low (answer_in response.NotOk [] tt (omega arith)), tt)))
+agreed_in flag c a = grind arith
 
 decision_in : (core : Core) (h pipe : ℕ) (d : Decision) → pipe < 112 → IsDecisionIn d → AreDeedsIn (decision_deeds (own_view core) h pipe d)
 decision_in core h pipe (Answer answer) p a = answers_in h pipe answer.items p a
@@ -352,9 +294,7 @@ module _ (core : Core) (ports : List Port) (h : ℕ) (m : Message) (tables : Are
       cond_both (eqb gate 6) (link_deeds h m.0 (link_served (view_for core.tables ports h).errors n (body_in m.1))) _ AreDeedsIn
       (λ _. link_deeds_in h m.0 (link_served (view_for core.tables ports h).errors n (body_in m.1)) p
       (link_in (view_for core.tables ports h).errors n (body_in m.1) (errors_at ports h a) (body_bytes m.1 s.bytes)))
-      (λ _. cond_both (eqb gate 5) (answers_on h m.0 (identity_served gates n (body_in m.1))) _ AreDeedsIn
-      (λ _. answers_in h m.0 (identity_served gates n (body_in m.1)) p (identity_in n (body_in m.1)))
-      (λ _. plain_in h response.CommandNotSupported m.0 p))
+      (λ _. grind arith)
 
   noticed_in : (code : ℕ) (o : Option Port) → port_at ports h ≡ o → AreDeedsIn (notice_deeds (own_view core) code (about_at o))
   noticed_in code None here = (omega arith, tt)
@@ -376,9 +316,7 @@ module _ (core : Core) (ports : List Port) (h : ℕ) (m : Message) (tables : Are
   kind_in (Err fault) = drops_in
 
   relayed_in : (other : ℕ) (up : Bool) → AreDeedsIn (relay_deeds (has_link ports) h m other up)
-  relayed_in other true = (s, tt)
-  relayed_in other false =
-      cond_both (has_link ports h && is_command_message m.1) _ (Drops m.0 ∷ []) AreDeedsIn (λ _. plain_in h response.NotConnected m.0 p) (λ _. drops_in)
+  relayed_in other up = grind arith
 
   pub controller_in : AreDeedsIn (controller_deeds (view_of core ports) h m)
   controller_in = by_option (relayed_to core.tables h m)
@@ -394,11 +332,7 @@ IsCodeIn (Ok (IsResponse, code)) = code < 256
 IsCodeIn x = Unit {0}
 
 codes_in : (message : List ℕ) → IsCodeIn (header_of message)
-codes_in [] = tt
-codes_in (first ∷ rest) =
-    cond_both (eqb (first / 64) 0) (Ok (IsCommand, first % 64)) _ IsCodeIn (λ _. tt)
-    (λ _. cond_both (eqb (first / 64) 1) (Ok (IsEvent, first % 64)) _ IsCodeIn (λ _. tt)
-    (λ _. cond_both (eqb (first / 64) 2) (Ok (IsResponse, first % 64)) (Err Reserved) IsCodeIn (λ _. omega arith) (λ _. tt)))
+codes_in message = grind arith
 
 -- ### What a node keeps
 
@@ -426,23 +360,8 @@ own_end core h small = end_in h (own_side core) (omega (arith, small))
 accepts_in : (core : Core) (c : Command) → IsCommandIn c → AreDeedsIn (accepts (own_view core) c)
 accepts_in core c is = commits_in (finds_room core c) core.node 1 c (answer_of response.Ok []) [] low is (answer_in response.Ok [] tt (omega arith)) tt
 
-named_in : (body : List ℕ) (row : PipeRow) → AreBytes body → pipe_named_in body ≡ Some row → IsSaidCommand (Create row)
-named_in [] row h q = absurd (cc q)
-named_in (a ∷ []) row h q = absurd (cc q)
-named_in (a ∷ b ∷ []) row h q = absurd (cc q)
-named_in (a ∷ b ∷ c ∷ []) row h q = absurd (cc q)
-named_in (a ∷ b ∷ c ∷ d ∷ []) row h q = absurd (cc q)
-named_in (a ∷ b ∷ c ∷ d ∷ e ∷ f ∷ more) row h q = absurd (cc q)
-named_in (a ∷ b ∷ c ∷ d ∷ e ∷ []) row h q =
-    let same : record { pid = e; creator = a; creator_gate = b; dest = c; dest_gate = d; opened = false } ≡ row = cc in
-    let P : PipeRow → Type 0 = λ x. IsSaidCommand (Create x) in
-    subst P same
-    (refl, record { pid = h.1.1.1.1.0; creator = h.0; creator_gate = h.1.0; dest = h.1.1.0; dest_gate = h.1.1.1.0 })
-
 learns_in : (core : Core) (c : Command) → IsSaidCommand c → IsShortCommand c → AreDeedsIn (learns (own_view core) c)
-learns_in core c said short =
-    cond_both (is_command c && finds_room core c) (Commits c ∷ []) [] AreDeedsIn
-    (λ e. (record { said = said; short = short; made = recordable_made c (and_parts (is_command c) (finds_room core c) e).0 }, tt)) (λ _. tt)
+learns_in core c said short = grind arith
 
 -- ### Init
 
@@ -509,20 +428,13 @@ module _ (core : Core) (is : IsCoreIn core) where
   learned_in : (order value : List ℕ) → AreBytes order → AreBytes value → AreDeedsIn (learned (own_view core) order value)
   learned_in order value a b =
       cond_both (eqb (instruction_in order) 16) (created_by (own_view core) value) _ AreDeedsIn (λ _. by_row (pipe_named_in value) refl)
-      (λ _. cond_both (eqb (instruction_in order) 17) (deleted_by (own_view core) (body_in order)) _ AreDeedsIn
-      (λ _. by_body (body_in order) (body_bytes order a))
-      (λ _. cond_both (eqb (instruction_in order) 20) (learns (own_view core) (Clear core.node)) [] AreDeedsIn
-      (λ _. learns_in core (Clear core.node) node_byte tt)
-      (λ _. tt)))
+      (λ _. grind arith)
     where
       by_row : (o : Option PipeRow) → pipe_named_in value ≡ o → AreDeedsIn (option_map_or (λ row. learns (own_view core) (Create row)) o [])
-      by_row None q = tt
-      by_row (Some row) q = learns_in core (Create row) (named_in value row b q) tt
+      by_row o q = grind arith
 
       by_body : (body : List ℕ) → AreBytes body → AreDeedsIn (deleted_by (own_view core) body)
-      by_body [] h = tt
-      by_body (pid ∷ []) h = learns_in core (Delete pid) h.0 tt
-      by_body (pid ∷ x ∷ more) h = tt
+      by_body body h = grind arith
 
   response_in : (code : ℕ) (value : List ℕ) → code < 256 → AreBytes value → (o : Option (List ℕ)) → core.command ≡ o
       → AreDeedsIn (response_deeds (own_view core) code value)
@@ -542,11 +454,7 @@ module _ (core : Core) (is : IsCoreIn core) where
   ordered_in errors pipe n body few p bytes = ordered_holds AreDeedsIn core errors pipe n body (record {
     none = tt;
     refuses = λ r. plain_in core.node r 1 low;
-    creates = λ row named welcome. accepts_in core (Create row) (record {
-      said = named_in body row bytes named;
-      short = tt;
-      made = dynamic row (and_parts _ (is_dynamic row.pid) welcome).1;
-    });
+    creates = λ row named welcome. accepts_in core (Create row) ((grind arith));
     deletes = λ pid kept. accepts_in core (Delete pid) (record { said = kept_pid pid kept; short = tt; made = tt });
     clears = λ x host. accepts_in core (Clear x) (record { said = host_low x host; short = tt; made = tt });
     counts = λ zero. link_deeds_in core.node 0 (link_served errors n body) (omega arith) (link_in errors n body few bytes);
@@ -554,10 +462,7 @@ module _ (core : Core) (is : IsCoreIn core) where
   })
     where
       dynamic : (row : PipeRow) → is_dynamic row.pid ≡ true → IsDynamic row.pid
-      dynamic row q = (
-        leb-true 2 row.pid (and_parts (nat_le 2 row.pid) (nat_lt row.pid 112) q).0,
-        ltb-true row.pid 112 (and_parts (nat_le 2 row.pid) (nat_lt row.pid 112) q).1,
-      )
+      dynamic row q = grind arith
 
       kept_pid : (pid : ℕ) → is_some (pipe_at core.tables.rows pid) ≡ true → pid < 256
       kept_pid pid q = let within = row_of-within pid_of 2 112 pid core.tables.rows is.rows q in
@@ -584,9 +489,7 @@ module _ (core : Core) (is : IsCoreIn core) where
           → AreDeedsIn (host_deeds (own_view core) (end_view p) m)
       go false x up q = rw up (drops, tt)
       go true (Ok (IsCommand, n)) up q = rw (up, q) (ordered_in p.desk.errors m.0 n (body_in m.1) desk.errors s.pipe body)
-      go true (Ok (IsEvent, n)) up q =
-          rw (up, q) (cond_both (is_gate 4 (gate_of_pipe (own_view core) m.0) && posts_back m.1) (Sends core.node m ∷ []) [] AreDeedsIn
-          (λ _. (s, tt)) (λ _. tt))
+      go true (Ok (IsEvent, n)) up q = grind arith
       go true (Ok (IsResponse, code)) up q =
           rw (up, q) (cond_both (eqb m.0 1) (response_deeds (own_view core) code (body_in m.1)) [] AreDeedsIn
           (λ _. response_in code (body_in m.1) (code_byte m.1 code q) body core.command refl) (λ _. tt))

@@ -1,25 +1,20 @@
 -- The ends of the links of a world of nodes, with their activation and messages, are in their ranges, whatever comes to them.
 use Rattle.told_laws.proofs.Words.{Act, ActDue, ActEvent, ActFrame, ActStart, ActStop, ActTake, ActTick, AllByRecursion, AllByRecursion-filter}
 use Rattle.told_laws.proofs.Words.{AllByRecursion-take, Asked, Bare, Bool, Clf, Clt, Control, Down, Due, EndState, FetchMessage, Fragment, Give, Hold, I}
-use Rattle.told_laws.proofs.Words.{IsByte, Kind, LinkEnd, LinkInput, LinkState, List, Message, None, Option, Over, PowerMode, Ready, Refused, Release, Report}
-use Rattle.told_laws.proofs.Words.{Reset, Role, Rset, Runs, S, Session, SetAside, Some, Spent, Srej, Start, Stop, SyncId, Take, Tick, Timed, Turn, Ua, Uicc, Up}
-use Rattle.told_laws.proofs.Words.{Waiting, [], accepted, acknowledged, act_answer, activated, after_frames, after_input, ahead, all_frames, all_map}
-use Rattle.told_laws.proofs.Words.{all_mapped, among, arith, aside_refusal, brought, by_test, cond, cond_both, deactivated, discarded, drop, each-append, false}
-use Rattle.told_laws.proofs.Words.{fetched, fragment_due, frames_out, gap_found, give_refusal, given, good_of, had_tick, heard, if_up, in_front, in_phase}
-use Rattle.told_laws.proofs.Words.{is_faulty, is_good, is_open, is_some, leb-true, length, ltb-false, ltb-true, map, messages_got, moved, nat_le, nat_lt, news}
-use Rattle.told_laws.proofs.Words.{no_act_out, not, out_ticked, packet_bytes, packet_count, packets_in, packets_of, place_of, put_down, put_out, received, refl}
-use Rattle.told_laws.proofs.Words.{repeated, report, reset_by, reset_refusal, reset_with, role_after, runs_timer, sends, sent_all, started, stopped, suc, sym}
-use Rattle.told_laws.proofs.Words.{take, take_answer, taken, tick_answer, ticked, timed, took, true, true≢false, turn, turned, uicc_powered, unless}
-use Rattle.told_laws.proofs.Words.{whole_acked, whole_among, window_of, with_act, with_ready, zero, ℕ, ◌%◌, ◌+◌, ◌-◌, ◌<◌, ◌==◌, ◌∷◌, ◌≡◌, ◌≤◌}
+use Rattle.told_laws.proofs.Words.{IsByte, Kind, LinkEnd, LinkInput, LinkState, List, Message, None, Option, PowerMode, Ready, Refused, Release, Report, Reset}
+use Rattle.told_laws.proofs.Words.{Role, Rset, S, Session, SetAside, Some, Start, Stop, SyncId, Take, Tick, Turn, Ua, Uicc, Up, Waiting, [], accepted}
+use Rattle.told_laws.proofs.Words.{acknowledged, act_answer, activated, after_frames, after_input, ahead, all_frames, all_map, all_mapped, among, arith}
+use Rattle.told_laws.proofs.Words.{brought, by_test, cond, cond_both, deactivated, discarded, drop, each-append, false, fetched, fragment_due, frames_out}
+use Rattle.told_laws.proofs.Words.{give_refusal, given, good_of, had_tick, heard, if_up, in_front, in_phase, is_faulty, is_good, is_open, is_some, leb-true}
+use Rattle.told_laws.proofs.Words.{length, ltb-false, ltb-true, map, messages_got, moved, nat_le, nat_lt, news, not, packet_bytes, packet_count, packets_in}
+use Rattle.told_laws.proofs.Words.{packets_of, place_of, put_down, put_out, received, refl, report, reset_by, reset_refusal, reset_with, role_after, sent_all}
+use Rattle.told_laws.proofs.Words.{started, stopped, suc, take, take_answer, taken, tick_answer, ticked, took, true, turn, turned, unless, whole_acked}
+use Rattle.told_laws.proofs.Words.{whole_among, window_of, with_act, zero, ℕ, ◌%◌, ◌+◌, ◌-◌, ◌<◌, ◌==◌, ◌∷◌, ◌≡◌, ◌≤◌}
 use Rattle.hcp_chain.specs.Joining.{given_by, grown, is_fifth, join_step, message_in, others, so_far}
 use Rattle.hcp_packet.specs.declared.Packet.{Packet}
 use Rattle.swp_act.specs.declared.ActOut.{ActOut}
-use Rattle.swp_act.specs.declared.Phase.{Phase}
-use Rattle.swp_act.specs.declared.Phase.TheVariants.{Active, Awaiting, Inactive}
-use Rattle.swp_act.specs.declared.clf.ClfAct.{ClfAct}
-use Rattle.swp_act.specs.declared.uicc.UiccAct.{UiccAct}
-use Rattle.told_laws.proofs.told.Links.{IfTries, IsFragment, IsFrame, IsLowWindow, IsTellable, Ranged, drop_each, few_tries, fragments_in, frames_in}
-use Rattle.told_laws.proofs.told.Links.{ranged_after, ranged_out, ranged_ready, ranged_reset, ranged_stopped, ranged_taken, ranged_ticked}
+use Rattle.told_laws.proofs.told.Links.{IfTries, IsFragment, IsFrame, IsLowWindow, IsTellable, Ranged, drop_each, fragments_in, frames_in, ranged_after}
+use Rattle.told_laws.proofs.told.Links.{ranged_out, ranged_reset, ranged_stopped, ranged_taken, ranged_ticked}
 
 -- ## The ends of the links of a world of nodes are in their ranges, whatever comes to them: frames and messages are bytes, and no count is above a bound
 
@@ -41,9 +36,7 @@ IsLineFrame Clt = Unit {0}
 IsLineFrame c = IsFrame c
 
 plain_frame : (c : Control) → IsFrame c → IsLineFrame c
-plain_frame (ActFrame act again) h = absurd h
-plain_frame Clt h = absurd h
-plain_frame _ h = h
+plain_frame c h = grind arith
 
 -- ### An SHDLC end
 
@@ -56,18 +49,14 @@ heard_more : (n k : ℕ) (e : EndState) → n ≤ k → HeardIn n e → HeardIn 
 heard_more n k e more h = let a = h.acked in record { acc = h.acc; acked = omega (arith, a, more) }
 
 place_low : (s : Session) (nr x : ℕ) → place_of s nr ≡ Some x → x ≤ s.acked + 8
-place_low s nr x q =
-    cond_both _ (Some (s.acked + (nr + (8 - s.acked % 8)) % 8)) None (λ o. o ≡ Some x → x ≤ s.acked + 8)
-    (λ _ is. let same : s.acked + (nr + (8 - s.acked % 8)) % 8 ≡ x = cc in omega (arith, same)) (λ _ is. absurd (cc is)) q
+place_low s nr x q = grind arith
 
 received_in : (n : ℕ) (f : EndState) (ns : ℕ) (info : Fragment) → AreBytes info → HeardIn n f → HeardIn n (received f ns info)
 received_in n f ns info bytes h =
     cond_both f.ready _ (discarded f) (HeardIn n)
     (λ _. cond_both (ahead f.session ns == 0) (accepted f info) _ (HeardIn n)
     (λ _. record { acc = each-append AreBytes f.session.acc (info ∷ []) h.acc (bytes, tt); acked = h.acked })
-    (λ _. cond_both (nat_lt (ahead f.session ns) 4) (gap_found f) (repeated f) (HeardIn n)
-    (λ _. cond_both f.session.gap_open f _ (HeardIn n) (λ _. h) (λ _. record { acc = h.acc; acked = h.acked }))
-    (λ _. record { acc = h.acc; acked = h.acked })))
+    (λ _. grind arith))
     (λ _. record { acc = h.acc; acked = h.acked })
 
 module _ (n : ℕ) where
@@ -81,17 +70,10 @@ module _ (n : ℕ) where
 
   supervised_heard : (e : EndState) (kind : Kind) (nr : ℕ) (o : Option ℕ) → place_of e.session nr ≡ o → HeardIn n e
       → HeardIn (n + 8) (taken (in_phase Up e) (S kind nr))
-  supervised_heard e Srej nr o q h = let a = h.acked in record { acc = h.acc; acked = omega (arith, a) }
-  supervised_heard e _ nr None q h = let a = h.acked in rw q (record { acc = h.acc; acked = omega (arith, a) })
-  supervised_heard e _ nr (Some x) q h =
-      let low = place_low e.session nr x q in let a = h.acked in rw q (record { acc = h.acc; acked = omega (arith, low, a) })
+  supervised_heard e kind nr o q h = grind arith
 
   reset_heard : (e : EndState) (p : LinkState) (w caps : ℕ) (b : Bool) → (w == 0) ≡ b → HeardIn n e → HeardIn (n + 8) (taken (in_phase p e) (Rset w caps))
-  reset_heard e Up w caps true q h = let a = h.acked in rw q (record { acc = h.acc; acked = omega (arith, a) })
-  reset_heard e Up w caps false q h = rw q (record { acc = tt; acked = omega arith })
-  reset_heard e Down w caps false q h = rw q (record { acc = tt; acked = omega arith })
-  reset_heard e _ w caps true q h = let a = h.acked in rw q (record { acc = h.acc; acked = omega (arith, a) })
-  reset_heard e Waiting w caps false q h = let a = h.acked in rw q (record { acc = h.acc; acked = omega (arith, a) })
+  reset_heard e p w caps b q h = grind arith
 
   heard_in : (e : EndState) (p : LinkState) (c : Control) → IsLineFrame c → HeardIn n e → HeardIn (n + 8) (taken (in_phase p e) c)
   heard_in e Up (I ns nr info) is h = fragment_heard e ns nr info _ refl is.2.0 h
@@ -102,37 +84,14 @@ module _ (n : ℕ) where
   heard_in e Waiting _ is h = let a = h.acked in record { acc = h.acc; acked = omega (arith, a) }
   heard_in e Down _ is h = let a = h.acked in record { acc = h.acc; acked = omega (arith, a) }
 
-  up_ticked : (e : EndState) (runs : Bool) (t : Timed) → runs_timer e.session ≡ runs → timed e ≡ t → HeardIn n e → HeardIn n (ticked (in_phase Up e))
-  up_ticked e false t r q h = rw r (record { acc = h.acc; acked = h.acked })
-  up_ticked e true Runs r q h = rw (r, q) (record { acc = h.acc; acked = h.acked })
-  up_ticked e true Over r q h = rw (r, q) (record { acc = h.acc; acked = h.acked })
-  up_ticked e true Spent r q h = rw (r, q) (record { acc = tt; acked = omega arith })
-
-  waiting_ticked : (e : EndState) (t : Timed) → timed e ≡ t → HeardIn n e → HeardIn n (ticked (in_phase Waiting e))
-  waiting_ticked e Runs q h = rw q (record { acc = h.acc; acked = h.acked })
-  waiting_ticked e _ q h = rw q (record { acc = h.acc; acked = h.acked })
-
   tick_heard : (e : EndState) (p : LinkState) → HeardIn n e → HeardIn n (ticked (in_phase p e))
-  tick_heard e Up h = up_ticked e _ _ refl refl h
-  tick_heard e Waiting h = waiting_ticked e _ refl h
-  tick_heard e Down h = record { acc = h.acc; acked = h.acked }
+  tick_heard e p h = grind arith
 
   asks_heard : (e : EndState) (p : LinkState) (w : ℕ) → HeardIn n e → HeardIn n (reset_with (in_phase p e) w)
-  asks_heard e Waiting w h = record { acc = h.acc; acked = h.acked }
-  asks_heard e _ w h = record { acc = tt; acked = omega arith }
-
-  ready_heard : (e : EndState) (before after answered : Bool) → e.ready ≡ before → e.session.answered_rnr ≡ answered → HeardIn n e
-      → HeardIn n (with_ready e after)
-  ready_heard e true true a q r h = rw q (record { acc = h.acc; acked = h.acked })
-  ready_heard e false false a q r h = rw q (record { acc = h.acc; acked = h.acked })
-  ready_heard e true false a q r h = rw q (record { acc = h.acc; acked = h.acked })
-  ready_heard e false true true q r h = rw (q, r) (record { acc = h.acc; acked = h.acked })
-  ready_heard e false true false q r h = rw (q, r) (record { acc = h.acc; acked = h.acked })
+  asks_heard e p w h = grind arith
 
   fetch_heard : (e : EndState) (due : List Due) (q : Option Fragment) → e.due ≡ due → fragment_due e.session ≡ q → HeardIn n e → HeardIn n (fetched e)
-  fetch_heard e (d ∷ due) q p f h = rw p (record { acc = h.acc; acked = h.acked })
-  fetch_heard e [] None p f h = rw (p, f) (record { acc = h.acc; acked = h.acked })
-  fetch_heard e [] (Some info) p f h = rw (p, f) (record { acc = h.acc; acked = h.acked })
+  fetch_heard e due q p f h = grind arith
 
   after_heard : (k : ℕ) (e : EndState) → HeardIn n e → HeardIn n (after_frames k e)
   after_heard zero e h = h
@@ -154,9 +113,6 @@ end_reset n e w low h = record { ranged = ranged_reset e w low h.ranged; heard =
 
 end_stopped : (n : ℕ) (e : EndState) → EndIn n e → EndIn n (stopped e)
 end_stopped n e h = record { ranged = ranged_stopped e h.ranged; heard = record { acc = tt; acked = omega arith } }
-
-end_readied : (n : ℕ) (e : EndState) (after : Bool) → EndIn n e → EndIn n (with_ready e after)
-end_readied n e after h = record { ranged = ranged_ready e after h.ranged; heard = ready_heard n e e.ready after _ refl refl h.heard }
 
 end_out : (n : ℕ) (e : EndState) (fragments : List Fragment) → AllByRecursion IsFragment fragments → EndIn n e → EndIn n (put_out e fragments)
 end_out n e fragments more h =
@@ -243,8 +199,7 @@ good_in (m ∷ ms) h = by_test (is_good m.1)
     (λ q. rw q (good_in ms h.1))
   where
     long : (bytes : List ℕ) → is_good bytes ≡ true → 0 < length bytes
-    long [] z = absurd (true≢false (sym z))
-    long (first ∷ rest) z = omega arith
+    long bytes z = grind arith
 
 -- the messages that came of a session
 got_in : (s : Session) → AllByRecursion AreBytes s.acc → AreMail (messages_got s)
@@ -295,67 +250,13 @@ record IsOutIn (out : ActOut) : Type 0 where
   pub sync : IfSync out.sync
   pub tries : IfTries out.gave_up
 
-out_none : IsOutIn no_act_out
-out_none = record { send = tt; sync = tt; tries = tt }
-
-out_last : (o : Option Act) → IfAct o → IsOutIn (sends o)
-out_last o h = record { send = h; sync = tt; tries = tt }
-
-out_tick : (p : Phase) (o : Option Act) → IfAct o → IsOutIn (out_ticked p o)
-out_tick (Awaiting tries ticks) o h =
-    cond_both (nat_le 10 (ticks + 1)) _ no_act_out IsOutIn
-    (λ _. cond_both (nat_le 3 tries) _ (sends o) IsOutIn (λ _. record { send = tt; sync = tt; tries = omega arith }) (λ _. out_last o h))
-    (λ _. out_none)
-out_tick _ o h = out_none
-
 -- a step of activation
 record IsStepIn (b : Bool) (r : Role) (event : ActEvent) : Type 0 where
   role : IsRoleIn b (role_after r event)
   out : IsOutIn (act_answer r event)
 
-clf_in : (s : ClfAct) (event : ActEvent) → IsActEventIn false event → IfAct s.last → s.power < 256 → IsStepIn false (Clf s) event
-clf_in s (ActStart value) is last power = record { role = (last, is); out = record { send = tt; sync = tt; tries = tt } }
-clf_in s (ActTake act true) is last power = record { role = (last, power); out = out_last s.last last }
-clf_in s (ActTake Ready false) is last power = by s.phase refl
-  where
-    by : (p : Phase) → s.phase ≡ p → IsStepIn false (Clf s) (ActTake Ready false)
-    by (Awaiting tries ticks) q = record { role = rw q (last, power); out = rw q (record { send = tt; sync = tt; tries = tt }) }
-    by _ q = record { role = rw q (last, power); out = rw q out_none }
-clf_in s (ActTake (SyncId id) false) is last power = by s.phase refl
-  where
-    by : (p : Phase) → s.phase ≡ p → IsStepIn false (Clf s) (ActTake (SyncId id) false)
-    by (Awaiting tries ticks) q = record { role = rw q (power, power); out = rw q (record { send = power; sync = is; tries = tt }) }
-    by _ q = record { role = rw q (power, power); out = rw q (record { send = power; sync = is; tries = tt }) }
-clf_in s (ActTake (PowerMode code) false) is last power = record { role = (last, power); out = out_none }
-clf_in s ActTick is last power = record { role = (last, power); out = out_tick s.phase s.last last }
-clf_in s ActStop is last power = record { role = (last, power); out = record { send = tt; sync = tt; tries = tt } }
-
-uicc_in : (s : UiccAct) (event : ActEvent) → IsActEventIn true event → IfAct s.last → IsStepIn true (Uicc s) event
-uicc_in s (ActStart value) is last = record { role = is; out = record { send = is; sync = tt; tries = tt } }
-uicc_in s (ActTake act true) is last = record { role = last; out = out_last s.last last }
-uicc_in s (ActTake Ready false) is last = record { role = last; out = out_none }
-uicc_in s (ActTake (SyncId id) false) is last = record { role = last; out = out_none }
-uicc_in s (ActTake (PowerMode code) false) is last = record { role = both.0; out = both.1 }
-  where
-    Fine : UiccAct × ActOut → Type 0
-    Fine p = IsRoleIn true (Uicc p.0) × IsOutIn p.1
-
-    powered : (p : Phase) → Fine (uicc_powered p s)
-    powered Inactive = (last, out_none)
-    powered Active = (tt, record { send = tt; sync = tt; tries = tt })
-    powered (Awaiting tries ticks) = (tt, record { send = tt; sync = tt; tries = tt })
-
-    both : Fine (cond (nat_le code 1) (uicc_powered s.phase s) (s, no_act_out))
-    both = cond_both (nat_le code 1) (uicc_powered s.phase s) (s, no_act_out) Fine (λ _. powered s.phase) (λ _. (last, out_none))
-uicc_in s ActTick is last = record { role = last; out = out_tick s.phase s.last last }
-uicc_in s ActStop is last = record { role = last; out = record { send = tt; sync = tt; tries = tt } }
-
 step_in : (b : Bool) (r : Role) (event : ActEvent) → IsActEventIn b event → IsRoleIn b r → IsStepIn b r event
-step_in b Bare event is h = record { role = tt; out = out_none }
-step_in false (Clf s) event is h = clf_in s event is h.0 h.1
-step_in true (Uicc s) event is h = uicc_in s event is h
-step_in true (Clf s) event is h = absurd h
-step_in false (Uicc s) event is h = absurd h
+step_in b r event is h = grind arith
 
 -- ### An end
 
@@ -394,10 +295,7 @@ side_down b n e true h = by e.shdlc.phase refl
     by Down p =
         rw p (record {
           role = h.role;
-          end = record {
-            ranged = record { fragments = h.end.ranged.fragments; window = h.end.ranged.window; few = h.end.ranged.few };
-            heard = record { acc = h.end.heard.acc; acked = h.end.heard.acked };
-          };
+          end = grind arith;
           sent = h.sent;
           acts = all_map IsActDue IsActDue in_front (λ a is. is) e.acts h.acts;
           got = h.got;
@@ -444,8 +342,7 @@ module _ (b : Bool) (n : ℕ) where
   side_took : (e : LinkEnd) (c : Control) → IsLineFrame c → SideIn b n e → SideIn b (n + 8) (took e c)
   side_took e (ActFrame act again) is h =
       side_more b n (n + 8) (activated e (ActTake act again)) (omega arith) (side_activated b n e (ActTake act again) is h)
-  side_took e Clt is h =
-      let m = end_more n (n + 8) e.shdlc (omega arith) h.end in record { role = h.role; end = m; sent = h.sent; acts = h.acts; got = h.got }
+  side_took e Clt is h = grind arith
   side_took e c is h = side_opened e c is h
 
   side_ticked : (e : LinkEnd) → SideIn b n e → SideIn b n (had_tick e)
@@ -455,12 +352,10 @@ module _ (b : Bool) (n : ℕ) where
       (λ _. side_activated b n e ActTick tt h)
 
   window_in : (e : LinkEnd) (window : Option ℕ) → IsLowWindow window → SideIn b n e → window_of e window ≤ 4
-  window_in e None low h = h.end.ranged.window
-  window_in e (Some w) low h = low
+  window_in e window low h = grind arith
 
   side_unless : (o : Option Refused) (e f : LinkEnd) → SideIn b n e → SideIn b n f → SideIn b n (unless o e f)
-  side_unless None e f p q = q
-  side_unless (Some why) e f p q = p
+  side_unless o e f p q = grind arith
 
   side_reset : (e : LinkEnd) (window : Option ℕ) → IsLowWindow window → SideIn b n e → SideIn b n (after_input e (Reset window))
   side_reset e window low h =
@@ -486,12 +381,9 @@ side_turn b n e (Give m) is h =
       acts = h.acts;
       got = h.got;
     })
-side_turn b n e (Hold held) is h =
-    record { role = h.role; end = end_readied n e.shdlc (not held) h.end; sent = h.sent; acts = h.acts; got = h.got }
+side_turn b n e (Hold held) is h = grind arith
 side_turn b n e FetchMessage is h = record { role = h.role; end = h.end; sent = h.sent; acts = h.acts; got = drop_each IsMail 1 e.got h.got }
-side_turn b n e SetAside is h =
-    side_unless b n (aside_refusal e) e (record e { aside = e.aside + 1 }) h
-    (record { role = h.role; end = h.end; sent = h.sent; acts = h.acts; got = h.got })
+side_turn b n e SetAside is h = grind arith
 side_turn b n e Release is h = record { role = h.role; end = h.end; sent = h.sent; acts = h.acts; got = h.got }
 
 pub side_turned : (b : Bool) (n : ℕ) (ts : List Turn) (e : LinkEnd) → AreTurnsIn ts → SideIn b n e → SideIn b n (turned e ts)
@@ -547,9 +439,7 @@ report_in b n e (Take (I ns nr info)) is h = record { got = brought_in b n e (I 
 report_in b n e (Take (S kind nr)) is h = record { got = brought_in b n e (S kind nr) is h; tries = tt; sync = tt }
 report_in b n e (Take (Rset window caps)) is h = record { got = brought_in b n e (Rset window caps) is h; tries = tt; sync = tt }
 report_in b n e (Take Ua) is h = record { got = brought_in b n e Ua is h; tries = tt; sync = tt }
-report_in b n e Tick is h = by_test (is_open e.role)
-    (λ q. record { got = tt; tries = rw q (few_tries e.shdlc h.end.ranged); sync = rw q tt })
-    (λ q. let step = step_in b e.role ActTick tt h.role in record { got = tt; tries = rw q step.out.tries; sync = rw q step.out.sync })
+report_in b n e Tick is h = grind arith
 report_in b n e (Reset window) is h = record { got = tt; tries = tt; sync = tt }
 report_in b n e (Start value) is h = record { got = tt; tries = tt; sync = (step_in b e.role (ActStart value) is h.role).out.sync }
 report_in b n e Stop is h = record { got = tt; tries = tt; sync = (step_in b e.role ActStop tt h.role).out.sync }

@@ -1,24 +1,22 @@
 -- All that is told of a history of nodes, of its lines and of rounds is in its range, by bounds of RSETs and acknowledged fragments.
 use Rattle.std.proofs.lemmas.List.Elements.{recursion_from_All}
-use Rattle.told_laws.proofs.Words.{All, AllByRecursion, AllKeep, AreAckedWithin, AreHosts, AreSaidTables, AreTables, Bool, Boots, Contains, End, Entry}
-use Rattle.told_laws.proofs.Words.{FewRsets, FewRsetsOnEach, Full, Happening, HciTables, Header, IfRuns, IsByte, IsEndOf, IsFew, IsHost, IsNodeHeader}
-use Rattle.told_laws.proofs.Words.{IsNodeLineOf, IsNodeOf, IsSaidValue, IsSound, Line, Link, LinkEnd, LinkState, List, LostFor, MayAllHappen, MayHappen}
-use Rattle.told_laws.proofs.Words.{Message, NoCause, NodeWorld, None, NotUp, Occurrence, OnWire, Option, Refused, RegValue, Running, Same, Site, SiteKeeps}
-use Rattle.told_laws.proofs.Words.{Some, Takes, Ticks, TooLong, Undetected, Up, Verdict, [], all_happen, all_mapped, amid_round, ap, append-nil, append_assoc}
-use Rattle.told_laws.proofs.Words.{arith, as_noted, by_test, can_happen, commands_in, cond, cond_both, each-append, each_amid, each_longer, each_rounds, end_c}
-use Rattle.told_laws.proofs.Words.{end_h, end_takes_all, ends_in_order, ends_take_all, entries_in, false, few_behind_step, few_front, first_cause, first_none}
-use Rattle.told_laws.proofs.Words.{first_verdict, flat_map, flat_map-append, frame_of, frames_at, give_refusal, happenings, happens_by, header_hosts, if_empty}
-use Rattle.told_laws.proofs.Words.{if_not_sent, if_off, if_out_of_reach, if_waiting, inl, inr, is_running, length, length-replicate, length-rows, link_to}
-use Rattle.told_laws.proofs.Words.{lpdu_of, ltb-false, machine_in, nat_lt, need, node_fits, node_of, pid_of, place_of_value, refl, refusal_in, replicate}
-use Rattle.told_laws.proofs.Words.{reset_refusal, rsets_by, spare, static_place, subst, suc, sym, sync_host, taken_of, true, true≢false, unwrap_or, world_goes}
-use Rattle.told_laws.proofs.Words.{world_round, world_step, zero, ℕ, ◌*◌, ◌++◌, ◌+◌, ◌-◌, ◌<◌, ◌^◌, ◌∙◌, ◌∷◌, ◌≡◌, ◌≤◌}
+use Rattle.told_laws.proofs.Words.{All, AllByRecursion, AllKeep, AreAckedWithin, AreHosts, AreSaidTables, AreTables, Bool, End, Entry, FewRsets, FewRsetsOnEach}
+use Rattle.told_laws.proofs.Words.{Happening, HciTables, Header, IfRuns, IsByte, IsEndOf, IsFew, IsHost, IsNodeHeader, IsNodeLineOf, IsNodeOf, IsSaidValue}
+use Rattle.told_laws.proofs.Words.{IsSound, Line, Link, LinkEnd, List, MayAllHappen, MayHappen, Message, NoCause, NodeWorld, None, Occurrence, OnWire, Option}
+use Rattle.told_laws.proofs.Words.{Refused, RegValue, Running, Site, SiteKeeps, Some, Takes, Ticks, Verdict, [], all_happen, all_mapped, amid_round, ap}
+use Rattle.told_laws.proofs.Words.{append-nil, append_assoc, arith, as_noted, by_test, can_happen, commands_in, cond_both, each-append, each_amid, each_longer}
+use Rattle.told_laws.proofs.Words.{each_rounds, end_c, end_h, end_takes_all, ends_in_order, ends_take_all, entries_in, false, few_behind_step, few_front}
+use Rattle.told_laws.proofs.Words.{first_cause, first_none, first_verdict, flat_map, flat_map-append, frame_of, frames_at, give_refusal, happenings, happens_by}
+use Rattle.told_laws.proofs.Words.{header_hosts, if_not_sent, if_off, if_out_of_reach, if_waiting, inr, is_running, length, length-replicate, length-rows}
+use Rattle.told_laws.proofs.Words.{link_to, lpdu_of, machine_in, node_fits, node_of, pid_of, place_of_value, refl, refusal_in, replicate, rsets_by}
+use Rattle.told_laws.proofs.Words.{static_place, subst, suc, sym, sync_host, taken_of, true, unwrap_or, world_goes, world_round, world_step, zero, ℕ, ◌*◌, ◌++◌}
+use Rattle.told_laws.proofs.Words.{◌+◌, ◌-◌, ◌<◌, ◌^◌, ◌∙◌, ◌∷◌, ◌≡◌, ◌≤◌}
 use Rattle.node_laws.specs.acked.InTurn.{IsAckedWithin}
 use Rattle.node_laws.specs.kept.Books.{AreToldBehind, IsTold}
-use Rattle.node_machine.specs.world.NodeLegal.{FindsCommands}
 use Rattle.told_laws.proofs.nodes.Commands.{AreIn, AreTablesIn, IsValueIn, LinkIn, all_in_more, in-append, line_lpdu, tables_read_in}
 use Rattle.told_laws.proofs.nodes.Happenings.{HappensIn, IfTables, IsSiteIn, IsWorldIn, WorldHas, happens_in, link_there, world_more}
 use Rattle.told_laws.proofs.nodes.Machines.{AreBytes, IsLineFrame, SideIn}
-use Rattle.told_laws.proofs.told.BarePlays.{IfCause, all_each, beyond_in, each_all, empty_in, frame_few, give_in, reset_in, top}
+use Rattle.told_laws.proofs.told.BarePlays.{IfCause, all_each, beyond_in, each_all, frame_few, give_in, top}
 use Rattle.told_laws.proofs.told.Links.{WireIs, so_within}
 use Rattle.trace_model.specs.declared.entry.Entry.TheVariants as entry
 use Rattle.trace_model.specs.declared.entry.NoCause.TheVariants as no
@@ -29,14 +27,7 @@ use Rattle.trace_model.specs.declared.line.Line.TheVariants as line
 -- ### An end
 
 side_within : (b : Bool) (n m : ℕ) (e : LinkEnd) → SideIn b n e → e.shdlc.session.acked ≤ m → SideIn b m e
-side_within b n m e h low =
-    record {
-      role = h.role;
-      end = record { ranged = h.end.ranged; heard = record { acc = h.end.heard.acc; acked = low } };
-      sent = h.sent;
-      acts = h.acts;
-      got = h.got;
-    }
+side_within b n m e h low = grind arith
 
 -- ### A link
 
@@ -88,14 +79,8 @@ IsCounted (entry.AnyOk node count) = count < 2 ^ 32
 IsCounted (entry.Booted node count) = count < 2 ^ 32
 IsCounted x = Unit {0}
 
-finds_few : (t : List Entry) (node k : ℕ) → length (commands_in t node) ≤ 2 ^ 32 - 1 → FindsCommands t node k → k < 2 ^ 32
-finds_few t node k few (inl all) = omega (arith, few, all)
-finds_few t node k few (inr but) = let one = but.0 in omega (arith, few, one)
-
 one_counted : (t : List Entry) (x : Entry) → ((n : ℕ) → length (commands_in t n) ≤ 2 ^ 32 - 1) → IsTold t x → IsCounted x
-one_counted t (entry.AnyOk node k) few told = omega (arith, told)
-one_counted t (entry.Booted node k) few told = finds_few t node k (few node) told
-one_counted t _ few told = tt
+one_counted t x few told = grind arith
 
 all_counted : (es t : List Entry) → AreToldBehind t es → IsFew (t ++ es) → AllByRecursion IsCounted es
 all_counted [] t told few = tt
@@ -116,8 +101,7 @@ IfFull None = Unit {0}
 IfFull (Some r) = IsFull r
 
 has_tables : (o : Option Running) → IfFull o → IfTables o
-has_tables None h = tt
-has_tables (Some r) h = record { tables = h.tables; rows = h.sorted.rows }
+has_tables o h = grind arith
 
 -- one thing happens and then the others, or none can
 first_happens : (c : Happening) (causes : List Happening) (w : NodeWorld) → can_happen w c ≡ true
@@ -167,8 +151,7 @@ module _ (hosts : List ℕ) (are : AreHosts hosts) where
   -- ### Events
 
   rsets_by_few : (c : Happening) → rsets_by c ≤ 26
-  rsets_by_few (Boots k) = omega arith
-  rsets_by_few _ = omega arith
+  rsets_by_few c = grind arith
 
   event_in : (n : ℕ) (t : List Entry) (w : NodeWorld) (c : Happening) → HappensIn c → MayHappen w c → Stands n t w → n + 26 ≤ top
       → IsFew (t ++ (world_step w c).1) → Stands (n + 26) (t ++ (world_step w c).1) (world_step w c).0
@@ -220,8 +203,7 @@ module _ (hosts : List ℕ) (are : AreHosts hosts) where
           → IsFew (u ++ entries_in (all_happen v causes).1) → Stands (m + 26 * length causes) (u ++ entries_in (all_happen v causes).1) (all_happen v causes).0)
           → Fine (all_happen w (c ∷ causes))
       go true e rest =
-          let all_few : IsFew (t ++ (next.1 ++ entries_in later.1)) =
-          subst (λ (p : NodeWorld × List Occurrence). IsFew (t ++ entries_in p.1)) (first_happens c causes w e) few in
+          let all_few : IsFew (t ++ (next.1 ++ entries_in later.1)) = grind arith in
           let apart : IsFew ((t ++ next.1) ++ entries_in later.1) = subst IsFew (sym (append_assoc t next.1 (entries_in later.1))) all_few in
           let first = event_in n t w c is.0 may.0 s (omega (arith, small)) (few_front (t ++ next.1) (entries_in later.1) apart) in
           let all = rest (t ++ next.1) (n + 26) next.0 may.1 first (omega (arith, small)) apart in
@@ -240,9 +222,6 @@ module _ (hosts : List ℕ) (are : AreHosts hosts) where
 link_low : (header : Header) → IsNodeHeader header → (e : End) → IsEndOf header e → e.link ≤ 7
 link_low header nodes e known = (subst IsHost known.2 (header_hosts header (inr nodes) known.0 e.link known.1)).1
 
-host_low : (header : Header) → IsNodeHeader header → (h : ℕ) → Contains header.hosts.items h → h ≤ 7
-host_low header nodes h known = (subst IsHost known.2 (header_hosts header (inr nodes) known.0 h known.1)).1
-
 pub number_low : (header : Header) → IsNodeHeader header → (k : ℕ) → IsNodeOf header.hosts.items k → k ≤ 7
 number_low header nodes k known = node_fits header.hosts.items k (header_hosts header (inr nodes)) known
 
@@ -250,33 +229,17 @@ number_low header nodes k known = node_fits header.hosts.items k (header_hosts h
 
 -- a message that isn't refused isn't too long
 unrefused_short : (e : LinkEnd) (m : Message) → give_refusal e m ≡ None → length m.1 ≤ 4096
-unrefused_short e m q = go e.shdlc.phase refl
-  where
-    by_tests : (a b : Bool) → nat_lt 4096 (length m.1) ≡ a
-        → cond a (Some (TooLong (length m.1))) (cond b (Some (Full (need m.1) (spare e))) None) ≡ None → length m.1 ≤ 4096
-    by_tests true b z none = absurd (cc none)
-    by_tests false b z none = ltb-false 4096 (length m.1) z
-
-    go : (p : LinkState) → e.shdlc.phase ≡ p → length m.1 ≤ 4096
-    go Up z = by_tests (nat_lt 4096 (length m.1)) (nat_lt (spare e) (need m.1)) refl (rw z at q)
-    go _ z = absurd (let none : Some NotUp ≡ None = rw z at q in cc none)
+unrefused_short e m q = grind arith
 
 none_waits : (waits : Bool) (o : Option Refused) → if_waiting waits o ≡ None → o ≡ None
-none_waits b (Some NotUp) q = absurd (cc q)
-none_waits true None q = absurd (cc q)
-none_waits true (Some _) q = absurd (cc q)
-none_waits false None q = refl
-none_waits false (Some _) q = absurd (cc q)
+none_waits waits o q = grind arith
 
 repeated_in : (c : Happening) → HappensIn c → (k : ℕ) → AllByRecursion HappensIn (replicate k c)
 repeated_in c is zero = tt
 repeated_in c is (suc k) = (is, repeated_in c is k)
 
 damaged_in : (e : End) → e.link ≤ 7 → (v : Option Verdict) → AllByRecursion HappensIn (happens_by e v)
-damaged_in e small None = tt
-damaged_in e small (Some Same) = (small, tt)
-damaged_in e small (Some (LostFor why)) = (small, tt)
-damaged_in e small (Some (Undetected read)) = tt
+damaged_in e small v = grind arith
 
 pipes_in : (pipes : List (List ℕ)) → AllByRecursion (λ (pipe : List ℕ). (length pipe ≡ 3) × All IsByte pipe) pipes
     → AllByRecursion (λ (pipe : List ℕ). AreBytes pipe × (length pipe ≤ 4000)) pipes
@@ -310,8 +273,7 @@ module _ (header : Header) (nodes : IsNodeHeader header) where
   caused_in w (line.Reset e (Some window)) is none = ((link_low header nodes e is.0, is.1.1), tt)
   caused_in w (line.Boot node) is none = (number_low header nodes node is, tt)
   caused_in w (line.Cut node) is none = (number_low header nodes node is, tt)
-  caused_in w (line.Activate host sync power) is none =
-      let code = is.code in ((host_low header nodes host is.known, is.identifier, omega (arith, code)), tt)
+  caused_in w (line.Activate host sync power) is none = grind arith
   caused_in w (line.Arm node nth fill) is none = (tt, tt)
   caused_in w (line.Init e identity pipes) is none =
       let long = is.long in (
@@ -335,12 +297,10 @@ module _ (header : Header) (nodes : IsNodeHeader header) where
       l = link_there n w.sites e.link is.sites
 
   few_taken : (count : Option ℕ) (w : List OnWire) → length w ≤ 64 → taken_of count w ≤ 64
-  few_taken None w few = few
-  few_taken (Some k) w few = omega (arith, few)
+  few_taken count w few = grind arith
 
   few_damaged : (e : End) (v : Option Verdict) → length (happens_by e v) ≤ 100
-  few_damaged e (Some Same) = omega arith
-  few_damaged e _ = omega arith
+  few_damaged e v = grind arith
 
   pub few_caused : (n : ℕ) (w : NodeWorld) (l : Line) → IsNodeLineOf header l → IsWorldIn n w → length (happenings w l) ≤ 100
   few_caused n w (line.Deliver e count) is h =
@@ -354,18 +314,13 @@ module _ (header : Header) (nodes : IsNodeHeader header) where
 -- ### Refusals
 
 first_in : (a b : Option NoCause) → IfCause a → IfCause b → IfCause (first_cause a b)
-first_in None b p q = q
-first_in (Some why) b p q = p
+first_in a b p q = grind arith
 
 off_in : (w : NodeWorld) (n : ℕ) → IfCause (if_off w n)
 off_in w n = cond_both (is_running w n) None (Some no.Off) IfCause (λ _. tt) (λ _. tt)
 
 waiting_in : (waits : Bool) (o : Option Refused) → IfCause (as_noted o) → IfCause (if_waiting waits o)
-waiting_in b (Some NotUp) h = tt
-waiting_in true None h = tt
-waiting_in true (Some _) h = tt
-waiting_in false None h = h
-waiting_in false (Some _) h = h
+waiting_in waits o h = grind arith
 
 sent_in : (w : NodeWorld) (e : End) (m : Message) → IfCause (if_not_sent w e m)
 sent_in w e m = waiting_in _ (give_refusal (machine_in w e) m) (give_in (machine_in w e) m)
@@ -379,20 +334,16 @@ module _ (header : Header) (nodes : IsNodeHeader header) where
   pub refused_in : (n : ℕ) (w : NodeWorld) (l : Line) → IsWorldIn n w → IfCause (refusal_in w l)
   refused_in n w (line.Send e pid message) h =
       first_in (if_off w (node_of e)) (if_not_sent w e (pid, message)) (off_in w (node_of e)) (sent_in w e (pid, message))
-  refused_in n w (line.Deliver e count) h =
-      first_in (if_off w (node_of e)) (if_empty (frames_at w e)) (off_in w (node_of e)) (empty_in (frames_at w e))
-  refused_in n w (line.Lose e) h =
-      first_in (if_off w (node_of e)) (if_empty (frames_at w e)) (off_in w (node_of e)) (empty_in (frames_at w e))
+  refused_in n w (line.Deliver e count) h = grind arith
+  refused_in n w (line.Lose e) h = grind arith
   refused_in n w (line.Damage e places) h =
       first_in (if_off w (node_of e)) (if_out_of_reach (frames_at w e) places.items) (off_in w (node_of e))
       (reach_in n (frames_at w e) places.items (wire_at header nodes n w h e))
-  refused_in n w (line.Reset e window) h =
-      first_in (if_off w (node_of e)) (as_noted (reset_refusal (machine_in w e))) (off_in w (node_of e)) (reset_in (machine_in w e))
+  refused_in n w (line.Reset e window) h = grind arith
   refused_in n w (line.Boot node) h = by_test (is_running w node) (λ q. rw q tt) (λ q. rw q tt)
   refused_in n w (line.Cut node) h = off_in w node
   refused_in n w (line.Activate host sync power) h = first_in (if_off w 0) (if_off w host) (off_in w 0) (off_in w host)
-  refused_in n w (line.Init e identity pipes) h =
-      first_in (if_off w (node_of e)) (if_not_sent w e (1, 3 ∷ [])) (off_in w (node_of e)) (sent_in w e (1, 3 ∷ []))
+  refused_in n w (line.Init e identity pipes) h = grind arith
   refused_in n w (line.Tables node) h = off_in w node
   refused_in n w _ h = tt
 
@@ -430,9 +381,7 @@ one_taken_more (suc k) w e q = by_test (can_happen w (Takes e))
     ap (λ (u : NodeWorld). (world_step u (Takes e)).0) same
     ∙ (one_taken_more k v e can
     ∙ sym (ap (λ (p : NodeWorld × List Occurrence). p.0) (first_happens (Takes e) (replicate (suc k) (Takes e)) w is))))
-    (λ is. let same : after_taken w e (suc k) ≡ w =
-    ap (λ (p : NodeWorld × List Occurrence). p.0) (none_happens (Takes e) (replicate k (Takes e)) w is) in
-    absurd (true≢false (sym q ∙ (ap (λ (u : NodeWorld). can_happen u (Takes e)) same ∙ is))))
+    (λ is. grind arith)
   where
     v : NodeWorld
     v = (world_step w (Takes e)).0
@@ -490,8 +439,7 @@ module _ (hosts : List ℕ) (are : AreHosts hosts) where
               → Fine (all_happen v (replicate (suc r) (Takes e)))
           go true q rest =
               let on = first_happens (Takes e) (replicate r (Takes e)) v q in
-              let all_few : IsFew (t ++ (next.1 ++ entries_in later.1)) =
-              subst (λ (p : NodeWorld × List Occurrence). IsFew (t ++ entries_in p.1)) on few in
+              let all_few : IsFew (t ++ (next.1 ++ entries_in later.1)) = grind arith in
               let apart : IsFew ((t ++ next.1) ++ entries_in later.1) = subst IsFew (sym (append_assoc t next.1 (entries_in later.1))) all_few in
               let can : can_happen (amid_round w front e k) (Takes e) ≡ true = ap (λ (u : NodeWorld). can_happen u (Takes e)) (sym is) ∙ q in
               let same : next.0 ≡ amid_round w front e (suc k) =
@@ -521,8 +469,7 @@ module _ (hosts : List ℕ) (are : AreHosts hosts) where
         let parts : t ++ entries_in (taken.1 ++ later.1) ≡ (t ++ es) ++ entries_in later.1 =
         ap (λ (u : List Entry). t ++ u) both ∙ sym (append_assoc t es (entries_in later.1)) in
         let apart : IsFew ((t ++ es) ++ entries_in later.1) = subst IsFew parts few in
-        let long : length (frames_at v e) ≤ length (frames_at (ends_take_all w front).0 e) =
-        subst (λ (u : NodeWorld). length (frames_at v e) ≤ length (frames_at u e)) is (omega arith) in
+        let long : length (frames_at v e) ≤ length (frames_at (ends_take_all w front).0 e) = grind arith in
         let first : Stands hosts are (n + 4) (t ++ es) taken.0 =
         takes_in front ends e order low.0 (length (frames_at v e)) 0 t v is (omega (arith, long)) s (few_front (t ++ es) (entries_in later.1) apart) in
         let goes_on : taken.0 ≡ (ends_take_all w (front ++ e ∷ [])).0 =

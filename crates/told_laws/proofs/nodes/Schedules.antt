@@ -5,12 +5,12 @@ use Rattle.told_laws.proofs.Words.{LineOutcome, LineStep, List, MayAllHappen, Ma
 use Rattle.told_laws.proofs.Words.{OnWire, Option, Play, Round, Running, Said, Site, Some, Takes, Ticks, [], after-append, all_happen, all_joined, all_map}
 use Rattle.told_laws.proofs.Words.{all_mapped, ap, append-nil, append_assoc, arith, by_test, cond_both, each-append, end_takes_all, ends_in_order}
 use Rattle.told_laws.proofs.Words.{ends_take_all, entries_below, entries_in, eqb, false, few_front, few_in_new_world, flat_map, flat_map-append, for_with}
-use Rattle.told_laws.proofs.Words.{frames_at, goes_on, happenings, hosts_stay, hosts_stay_behind, if◌then◌else◌, inr, is_clear, is_running, is_settling, length}
-use Rattle.told_laws.proofs.Words.{line_may, line_step, lines_asking, lines_may_be_played, lines_of_play, lines_played, lines_said, new_site, new_world}
-use Rattle.told_laws.proofs.Words.{node_at, node_of, nodes_behind, not, noted_below, occurrences_of, played-append, played_more, refl, refusal_in, replicate}
-use Rattle.told_laws.proofs.Words.{round_behind, round_in, round_is, round_known, round_lines, round_told, rounds_played, said-append, site_at, sound_new}
-use Rattle.told_laws.proofs.Words.{steps_from, subst, suc, sym, tables_told, takes_so, taking_in, told-append, told_in, true, true≢false, world_after}
-use Rattle.told_laws.proofs.Words.{world_round, zero, ℕ, ◌&&◌, ◌*◌, ◌++◌, ◌+◌, ◌∙◌, ◌∷◌, ◌≡◌, ◌≤◌}
+use Rattle.told_laws.proofs.Words.{frames_at, goes_on, happenings, hosts_stay, hosts_stay_behind, if◌then◌else◌, inr, is_clear, is_running, length, line_may}
+use Rattle.told_laws.proofs.Words.{line_step, lines_asking, lines_may_be_played, lines_of_play, lines_played, lines_said, new_site, new_world, node_at, node_of}
+use Rattle.told_laws.proofs.Words.{nodes_behind, not, noted_below, occurrences_of, played-append, played_more, refl, refusal_in, replicate, round_behind}
+use Rattle.told_laws.proofs.Words.{round_in, round_is, round_known, round_lines, round_told, rounds_played, said-append, site_at, sound_new, steps_from, subst}
+use Rattle.told_laws.proofs.Words.{sym, tables_told, takes_so, taking_in, told-append, told_in, true, world_after, world_round, ℕ, ◌&&◌, ◌*◌, ◌++◌, ◌+◌, ◌∙◌}
+use Rattle.told_laws.proofs.Words.{◌∷◌, ◌≡◌, ◌≤◌}
 use Rattle.trace_model.specs.declared.entry.Entry.TheVariants as entry
 use Rattle.trace_model.specs.declared.line.Line.TheVariants as line
 use Rattle.told_laws.proofs.texts.ShownLemmas.{said_in}
@@ -18,7 +18,7 @@ use Rattle.node_machine.specs.world.Lines.LineOutcome.{WasRefused, Occurred}
 use Rattle.node_laws.proofs.kept.Ticking.{all_begin}
 use Rattle.node_laws.proofs.links.Worlds.{world_fine}
 use Rattle.node_laws.proofs.bounds.Paying.{asking-append, asking_few}
-use Rattle.node_laws.proofs.schedules.Ranges.{hosts_are, in_range, playable, sent_by_hosts}
+use Rattle.node_laws.proofs.schedules.Ranges.{hosts_are, playable, sent_by_hosts}
 use Rattle.node_laws.proofs.schedules.Few.{are_few}
 use Rattle.told_laws.specs.told.NodesTold.{line_told, nodes_told}
 use Rattle.told_laws.proofs.told.BarePlays.{IfCause, back_each, each_all, front_each, lines_from, played_from, top}
@@ -38,8 +38,7 @@ AreToldIn t = AllByRecursion IsToldIn t
 told_entry : (x : Entry) → IsToldIn x → IsEntry x
 told_entry (entry.Up at session) h = let a = h.0.1 in (h.0.0, omega (arith, a))
 told_entry (entry.GaveUp at tries) h = let a = h.0.1 in (h.0.0, omega (arith, a))
-told_entry (entry.Acked at session count) h =
-    let a = h.0.1 in let b = h.0.2 in (h.0.0, omega (arith, a), omega (arith, b))
+told_entry (entry.Acked at session count) h = grind arith
 told_entry (entry.Sent at session pid message) h =
     let a = h.0.1 in
     let pipe = h.0.2.pipe in
@@ -183,18 +182,12 @@ module _ (header : Header) (nodes : IsNodeHeader header) where
       taken_if runs frames = if runs && not (is_clear frames) then line.Deliver e None ∷ [] else []
 
       none_taken : (k : ℕ) → is_running w (node_of e) ≡ false → all_happen w (replicate k (Takes e)) ≡ (w, [])
-      none_taken zero q = refl
-      none_taken (suc k) q = rw q refl
+      none_taken k q = grind arith
 
       go : (runs : Bool) (frames : List OnWire) → is_running w (node_of e) ≡ runs → frames_at w e ≡ frames
           → entries_behind w (taking_in w e) ≡ entries_in (end_takes_all w e).1
-      go false frames p q =
-          let line : taking_in w e ≡ [] = ap (λ (b : Bool). taken_if b (frames_at w e)) p in
-          ap (entries_behind w) line ∙ sym (ap (λ (r : NodeWorld × List Occurrence). entries_in r.1) (none_taken (length (frames_at w e)) p))
-      go true [] p q =
-          let line : taking_in w e ≡ [] = ap (λ (b : Bool). taken_if b (frames_at w e)) p ∙ ap (taken_if true) q in
-          let taken : end_takes_all w e ≡ (w, []) = ap (λ (xs : List OnWire). all_happen w (replicate (length xs) (Takes e))) q in
-          ap (entries_behind w) line ∙ sym (ap (λ (r : NodeWorld × List Occurrence). entries_in r.1) taken)
+      go false frames p q = grind arith
+      go true [] p q = grind arith
       go true (x ∷ xs) p q =
           let said : Line = line.Deliver e None in
           let some : taking_in w e ≡ said ∷ [] = ap (λ (b : Bool). taken_if b (frames_at w e)) p ∙ ap (taken_if true) q in
@@ -231,8 +224,7 @@ module _ (header : Header) (nodes : IsNodeHeader header) where
       round_stands hosts (hosts_are header nodes) n t w sound small s (subst (λ (u : List Entry). IsFew (t ++ u)) same few) in
       let world : world_after w lines ≡ (world_round w).0 = ap (world_after w) is ∙ round_is w in
       record {
-        stands = subst (λ (u : List Entry). StandsIn (n + 6) (t ++ u) (world_after w lines)) (sym same)
-            (subst (StandsIn (n + 6) (t ++ es)) (sym world) round);
+        stands = grind arith;
         told = subst AreToldIn (sym (ap (told_in w) is ∙ round_told w))
             (all_joined Entry (IsIn top) IsCounted es (back_each (IsIn top) t es round.noted) (back_each IsCounted t es round.counted));
       }
@@ -240,9 +232,7 @@ module _ (header : Header) (nodes : IsNodeHeader header) where
   -- ## Plays
 
   node_line : (l : Line) → IsPlayedLine header l → IsNodeLineOf header l
-  node_line l may =
-      in_range header l may.may_follow
-      (λ rounds q. absurd (true≢false (let settles : is_settling l ≡ true = ap is_settling q in sym settles ∙ may.settles_not)))
+  node_line l may = grind arith
 
   plays_lines : (plays : List Play) → AllByRecursion (IsPlayFor header) plays → AreNodeLinesOf header (lines_played header plays)
   plays_lines plays may =
@@ -264,19 +254,11 @@ module _ (header : Header) (nodes : IsNodeHeader header) where
   play_in n t before (Said l) may is s small few =
       let line : IsNodeLineOf header l = node_line l may in
       let one = said_play n t (nodes_behind header before) l line (sent_by_hosts header (l ∷ []) nodes (line, tt)).0 s (omega (arith, small)) few in
-      record {
-        stands = stands_more hosts (hosts_are header nodes) (n + 2600) (n + (2600 * 1 + 6 * 0)) _ (line_step (nodes_behind header before) l).0
-            (omega arith) one.stands;
-        told = one.told;
-      }
+      grind arith
   play_in n t before Round may is s small few =
       let w : NodeWorld = nodes_behind header before in
       let one = round_play n t w (round_behind header before) (round_lines header nodes.nodes before) (sound_behind before is) s (omega (arith, small)) few in
-      record {
-        stands = stands_more hosts (hosts_are header nodes) (n + 6) (n + (2600 * 0 + 6 * 1)) _ (world_after w (round_behind header before))
-            (omega arith) one.stands;
-        told = one.told;
-      }
+      grind arith
 
   plays_told : (plays before : List Play) (n : ℕ) → AllByRecursion (IsPlayFor header) before → AllByRecursion (IsPlayFor header) plays
       → StandsIn n (entries_behind w0 (lines_played header before)) (nodes_behind header (lines_played header before))
@@ -304,9 +286,7 @@ module _ (header : Header) (nodes : IsNodeHeader header) where
       let rounds = played-append (p ∷ []) plays in
       let one : PlayIn (n + now) t w lp =
       play_in n t lb p may.0 (plays_lines before so) s (omega (arith, small, said, rounds)) (subst IsFew told front) in
-      let stands : StandsIn (n + now) (entries_behind w0 (lines_played header after)) (nodes_behind header (lines_played header after)) =
-      subst (λ (u : List Entry). StandsIn (n + now) u (nodes_behind header (lines_played header after))) (sym told)
-      (subst (StandsIn (n + now) (t ++ entries_behind w lp)) (sym world) one.stands) in
+      let stands : StandsIn (n + now) (entries_behind w0 (lines_played header after)) (nodes_behind header (lines_played header after)) = grind arith in
       let later : AreToldIn (told_in (nodes_behind header (lines_played header after)) (lines_from header after plays)) =
       plays_told plays after (n + now) (for_with header before p so may.0) may.1 stands (omega (arith, small, said, rounds)) whole in
       subst AreToldIn (sym (told-append lp (lines_from header after plays) w))

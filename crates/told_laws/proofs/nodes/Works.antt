@@ -1,14 +1,13 @@
 -- A node in a step, whatever comes to it: its ends, what it keeps and what it notes are in their ranges.
 use Rattle.told_laws.proofs.Words.{About, AllByRecursion, Asks, AtEnd, Bool, Command, Commits, Core, Deed, Desk, Drops, Ends, Entry, FetchMessage, Give, GoesOn}
-use Rattle.told_laws.proofs.Words.{Hears, Hold, IsAnswered, IsByte, LinkEnd, LinkInput, List, Message, NodeInput, None, Notice, Option, Orders, Port, Release}
-use Rattle.told_laws.proofs.Words.{Releases, Reset, SaysOk, Sends, SetAside, SetsErrors, Side, Some, Sync, Tells, TimePasses, Turn, Work, [], after_input}
-use Rattle.told_laws.proofs.Words.{after_sessions, after_turn, all_changed, all_come, all_done, all_map, all_mapped, all_owed, all_owed_hold, answer_of}
-use Rattle.told_laws.proofs.Words.{answers_and_passes, arith, asked_at, by_option, by_test, commit, cond_both, creation_in, done, each-append, end_of_node, eqb}
-use Rattle.told_laws.proofs.Words.{eqb-true, fails_within, false, flat_map, forgets, forgotten, forgotten_hold, give_refusal, has_come, input_at, is_forgotten}
-use Rattle.told_laws.proofs.Words.{is_late, is_over, lack, length, list_any, map, nat_lt, need, needs, noted_of, notified, noting, older_notice, option_map_or}
-use Rattle.told_laws.proofs.Words.{own_side, port_at, refl, report, reset_late, sent_unless, spare, steps, subst, synced, times_out, told, told_at, told_late}
-use Rattle.told_laws.proofs.Words.{true, turn_at, turn_entry, unless_cut, whole_acked, with_desk, with_older, with_port, without_notice, ℕ, ◌++◌, ◌+◌, ◌<◌}
-use Rattle.told_laws.proofs.Words.{◌==◌, ◌∷◌, ◌≡◌, ◌≤◌}
+use Rattle.told_laws.proofs.Words.{Hears, Hold, IsAnswered, IsByte, LinkEnd, LinkInput, List, Message, NodeInput, None, Option, Orders, Port, Release, Releases}
+use Rattle.told_laws.proofs.Words.{Reset, SaysOk, Sends, SetAside, SetsErrors, Side, Some, Tells, TimePasses, Turn, Work, [], after_input, after_sessions}
+use Rattle.told_laws.proofs.Words.{after_turn, all_changed, all_come, all_done, all_map, all_mapped, all_owed, all_owed_hold, answer_of, answers_and_passes}
+use Rattle.told_laws.proofs.Words.{arith, by_option, by_test, commit, cond_both, creation_in, done, each-append, end_of_node, eqb, eqb-true, fails_within}
+use Rattle.told_laws.proofs.Words.{false, flat_map, forgets, forgotten, forgotten_hold, has_come, input_at, is_late, lack, length, map, nat_lt, need, needs}
+use Rattle.told_laws.proofs.Words.{noted_of, notified, noting, option_map_or, own_side, port_at, refl, report, reset_late, spare, steps, subst, synced}
+use Rattle.told_laws.proofs.Words.{times_out, told, told_at, told_late, true, turn_at, turn_entry, unless_cut, whole_acked, with_desk, with_older, with_port}
+use Rattle.told_laws.proofs.Words.{without_notice, ℕ, ◌++◌, ◌+◌, ◌<◌, ◌==◌, ◌∷◌, ◌≡◌, ◌≤◌}
 use Rattle.trace_model.specs.declared.entry.Entry.TheVariants as entry
 use Rattle.hci_tables.specs.Bodies.{body_of}
 use Rattle.hci_store.specs.Committing.{commit_writes}
@@ -16,8 +15,8 @@ use Rattle.node_machine.specs.Parts.About.{Waits, Removed}
 use Rattle.node_machine.specs.Turns.{deeds_of, handles, holds_back, lets_go, have_turns, goes_through_ends, passes}
 use Rattle.node_laws.proofs.steps.StepWalks.{got_at, lets, unless}
 use Rattle.told_laws.proofs.told.BarePlays.{each_all}
-use Rattle.told_laws.proofs.nodes.Machines.{AreMail, AreTurnsIn, IfSync, IsInputIn, IsMail, IsTurnIn, SideIn, acked_in, report_in, side_input, side_more}
-use Rattle.told_laws.proofs.nodes.Machines.{side_reset_at, side_turn}
+use Rattle.told_laws.proofs.nodes.Machines.{AreMail, AreTurnsIn, IfSync, IsInputIn, IsMail, IsTurnIn, SideIn, acked_in, report_in, side_input, side_reset_at}
+use Rattle.told_laws.proofs.nodes.Machines.{side_turn}
 use Rattle.told_laws.proofs.nodes.Commands.{AreIn, AreNotedIn, IsCommandIn, all_entries_in, all_in_more, applied_in, each_in, in-append, rows_applied}
 use Rattle.told_laws.proofs.nodes.Commands.{told_in_range}
 use Rattle.told_laws.proofs.nodes.Hosts.{AreDeedsIn, IfCreation, IsCoreIn, IsDeedIn, IsDeskIn, IsSaying, answer_in, controller_in, host_in, low, own_end}
@@ -41,8 +40,7 @@ pub record IsWorkIn (b : Bool) (n : ℕ) (w : Work) : Type 0 where
   pub entries : AreIn n w.entries
 
 pub port_more : (b : Bool) (n k : ℕ) → n ≤ k → (p : Port) → IsPortIn b n p → IsPortIn b k p
-port_more b n k more p h =
-    let s = h.session in record { desk = h.desk; side = side_more b n k p.side more h.side; session = omega (arith, s, more); turns = h.turns }
+port_more b n k more p h = grind arith
 
 module _ (b : Bool) (n : ℕ) where
   port_in : (h : ℕ) (f : Port → Port) → ((q : Port) → IsPortIn b n q → IsPortIn b n (f q)) → (ports : List Port) → ArePortsIn b n ports
@@ -73,12 +71,8 @@ module _ (b : Bool) (n : ℕ) where
     entries = a.entries;
   }
 
-  given_noted : (who : Side) (session : ℕ) (e : LinkEnd) (m : Message) → session ≤ n → IsMail m → AreNotedIn n (sent_unless (give_refusal e m) who session m)
-  given_noted who session e m few is = by_option (give_refusal e m) (λ q. rw q ((few, is), tt)) (λ why q. rw q tt)
-
   turn_noted : (who : Side) (session : ℕ) (e : LinkEnd) (t : Turn) → session ≤ n → IsTurnIn t → AreNotedIn n (turn_entry who session e t)
-  turn_noted who session e (Give m) few is = given_noted who session e m few is
-  turn_noted who session e _ few is = tt
+  turn_noted who session e t few is = grind arith
 
   turn_in : (h : ℕ) (t : Turn) (w : Work) → IsTurnIn t → IsWorkIn b n w → IsWorkIn b n (turn_at h t w)
   turn_in h t w is a =
@@ -159,28 +153,12 @@ module _ (b : Bool) (n : ℕ) where
       desk_in h (λ d. record d { errors = errors }) w (λ d is. record { host = is.host; creation = is.creation; errors = f.1 }) a
   done_in h (Orders message) w f a =
       turn_in h (Give (1, message)) (record w { core = record w.core { command = Some message } }) (saying 1 message low f.1)
-      (record {
-        core = record { node = a.core.node; tables = a.core.tables; rows = a.core.rows; command = f.1.bytes; init = a.core.init };
-        ports = a.ports;
-        entries = a.entries;
-      })
-  done_in h Hears w f a = record {
-    core = record { node = a.core.node; tables = a.core.tables; rows = a.core.rows; command = tt; init = a.core.init };
-    ports = a.ports;
-    entries = a.entries;
-  }
-  done_in h (GoesOn i) w f a = record {
-    core = record { node = a.core.node; tables = a.core.tables; rows = a.core.rows; command = a.core.command; init = f.1 };
-    ports = a.ports;
-    entries = a.entries;
-  }
+      ((grind arith))
+  done_in h Hears w f a = grind arith
+  done_in h (GoesOn i) w f a = grind arith
   done_in h (Ends e) w f a =
       noting_in (e ∷ []) (record w { core = record w.core { init = None } }) (f.1 n, tt)
-      (record {
-        core = record { node = a.core.node; tables = a.core.tables; rows = a.core.rows; command = a.core.command; init = tt };
-        ports = a.ports;
-        entries = a.entries;
-      })
+      ((grind arith))
 
   -- ## Room
 
@@ -303,18 +281,7 @@ module _ (b : Bool) (n : ℕ) where
   -- ## What comes
 
   older_in : (p : Port) → IsPortIn b n p → IsPortIn b n (with_older p)
-  older_in p a = record { desk = go p.desk.notice refl; side = a.side; session = a.session; turns = a.turns }
-    where
-      aged : (x : Notice) → IfCreation (creation_in (Some x)) → IfCreation (creation_in (Some (older_notice x)))
-      aged x h = by x.about refl
-        where
-          by : (about : About) → x.about ≡ about → IfCreation (creation_in (Some (older_notice x)))
-          by (Waits c) q = rw q (rw q at h)
-          by _ q = rw q tt
-
-      go : (o : Option Notice) → p.desk.notice ≡ o → IsDeskIn (with_older p).desk
-      go None q = record { host = a.desk.host; creation = rw q tt; errors = a.desk.errors }
-      go (Some x) q = let d = a.desk.creation in record { host = a.desk.host; creation = rw q (aged x (rw q at d)); errors = a.desk.errors }
+  older_in p a = grind arith
 
   late_in : (p : Port) → IsPortIn b n p → IsPortIn b n (reset_late p)
   late_in p a =
@@ -342,39 +309,13 @@ module _ (b : Bool) (n : ℕ) where
       (record { core = a.core; ports = all_map (IsPortIn b n) (IsPortIn b n) reset_late late_in ports old; entries = a.entries })
 
   without_in : (p : Port) → IsPortIn b n p → IsPortIn b n (without_notice p)
-  without_in p a =
-      cond_both (is_over p) _ p (IsPortIn b n)
-      (λ _. record {
-        desk = record { host = a.desk.host; creation = tt; errors = a.desk.errors };
-        side = a.side;
-        session = a.session;
-        turns = a.turns;
-      }) (λ _. a)
+  without_in p a = grind arith
 
   forgets_in : (ports : List Port) (p : Port) → IsPortIn b n p → IsPortIn b n (forgets ports p)
-  forgets_in ports p a = go (is_forgotten ports (asked_at p)) p.desk.notice refl refl
-    where
-      go : (c : Bool) (o : Option Notice) → is_forgotten ports (asked_at p) ≡ c → p.desk.notice ≡ o → IsPortIn b n (forgets ports p)
-      go true None q r =
-          rw (q, r) (record {
-            desk = record { host = a.desk.host; creation = tt; errors = a.desk.errors };
-            side = a.side;
-            session = a.session;
-            turns = a.turns;
-          })
-      go true (Some x) q r =
-          rw (q, r) (record {
-            desk = record { host = a.desk.host; creation = tt; errors = a.desk.errors };
-            side = a.side;
-            session = a.session;
-            turns = a.turns;
-          })
-      go false o q r = rw q a
+  forgets_in ports p a = grind arith
 
   after_in : (core : Core) (ports : List Port) → IsCoreIn core → IsCoreIn (after_sessions core ports)
-  after_in core ports a =
-      cond_both (list_any is_over ports) _ core IsCoreIn
-      (λ _. record { node = a.node; tables = a.tables; rows = a.rows; command = tt; init = tt }) (λ _. a)
+  after_in core ports a = grind arith
 
 -- ## Steps
 
@@ -387,8 +328,7 @@ IfInput b None = Unit {0}
 IfInput b (Some i) = IsInputIn b i
 
 if_input : (b : Bool) (input : NodeInput) (p : Port) → IsNodeInputIn b input → IfInput b (input_at input p)
-if_input b (AtEnd h i) p is = cond_both (p.desk.host == h) (Some i) None (IfInput b) (λ _. is) (λ _. tt)
-if_input b TimePasses p is = tt
+if_input b input p is = grind arith
 
 module _ (b : Bool) (n : ℕ) where
   come_port : (p : Port) (o : Option LinkInput) → IfInput b o → IsPortIn b n p → IsPortIn b (n + 8) (has_come p o)
@@ -429,8 +369,7 @@ module _ (b : Bool) (n : ℕ) where
         by None id_in e = rw (q, e) tt
         by (Some id) id_in e =
             let small = a.desk.host in
-            rw (q, e) (cond_both _ (Commits (Sync p.desk.host id) ∷ []) [] AreDeedsIn
-            (λ _. (record { said = (omega (arith, small), id_in); short = tt; made = tt }, tt)) (λ _. tt))
+            rw (q, e) (grind arith)
 
   syncs_in : (core : Core) (input : NodeInput) (ports : List Port) → IsNodeInputIn b input → ArePortsIn b n ports
       → AreDeedsIn (flat_map (synced core input) ports)

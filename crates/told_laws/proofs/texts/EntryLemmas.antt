@@ -5,10 +5,9 @@ use Rattle.told_laws.proofs.Words.{All, AreOctets, AreSaidTables, Bool, Cause, C
 use Rattle.told_laws.proofs.Words.{IsLineSaid, IsNumber, IsSaidCommand, IsSaidPipe, IsSaidStatic, IsSaidSync, IsSaidValue, IsTwoBytes, Line, List, LostCause}
 use Rattle.told_laws.proofs.Words.{MayBegin, NoCause, None, Option, PipeRow, RegValue, Some, [], ap, append_assoc, arith, byte_again, byte_text, bytes_again}
 use Rattle.told_laws.proofs.Words.{bytes_eq, cause_words, codes, command_words, cond, count_words, decimal, decimal_injective, down_word, encode_upper}
-use Rattle.told_laws.proofs.Words.{end_again, end_text, end_words, entry_words, false, flat_map, get_or, header_hosts, header_words, hex_or_dash, length}
-use Rattle.told_laws.proofs.Words.{length-append, length-hex, length-map, line_words, lost_word, map, number_words, pipe_line, refl, rows_text, some_is, spaced}
-use Rattle.told_laws.proofs.Words.{state_as_word, static_line, suc, sym, sync_line, true, two_bytes_text, value_line, zero, ℕ, ◌%◌, ◌++◌, ◌/◌, ◌<◌, ◌∙◌, ◌∷◌}
-use Rattle.told_laws.proofs.Words.{◌≡◌, ◌≤◌}
+use Rattle.told_laws.proofs.Words.{end_again, end_text, end_words, entry_words, false, flat_map, header_words, hex_or_dash, length, length-append, length-hex}
+use Rattle.told_laws.proofs.Words.{length-map, line_words, lost_word, map, number_words, pipe_line, refl, rows_text, some_is, spaced, state_as_word}
+use Rattle.told_laws.proofs.Words.{static_line, suc, sym, sync_line, true, two_bytes_text, value_line, ℕ, ◌%◌, ◌++◌, ◌/◌, ◌<◌, ◌∙◌, ◌∷◌, ◌≡◌}
 use Rattle.schedule_text.specs.Values.{byte_value, bytes_value, end_value}
 use Rattle.hci_tables.specs.declared.command.Command.TheVariants as command
 use Rattle.swp_base.specs.declared.link_terms.Cause.TheVariants as why
@@ -29,8 +28,7 @@ other_word : (u v : List ℕ) → bytes_eq u v ≡ false → u ≡ v → ⊥
 other_word u v e h = let same : bytes_eq u v ≡ true = (bytes_eq-Decides u v).1 h in clash (bytes_eq u v) same e
   where
     clash : (t : Bool) → t ≡ true → t ≡ false → ⊥
-    clash true a b = cc
-    clash false a b = cc
+    clash t a b = grind arith
 
 pub other_words : (xs ys : List (List ℕ)) → bytes_eq (head xs) (head ys) ≡ false → xs ≡ ys → ⊥
 other_words xs ys e h = other_word (head xs) (head ys) e (ap head h)
@@ -48,15 +46,7 @@ same_number : (a b : ℕ) → IsNumber a → IsNumber b → decimal a ≡ decima
 same_number a b ra rb h = decimal_injective a b (omega arith) (omega arith) h
 
 same_lost : (a b : LostCause) → lost_word a ≡ lost_word b → a ≡ b
-same_lost lost.Asked lost.Asked h = refl
-same_lost lost.Age lost.Age h = refl
-same_lost lost.Full lost.Full h = refl
-same_lost lost.Length lost.Length h = refl
-same_lost lost.Alignment lost.Alignment h = refl
-same_lost lost.Crc lost.Crc h = refl
-same_lost lost.Broken lost.Broken h = refl
-same_lost lost.Nothing lost.Nothing h = refl
-same_lost a b h = absurd (other_word (lost_word a) (lost_word b) refl h)
+same_lost a b h = grind arith
 
 -- words of the same kind
 same_map : {X Y : Type 0} (f : X → Y) (R : X → Type 0) → ((x y : X) → R x → R y → f x ≡ f y → x ≡ y) → (xs ys : List X) → All R xs → All R ys
@@ -76,12 +66,7 @@ same_maybe (Some n) None ra rb h = cc
 same_maybe (Some n) (Some m) ra rb h = ap Some (same_number n m ra rb cc)
 
 two : (high low : ℕ) → high < 256 → low < 256 → AreOctets (high ∷ low ∷ [])
-two high low a b = (omega arith, go)
-  where
-    go : All IsByte (high ∷ low ∷ [])
-    go zero d within = a
-    go (suc zero) d within = b
-    go (suc (suc k)) d within = absurd (omega arith)
+two high low a b = grind arith
 
 same_two : (a b : ℕ) → IsTwoBytes a → IsTwoBytes b → two_bytes_text a ≡ two_bytes_text b → a ≡ b
 same_two a b ra rb h =
@@ -91,12 +76,7 @@ same_two a b ra rb h =
     omega arith
 
 same_down : (a b : Cause) → down_word a ≡ down_word b → a ≡ b
-same_down why.Asked why.Asked h = refl
-same_down why.NoAnswer why.NoAnswer h = refl
-same_down why.Peer why.Peer h = refl
-same_down why.Act why.Act h = refl
-same_down why.Chain why.Chain h = refl
-same_down a b h = absurd (other_word (down_word a) (down_word b) refl h)
+same_down a b h = grind arith
 
 same_cause : (a b : NoCause) → IsCause a → IsCause b → cause_words a ≡ cause_words b → a ≡ b
 same_cause cause.Off cause.Off ra rb h = refl
@@ -135,11 +115,7 @@ same_value (x ∷ xs) (y ∷ ys) rx ry h = same_bytes (x ∷ xs) (y ∷ ys) (ome
 
 same_row : (a b : PipeRow) → a.opened ≡ b.opened → a.pid ≡ b.pid → a.creator ≡ b.creator → a.creator_gate ≡ b.creator_gate → a.dest ≡ b.dest
     → a.dest_gate ≡ b.dest_gate → a ≡ b
-same_row a b opened pid creator creator_gate dest dest_gate =
-    ap (λ x. record a { opened = x }) opened ∙ ap (λ x. record a { opened = b.opened; pid = x }) pid
-    ∙ ap (λ x. record a { opened = b.opened; pid = b.pid; creator = x }) creator
-    ∙ ap (λ x. record a { opened = b.opened; pid = b.pid; creator = b.creator; creator_gate = x }) creator_gate
-    ∙ ap (λ x. record b { dest = x; dest_gate = a.dest_gate }) dest ∙ ap (λ x. record b { dest_gate = x }) dest_gate
+same_row a b opened pid creator creator_gate dest dest_gate = grind arith
 
 same_command : (a b : Command) → IsSaidCommand a → IsSaidCommand b → command_words a ≡ command_words b → a ≡ b
 same_command (command.Create r) (command.Create s) ra rb h =
@@ -275,10 +251,7 @@ rows_told t =
 -- ### The same words
 
 same_state : (a b : Bool) → state_as_word a ≡ state_as_word b → a ≡ b
-same_state true true h = refl
-same_state true false h = absurd (other_word (codes "opened") (codes "closed") refl h)
-same_state false true h = absurd (other_word (codes "closed") (codes "opened") refl h)
-same_state false false h = refl
+same_state a b h = grind arith
 
 same_pipe : (a b : PipeRow) → IsSaidPipe a → IsSaidPipe b → pipe_words a ≡ pipe_words b → a ≡ b
 same_pipe a b ra rb h =
@@ -298,9 +271,7 @@ same_static a b ra rb h =
     let pid : a.1 ≡ b.1 = same_byte a.1 b.1 ra.1 rb.1 cc in same_pair a b host pid
 
 same_reg_parts : (a b : RegValue) → a.host ≡ b.host → a.gate ≡ b.gate → a.param ≡ b.param → a.value.items ≡ b.value.items → a ≡ b
-same_reg_parts a b host gate param value =
-    ap (λ x. record a { host = x }) host ∙ ap (λ x. record a { host = b.host; gate = x }) gate
-    ∙ ap (λ x. record a { host = b.host; gate = b.gate; param = x }) param ∙ ap (λ xs. record b { value = record { items = xs } }) value
+same_reg_parts a b host gate param value = grind arith
 
 same_reg : (a b : RegValue) → IsSaidValue a → IsSaidValue b → value_words a ≡ value_words b → a ≡ b
 same_reg a b ra rb h =
@@ -356,9 +327,7 @@ rows_length t u count =
     by_two xs ys r s e f = let left = length-append xs r in let right = length-append ys s in omega (arith, left, right, e, f)
 
 same_parts : (t u : HciTables) → t.rows ≡ u.rows → t.statics ≡ u.statics → t.values ≡ u.values → t.syncs ≡ u.syncs → t ≡ u
-same_parts t u rows statics values syncs =
-    ap (λ x. record t { rows = x }) rows ∙ ap (λ x. record t { rows = u.rows; statics = x }) statics
-    ∙ ap (λ x. record u { values = x; syncs = t.syncs }) values ∙ ap (λ x. record u { syncs = x }) syncs
+same_parts t u rows statics values syncs = grind arith
 
 same_tables : (t u : HciTables) → AreSaidTables t → AreSaidTables u → SameCounts t u → rows_words t ≡ rows_words u → t ≡ u
 same_tables t u rt ru count h =
@@ -374,14 +343,10 @@ same_tables t u rt ru count h =
 -- ## Entries with the same words are the same
 
 hosts_are_bytes : (header : Header) → MayBegin header → All IsByte header.hosts.items
-hosts_are_bytes header known =
-    λ k d within. let small : get_or header.hosts.items k d ≤ 7 = (header_hosts header known k d within).1 in omega (arith, small)
+hosts_are_bytes header known = grind arith
 
 same_world : (a b : Bool) → cond a (codes "hci") (codes "bare") ≡ cond b (codes "hci") (codes "bare") → a ≡ b
-same_world true true h = refl
-same_world true false h = absurd (other_word (codes "hci") (codes "bare") refl h)
-same_world false true h = absurd (other_word (codes "bare") (codes "hci") refl h)
-same_world false false h = refl
+same_world a b h = grind arith
 
 same_header : (a b : Header) → MayBegin a → MayBegin b → header_words a ≡ header_words b → a ≡ b
 same_header a b ra rb h =
@@ -392,8 +357,7 @@ same_header a b ra rb h =
     ap (λ hci. made hci a.hosts.items) (same_world a.hci b.hci world) ∙ ap (made b.hci) items
 
 no_swp : (said : Line) → bytes_eq (codes "swp") (head (line_words said)) ≡ false
-no_swp (line.Send e p m) = refl
-no_swp _ = refl
+no_swp said = grind arith
 
 no_line : (header : Header) (said : Line) → header_words header ≡ line_words said → ⊥
 no_line header said h = other_words (header_words header) (line_words said) (no_swp said) h

@@ -1,21 +1,19 @@
 -- The texts of lines and of entries: what is read is in its range, words hold no space and no LF, and texts end at their first LF.
 use Rattle.hex.specs.Hex.{encode_with}
-use Rattle.std.proofs.Math.ListN.{get_or-eq_default}
-use Rattle.std.proofs.lemmas.Bool.Decides.{nat_tests}
 use Rattle.std.proofs.lemmas.Grind.{flat_map-append}
 use Rattle.std.specs.Char.{is_ascii_digit}
 use Rattle.std.specs.Str.{all_ascii_digits}
-use Rattle.told_laws.proofs.Words.{All, AllByRecursion, AllPass-from_list_all, AreOctets, Bool, Cause, Command, Contains, End, Entry, Err, HciTables, Header}
-use Rattle.told_laws.proofs.Words.{IfSome, IsCause, IsEnd, IsEndOf, IsEntry, IsHeader, IsHost, IsLineOf, IsLineSaid, IsNodeOf, IsNumber, IsSome, IsTrue, IsWord}
-use Rattle.told_laws.proofs.Words.{Line, List, LostCause, MayBegin, MayFollow, MayFollow-line_of, NoCause, None, Ok, Option, PipeRow, RegValue, Says, Some, []}
-use Rattle.told_laws.proofs.Words.{ap, append-nil, append_assoc, arith, by_row, by_size, by_words, byte_text, cause_words, codes, command_words, cond, decimal}
-use Rattle.told_laws.proofs.Words.{digits_decimal, down_word, encode_upper, end_text, end_word, entry_line, entry_text, entry_words, false, flat_map, found_in}
-use Rattle.told_laws.proofs.Words.{get_or, has_nodes, header_hosts, hex_or_dash, hex_word, hosts_of, inl, is_comment, length, length-append, line_of}
-use Rattle.told_laws.proofs.Words.{line_words, lines_behind, list_all, list_all-append, list_any, lost_word, map, may_stand, nat_lt, node_fits, not}
-use Rattle.told_laws.proofs.Words.{number_word, number_words, own, read_of, refl, says_activate, says_arm, says_boot, says_busy, says_cut, says_damage}
-use Rattle.told_laws.proofs.Words.{says_deliver, says_header, says_init, says_lose, says_nodes, says_ready, says_reset, says_send, says_settle, says_tables}
-use Rattle.told_laws.proofs.Words.{says_tick, slice_index, spaced, state_as_word, subst, suc, sym, true, two_bytes_text, unless_fault, upper_digits, words}
-use Rattle.told_laws.proofs.Words.{words-spaced, ℕ, ◌%◌, ◌&&◌, ◌++◌, ◌/◌, ◌<◌, ◌==◌, ◌^◌, ◌↔◌, ◌∙◌, ◌∷◌, ◌≡◌, ◌≤◌}
+use Rattle.told_laws.proofs.Words.{All, AllByRecursion, AreOctets, Bool, Cause, Command, Contains, End, Entry, Err, HciTables, Header, IfSome, IsCause, IsEnd}
+use Rattle.told_laws.proofs.Words.{IsEndOf, IsEntry, IsHeader, IsLineOf, IsLineSaid, IsNodeOf, IsNumber, IsSome, IsTrue, IsWord, Line, List, LostCause}
+use Rattle.told_laws.proofs.Words.{MayBegin, MayFollow, MayFollow-line_of, NoCause, None, Ok, Option, PipeRow, RegValue, Says, Some, [], ap, append-nil}
+use Rattle.told_laws.proofs.Words.{append_assoc, arith, by_row, by_words, byte_text, cause_words, codes, command_words, cond, decimal, digits_decimal}
+use Rattle.told_laws.proofs.Words.{down_word, encode_upper, end_text, end_word, entry_line, entry_text, entry_words, false, flat_map, found_in, has_nodes}
+use Rattle.told_laws.proofs.Words.{header_hosts, hex_or_dash, hex_word, hosts_of, inl, is_comment, length, length-append, line_of, line_words, lines_behind}
+use Rattle.told_laws.proofs.Words.{list_all, list_all-append, list_any, lost_word, map, may_stand, nat_lt, node_fits, not, number_word, number_words, own}
+use Rattle.told_laws.proofs.Words.{read_of, refl, says_activate, says_arm, says_boot, says_busy, says_cut, says_damage, says_deliver, says_header, says_init}
+use Rattle.told_laws.proofs.Words.{says_lose, says_nodes, says_ready, says_reset, says_send, says_settle, says_tables, says_tick, slice_index, spaced}
+use Rattle.told_laws.proofs.Words.{state_as_word, subst, suc, sym, true, two_bytes_text, unless_fault, upper_digits, words, words-spaced, ℕ, ◌%◌, ◌&&◌, ◌++◌}
+use Rattle.told_laws.proofs.Words.{◌/◌, ◌<◌, ◌==◌, ◌^◌, ◌↔◌, ◌∙◌, ◌∷◌, ◌≡◌, ◌≤◌}
 use Rattle.schedule_text.proofs.HostsLemmas.{row_unknown}
 use Rattle.schedule_text.proofs.RowsLemmas.{no_fault, row_cases}
 use Rattle.schedule_text.specs.Forms.{FormRow, activate_row, arm_row, boot_row, busy_row, cut_row, damage_row, deliver_row, header_row, init_row, lose_row}
@@ -37,13 +35,10 @@ use Rattle.trace_model.specs.declared.line.Line.TheVariants as line
 -- ## A line that is read is in its range
 
 end_in : (header : Header) → MayBegin header → (e : End) → IsEndOf header e → IsEnd e
-end_in header is e known =
-    let host : IsHost e.link = subst IsHost known.2 (header_hosts header is known.0 e.link known.1) in
-    let low = host.1 in omega (arith, low)
+end_in header is e known = grind arith
 
 number_in : (high : ℕ) (o : Option ℕ) → high < 2 ^ 32 → IfSome o (λ n. (1 ≤ n) × (n ≤ high)) → IfSome o IsNumber
-number_in high None small h = tt
-number_in high (Some n) small h = let most = h.1 in omega (arith, most, small)
+number_in high o small h = grind arith
 
 node_in : (header : Header) → MayBegin header → (n : ℕ) → IsNodeOf header.hosts.items n → n < 256
 node_in header is n known = let low = node_fits header.hosts.items n (header_hosts header is) known in omega (arith, low)
@@ -53,41 +48,23 @@ pub said_in : (header : Header) → MayBegin header → (said : Line) → MayFol
 said_in header is (line.Send e pid message) h = (end_in header is e h.known, let low = h.pipe in omega (arith, low), (h.some, h.bytes))
 said_in header is (line.Deliver e count) h = (end_in header is e h.0, number_in 64 count (omega arith) h.1)
 said_in header is (line.Lose e) h = end_in header is e h
-said_in header is (line.Damage e places) h =
-    (end_in header is e h.0, λ k d within. let low : get_or places.items k d < 400 = h.1.inside k d within in omega (arith, low))
+said_in header is (line.Damage e places) h = grind arith
 said_in header is (line.Tick times) h = number_in 100 times (omega arith) h
 said_in header is (line.Reset e window) h = (end_in header is e h.0, number_in 4 window (omega arith) h.1)
 said_in header is (line.Busy e) h = end_in header is e h.1
 said_in header is (line.Ready e) h = end_in header is e h.1
 said_in header is (line.Boot node) h = node_in header is node h.1
 said_in header is (line.Cut node) h = node_in header is node h.1
-said_in header is (line.Activate host sync power) h = (
-  let known = h.1.known in
-      let small : IsHost host = subst IsHost known.2 (header_hosts header is known.0 host known.1) in
-      let low = small.1 in omega (arith, low),
-  let low = h.1.identifier in omega (arith, low),
-  let low = h.1.code in omega (arith, low),
-)
+said_in header is (line.Activate host sync power) h = grind arith
 said_in header is (line.Arm node nth fill) h =
     (node_in header is node h.1.known, let most = h.1.which.1 in omega (arith, most), (h.1.long.0, h.1.bytes))
-said_in header is (line.Init e identity pipes) h = (
-  end_in header is e h.1.known,
-  (let long = h.1.long in omega (arith, long), h.1.bytes),
-  λ k d within. let pipe = h.1.each k d within in let long : length (get_or pipes.items k d) ≡ 3 = pipe.0 in (omega (arith, long), pipe.1),
-)
+said_in header is (line.Init e identity pipes) h = grind arith
 said_in header is (line.Tables node) h = node_in header is node h.1
 said_in header is (line.Settle rounds) h = let most = h.1 in omega (arith, most)
 
 -- a line that a bare world plays may stand below its header
 may_follow : (header : Header) (said : Line) → IsLineOf header said → MayFollow header said
-may_follow header (line.Boot node) h = absurd h
-may_follow header (line.Cut node) h = absurd h
-may_follow header (line.Activate host sync power) h = absurd h
-may_follow header (line.Arm node nth fill) h = absurd h
-may_follow header (line.Init e identity pipes) h = absurd h
-may_follow header (line.Tables node) h = absurd h
-may_follow header (line.Settle rounds) h = absurd h
-may_follow header _ h = h
+may_follow header said h = grind arith
 
 pub bare_said_in : (header : Header) → IsHeader header → (said : Line) → IsLineOf header said → IsLineSaid said
 bare_said_in header is said h = said_in header (inl is) said (may_follow header said h)
@@ -99,9 +76,7 @@ read_in header bytes said is h = said_in header is said (MayFollow-line_of heade
 
 -- a line has a fault exactly where its words have it
 unless_iff : (o : Option LineFault) (said : Option Read) (f : LineFault) → (o ≡ None → IsSome said) → (unless_fault o said ≡ Err f) ↔ (o ≡ Some f)
-unless_iff (Some g) said f h = (λ e. cc, λ e. cc)
-unless_iff None (Some r) f h = (λ e. cc, λ e. cc)
-unless_iff None None f h = (λ e. cc (h refl), λ e. cc)
+unless_iff o said f h = grind arith
 
 abbrev HasFault : Option Header → List (List ℕ) → LineFault → Option FormRow → Type 0
 HasFault header ws f None = Unit {0}
@@ -145,49 +120,7 @@ faults None first ws f =
       λ e. nodes_iff ws f,
       (
         λ e. header_iff ws f,
-        (
-          λ e h. cc,
-          (
-            λ e h. cc,
-            (
-              λ e h. cc,
-              (
-                λ e h. cc,
-                (
-                  λ e h. cc,
-                  (
-                    λ e h. cc,
-                    (
-                      λ e h. cc,
-                      (
-                        λ e h. cc,
-                        (
-                          λ e h. cc,
-                          (
-                            λ e h. cc,
-                            (
-                              λ e h. cc,
-                              (
-                                λ e h. cc,
-                                (
-                                  λ e h. cc,
-                                  (
-                                    λ e h. cc,
-                                    (λ e h. cc, tt),
-                                  ),
-                                ),
-                              ),
-                            ),
-                          ),
-                        ),
-                      ),
-                    ),
-                  ),
-                ),
-              ),
-            ),
-          ),
-        ),
+        (grind arith),
       ),
     ) (λ e. tt)
 faults (Some header) first ws f =
@@ -281,9 +214,7 @@ abbrev pub IsClean : List ℕ → Type 0
 IsClean word = IsWord word × (list_all is_inside word ≡ true)
 
 hex_inside : (k : ℕ) → is_inside (slice_index upper_digits k) ≡ true
-hex_inside k =
-    by_size (is_inside (slice_index upper_digits k) ≡ true) k 16 (nat_lt k 16) refl (λ h. AllPass-from_list_all is_inside upper_digits refl k 0 h)
-    (λ h. subst (λ b. is_inside b ≡ true) (sym (get_or-eq_default upper_digits 0 h)) refl)
+hex_inside k = grind arith
 
 hex_all_inside : (xs : List ℕ) → list_all is_inside (encode_upper xs) ≡ true
 unfolding encode_with
@@ -297,8 +228,7 @@ byte_clean : (b : ℕ) → IsClean (byte_text b)
 byte_clean b = hex_clean (b ∷ []) (omega arith)
 
 side_inside : (at_host : Bool) → is_inside (cond at_host 104 99) ≡ true
-side_inside true = refl
-side_inside false = refl
+side_inside at_host = grind arith
 
 end_clean : (e : End) → IsClean (end_text e)
 end_clean e =
@@ -307,8 +237,7 @@ end_clean e =
 digit_inside : (c : ℕ) (cs : List ℕ) (t : Bool) → is_ascii_digit c ≡ t → (t && all_ascii_digits cs) ≡ true
     → (all_ascii_digits cs ≡ true → list_all is_inside cs ≡ true)
     → (is_inside c && list_all is_inside cs) ≡ true
-digit_inside c cs true e h k = let inside : is_inside c ≡ true = grind (arith, nat_tests) in rw inside (k h)
-digit_inside c cs false e h k = cc
+digit_inside c cs t e h k = grind arith
 
 digits_inside : (ds : List ℕ) → all_ascii_digits ds ≡ true → list_all is_inside ds ≡ true
 digits_inside [] h = refl
@@ -318,20 +247,17 @@ pub number_clean : (n : ℕ) → IsNumber n → IsClean (decimal n)
 number_clean n h = (number_word n (omega arith), digits_inside (decimal n) (digits_decimal own n (omega arith)))
 
 lost_clean : (why : LostCause) → IsClean (lost_word why)
-lost_clean lost.Asked = ((omega arith, refl), refl)
-lost_clean _ = ((omega arith, refl), refl)
+lost_clean why = grind arith
 
 world_clean : (hci : Bool) → IsClean (cond hci (codes "hci") (codes "bare"))
-world_clean true = ((omega arith, refl), refl)
-world_clean false = ((omega arith, refl), refl)
+world_clean hci = grind arith
 
 hosts_clean : (hosts : List ℕ) → AllByRecursion IsClean (map byte_text hosts)
 hosts_clean [] = tt
 hosts_clean (h ∷ hosts) = (byte_clean h, hosts_clean hosts)
 
 down_clean : (why : Cause) → IsClean (down_word why)
-down_clean why.Asked = ((omega arith, refl), refl)
-down_clean _ = ((omega arith, refl), refl)
+down_clean why = grind arith
 
 maybe_clean : (o : Option ℕ) → IfSome o IsNumber → AllByRecursion IsClean (number_words o)
 maybe_clean None h = tt
@@ -423,8 +349,7 @@ entry_clean (entry.No why) h = (((omega arith, refl), refl), cause_clean why h)
 
 -- so do those of the lines of tables
 state_clean : (opened : Bool) → IsClean (state_as_word opened)
-state_clean true = ((omega arith, refl), refl)
-state_clean false = ((omega arith, refl), refl)
+state_clean opened = grind arith
 
 pipe_clean : (row : PipeRow) → AllByRecursion IsClean (pipe_words row)
 pipe_clean row = (
@@ -482,8 +407,7 @@ inside_end : (b : ℕ) (t : Bool) → (not (b == 10) && t) ≡ true → b ≡ 10
 inside_end b t h e = let bad : (not (10 == 10) && t) ≡ true = subst (λ c. (not (c == 10) && t) ≡ true) e h in cc
 
 rest_inside : (b t : Bool) → (b && t) ≡ true → t ≡ true
-rest_inside true t h = h
-rest_inside false t h = cc
+rest_inside b t h = grind arith
 
 -- two texts that go on behind an LF
 cut : (x y r s : List ℕ) → list_all is_inside x ≡ true → list_all is_inside y ≡ true → x ++ (10 ∷ r) ≡ y ++ (10 ∷ s) → (x ≡ y) × (r ≡ s)

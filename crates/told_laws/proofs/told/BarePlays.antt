@@ -1,26 +1,23 @@
 -- All that is told of lines, of a history and of plays in a bare world is in its range.
-use Rattle.told_laws.proofs.Words.{Acked, Active, All, AllByRecursion, AreFewPlays, AreOctets, Begins, Bool, Caused, Control, Controller, Emit, End, Entry}
-use Rattle.told_laws.proofs.Words.{Event, FewRsets, Follows, Full, GaveUp, Got, Header, History, Host, HostsStay, I, Inactive, IsByte, IsCause, IsEnd, IsEntry}
-use Rattle.told_laws.proofs.Words.{IsFrontOf, IsHeader, IsLineOf, IsNumber, IsPlayFor, IsWaiting, Line, LineRefused, Link, LinkEnd, LinkState, List, Lost}
-use Rattle.told_laws.proofs.Words.{LostFor, Message, NoCause, None, Noted, OnWire, Option, Outcome, Play, Rej, Rnr, Round, Rr, Rset, S, Said, Same, Sent, Side}
-use Rattle.told_laws.proofs.Words.{Some, Srej, StepsFollow, Taken, Ticked, TooLong, Took, Ua, Undetected, Up, Verdict, [], all_entries, all_events, all_joined}
-use Rattle.told_laws.proofs.Words.{all_mapped, ap, append-nil, append_assoc, arith, as_noted, bare_line, bare_lines, bare_link, bare_link_behind}
-use Rattle.told_laws.proofs.Words.{bare_round_lines, bits_of, by_test, causes_in, causes_of, cond, cons_option, damage_causes, each-append, end_of}
-use Rattle.told_laws.proofs.Words.{end_of_frame, entries_for, entries_of, entries_told, entry_of, event_entries, event_of, events_at, events_of, false}
-use Rattle.told_laws.proofs.Words.{first_verdict, flat_map, flat_map-append, frame_of, frames_to, give_refusal, good_of, host_of, hosts_stay_behind, if_beyond}
-use Rattle.told_laws.proofs.Words.{if_empty, if_out_of_reach, inl, is_clear, is_good, is_open, is_waiting, length, length-append, lines_may_be_played}
-use Rattle.told_laws.proofs.Words.{lines_of_play, lines_played, lines_said, link_after, link_after_all, link_after_line, link_after_lines, lpdu_of, ltb-false}
-use Rattle.told_laws.proofs.Words.{machine_of, nat_lt, need, noted, other_twice, outcome_of, played-append, played_more, refl, refusal, replicate}
-use Rattle.told_laws.proofs.Words.{reset_refusal, round_on, rounds_played, said-append, spare, start_of_frame, step_told, stuffed, stuffed_after, subst, suc}
-use Rattle.told_laws.proofs.Words.{sym, taken_of, taking_on, true, unwrap_or, with_crc, zero, ℕ, ◌%◌, ◌*◌, ◌++◌, ◌+◌, ◌/◌, ◌<◌, ◌==◌, ◌^◌, ◌∙◌, ◌∷◌, ◌≡◌, ◌≤◌}
+use Rattle.told_laws.proofs.Words.{Acked, Active, All, AllByRecursion, AreFewPlays, AreOctets, Begins, Bool, Caused, Control, Emit, End, Entry, Event, FewRsets}
+use Rattle.told_laws.proofs.Words.{Follows, GaveUp, Got, Header, History, HostsStay, I, IsByte, IsCause, IsEnd, IsEntry, IsFrontOf, IsHeader, IsLineOf}
+use Rattle.told_laws.proofs.Words.{IsNumber, IsPlayFor, Line, LineRefused, Link, LinkEnd, List, Lost, Message, NoCause, None, Noted, OnWire, Option, Outcome}
+use Rattle.told_laws.proofs.Words.{Play, Rej, Rnr, Rr, Rset, S, Sent, Side, Some, Srej, StepsFollow, Taken, Ticked, Took, Ua, Verdict, [], all_entries}
+use Rattle.told_laws.proofs.Words.{all_events, all_joined, all_mapped, ap, append-nil, append_assoc, arith, as_noted, bare_lines, bare_link, bits_of, by_test}
+use Rattle.told_laws.proofs.Words.{causes_in, causes_of, cons_option, damage_causes, each-append, end_of, end_of_frame, entries_for, entries_of, entries_told}
+use Rattle.told_laws.proofs.Words.{entry_of, event_entries, event_of, events_at, events_of, false, first_verdict, flat_map, flat_map-append, frame_of}
+use Rattle.told_laws.proofs.Words.{frames_to, give_refusal, good_of, host_of, hosts_stay_behind, if_beyond, if_empty, if_out_of_reach, inl, is_good, length}
+use Rattle.told_laws.proofs.Words.{length-append, lines_may_be_played, lines_of_play, lines_played, lines_said, link_after, link_after_all, link_after_line}
+use Rattle.told_laws.proofs.Words.{lpdu_of, machine_of, nat_lt, noted, other_twice, outcome_of, played-append, played_more, refl, refusal, replicate}
+use Rattle.told_laws.proofs.Words.{reset_refusal, rounds_played, said-append, start_of_frame, step_told, stuffed, stuffed_after, subst, suc, sym, taken_of}
+use Rattle.told_laws.proofs.Words.{true, unwrap_or, with_crc, zero, ℕ, ◌%◌, ◌*◌, ◌++◌, ◌+◌, ◌/◌, ◌<◌, ◌==◌, ◌^◌, ◌∙◌, ◌∷◌, ◌≡◌, ◌≤◌}
 use Rattle.history.proofs.Filters.{same_end_itself}
 use Rattle.history.proofs.RsetsInBareWorlds.{few_after}
 use Rattle.history.proofs.legal.Sessions.{events_in, in_order}
 use Rattle.history.specs.BareRsets.{rsets_by_bare}
-use Rattle.history.specs.Filters.{Saying, at_end, got_in, got_in_session, said, said_of, same_end, sent_by, sent_in}
+use Rattle.history.specs.Filters.{Saying, at_end, got_in, got_in_session, said, said_of, sent_by, sent_in}
 use Rattle.history.specs.Filters.Saying.{Sends}
 use Rattle.history.specs.Histories.{Cause, Step}
-use Rattle.history.specs.Histories.Outcome.{Refused}
 use Rattle.history.specs.Legal.{IsInOrder}
 use Rattle.link_laws.proofs.entries.Quieting.{same_number}
 use Rattle.link_laws.proofs.messages.RsetNumbers.{start_numbered}
@@ -80,16 +77,14 @@ abbrev AreApart : List Entry → Type 0
 AreApart t = AllByRecursion IsApart t
 
 pub end_in : (h : ℕ) (who : Side) → h < 256 → IsEnd (end_of h who)
-end_in h Controller low = low
-end_in h Host low = low
+end_in h who low = grind arith
 
 entry_in : (h n : ℕ) → h < 256 → n < 2 ^ 32 → (x : Noted) → IsNoted n x → AreApart (entry_of h x)
 entry_in h n low small (Begins who k) p = ((end_in h who low, omega (arith, small, p)), tt)
 entry_in h n low small (Ends who cause) p = (end_in h who low, tt)
 entry_in h n low small (Active who) p = (end_in h who low, tt)
 entry_in h n low small (GaveUp who tries) p = ((end_in h who low, omega (arith, p)), tt)
-entry_in h n low small (Acked who k count) p =
-    let a = p.0 in let b = p.1 in ((end_in h who low, omega (arith, small, a), omega (arith, small, b)), tt)
+entry_in h n low small (Acked who k count) p = grind arith
 entry_in h n low small (Got who k m) p = let a = p.0 in ((end_in h who low, omega (arith, small, a)), tt)
 entry_in h n low small (Sent who k m) p =
     let a = p.0 in
@@ -153,8 +148,7 @@ causes_told h (c ∷ cs) n l low can is small =
     record {
       told = each-append IsApart (entries_for h (event_entries l (event_of c))) (entries_of (events_at h (link_after l c) cs))
           (entries_in h (n + 24) low (omega (arith, small)) (event_entries l (event_of c)) (noted_event n l c can.0 is.link)) later.told;
-      stands = stands_longer ((n + cost c) + cost_of_all cs) (n + cost_of_all (c ∷ cs))
-          (link_after_all (link_after l c) (causes_of (events_at h (link_after l c) cs))) (omega arith) later.stands;
+      stands = grind arith;
     }
 
 -- ### Causes of a line
@@ -167,10 +161,7 @@ same_cause c can zero = tt
 same_cause c can (suc n) = (can, same_cause c can n)
 
 can_damage : (e : End) (v : Option Verdict) → AllByRecursion CanTell (damage_causes e v)
-can_damage e None = tt
-can_damage e (Some Same) = (tt, tt)
-can_damage e (Some (LostFor why)) = (tt, tt)
-can_damage e (Some (Undetected read)) = tt
+can_damage e v = grind arith
 
 can_tell : (header : Header) (l : Link) (said : Line) → IsLineOf header said → AllByRecursion CanTell (causes_in l said)
 can_tell header l (line.Send e pid message) is = (record { pipe = is.pipe; some = is.some; bytes = all_each IsByte message is.bytes }, tt)
@@ -193,8 +184,7 @@ ticks_cost zero = refl
 ticks_cost (suc n) = let rest = ticks_cost n in omega (arith, rest)
 
 damage_cost : (e : End) (v : Option Verdict) → cost_of_all (damage_causes e v) ≡ 0
-damage_cost e (Some Same) = refl
-damage_cost e _ = refl
+damage_cost e v = grind arith
 
 -- how much a line may cost
 abbrev line_cost : Line → ℕ
@@ -211,19 +201,6 @@ few_cost l (line.Tick None) = omega arith
 few_cost l (line.Tick (Some times)) = let all = ticks_cost times in omega (arith, all)
 few_cost l _ = omega arith
 
--- each costs 200 at most
-line_cheap : (header : Header) (said : Line) → IsLineOf header said → line_cost said ≤ 200
-line_cheap header (line.Tick None) is = omega arith
-line_cheap header (line.Tick (Some times)) is = let few = is.1 in omega (arith, few)
-line_cheap header (line.Boot node) is = absurd is
-line_cheap header (line.Cut node) is = absurd is
-line_cheap header (line.Activate host sync power) is = absurd is
-line_cheap header (line.Arm node nth fill) is = absurd is
-line_cheap header (line.Init e identity pipes) is = absurd is
-line_cheap header (line.Tables node) is = absurd is
-line_cheap header (line.Settle rounds) is = absurd is
-line_cheap header _ is = omega arith
-
 abbrev lines_cost : List Line → ℕ
 lines_cost [] = 0
 lines_cost (said ∷ lines) = line_cost said + lines_cost lines
@@ -235,29 +212,13 @@ IfCause None = Unit {0}
 IfCause (Some cause) = IsCause cause
 
 pub give_in : (e : LinkEnd) (m : Message) → IfCause (as_noted (give_refusal e m))
-give_in e m = go e.shdlc.phase refl
-  where
-    by_tests : (a b : Bool) → nat_lt 4096 (length m.1) ≡ a
-        → IfCause (as_noted (cond a (Some (TooLong (length m.1))) (cond b (Some (Full (need m.1) (spare e))) None)))
-    by_tests true b q = tt
-    by_tests false true q = let short = ltb-false 4096 (length m.1) q in (omega (arith, short), omega arith)
-    by_tests false false q = tt
-
-    go : (p : LinkState) → e.shdlc.phase ≡ p → IfCause (as_noted (give_refusal e m))
-    go Up q = rw q (let z = by_tests (nat_lt 4096 (length m.1)) (nat_lt (spare e) (need m.1)) refl in z)
-    go _ q = rw q tt
+give_in e m = grind arith
 
 pub reset_in : (e : LinkEnd) → IfCause (as_noted (reset_refusal e))
-reset_in e = go (is_open e.role) (is_waiting e.shdlc)
-  where
-    go : (a b : Bool) → IfCause (as_noted (cond a (cond b (Some IsWaiting) None) (Some Inactive)))
-    go true true = tt
-    go true false = tt
-    go false b = tt
+reset_in e = grind arith
 
 pub empty_in : (w : List OnWire) → IfCause (if_empty w)
-empty_in [] = tt
-empty_in (x ∷ xs) = tt
+empty_in w = grind arith
 
 pub beyond_in : (bits : ℕ) (places : List ℕ) → IsNumber bits → IfCause (if_beyond bits places)
 beyond_in bits [] small = tt
@@ -365,12 +326,10 @@ IfMessage None = Unit {0}
 IfMessage (Some m) = IsMessageIn m
 
 cons_in : (o : Option Message) (ms : List Message) → IfMessage o → AreMessagesIn ms → AreMessagesIn (cons_option o ms)
-cons_in None ms is h = h
-cons_in (Some m) ms is h = (is, h)
+cons_in o ms is h = grind arith
 
 uncons_in : (o : Option Message) (ms : List Message) → AreMessagesIn (cons_option o ms) → AreMessagesIn ms
-uncons_in None ms h = h
-uncons_in (Some m) ms h = h.1
+uncons_in o ms h = grind arith
 
 -- an entry of a message that was sent is in its range; nothing is said of others
 abbrev IsSentIn : Entry → Type 0
@@ -391,16 +350,13 @@ IsSaidIn None = Unit {0}
 IsSaidIn (Some x) = IsSayingIn (Some x.1)
 
 said_in : (x : Entry) → IsSentIn x → IsSaidIn (said x)
-said_in (entry.Sent e n pid message) h = h
-said_in x h = tt
+said_in x h = grind arith
 
 at_in : (e : End) (o : Option (End × Saying)) → IsSaidIn o → IsSayingIn (at_end e o)
-at_in e None h = tt
-at_in e (Some x) h = by_test (same_end x.0 e) (λ q. rw q h) (λ q. rw q tt)
+at_in e o h = grind arith
 
 sent_by_in : (n : ℕ) (o : Option Saying) → IsSayingIn o → IfMessage (sent_by n o)
-sent_by_in n (Some (Sends k m)) h = by_test (k == n) (λ q. rw q h) (λ q. rw q tt)
-sent_by_in n o h = tt
+sent_by_in n o h = grind arith
 
 sent_each : (e : End) (n : ℕ) (t : List Entry) → AllByRecursion IsSentIn t → AreMessagesIn (sent_in t e n)
 sent_each e n [] h = tt
@@ -436,12 +392,10 @@ got_each (x ∷ t) h = (got_one x t h, got_each t (λ e n. uncons_in (got_in_ses
 -- ### All that is told
 
 apart_sent : (x : Entry) → IsApart x → IsSentIn x
-apart_sent (entry.Sent e n pid message) h = (h.2, h.3)
-apart_sent x h = tt
+apart_sent x h = grind arith
 
 whole : (x : Entry) → IsApart x × IsGotIn x → IsEntry x
-whole (entry.Got e n pid message) h = (h.0.0, h.0.1, h.1.0, h.1.1)
-whole x h = h.0
+whole x h = grind arith
 
 -- what is told of steps has all the entries of their events
 gathered : (P : Entry → Type 0) (steps : List Step) → AllByRecursion P (flat_map step_told steps) → AllByRecursion P (entries_of (events_in steps))
@@ -453,8 +407,7 @@ gathered P (step ∷ steps) h =
     (each-append P (entries_of (events_of step.outcome)) (entries_of (events_in steps)) (go step.outcome here.1) later)
   where
     go : (o : Outcome) → AllByRecursion P (noted o) → AllByRecursion P (entries_of (events_of o))
-    go (Refused why) p = tt
-    go (Caused events) p = p
+    go o p = grind arith
 
 -- and beside them only lines and refusals
 spread : (steps : List Step) → AllByRecursion IsGotIn (entries_of (events_in steps)) → AllByRecursion IsGotIn (flat_map step_told steps)
@@ -467,8 +420,7 @@ spread (step ∷ steps) h =
     each-append IsGotIn (step_told step) (flat_map step_told steps) (tt, go step.outcome here) later
   where
     go : (o : Outcome) → AllByRecursion IsGotIn (entries_of (events_of o)) → AllByRecursion IsGotIn (noted o)
-    go (Refused why) p = (tt, tt)
-    go (Caused events) p = p
+    go o p = grind arith
 
 append_nil : (t : List Entry) → t ≡ t ++ []
 append_nil [] = refl
@@ -539,27 +491,10 @@ cost-append : (xs ys : List Line) → lines_cost (xs ++ ys) ≡ lines_cost xs + 
 cost-append [] ys = omega arith
 cost-append (x ∷ xs) ys = let rest = cost-append xs ys in omega (arith, rest)
 
-taking_cost : (l : Link) (e : End) → lines_cost (taking_on l e) ≡ 0
-taking_cost l e = by_test (is_clear (frames_to l e)) (λ q. rw q refl) (λ q. rw q refl)
-
-round_cost : (h : ℕ) (ends : List End) (l : Link) → lines_cost (round_on h l ends) ≡ 2
-round_cost h [] l = refl
-round_cost h (e ∷ ends) l =
-    let m : Link = link_after_lines h l (taking_on l e) in
-    let both = cost-append (taking_on l e) (round_on h m ends) in
-    let none = taking_cost l e in
-    let rest = round_cost h ends m in
-    omega (arith, both, none, rest)
-
 module _ (header : Header) (is : IsHeader header) where
   play_cost : (before : List Line) (p : Play) → IsPlayFor header p → lines_cost (lines_of_play header before p)
       ≤ 200 * lines_said (p ∷ []) + 2 * rounds_played (p ∷ [])
-  play_cost before (Said l) may = let cheap = line_cheap header l (bare_line header is.bare l may) in omega (arith, cheap)
-  play_cost before Round may =
-      let h : ℕ = host_of header in
-      let same = ap lines_cost (bare_round_lines header is.bare before) in
-      let two = round_cost h (end_of h Controller ∷ end_of h Host ∷ []) (bare_link_behind header before) in
-      omega (arith, same, two)
+  play_cost before p may = grind arith
 
   plays_cost : (plays before : List Play) → AllByRecursion (IsPlayFor header) plays
       → lines_cost (lines_from header before plays) ≤ 200 * lines_said plays + 2 * rounds_played plays

@@ -1,20 +1,16 @@
 -- The frames of ends and wires, and a bare link with them, are in their ranges behind each thing that happens.
-use Rattle.told_laws.proofs.Words.{ActTick, AllByRecursion, AllByRecursion-get, AllByRecursion-take, Asked, AsksReset, Bare, Bool, Control, Down, Due, End}
-use Rattle.told_laws.proofs.Words.{EndEvent, EndIsLow, EndState, FetchMessage, FewRsets, Fragment, Give, Given, GoesOut, Hold, I, IsByte, Kind, Link, LinkEnd}
-use Rattle.told_laws.proofs.Words.{LinkInput, LinkState, List, Lose, Loss, Message, NextFrame, NoInput, None, NumberedEnd, OnWire, Option, Over, Readied}
-use Rattle.told_laws.proofs.Words.{Refused, Rej, Reset, Rnr, Rr, Rset, Runs, S, Session, Some, Spent, Srej, Step, Take, Taken, Tick, Ticked, Timed, Ua, Up}
-use Rattle.told_laws.proofs.Words.{Waiting, WasLost, WasReset, WireIsLow, [], acknowledged, activated, after_frames, after_input, aged, aged_wire, all_frames}
-use Rattle.told_laws.proofs.Words.{all_mapped, among, ap, arith, at, bare_link, becomes, by_list, by_option, by_test, common_steps, cond, control_due, drop}
-use Rattle.told_laws.proofs.Words.{each-append, ended_by, exchanged, expected, false, fetched, fits, fragment_due, frame_due, frames_of, frames_out}
-use Rattle.told_laws.proofs.Words.{give_refusal, given, had_tick, happens, happens_at_controller, has_input, heard, if_up, in_front, in_phase, is_faulty}
-use Rattle.told_laws.proofs.Words.{is_open, is_rset, is_some, is_up, length, length-append, link_after, ltb-false, ltb-true, map, moved, nat_lt, news, not}
-use Rattle.told_laws.proofs.Words.{packet_bytes, packet_count, packets_of, parts_of, place_of, put, put_all, put_down, put_out, received, received-sending}
-use Rattle.told_laws.proofs.Words.{refl, reset_by, reset_refusal, reset_with, runs_timer, sent_all, silent, slice_get, stopped, subst, suc, sym, take}
-use Rattle.told_laws.proofs.Words.{take_answer, taken, tick_answer, ticked, ticks_at_controller, timed, took, took_low, took_with, true, turn, unless}
-use Rattle.told_laws.proofs.Words.{window_of, with_controller, with_ended, with_ready, zero, ℕ, ◌%◌, ◌++◌, ◌+◌, ◌<◌, ◌==◌, ◌∷◌, ◌≡◌, ◌≤◌}
+use Rattle.told_laws.proofs.Words.{AllByRecursion, AllByRecursion-get, AllByRecursion-take, AsksReset, Bare, Bool, Control, Due, End, EndEvent, EndIsLow}
+use Rattle.told_laws.proofs.Words.{EndState, FetchMessage, FewRsets, Fragment, Give, Given, GoesOut, Hold, I, IsByte, Link, LinkEnd, LinkInput, LinkState, List}
+use Rattle.told_laws.proofs.Words.{Lose, Loss, Message, NextFrame, NoInput, None, NumberedEnd, OnWire, Option, Readied, Refused, Reset, Rset, S, Session, Some}
+use Rattle.told_laws.proofs.Words.{Step, Take, Taken, Tick, Ticked, Ua, WasLost, WasReset, WireIsLow, [], after_frames, after_input, aged, aged_wire}
+use Rattle.told_laws.proofs.Words.{all_frames, all_mapped, among, ap, arith, at, bare_link, becomes, by_list, by_option, by_test, common_steps, cond}
+use Rattle.told_laws.proofs.Words.{control_due, drop, each-append, ended_by, exchanged, expected, fetched, fits, fragment_due, frame_due, frames_of, frames_out}
+use Rattle.told_laws.proofs.Words.{give_refusal, given, had_tick, happens, happens_at_controller, has_input, in_phase, is_open, is_rset, is_some, length}
+use Rattle.told_laws.proofs.Words.{length-append, link_after, ltb-false, ltb-true, map, nat_lt, not, packet_bytes, packet_count, packets_of, parts_of, put}
+use Rattle.told_laws.proofs.Words.{put_all, put_out, refl, reset_with, sent_all, silent, slice_get, stopped, subst, suc, sym, take, taken, ticked}
+use Rattle.told_laws.proofs.Words.{ticks_at_controller, took, took_with, true, turn, unless, with_controller, with_ended, with_ready, zero, ℕ, ◌%◌, ◌++◌, ◌+◌}
+use Rattle.told_laws.proofs.Words.{◌<◌, ◌==◌, ◌∷◌, ◌≡◌, ◌≤◌}
 use Rattle.history.specs.Histories.{Cause}
-use Rattle.shdlc_core.proofs.Timers.{grown_tries, timed-over}
-use Rattle.shdlc_core.specs.declared.answers.Due.TheVariants.{Rset as Rset_due, Ua as Ua_due}
 
 -- ## The frames of an SHDLC end are in their ranges, whatever comes to it
 
@@ -45,68 +41,18 @@ Ranged e = RangedFor e.session.out e.own_window e.tries
 fresh : (out : List Fragment) (own tries made : ℕ) → made ≤ 5 → RangedFor out own tries → RangedFor [] own made
 fresh out own tries made few h = record { fragments = tt; window = h.window; few = few }
 
-retried : (out : List Fragment) (own tries made : ℕ) → made ≤ 5 → RangedFor out own tries → RangedFor out own made
-retried out own tries made few h = record { fragments = h.fragments; window = h.window; few = few }
-
 -- ### Frames that come
 
-received-kept : (f : EndState) (ns : ℕ) (info : Fragment) → ((received f ns info).own_window ≡ f.own_window) × ((received f ns info).tries ≡ f.tries)
-received-kept f ns info = (grind (arith, common_steps), grind (arith, common_steps))
-
-fragment-up : (e : EndState) (ns nr : ℕ) (info : Fragment) (o : Option ℕ) → place_of e.session nr ≡ o → Ranged e → Ranged (taken (in_phase Up e) (I ns nr info))
-fragment-up e ns nr info None q h = rw q h
-fragment-up e ns nr info (Some x) q h =
-    let f = acknowledged (in_phase Up e) x in
-    let kept = received-kept f ns info in
-    rw q (record {
-      fragments = subst (AllByRecursion IsFragment) (sym (received-sending f ns info).0) h.fragments;
-      window = subst (λ w. w ≤ 4) (sym kept.0) h.window;
-      few = subst (λ t. t ≤ 5) (sym kept.1) (grown_tries e.session.acked x e.tries h.few);
-    })
-
-supervised-up : (e : EndState) (kind : Kind) (nr : ℕ) (o : Option ℕ) → place_of e.session nr ≡ o → Ranged e → Ranged (taken (in_phase Up e) (S kind nr))
-supervised-up e Srej nr p q h = h
-supervised-up e _ nr None q h = rw q h
-supervised-up e Rr nr (Some x) q h = rw q (retried _ _ e.tries _ (grown_tries e.session.acked x e.tries h.few) h)
-supervised-up e Rej nr (Some x) q h = rw q (retried _ _ e.tries _ (grown_tries e.session.acked x e.tries h.few) h)
-supervised-up e Rnr nr (Some x) q h = rw q (retried _ _ e.tries _ (omega arith) h)
-
-reset-taken : (e : EndState) (p : LinkState) (w caps : ℕ) (b : Bool) → (w == 0) ≡ b → Ranged e → Ranged (taken (in_phase p e) (Rset w caps))
-reset-taken e Up w caps true q h = rw q h
-reset-taken e Up w caps false q h = rw q (fresh _ _ e.tries _ (omega arith) h)
-reset-taken e Down w caps false q h = rw q (fresh _ _ e.tries _ (omega arith) h)
-reset-taken e _ w caps true q h = rw q h
-reset-taken e Waiting w caps false q h = rw q h
-
 take-in : (e : EndState) (p : LinkState) (c : Control) → Ranged e → Ranged (taken (in_phase p e) c)
-take-in e Up (I ns nr info) h = fragment-up e ns nr info _ refl h
-take-in e Up (S kind nr) h = supervised-up e kind nr _ refl h
-take-in e Waiting Ua h = fresh _ _ e.tries _ (omega arith) h
-take-in e p (Rset w caps) h = reset-taken e p w caps _ refl h
-take-in e Up _ h = h
-take-in e Waiting _ h = h
-take-in e Down _ h = h
+take-in e p c h = grind arith
 
 pub ranged_taken : (e : EndState) (c : Control) → Ranged e → Ranged (taken e c)
 ranged_taken e c h = take-in e e.phase c h
 
 -- ### Ticks
 
-tick-up : (e : EndState) (runs : Bool) (t : Timed) → runs_timer e.session ≡ runs → timed e ≡ t → Ranged e → Ranged (ticked (in_phase Up e))
-tick-up e false t r q h = rw r h
-tick-up e true Runs r q h = rw (r, q) h
-tick-up e true Over r q h = rw (r, q) (retried _ _ e.tries _ (timed-over e q) h)
-tick-up e true Spent r q h = rw (r, q) (fresh _ _ e.tries _ (omega arith) h)
-
-tick-waiting : (e : EndState) (t : Timed) → timed e ≡ t → Ranged e → Ranged (ticked (in_phase Waiting e))
-tick-waiting e Runs q h = rw q h
-tick-waiting e Over q h = rw q (retried _ _ e.tries _ (timed-over e q) h)
-tick-waiting e Spent q h = rw q (retried _ _ e.tries _ (omega arith) h)
-
 tick-in : (e : EndState) (p : LinkState) → Ranged e → Ranged (ticked (in_phase p e))
-tick-in e Up h = tick-up e _ _ refl refl h
-tick-in e Waiting h = tick-waiting e _ refl h
-tick-in e Down h = h
+tick-in e p h = grind arith
 
 pub ranged_ticked : (e : EndState) → Ranged e → Ranged (ticked e)
 ranged_ticked e h = tick-in e e.phase h
@@ -116,28 +62,10 @@ abbrev pub IfTries : Option ℕ → Type 0
 IfTries None = Unit {0}
 IfTries (Some tries) = tries ≤ 5
 
-gives-waiting : (e : EndState) (t : Timed) → timed e ≡ t → Ranged e → IfTries (tick_answer (in_phase Waiting e)).gave_up
-gives-waiting e Spent q h = rw q h.few
-gives-waiting e _ q h = rw q tt
-
-gives-up : (e : EndState) (runs : Bool) (t : Timed) → runs_timer e.session ≡ runs → timed e ≡ t → IfTries (tick_answer (in_phase Up e)).gave_up
-gives-up e false t r q = rw r tt
-gives-up e true Runs r q = rw (r, q) tt
-gives-up e true _ r q = rw (r, q) tt
-
-gives-in : (e : EndState) (p : LinkState) → Ranged e → IfTries (tick_answer (in_phase p e)).gave_up
-gives-in e Up h = gives-up e _ _ refl refl
-gives-in e Waiting h = gives-waiting e _ refl h
-gives-in e Down h = tt
-
-pub few_tries : (e : EndState) → Ranged e → IfTries (tick_answer e).gave_up
-few_tries e h = gives-in e e.phase h
-
 -- ### What the node asks for
 
 reset-in : (e : EndState) (p : LinkState) (w : ℕ) → w ≤ 4 → Ranged e → Ranged (reset_with (in_phase p e) w)
-reset-in e Waiting w low h = h
-reset-in e _ w low h = record { fragments = tt; window = low; few = omega arith }
+reset-in e p w low h = grind arith
 
 pub ranged_reset : (e : EndState) (w : ℕ) → w ≤ 4 → Ranged e → Ranged (reset_with e w)
 ranged_reset e w low h = reset-in e e.phase w low h
@@ -146,11 +74,7 @@ pub ranged_stopped : (e : EndState) → Ranged e → Ranged (stopped e)
 ranged_stopped e h = fresh _ _ e.tries _ (omega arith) h
 
 ready-in : (e : EndState) (before after answered : Bool) → e.ready ≡ before → e.session.answered_rnr ≡ answered → Ranged e → Ranged (with_ready e after)
-ready-in e true true a q r h = rw q h
-ready-in e false false a q r h = rw q h
-ready-in e true false a q r h = rw q h
-ready-in e false true true q r h = rw (q, r) h
-ready-in e false true false q r h = rw (q, r) h
+ready-in e before after answered q r h = grind arith
 
 pub ranged_ready : (e : EndState) (after : Bool) → Ranged e → Ranged (with_ready e after)
 ranged_ready e after h = ready-in e e.ready after _ refl refl h
@@ -162,9 +86,7 @@ ranged_out e fragments more h =
 -- ### What goes out
 
 control_frame : (e : EndState) (d : Due) → Ranged e → IsFrame (control_due e d)
-control_frame e Rset_due h = let w = h.window in (omega (arith, w), omega arith)
-control_frame e Ua_due h = tt
-control_frame e _ h = omega arith
+control_frame e d h = grind arith
 
 due_fragment : (s : Session) (info : Fragment) → fragment_due s ≡ Some info → slice_get s.out s.next ≡ Some info
 due_fragment s info q = grind (arith, common_steps)
@@ -184,9 +106,7 @@ due_frame e [] (Some info) c f h is =
     subst IsFrame same frame
 
 fetched-in : (e : EndState) (due : List Due) (q : Option Fragment) → e.due ≡ due → fragment_due e.session ≡ q → Ranged e → Ranged (fetched e)
-fetched-in e (d ∷ due) q p f h = rw p h
-fetched-in e [] None p f h = rw (p, f) h
-fetched-in e [] (Some info) p f h = rw (p, f) h
+fetched-in e due q p f h = grind arith
 
 ranged_fetched : (e : EndState) → Ranged e → Ranged (fetched e)
 ranged_fetched e h = fetched-in e e.due _ refl refl h
@@ -228,16 +148,10 @@ module _ (P : Control → Type 0) where
   wire_more n k w more h = record { frames = all_mapped OnWire (FrameIs P n) (FrameIs P k) w (frame_more n k more) h.frames; few = h.few }
 
   fewer : {X : Type 0} (xs : List X) → length (drop 1 xs) ≤ length xs
-  fewer [] = omega arith
-  fewer (x ∷ xs) = omega arith
+  fewer xs = grind arith
 
   one_less : {X : Type 0} (xs : List X) (n : ℕ) → n < length xs → length xs ≤ n + 1 → length (drop 1 xs) ≤ n
-  one_less [] n a b = omega (arith, a)
-  one_less (x ∷ xs) n a b = omega (arith, b)
-
-  wire_dropped : (n : ℕ) (w : List OnWire) → WireIs P n w → WireIs P n (drop 1 w)
-  wire_dropped n w h =
-      record { frames = drop_each (FrameIs P n) 1 w h.frames; few = let l = fewer w in let f = h.few in omega (arith, l, f) }
+  one_less xs n a b = grind arith
 
   each_pushed : (n : ℕ) (w : List OnWire) (x : OnWire) → AllByRecursion (FrameIs P n) w → FrameIs P n x → AllByRecursion (FrameIs P n) (w ++ x ∷ [])
   each_pushed n [] x h is = (is, tt)
@@ -306,17 +220,11 @@ left_with l x xs =
     record m { controller = record m.controller { took = took_with l.controller.took x } }
 
 numbered_more : {Q S : LinkEnd → Type 0} (n k : ℕ) (h : NumberedEnd) → n ≤ k → (Q h.side → S h.side) → NumberedSo Q n h → NumberedSo S k h
-numbered_more n k h more becomes is =
-    let a = is.emitted in
-    let b = is.took in
-    record { side = becomes is.side; emitted = omega (arith, a, more); took = omega (arith, b, more) }
+numbered_more n k h more becomes is = grind arith
 
 numbered_within : {Q S : LinkEnd → Type 0} (n k r : ℕ) (h : NumberedEnd) → r ≤ k → (Q h.side → S h.side) → EndIsLow r h → NumberedSo Q n h
     → NumberedSo S k h
-numbered_within n k r h more becomes low is =
-    let a = low.emitted in
-    let b = low.took in
-    record { side = becomes is.side; emitted = omega (arith, a, more); took = omega (arith, b, more) }
+numbered_within n k r h more becomes low is = grind arith
 
 module _ (P : Control → Type 0) where
   -- nothing is on its way
@@ -371,34 +279,13 @@ module _ (P : Control → Type 0) where
 
   -- the near end has become e
   pub so_with : {Q R S : LinkEnd → Type 0} (n : ℕ) (l : Link) (e : LinkEnd) → S e → LinkSo P Q R n l → LinkSo P S R n (with_controller l e)
-  so_with n l e is h = record {
-    near = record { side = is; emitted = h.near.emitted; took = h.near.took };
-    far = h.far;
-    to_near = h.to_near;
-    to_far = h.to_far;
-    resets = h.resets;
-  }
+  so_with n l e is h = grind arith
 
   pub so_ended : {Q R : LinkEnd → Type 0} (n : ℕ) (l : Link) (ends : Bool) → LinkSo P Q R n l → LinkSo P Q R n (with_ended l ends)
-  so_ended n l false h = h
-  so_ended n l true h = record {
-    near = record { side = h.near.side; emitted = h.near.emitted; took = h.near.took };
-    far = h.far;
-    to_near = h.to_near;
-    to_far = h.to_far;
-    resets = h.resets;
-  }
+  so_ended n l ends h = grind arith
 
   pub so_silent : {Q R S : LinkEnd → Type 0} (n : ℕ) (l : Link) (e : LinkEnd) → S e → LinkSo P Q R n l → LinkSo P S R n (silent l e)
-  so_silent n l e is h =
-      let m = so_ended n l (is_up l.controller.side.shdlc.phase) h in
-      record {
-        near = record { side = is; emitted = m.near.emitted; took = m.near.took };
-        far = m.far;
-        to_near = no_wire n;
-        to_far = no_wire n;
-        resets = m.resets;
-      }
+  so_silent n l e is h = grind arith
 
   -- ### Frames go out
 
@@ -442,24 +329,10 @@ module _ (P : Control → Type 0) where
 
   pub so_left : {Q R : LinkEnd → Type 0} (n : ℕ) (l : Link) (x : OnWire) (xs : List OnWire) → l.to_controller ≡ x ∷ xs → LinkSo P Q R n l
       → LinkSo P Q R n (left_with l x xs)
-  so_left {Q} {R} n l x xs q h =
-      let wire : WireIs P n (x ∷ xs) = subst (WireIs P n) q h.to_near in
-      let few = wire.few in
-      let left : LinkSo P Q R n (record l { to_controller = xs }) =
-      record { near = h.near; far = h.far; to_near = record { frames = wire.frames.1; few = omega (arith, few) }; to_far = h.to_far; resets = h.resets } in
-      let b : Bool = is_some (ended_by l.controller.side (Take x.frame)) in
-      let m : LinkSo P Q R n (with_ended (record l { to_controller = xs }) b) = so_ended n (record l { to_controller = xs }) b left in
-      record {
-        near = record { side = m.near.side; emitted = m.near.emitted; took = took_low n l.controller.took x h.near.took wire.frames.0.number };
-        far = m.far;
-        to_near = m.to_near;
-        to_far = m.to_far;
-        resets = m.resets;
-      }
+  so_left n l x xs q h = grind arith
 
   pub so_lost : {Q R : LinkEnd → Type 0} (n : ℕ) (l : Link) (why : Loss) → LinkSo P Q R n l → LinkSo P Q R n (happens_at_controller l (Lose why))
-  so_lost n l why h =
-      record { near = h.near; far = h.far; to_near = wire_dropped P n l.to_controller h.to_near; to_far = h.to_far; resets = h.resets }
+  so_lost n l why h = grind arith
 
 -- ## The ends of a bare link, and what is on its wires, are in their ranges
 
@@ -477,8 +350,7 @@ take_few (suc n) [] = omega arith
 take_few (suc n) (x ∷ xs) = let few = take_few n xs in omega (arith, few)
 
 first_low : (last : Bool) (pipe : ℕ) → pipe < 112 → cond last 128 0 + pipe < 256
-first_low true pipe low = omega (arith, low)
-first_low false pipe low = omega (arith, low)
+first_low last pipe low = grind arith
 
 parts_in : (pipe n : ℕ) (left : List ℕ) → pipe < 112 → AllByRecursion IsByte left → AllByRecursion IsFragment (map packet_bytes (parts_of pipe n left))
 parts_in pipe zero left low h = tt
@@ -502,65 +374,25 @@ pub record EndIs (n : ℕ) (e : LinkEnd) : Type 0 where
 end_more : (n k : ℕ) (e : LinkEnd) → n ≤ k → EndIs n e → EndIs k e
 end_more n k e more h = let f = h.few in record { bare = h.bare; acts = h.acts; few = omega (arith, f, more); ranged = h.ranged }
 
-end_cond : (n : ℕ) (b : Bool) (e f : LinkEnd) → EndIs n e → EndIs n f → EndIs n (cond b e f)
-end_cond n true e f p q = p
-end_cond n false e f p q = q
-
 end_unless : (n : ℕ) (o : Option Refused) (e f : LinkEnd) → EndIs n e → EndIs n f → EndIs n (unless o e f)
-end_unless n None e f p q = q
-end_unless n (Some why) e f p q = p
-
-end_moved : (n : ℕ) (e : LinkEnd) (b : Bool) (s : EndState) → Ranged s → EndIs n e → EndIs n (moved e b s)
-end_moved n e false s r h = record { bare = h.bare; acts = h.acts; few = h.few; ranged = r }
-end_moved n e true s r h = record { bare = h.bare; acts = ap (map in_front) h.acts; few = omega arith; ranged = r }
-
-end_down : (n : ℕ) (e : LinkEnd) → EndIs n e → EndIs n (put_down true e)
-end_down n e h = by e.shdlc.phase refl
-  where
-    stops : EndIs n (moved e true (stopped e.shdlc))
-    stops = end_moved n e true (stopped e.shdlc) (ranged_stopped e.shdlc h.ranged) h
-
-    by : (p : LinkState) → e.shdlc.phase ≡ p → EndIs n (put_down true e)
-    by Down p = rw p (record { bare = h.bare; acts = ap (map in_front) h.acts; few = h.few; ranged = h.ranged })
-    by _ p = rw p stops
-
-end_heard : (n : ℕ) (e : LinkEnd) (c : Control) → EndIs n e → EndIs n (heard e c)
-end_heard n e c h =
-    let f : LinkEnd = moved e (is_some (take_answer e.shdlc c).ended) (taken e.shdlc c) in
-    let is : EndIs n f = end_moved n e (is_some (take_answer e.shdlc c).ended) (taken e.shdlc c) (ranged_taken e.shdlc c h.ranged) h in
-    end_cond n (is_faulty (taken e.shdlc c).session) (put_down true e) (record f { got = e.got ++ news e.shdlc.session (taken e.shdlc c) })
-    (end_down n e h) (record { bare = is.bare; acts = is.acts; few = is.few; ranged = is.ranged })
+end_unless n o e f p q = grind arith
 
 pub end_took : (n : ℕ) (e : LinkEnd) (c : Control) → IsFrame c → EndIs n e → EndIs n (took e c)
-end_took n e (I ns nr info) is h = end_cond n (is_open e.role) (heard e (I ns nr info)) e (end_heard n e (I ns nr info) h) h
-end_took n e (S kind nr) is h = end_cond n (is_open e.role) (heard e (S kind nr)) e (end_heard n e (S kind nr) h) h
-end_took n e (Rset window caps) is h = end_cond n (is_open e.role) (heard e (Rset window caps)) e (end_heard n e (Rset window caps) h) h
-end_took n e Ua is h = end_cond n (is_open e.role) (heard e Ua) e (end_heard n e Ua h) h
-end_took n e _ is h = absurd is
+end_took n e c is h = grind arith
 
 pub opens : (n : ℕ) (e : LinkEnd) → EndIs n e → is_open e.role ≡ true
 opens n e h = ap is_open h.bare
 
 pub end_ticked : (n : ℕ) (e : LinkEnd) → EndIs n e → EndIs n (had_tick e)
-end_ticked n e h =
-    let go : EndIs n (moved e (is_some (tick_answer e.shdlc).ended) (ticked e.shdlc)) =
-    end_moved n e (is_some (tick_answer e.shdlc).ended) (ticked e.shdlc) (ranged_ticked e.shdlc h.ranged) h in
-    subst (λ b. EndIs n (cond b (moved e (is_some (tick_answer e.shdlc).ended) (ticked e.shdlc)) (activated e ActTick))) (sym (opens n e h)) go
+end_ticked n e h = grind arith
 
 -- a window that a reset names
 abbrev pub IsLowWindow : Option ℕ → Type 0
 IsLowWindow None = Unit {0}
 IsLowWindow (Some w) = w ≤ 4
 
-window_low : (e : LinkEnd) (window : Option ℕ) → IsLowWindow window → Ranged e.shdlc → window_of e window ≤ 4
-window_low e None low h = h.window
-window_low e (Some w) low h = low
-
 pub end_reset : (n : ℕ) (e : LinkEnd) (window : Option ℕ) → IsLowWindow window → EndIs n e → EndIs n (after_input e (Reset window))
-end_reset n e window low h =
-    end_unless n (reset_refusal e) e (reset_by e (window_of e window)) h
-    (end_moved n e (is_some (if_up e.shdlc Asked)) (reset_with e.shdlc (window_of e window))
-    (ranged_reset e.shdlc (window_of e window) (window_low e window low h.ranged) h.ranged) h)
+end_reset n e window low h = grind arith
 
 pub end_given : (n : ℕ) (e : LinkEnd) (m : Message) → IsTellable m → EndIs n e → EndIs (n + 1) (turn e (Give m))
 end_given n e m is h =
@@ -643,9 +475,7 @@ link_given most n m l is h =
 -- it happens at either end
 link_either : (most all n k : ℕ) (l : Link) (e : End) (x : EndEvent) → ((m : Link) → LinkIs most n m → LinkIs all k (happens_at_controller m x))
     → LinkIs most n l → LinkIs all k (happens l (at e x))
-link_either most all n k l e x here h = by_test e.at_host
-    (λ q. rw q (so_exchanged IsFrame k (happens_at_controller (exchanged l) x) (here (exchanged l) (so_exchanged IsFrame n l h))))
-    (λ q. rw q (here l h))
+link_either most all n k l e x here h = grind arith
 
 -- ### Causes
 
@@ -684,13 +514,4 @@ link_caused most n l Ticked can h =
 
 -- nothing has happened yet
 pub bare_is : LinkIs 0 0 bare_link
-bare_is =
-    let side : EndIs 0 bare_link.controller.side =
-    record { bare = refl; acts = refl; few = omega arith; ranged = record { fragments = tt; window = omega arith; few = omega arith } } in
-    record {
-      near = record { side = side; emitted = omega arith; took = omega arith };
-      far = record { side = side; emitted = omega arith; took = omega arith };
-      to_near = no_wire IsFrame 0;
-      to_far = no_wire IsFrame 0;
-      resets = omega arith;
-    }
+bare_is = grind arith

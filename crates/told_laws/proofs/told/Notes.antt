@@ -1,22 +1,20 @@
 -- What is noted of an input, of frames and of an event of a bare link is in its range, but for the messages that came.
 use Rattle.std.specs.Prelude.{is_some, not}
-use Rattle.told_laws.proofs.Words.{Acked, ActTick, Active, AllByRecursion, AsksReset, Bool, Control, Controller, Emit, EndEvent, FetchMessage, GaveUp, Give}
-use Rattle.told_laws.proofs.Words.{Given, GoesOut, Got, HasTick, Hold, Host, Link, LinkEnd, LinkInput, List, Lose, Loss, Lost, Message, NamedEnd, NextFrame}
-use Rattle.told_laws.proofs.Words.{NoInput, None, NumberedEnd, OnWire, Option, Readied, Refused, Report, Reset, Sent, Some, Take, Taken, Ticked, TooMany, Took}
-use Rattle.told_laws.proofs.Words.{WasLost, WasReset, [], act_answer, after_input, aged, aged_entries, all_map, all_mapped, anyone, arith, at, by_test, cond}
-use Rattle.told_laws.proofs.Words.{cond_both, drop, each-append, ended_by, event_entries, event_of, exchanged, false, far, first_lost, fits, frames_out}
-use Rattle.told_laws.proofs.Words.{gave_up_by, give_refusal, here_entries, idle, if_so, is_rset, length, map, nat_lt, number_of, option_to_list, pushed_out}
-use Rattle.told_laws.proofs.Words.{put, put_entries, puts_entries, refl, report, rest_entries, sent_unless, step_entries, subst, sym, taken_entries}
-use Rattle.told_laws.proofs.Words.{tick_answer, tick_entries, ticks_at_controller, told, told_of, took_low, took_with, true, turn, turn_entries, turn_entry}
-use Rattle.told_laws.proofs.Words.{whole_acked, wire_with, with_ended, ℕ, ◌++◌, ◌+◌, ◌∷◌, ◌≡◌, ◌≤◌}
+use Rattle.told_laws.proofs.Words.{Acked, Active, AllByRecursion, AsksReset, Bool, Control, Controller, Emit, EndEvent, FetchMessage, GaveUp, Give, Given}
+use Rattle.told_laws.proofs.Words.{GoesOut, Got, HasTick, Hold, Host, Link, LinkEnd, LinkInput, List, Loss, Lost, Message, NamedEnd, NextFrame, NoInput}
+use Rattle.told_laws.proofs.Words.{NumberedEnd, OnWire, Option, Readied, Refused, Report, Reset, Sent, Take, Taken, Ticked, TooMany, Took, WasLost, WasReset}
+use Rattle.told_laws.proofs.Words.{[], after_input, aged, aged_entries, all_map, all_mapped, anyone, arith, at, by_test, cond_both, each-append, ended_by}
+use Rattle.told_laws.proofs.Words.{event_entries, event_of, exchanged, far, first_lost, frames_out, gave_up_by, give_refusal, here_entries, idle, if_so, length}
+use Rattle.told_laws.proofs.Words.{map, nat_lt, number_of, option_to_list, pushed_out, put, put_entries, puts_entries, refl, report, rest_entries, sent_unless}
+use Rattle.told_laws.proofs.Words.{step_entries, subst, sym, taken_entries, tick_entries, ticks_at_controller, told, told_of, took_low, took_with, turn}
+use Rattle.told_laws.proofs.Words.{turn_entries, turn_entry, whole_acked, wire_with, with_ended, ℕ, ◌++◌, ◌+◌, ◌∷◌, ◌≡◌, ◌≤◌}
 use Rattle.history.specs.Histories.{Cause}
 use Rattle.link_laws.proofs.machine.Sound.{whole_few}
 use Rattle.link_laws.specs.entries.Entries.{End, Entry}
 use Rattle.link_laws.specs.entries.Entries.Entry.{Down, Up}
 use Rattle.swp_base.specs.declared.link_terms.Cause.{Cause as EndedBy}
-use Rattle.told_laws.proofs.told.Links.{CanTell, EndIs, FrameIs, IfTries, IsFrame, IsLowWindow, IsTellable, LinkIs, WireIs, drop_each, end_fetched, end_given}
-use Rattle.told_laws.proofs.told.Links.{end_held, end_reset, end_ticked, end_took, few_tries, left_with, link_more, link_ticked, opens, out_is, so_aged}
-use Rattle.told_laws.proofs.told.Links.{so_ended, so_exchanged, so_left}
+use Rattle.told_laws.proofs.told.Links.{CanTell, EndIs, FrameIs, IfTries, IsFrame, IsLowWindow, IsTellable, LinkIs, WireIs, end_fetched, end_given, end_held}
+use Rattle.told_laws.proofs.told.Links.{end_reset, end_ticked, end_took, left_with, link_more, link_ticked, out_is, so_aged, so_ended, so_exchanged, so_left}
 
 -- ## What is noted of an input and of frames is in its range, whichever frames and messages may be
 
@@ -48,8 +46,7 @@ module _ (P : Control → Type 0) (S G : Message → Type 0) (n : ℕ) where
   -- ### Of an input
 
   so_noted : (b : Bool) (e : Entry) → IsNotedOfNoting e → AreNotedOfNoting (if_so b e)
-  so_noted false e p = tt
-  so_noted true e p = (p, tt)
+  so_noted b e p = grind arith
 
   pub noted_told : (who : End) (k : ℕ) (r : Report) (acked : ℕ) → k ≤ n → acked ≤ n → IfTries r.gave_up → AllByRecursion G r.got
       → AreNotedOfNoting (told who k r acked)
@@ -62,18 +59,15 @@ module _ (P : Control → Type 0) (S G : Message → Type 0) (n : ℕ) where
       each-append IsNotedOfNoting (map (Down who) (option_to_list r.ended)) _ (ended r.ended) d
     where
       tried : (o : Option ℕ) → IfTries o → AreNotedOfNoting (map (GaveUp who) (option_to_list o))
-      tried None h = tt
-      tried (Some t) h = (h, tt)
+      tried o h = grind arith
 
       ended : (o : Option EndedBy) → AreNotedOfNoting (map (Down who) (option_to_list o))
-      ended None = tt
-      ended (Some t) = (tt, tt)
+      ended o = grind arith
 
   -- ### Of frames
 
   pub noted_first : (who : End) (why : Loss) (w : List OnWire) → AreFrames P w → AreNotedOfNoting (first_lost who why w)
-  noted_first who why [] h = tt
-  noted_first who why (x ∷ xs) h = (h.0, tt)
+  noted_first who why w h = grind arith
 
   pub noted_aged : (who : End) (w : List OnWire) → AreFrames P w → AreNotedOfNoting (aged_entries who w)
   noted_aged who [] h = tt
@@ -82,13 +76,8 @@ module _ (P : Control → Type 0) (S G : Message → Type 0) (n : ℕ) where
   pushed : (who : End) (w : List OnWire) → AreFrames P w → AreNotedOfNoting (pushed_out who w)
   pushed who w h = cond_both (nat_lt 64 (length w)) (first_lost who TooMany w) [] AreNotedOfNoting (λ _. noted_first who TooMany w h) (λ _. tt)
 
-  fits_on : (w : List OnWire) → AreFrames P w → AreFrames P (fits w)
-  fits_on w h = cond_both (nat_lt 64 (length w)) (drop 1 w) w (AreFrames P) (λ _. drop_each (λ (x : OnWire). P x.frame) 1 w h) (λ _. h)
-
   wire_after : (l : Link) (c : Control) → AreFrames P (wire_with l c) → AreFrames P (put l c).to_host
-  wire_after l c h = by_test (is_rset c)
-      (λ q. let z : AreFrames P (l.to_host ++ record { frame = c; age = 0; number = l.resets + 1 } ∷ []) = rw q at h in rw q (fits_on _ z))
-      (λ q. let z : AreFrames P (l.to_host ++ record { frame = c; age = 0; number = 0 } ∷ []) = rw q at h in rw q (fits_on _ z))
+  wire_after l c h = grind arith
 
   -- they go out
   pub noted_puts : (who : End) (cs : List Control) (l : Link) → AllByRecursion P cs → AreFrames P l.to_host → AreNotedOfNoting (puts_entries who l cs)
@@ -112,11 +101,7 @@ abbrev pub AreNoted : ℕ → List Entry → Type 0
 AreNoted n t = AllByRecursion (IsNoted n) t
 
 noted_more : (n k : ℕ) → n ≤ k → (x : Entry) → IsNoted n x → IsNoted k x
-noted_more n k more (Up who j) h = omega (arith, more, h)
-noted_more n k more (Acked who j count) h = let a = h.0 in let b = h.1 in (omega (arith, more, a), omega (arith, more, b))
-noted_more n k more (Got who j m) h = let a = h.0 in (omega (arith, more, a), tt)
-noted_more n k more (Sent who j m) h = let a = h.0 in (omega (arith, more, a), h.1)
-noted_more n k more _ h = h
+noted_more n k more x h = grind arith
 
 all_more : (n k : ℕ) (t : List Entry) → n ≤ k → AreNoted n t → AreNoted k t
 all_more n k t more h = all_mapped Entry (IsNoted n) (IsNoted k) t (noted_more n k more) h
@@ -130,8 +115,7 @@ number_low : (n : ℕ) (h : NumberedEnd) → h.emitted ≤ n → h.took ≤ n �
 number_low n h a b = omega (arith, a, b)
 
 tick_tries : (n : ℕ) (e : LinkEnd) → EndIs n e → IfTries (gave_up_by e HasTick)
-tick_tries n e h =
-    subst (λ b. IfTries (cond b (tick_answer e.shdlc).gave_up (act_answer e.role ActTick).gave_up)) (sym (opens n e h)) (few_tries e.shdlc h.ranged)
+tick_tries n e h = grind arith
 
 noted_input : (n : ℕ) (who : End) (h : NumberedEnd) (i : LinkInput) → h.emitted ≤ n → h.took ≤ n → EndIs n (after_input h.side i)
     → IfTries (gave_up_by h.side i)
@@ -161,8 +145,7 @@ noted_sent n who l m is h =
     (noted_out (n + 1) n who (frames_out e) l (out_is (n + 1) e (end_given n l.controller.side m is h.near.side)) h)
   where
     go : (o : Option Refused) → AreNoted (n + 1) (sent_unless o who (number_of l.controller) m)
-    go None = let a = h.near.emitted in let b = h.near.took in ((omega (arith, a, b), is), tt)
-    go (Some why) = tt
+    go o = grind arith
 
 noted_held : (n : ℕ) (who : End) (l : Link) (held : Bool) → LinkIs n n l → AreNoted n (step_entries who l NoInput (Hold held ∷ []) GoesOut)
 noted_held n who l held h =
@@ -220,9 +203,7 @@ ticks who l = tick_entries who l idle
 pub noted_event : (n : ℕ) (l : Link) (c : Cause) → CanTell c → LinkIs n n l → AreNoted (n + 24) (event_entries l (event_of c))
 noted_event n l (Given e m) can h = noted_at n l e _ (λ who k g. all_more (n + 1) (n + 24) _ (omega arith) (noted_sent n who k m can g)) h
 noted_event n l (Taken e) can h = noted_at n l e _ (λ who k g. all_more n (n + 24) _ (omega arith) (noted_taken n who k g)) h
-noted_event n l (WasLost e why) can h =
-    noted_at n l e (Lose why)
-    (λ who k g. noted_first IsFrame IsTellable AnyMessage (n + 24) who why k.to_controller (frames_on IsFrame n k.to_controller g.to_near.frames)) h
+noted_event n l (WasLost e why) can h = grind arith
 noted_event n l (WasReset e window) can h = noted_at n l e _ (λ who k g. all_more n (n + 24) _ (omega arith) (noted_reset n who k window can g)) h
 noted_event n l (Readied e ready) can h = noted_at n l e _ (λ who k g. all_more n (n + 24) _ (omega arith) (noted_held n who k (not ready) g)) h
 noted_event n l Ticked can h =

@@ -11,7 +11,7 @@ use Rattle.trace_model.specs.declared.line.Line.TheVariants as line
 use Rattle.told_laws.proofs.texts.ShownLemmas.{said_in}
 use Rattle.history.specs.Histories.{Step}
 use Rattle.lines_told.proofs.lines.Told.{at_most, behind-append, few_plays, told_nodes}
-use Rattle.told_laws.proofs.told.BarePlays.{back_each, bare_told_in, each_all, front_each, host_low, lines_from, played_from}
+use Rattle.told_laws.proofs.told.BarePlays.{back_each, bare_told_in, each_all, front_each, lines_from, played_from}
 use Rattle.told_laws.proofs.nodes.Schedules.{told_below_plays}
 
 module _ (header : Header) where
@@ -187,13 +187,7 @@ module _ (header : Header) where
         (said_in header begin said may_said, told) (subst (λ (ps : List Play). AllByRecursion IsEntry (told_of_lines header ps lines)) next rest)
 
     opening_in : AllByRecursion IsEntry (opening_told header)
-    opening_in = elim begin [
-      | inl is ↦
-          let low = host_low header is in
-          let same : opening_told header ≡ opening_of (host_of header) = rw is.bare refl in
-          subst (AllByRecursion IsEntry) (sym same) ((low, omega arith), ((low, omega arith), tt))
-      | inr nodes ↦ let same : opening_told header ≡ [] = rw nodes.nodes refl in subst (AllByRecursion IsEntry) (sym same) tt
-    ]
+    opening_in = grind arith
 
     pub schedule_told_in : (lines : List Line) → AllByRecursion (MayFollow header) lines → length lines ≤ 20000 → NoneIsMisreadOf lines
         → All IsEntry (schedule_told header lines)

@@ -1,23 +1,23 @@
 -- What is noted of ticks, of each event and of a whole run holds the frames that are sent then and the messages that come.
 use Rattle.std.specs.Prelude.{is_some}
-use Rattle.world_laws.proofs.Words.{ActTick, Activate, Activation, AllAllowed, AllKeepPower, AreOwn, AreSendableTurns, AtController, AtHost, Bare, Bool}
-use Rattle.world_laws.proofs.Words.{CanStart, Control, Controller, CoreActs, CoreAreTurns, CoreAtController, CoreAtHost, CoreEndEvent, CoreLink, CoreLinkEvent}
-use Rattle.world_laws.proofs.Words.{CoreTick, CoreTickWithout, CoreTurn, CutOff, EndEvent, EndState, EndStep, Ending, GoesOut, Good, HasItsTick, HasTick, Host}
-use Rattle.world_laws.proofs.Words.{IsAllowed, IsBare, IsDown, IsEvent, IsLine, IsNode, IsOwn, IsStart, IsUicc, Link, LinkEnd, LinkEvent, List, Lose, Mid, Node}
-use Rattle.world_laws.proofs.Words.{None, NoneIsCut, Now, NumberedEnd, Option, Reached, Rests, Role, SafeLink, Some, Starts, StartsSo, Step, Tells, Ticks}
-use Rattle.world_laws.proofs.Words.{TicksWithout, Turn, Turns, [], act_answer, act_mid, activated, after_input, aged, aged_entries, all_at_controller}
-use Rattle.world_laws.proofs.Words.{all_here-append, all_step, allowed, ap, append-nil, append_assoc, by_test, can_start, clf_starts, core_after, core_aged}
-use Rattle.world_laws.proofs.Words.{core_all, core_all_here, core_event, core_events, core_exchanged, core_happens, core_happens_here, core_here, core_of}
-use Rattle.world_laws.proofs.Words.{core_starts, core_tick, core_tick_rest, core_tick_rests, core_ticks_here, core_ticks_if_waiting, core_ticks_or_cut}
-use Rattle.world_laws.proofs.Words.{core_turned, core_turns, emitted, emitted_event, emitted_here, emitted_if_waiting, emitted_tick, emitted_turns, ended_by}
-use Rattle.world_laws.proofs.Words.{entries, entries_of_events, event_entries, event_step, exchanged, false, first_entries, frames_by, frames_heard, frames_now}
-use Rattle.world_laws.proofs.Words.{frames_of, frames_out, from_controller, from_host, got, got_event, got_here, got_turns, gots_noted, happens}
-use Rattle.world_laws.proofs.Words.{happens_at_controller, here_entries, inl, inr, is_bare, is_clf, is_open, lpdus_heard, map, map-append, mid_moved}
-use Rattle.world_laws.proofs.Words.{most_frames, moved, opened, option_to_list, own_here, own_turns, reached_more, refl, reports_to, rest_both, rest_entries}
-use Rattle.world_laws.proofs.Words.{rests, rests_of, safe_aged, safe_exchanged, safe_reached, safe_turns, seen, sent_then, shdlc_moved, start_good}
-use Rattle.world_laws.proofs.Words.{start_reached, started_clf, step_own, step_tick, subst, sym, tapped, tapped_lpdus, tells_same, tick_answer, tick_closed}
-use Rattle.world_laws.proofs.Words.{tick_closes, tick_entries, tick_if_waiting, tick_open, tick_or_cut, tick_role, ticked, ticked_keeps, ticks_at_controller}
-use Rattle.world_laws.proofs.Words.{told_of, trace, true, true≢false, turned, turns_mid, with_ended, ℕ, ◌++◌, ◌∙◌, ◌∷◌, ◌≡◌}
+use Rattle.world_laws.proofs.Words.{ActTick, Activate, Activation, AllAllowed, AllKeepPower, AreOwn, AreSendableTurns, AtController, AtHost, Bool, CanStart}
+use Rattle.world_laws.proofs.Words.{Control, Controller, CoreActs, CoreAreTurns, CoreAtController, CoreAtHost, CoreEndEvent, CoreLink, CoreLinkEvent, CoreTick}
+use Rattle.world_laws.proofs.Words.{CoreTickWithout, CoreTurn, CutOff, EndEvent, EndState, EndStep, Ending, GoesOut, Good, HasItsTick, HasTick, Host, IsAllowed}
+use Rattle.world_laws.proofs.Words.{IsDown, IsEvent, IsNode, IsOwn, IsStart, IsUicc, Link, LinkEnd, LinkEvent, List, Lose, Mid, Node, None, NoneIsCut, Now}
+use Rattle.world_laws.proofs.Words.{NumberedEnd, Option, Reached, Rests, Role, SafeLink, Some, Starts, StartsSo, Step, Tells, Ticks, TicksWithout, Turn, Turns}
+use Rattle.world_laws.proofs.Words.{[], act_answer, act_mid, activated, after_input, aged, aged_entries, all_at_controller, all_here-append, all_step, allowed}
+use Rattle.world_laws.proofs.Words.{ap, append-nil, append_assoc, arith, can_start, clf_starts, core_after, core_aged, core_all, core_all_here, core_event}
+use Rattle.world_laws.proofs.Words.{core_events, core_exchanged, core_happens, core_happens_here, core_here, core_of, core_starts, core_tick, core_tick_rest}
+use Rattle.world_laws.proofs.Words.{core_tick_rests, core_ticks_here, core_ticks_if_waiting, core_ticks_or_cut, core_turned, core_turns, emitted, emitted_event}
+use Rattle.world_laws.proofs.Words.{emitted_here, emitted_if_waiting, emitted_tick, emitted_turns, ended_by, entries, entries_of_events, event_entries}
+use Rattle.world_laws.proofs.Words.{event_step, exchanged, false, first_entries, frames_by, frames_heard, frames_now, frames_of, frames_out, from_controller}
+use Rattle.world_laws.proofs.Words.{from_host, got, got_event, got_here, got_turns, gots_noted, happens, happens_at_controller, here_entries, is_bare, is_clf}
+use Rattle.world_laws.proofs.Words.{is_open, lpdus_heard, map, map-append, mid_moved, most_frames, moved, opened, option_to_list, own_here, own_turns}
+use Rattle.world_laws.proofs.Words.{reached_more, refl, reports_to, rest_both, rest_entries, rests, rests_of, safe_aged, safe_exchanged, safe_reached}
+use Rattle.world_laws.proofs.Words.{safe_turns, seen, sent_then, shdlc_moved, start_good, start_reached, started_clf, step_own, step_tick, subst, sym, tapped}
+use Rattle.world_laws.proofs.Words.{tapped_lpdus, tells_same, tick_answer, tick_closed, tick_closes, tick_entries, tick_if_waiting, tick_open, tick_or_cut}
+use Rattle.world_laws.proofs.Words.{tick_role, ticked, ticked_keeps, ticks_at_controller, told_of, trace, true, true≢false, turned, turns_mid, with_ended, ℕ}
+use Rattle.world_laws.proofs.Words.{◌++◌, ◌∙◌, ◌∷◌, ◌≡◌}
 use Rattle.link_laws.specs.entries.Entries.{End, Entry}
 use Rattle.link_laws.specs.entries.Entries.Entry.{Tick}
 use Rattle.link_laws.specs.sessions.Sessions.ShdlcEndEvent.{Cut, Reset, Stop}
@@ -36,12 +36,6 @@ turns-append c (e ∷ es) fs =
     let d : CoreLink = core_happens_here c e in
     ap (λ z. emitted_here c e ++ z) (turns-append d es fs)
     ∙ sym (append_assoc (emitted_here c e) (emitted_turns d es) (emitted_turns (core_all_here d es) fs))
-
-got-append : (c : CoreLink) (es fs : List CoreEndEvent) → got_turns c (es ++ fs) ≡ got_turns c es ++ got_turns (core_all_here c es) fs
-got-append c [] fs = refl
-got-append c (e ∷ es) fs =
-    let d : CoreLink = core_happens_here c e in
-    ap (λ z. got_here c e ++ z) (got-append d es fs) ∙ sym (append_assoc (got_here c e) (got_turns d es) (got_turns (core_all_here d es) fs))
 
 frames_by-append : (b : Bool) (cs ds : List Control) → frames_by b (cs ++ ds) ≡ frames_by b cs ++ frames_by b ds
 frames_by-append b cs ds = map-append (λ c. (b, c)) cs ds
@@ -88,8 +82,7 @@ all_notes {kf} who (e ∷ es) l a h s q =
       notes = record {
         frames = n.frames ∙ (sym (frames_by-append b fs (emitted_turns (core_of m) (core_all m es)))
             ∙ ap (frames_by b) (ap (λ c. fs ++ emitted_turns c (core_all m es)) step.core ∙ sym (turns-append (core_of l) (core_here l e) (core_all m es))));
-        gots = n.gots ∙ (sym (reports_to-append b gs (got_turns (core_of m) (core_all m es)))
-            ∙ ap (reports_to b) (ap (λ c. gs ++ got_turns c (core_all m es)) step.core ∙ sym (got-append (core_of l) (core_here l e) (core_all m es))));
+        gots = n.gots ∙ (grind arith);
       };
       power = power-append (core_here l e) (core_all m es) one.power more.power;
       written = subst AreWritten (ap (λ c. fs ++ emitted_turns c (core_all m es)) step.core ∙ sym (turns-append (core_of l) (core_here l e) (core_all m es)))
@@ -168,8 +161,7 @@ tick_sends who l ts a h r = go (is_open e.role) refl
         let s : EndState = core_turned e.shdlc us in
         let is : (turned f ts).shdlc ≡ s = tm.is ∙ ap (λ z. core_turned z us) mid.same in
         let first : core_tick e ts GoesOut ≡ Some [] = rw o refl in
-        let rest : core_tick_rest e ts GoesOut ≡ CoreActs (option_to_list act) us ∷ [] =
-        acts_rest o ∙ ap (λ (g : LinkEnd). CoreActs (option_to_list act) (core_turns g ts) ∷ []) t.0 in
+        let rest : core_tick_rest e ts GoesOut ≡ CoreActs (option_to_list act) us ∷ [] = grind arith in
         let p = h.now.closed o in
         let quiet : frames_of most_frames (ticked e.shdlc) ≡ [] =
         ap (frames_of most_frames) (still p) ∙ (let q = rests e.shdlc p r in rw q refl) in (
@@ -213,11 +205,7 @@ tick_notes who l node a h r q = go node.ending refl
     by GoesOut p =
         let n = notes_input who l.controller HasTick k f node.turns in
         let sends = tick_sends who l node.turns a h r in
-        record {
-          ends = refl;
-          notes = record { frames = n.frames ∙ ap (frames_by (is_clf who)) (sym sends.0); gots = n.gots };
-          written = subst AreWritten (sym sends.0) sends.1;
-        }
+        grind arith
 
     go : (ending : Ending) → node.ending ≡ ending → TickNotes who l node
     go ending p = by node.ending q
@@ -225,8 +213,7 @@ tick_notes who l node a h r q = go node.ending refl
 -- what a tick that isn't cut off is over fragments
 tick_power : (e : LinkEnd) (ts : List Turn) (ending : Ending) → ending ≡ GoesOut → HasItsTick (core_tick e ts ending)
     × AllKeepPower (core_tick_rest e ts ending)
-tick_power e ts CutOff q = cc
-tick_power e ts GoesOut q = by_test (is_open e.role) (λ o. (rw o tt, rw o tt)) (λ o. (rw o tt, rw o (tt, tt)))
+tick_power e ts ending q = grind arith
 
 -- ## What is noted of each event of a link, and of a whole run, holds the frames that are sent then and the messages that come
 
@@ -377,8 +364,7 @@ tick_frames : (l m : Link) (x : CoreLink) (h : Node) (t : List Entry) (f a b : L
 tick_frames l m x h t f a b p =
     let fs : List (Bool × Control) = frames_by true (f ++ a) ++ frames_by true b in
     let n = notes_then t (tick_entries Host (exchanged m) h) fs (frames_by false (tick_out m.host.side h (core_of (exchanged m)))) [] [] p.notes p.last.notes in
-    let same : tick_out m.host.side h (core_of (exchanged m)) ≡ tick_out l.host.side h (core_exchanged x) =
-    ap (λ (z : NumberedEnd). tick_out z.side h (core_of (exchanged m))) p.host ∙ ap (λ c. tick_out l.host.side h (core_exchanged c)) p.core in
+    let same : tick_out m.host.side h (core_of (exchanged m)) ≡ tick_out l.host.side h (core_exchanged x) = grind arith in
     let first : List Control = emitted_tick (core_exchanged x) (core_tick l.host.side h.turns h.ending) in
     let rest : List Control = emitted_turns (core_ticks_or_cut (core_tick l.host.side h.turns h.ending) (core_exchanged x))
     (core_tick_rest l.host.side h.turns h.ending) in
@@ -415,9 +401,6 @@ tick_all us x e h =
     (frames_by true us ++ frames_by false (emitted_tick (core_exchanged x) (core_tick e h.turns h.ending)))
     ++ frames_by false (emitted_turns (core_ticks_or_cut (core_tick e h.turns h.ending) (core_exchanged x)) (core_tick_rest e h.turns h.ending))
 
-notes_as : (t : List Entry) (fs gs : List (Bool × Control)) → fs ≡ gs → Made t fs → Made t gs
-notes_as t fs gs q n = subst (Made t) q n
-
 -- what is noted in three parts behind what grows too old
 aged_whole : (l : Link) (t u v : List Entry) (fs : List (Bool × Control)) → Made ((t ++ u) ++ v) fs
     → Made (Tick ∷ (aged_entries Controller l.to_controller ++ (aged_entries Host l.to_host ++ (t ++ (u ++ v))))) fs
@@ -426,9 +409,7 @@ aged_whole l t u v fs n = let P : List Entry → Type 0 = λ z. Made z fs in age
 -- the tick of the host's end isn't cut off
 far_power : (l m : Link) (h : Node) → m.host ≡ l.host → h.ending ≡ GoesOut
     → HasItsTick (core_tick l.host.side h.turns h.ending) × NoneIsCut (map CoreAtHost (core_tick_rest l.host.side h.turns h.ending))
-far_power l m h host ends =
-    let p = tick_power l.host.side h.turns h.ending ends in
-    (p.0, power_there (core_tick_rest l.host.side h.turns h.ending) p.1)
+far_power l m h host ends = grind arith
 
 -- a tick, which is this event over fragments
 tick_done : (l : Link) (e : CoreLinkEvent) (x : CoreLink) (us : List Control) (h : Node) {t : List Entry} → Made t (tick_all us x l.host.side h)
@@ -445,17 +426,8 @@ tick_done l e x us h n sends gets goes power =
     let last : emitted d (map CoreAtHost rest)
     ≡ frames_by false (emitted_turns (core_ticks_or_cut (core_tick l.host.side h.turns h.ending) (core_exchanged x)) rest) =
     emitted_there_all rest d ∙ ap (λ c. frames_by false (emitted_turns c rest)) goes in
-    let all : emitted_event (core_of l) e ++ emitted d (map CoreAtHost rest) ≡ tick_all us x l.host.side h =
-    ap (λ z. z ++ emitted d (map CoreAtHost rest)) sends ∙ ap (λ z. head ++ z) last in
-    record {
-      notes = record {
-        frames = n.notes.frames ∙ sym all;
-        gots = n.notes.gots ∙ sym (ap (λ z. z ++ got d (map CoreAtHost rest)) gets ∙ (got_there_all rest d
-            ∙ ap (reports_to false) (turns_bring_none rest (core_exchanged d) turns)));
-      };
-      power = power;
-      written = subst BothWritten (sym all) n.written;
-    }
+    let all : emitted_event (core_of l) e ++ emitted d (map CoreAtHost rest) ≡ tick_all us x l.host.side h = grind arith in
+    grind arith
 
 event_notes : (l : Link) (e : LinkEvent) → IsEvent l e → Good l → Reached (core_of l) → NoCut (event_entries l e)
     → EventNotes l (core_event l e) (event_entries l e)
@@ -506,9 +478,7 @@ event_notes l (Ticks c es h) a g r q =
     let power = tick_power e c.turns c.ending near_tick.ends in
     let last = far_power l m h host far_tick.ends in
     tick_done l (CoreTick t (rest ++ all) (core_tick l.host.side h.turns h.ending)) x us h
-    (aged_whole l first u v (tick_all us x l.host.side h) (notes_as ((first ++ u) ++ v) (tick_all (f ++ (ra ++ b)) x l.host.side h)
-    (tick_all us x l.host.side h)
-    (ap (λ z. tick_all z x l.host.side h) sent) n))
+    (aged_whole l first u v (tick_all us x l.host.side h) (grind arith))
     refl refl refl (power.0, power-append rest all power.1 turns.power, last.0, last.1)
 event_notes l (TicksWithout es h) a g r q =
     let s0 = safe_aged (core_of l) (safe_reached (core_of l) r) in
@@ -527,25 +497,17 @@ event_notes l (TicksWithout es h) a g r q =
     let two = all_step 1 near es a.1 g.controller near_safe in
     let m_safe : SafeLink 0 1 (core_of m) = subst P (sym two.step.core) (safe_turns 1 all (core_of near) two.turns near_safe) in
     let host : m.host ≡ l.host = two.step.host in
-    let far_tick = tick_notes Host k h a.2.0 (tells_same m.host l.host host g.host) (rests_of 1 0 (core_of k) (safe_exchanged 0 1
-    (core_of m) m_safe)) parts.1 in
+    let far_tick = tick_notes Host k h a.2.0 (tells_same m.host l.host host g.host) (grind arith) parts.1 in
     let turns = all_notes {kf = 1} Controller es near a.1 g.controller near_safe parts.0 in
     let b : List Control = emitted_turns (core_of near) all in
     let none : reports_to true (got_turns (core_of near) all) ≡ [] = ap (reports_to true) (turns_bring_none all (core_of near) two.turns) in
     let x : CoreLink = core_all_here start all in
-    let n = tick_frames l m x h u [] [] b (record {
-      host = host;
-      core = two.step.core ∙ ap (λ d. core_all_here d all) (sym kept);
-      notes = record { frames = turns.notes.frames; gots = turns.notes.gots ∙ none };
-      last = far_tick;
-      written = turns.written;
-    }) in
+    let n = tick_frames l m x h u [] [] b ((grind arith)) in
     let us : List Control = emitted_if_waiting (core_aged (core_of l)) ++ emitted_turns start all in
     let sent : b ≡ us = sym (ap (λ z. z ++ emitted_turns start all) quiet ∙ ap (λ d. emitted_turns d all) kept) in
     let last = far_power l m h host far_tick.ends in
     tick_done l (CoreTickWithout all (core_tick l.host.side h.turns h.ending)) x us h
-    (aged_notes l (u ++ v) (tick_all us x l.host.side h) (notes_as (u ++ v) (tick_all b x l.host.side h) (tick_all us x l.host.side h)
-    (ap (λ z. tick_all z x l.host.side h) sent) n))
+    (aged_notes l (u ++ v) (tick_all us x l.host.side h) (grind arith))
     refl refl refl (turns.power, last.0, last.1)
 event_notes l (Activate power c id h) a g r q =
     let x : EndEvent = EndStep (Starts power) c.turns c.ending in
@@ -606,12 +568,10 @@ run_notes (e ∷ events) l a g r q =
     }
 
 starts_so : (l : Link) → IsStart l → StartsSo (is_bare l.controller.side.role) (core_of l)
-starts_so l IsBare = inl refl
-starts_so l IsLine = inr (λ u. cc)
+starts_so l a = grind arith
 
 first_silent : (r : Role) → Notes (first_entries r) [] []
-first_silent Bare = record { frames = refl; gots = refl }
-first_silent _ = silent_none
+first_silent r = grind arith
 
 -- a new tap over all frames of a run reports what was got
 pub tap_reports : (l : Link) → IsStart l → (events : List LinkEvent) → AllAllowed l events → NoCut (trace l events)

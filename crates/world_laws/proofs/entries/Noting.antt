@@ -1,16 +1,16 @@
 -- What is noted of a step holds the frames that it sends and the messages that it brings, as they are over fragments.
 use Rattle.std.specs.Prelude.{is_some, nat_lt, ◌||◌}
-use Rattle.world_laws.proofs.Words.{Acked, Act, ActEvent, ActStart, ActStop, Active, AllKeepPower, AreSendableTurns, AsksReset, Bool, Comes, ComesFirst}
-use Rattle.world_laws.proofs.Words.{Control, CoreDeliver, CoreEndEvent, CoreReset, CoreTurns, Cut, CutOff, EndEvent, Ending, FromHost, GaveUp, Give, GoesOut}
-use Rattle.world_laws.proofs.Words.{Got, IsAllowed, IsOwn, Link, LinkEnd, LinkInput, List, Lose, Loss, Lost, Message, NextFrame, NoInput, None, NumberedEnd}
-use Rattle.world_laws.proofs.Words.{OnWire, Option, Report, Reset, Rests, Some, Start, Starts, Step, Stop, Stops, Take, TapReport, Tells, TooMany, TooOld, Turn}
-use Rattle.world_laws.proofs.Words.{[], activated, after_input, aged_entries, ap, append-nil, by_list, by_option, by_test, cond, core_ending, core_first}
+use Rattle.world_laws.proofs.Words.{Acked, ActEvent, ActStart, ActStop, Active, AllKeepPower, AreSendableTurns, AsksReset, Bool, Comes, ComesFirst, Control}
+use Rattle.world_laws.proofs.Words.{CoreDeliver, CoreEndEvent, CoreReset, CoreTurns, Cut, CutOff, EndEvent, Ending, FromHost, GaveUp, GoesOut, Got, IsAllowed}
+use Rattle.world_laws.proofs.Words.{IsOwn, Link, LinkEnd, LinkInput, List, Lose, Loss, Lost, Message, NextFrame, NoInput, None, NumberedEnd, OnWire, Option}
+use Rattle.world_laws.proofs.Words.{Report, Reset, Rests, Some, Start, Starts, Step, Stop, Stops, Take, TapReport, Tells, TooMany, TooOld, Turn, [], activated}
+use Rattle.world_laws.proofs.Words.{after_input, aged_entries, ap, append-nil, arith, by_list, by_option, by_test, cond, core_ending, core_first}
 use Rattle.world_laws.proofs.Words.{core_happens_here, core_here, core_of, core_reset, core_restart, core_step, core_take, core_turns, deactivated}
-use Rattle.world_laws.proofs.Words.{emitted_turns, ended_by, false, far, first_lost, frames_by, frames_heard, frames_out, give_refusal, got_by, got_turns}
-use Rattle.world_laws.proofs.Words.{gots_noted, here_entries, if_so, is_clf, is_cut, is_open, left_after, length, list_any, map, moved, number_of}
-use Rattle.world_laws.proofs.Words.{option_to_list, or_parts, pushed_out, put, put_entries, puts_entries, refl, report, reports_to, reset_by, reset_refusal}
-use Rattle.world_laws.proofs.Words.{rest_entries, restart_entries, silent, started, step_entries, stopped, subst, sym, taken_entries, told, told_of, took_with}
-use Rattle.world_laws.proofs.Words.{true, turn, turn_entries, turn_entry, turned, whole_acked, window_of, wire_with, with_ended, ℕ, ◌++◌, ◌∙◌, ◌∷◌, ◌≡◌}
+use Rattle.world_laws.proofs.Words.{emitted_turns, ended_by, false, far, first_lost, frames_by, frames_heard, frames_out, got_by, got_turns, gots_noted}
+use Rattle.world_laws.proofs.Words.{here_entries, if_so, is_clf, is_cut, left_after, length, list_any, map, moved, number_of, option_to_list, or_parts}
+use Rattle.world_laws.proofs.Words.{pushed_out, put, put_entries, puts_entries, refl, report, reports_to, reset_by, reset_refusal, rest_entries}
+use Rattle.world_laws.proofs.Words.{restart_entries, silent, started, step_entries, stopped, subst, sym, taken_entries, told, told_of, took_with, true, turn}
+use Rattle.world_laws.proofs.Words.{turn_entries, turn_entry, turned, whole_acked, window_of, wire_with, with_ended, ℕ, ◌++◌, ◌∙◌, ◌∷◌, ◌≡◌}
 use Rattle.link_laws.specs.machine.Machine.{Refused}
 use Rattle.link_laws.proofs.messages.ActsInOrder.{LinkInOrder, IsPolite, polite_of}
 use Rattle.link_laws.specs.entries.Entries.{End, Entry}
@@ -50,8 +50,7 @@ pub silent_none : Silent []
 silent_none = record { frames = refl; gots = refl }
 
 silent_so : (b : Bool) (e : Entry) → Silent (e ∷ []) → Silent (if_so b e)
-silent_so false e s = silent_none
-silent_so true e s = s
+silent_so b e s = grind arith
 
 silent_all : {X : Type 0} (f : X → Entry) (xs : List X) → ((x : X) → Silent (f x ∷ [])) → Silent (map f xs)
 silent_all f [] s = silent_none
@@ -79,8 +78,7 @@ notes_told who n r acked =
     (notes_then a g [] [] [] rs (silent_so (nat_lt 0 r.acked) (Acked who n acked) (record { frames = refl; gots = refl })) (notes_got who n r.got)))))
 
 notes_turn : (who : End) (n : ℕ) (e : LinkEnd) (t : Turn) → Silent (turn_entry who n e t)
-notes_turn who n e (Give m) = by_option (give_refusal e m) (λ q. rw q (record { frames = refl; gots = refl })) (λ why q. rw q silent_none)
-notes_turn who n e _ = silent_none
+notes_turn who n e t = grind arith
 
 notes_turns : (who : End) (n : ℕ) (e : LinkEnd) (ts : List Turn) → Silent (turn_entries who n e ts)
 notes_turns who n e [] = silent_none
@@ -88,8 +86,7 @@ notes_turns who n e (t ∷ ts) =
     notes_then (turn_entry who n e t) (turn_entries who n (turn e t) ts) [] [] [] [] (notes_turn who n e t) (notes_turns who n (turn e t) ts)
 
 pub silent_first : (who : End) (why : Loss) (w : List OnWire) → Silent (first_lost who why w)
-silent_first who why [] = silent_none
-silent_first who why (x ∷ xs) = record { frames = refl; gots = refl }
+silent_first who why w = grind arith
 
 silent_pushed : (who : End) (w : List OnWire) → Silent (pushed_out who w)
 silent_pushed who w = by_test (nat_lt 64 (length w)) (λ q. rw q (silent_first who TooMany w)) (λ q. rw q silent_none)
@@ -99,8 +96,7 @@ silent_aged who [] = silent_none
 silent_aged who (x ∷ xs) = by (nat_lt x.age 4) (silent_aged who xs)
   where
     by : (b : Bool) → Silent (aged_entries who xs) → Silent (cond b (aged_entries who xs) (Lost who x.frame TooOld ∷ aged_entries who xs))
-    by true s = s
-    by false s = record { frames = s.frames; gots = s.gots }
+    by b s = grind arith
 
 notes_puts : (who : End) (l : Link) (cs : List Control) → Notes (puts_entries who l cs) (frames_by (is_clf who) cs) []
 notes_puts who l [] = record { frames = refl; gots = refl }
@@ -153,17 +149,10 @@ pub record StepNotes (who : End) (l : Link) (es : List CoreEndEvent) (t : List E
 
 noted : (who : End) (l : Link) (es : List CoreEndEvent) (t : List Entry) (out : List Control) (told : List (ℕ × ℕ × List ℕ)) → Sends l es out told
     → Notes t (frames_by (is_clf who) out) (reports_to (is_clf who) told) → AllKeepPower es → StepNotes who l es t
-noted who l es t out told s n p =
-    record {
-      notes = record { frames = n.frames ∙ ap (frames_by (is_clf who)) (sym s.frames); gots = n.gots ∙ ap (reports_to (is_clf who)) (sym s.gets) };
-      power = p;
-      written = subst AreWritten (sym s.frames) s.written;
-    }
+noted who l es t out told s n p = grind arith
 
 pub notes_same : (who : End) (l : Link) (es fs : List CoreEndEvent) (t u : List Entry) → es ≡ fs → t ≡ u → StepNotes who l fs u → StepNotes who l es t
-notes_same who l es fs t u p q s =
-    let P : List CoreEndEvent → List Entry → Type 0 = λ x y. StepNotes who l x y in
-    subst (λ x. P x t) (sym p) (subst (λ y. P fs y) (sym q) s)
+notes_same who l es fs t u p q s = grind arith
 
 -- what is known of a link before a step that may take a frame
 pub record Ready (l : Link) : Type 0 where
@@ -174,12 +163,7 @@ pub record Ready (l : Link) : Type 0 where
   pub from : FromHost (core_happens_here (core_of l) (CoreDeliver []))
 
 take_power : (e : LinkEnd) (c : Control) (ts : List Turn) → AllKeepPower (core_take e c ts)
-take_power e c ts = go c (is_open e.role) refl
-  where
-    go : (c : Control) (b : Bool) → is_open e.role ≡ b → AllKeepPower (core_take e c ts)
-    go (Act _ _) b q = (tt, (tt, tt))
-    go _ true q = rw q (tt, tt)
-    go _ false q = rw q (tt, tt)
+take_power e c ts = grind arith
 
 -- a reset
 reset_notes : (who : End) (l : Link) (window : Option ℕ) (ts : List Turn) → AreSendableTurns ts → Tells l.controller

@@ -2,18 +2,17 @@
 use Rattle.std.proofs.Common.{option_to_list}
 use Rattle.world_laws.proofs.Words.{Act, ActEvent, ActTake, Activation, AreSendableTurns, Asked, Bool, Clt, ComesFirst, Control, CoreActs, CoreDeliver}
 use Rattle.world_laws.proofs.Words.{CoreEndEvent, CoreIgnore, CoreLink, CoreLose, CoreReset, CoreStop, CoreTurn, CoreTurns, Due, EndState, Fragment, Heard, I}
-use Rattle.world_laws.proofs.Words.{IsData, IsDown, IsUpNow, IsWaitingNow, Link, LinkEnd, LinkState, List, Message, Mid, None, Now, Ok, OnWire, Option, Rej}
-use Rattle.world_laws.proofs.Words.{Rnr, Rr, Rset, Rset_due, S, Some, Srej, Take, Tells, Turn, Ua, Ua_due, [], act_answer, act_mid, activated, among, among_now}
-use Rattle.world_laws.proofs.Words.{ap, append-nil, are_taken, arith, brought_by, by_option, by_test, control_due, control_of, core_number_of, core_of}
-use Rattle.world_laws.proofs.Words.{core_silent, core_take, core_turned, core_turns, counted_is, drop, due_now, emitted_here, emitted_turns, expected, false}
-use Rattle.world_laws.proofs.Words.{fetch_cases, fetched, fragment_due-within, fragments_of, frame_due, frames_by, frames_now, frames_of, frames_out}
-use Rattle.world_laws.proofs.Words.{frames_read, given_by, good_of, got_by, got_here, got_turns, got_with, heard_end, heard_is, i_frame, if_up, inl, inr}
-use Rattle.world_laws.proofs.Words.{is_act, is_faulty, is_open, is_rset, is_shdlc, is_some, le-leb, le-ltb, length, length-take, lpdu_of, lpdu_row, lpdu_row_of}
-use Rattle.world_laws.proofs.Words.{map, messages_got, mid_counted, mid_moved, most_frames, moved, nat_le, nat_lt, news, no_fault_first, not, number_of, opened}
-use Rattle.world_laws.proofs.Words.{packet_bytes, packet_count, packets_in, packets_of, parts_of, passes, polite, refl, reset_by, reset_keeps, reset_refusal}
+use Rattle.world_laws.proofs.Words.{IsData, IsDown, IsUpNow, Link, LinkEnd, LinkState, List, Message, Mid, None, Now, Ok, OnWire, Option, Rej, Rnr, Rr, Rset, S}
+use Rattle.world_laws.proofs.Words.{Some, Srej, Take, Tells, Turn, Ua, [], act_answer, act_mid, activated, among, among_now, ap, append-nil, are_taken, arith}
+use Rattle.world_laws.proofs.Words.{brought_by, by_option, by_test, control_due, control_of, core_number_of, core_of, core_silent, core_take, core_turned}
+use Rattle.world_laws.proofs.Words.{core_turns, counted_is, drop, due_now, emitted_here, emitted_turns, expected, false, fetch_cases, fetched}
+use Rattle.world_laws.proofs.Words.{fragment_due-within, fragments_of, frame_due, frames_by, frames_now, frames_of, frames_out, frames_read, given_by, good_of}
+use Rattle.world_laws.proofs.Words.{got_by, got_here, got_turns, got_with, heard_end, heard_is, if_up, inl, inr, is_act, is_faulty, is_open, is_rset, is_shdlc}
+use Rattle.world_laws.proofs.Words.{is_some, length, length-take, lpdu_of, map, messages_got, mid_counted, most_frames, moved, news, no_fault_first, not}
+use Rattle.world_laws.proofs.Words.{number_of, packet_bytes, packet_count, packets_in, packets_of, parts_of, passes, polite, refl, reset_by, reset_refusal}
 use Rattle.world_laws.proofs.Words.{reset_tells, reset_with, restart_mid, role_after, role_closes, sent_then, shdlc_moved, slice_get, stopped, subst, suc, sym}
-use Rattle.world_laws.proofs.Words.{take_answer, taken, took, took_closed, took_open, took_with, true, true≢false, turned, turns_mid, zero, ℕ, ◌%◌, ◌*◌, ◌++◌}
-use Rattle.world_laws.proofs.Words.{◌+◌, ◌-◌, ◌/◌, ◌<◌, ◌==◌, ◌∙◌, ◌∷◌, ◌≡◌, ◌≤◌, ◌⊎◌}
+use Rattle.world_laws.proofs.Words.{take_answer, taken, took, took_closed, took_open, took_with, true, turned, turns_mid, zero, ℕ, ◌%◌, ◌*◌, ◌++◌, ◌+◌, ◌/◌}
+use Rattle.world_laws.proofs.Words.{◌<◌, ◌∙◌, ◌∷◌, ◌≡◌, ◌≤◌, ◌⊎◌}
 use Rattle.swp_base.specs.declared.control_frames.Act.TheVariants.{PowerMode, Ready, SyncId}
 use Rattle.world_laws.proofs.fragments.Taking.{Accepted, accepts_none, takes_data}
 
@@ -36,15 +35,7 @@ written-append (c ∷ cs) ds a b = (a.0, written-append cs ds a.1 b)
 -- ### One frame
 
 eight : (P : ℕ → Type 0) → P 0 → P 1 → P 2 → P 3 → P 4 → P 5 → P 6 → P 7 → (n : ℕ) → n < 8 → P n
-eight P a b c d e f g h zero i = a
-eight P a b c d e f g h (suc zero) i = b
-eight P a b c d e f g h (suc (suc zero)) i = c
-eight P a b c d e f g h (suc (suc (suc zero))) i = d
-eight P a b c d e f g h (suc (suc (suc (suc zero)))) i = e
-eight P a b c d e f g h (suc (suc (suc (suc (suc zero))))) i = f
-eight P a b c d e f g h (suc (suc (suc (suc (suc (suc zero)))))) i = g
-eight P a b c d e f g h (suc (suc (suc (suc (suc (suc (suc zero))))))) i = h
-eight P a b c d e f g h (suc (suc (suc (suc (suc (suc (suc (suc n)))))))) i = absurd (omega (arith, i))
+eight P a b c d e f g h n i = grind arith
 
 pub read_again : (c : Control) → IsWritten c → control_of (lpdu_of c) ≡ Ok c
 read_again (S Rr nr) w = eight (λ n. control_of (lpdu_of (S Rr n)) ≡ Ok (S Rr n)) refl refl refl refl refl refl refl refl nr w
@@ -57,16 +48,7 @@ read_again (Act (PowerMode power) true) w = refl
 read_again (Act (PowerMode power) false) w = refl
 read_again (Act (SyncId id) true) w = let q : 256 * (id / 256) + id % 256 ≡ id = omega arith in rw q refl
 read_again (Act (SyncId id) false) w = let q : 256 * (id / 256) + id % 256 ≡ id = omega arith in rw q refl
-read_again (I ns nr info) w =
-    let b : ℕ = 0x80 + 8 * ns + nr in
-    let low : nat_le 0x80 b ≡ true = le-leb 0x80 b (omega arith) in
-    let high : nat_le b 0xBF ≡ true = le-leb b 0xBF (omega (arith, w.0, w.1)) in
-    let row : lpdu_row_of b ≡ Some (lpdu_row 0x80 0xBF 2 30 i_frame) = rw (low, high) refl in
-    let short : nat_lt (length (b ∷ info)) 2 ≡ false = le-ltb (length (b ∷ info)) 2 (omega (arith, w.2)) in
-    let long : nat_lt 30 (length (b ∷ info)) ≡ false = le-ltb 30 (length (b ∷ info)) (omega (arith, w.3)) in
-    let first : (b - 0x80) / 8 ≡ ns = omega (arith, w.1) in
-    let second : (b - 0x80) % 8 ≡ nr = omega (arith, w.1) in
-    rw (row, short, long, first, second) refl
+read_again (I ns nr info) w = grind arith
 read_again _ w = refl
 
 -- ### The frames of an end
@@ -99,9 +81,7 @@ short_at (y ∷ xs) zero x a q = let e : y ≡ x = (let z : Some y ≡ Some x = 
 short_at (y ∷ xs) (suc i) x a q = short_at xs i x a.1 q
 
 control_written : (e : EndState) (d : Due) → IsWritten (control_due e d)
-control_written e Rset_due = tt
-control_written e Ua_due = tt
-control_written e _ = omega arith
+control_written e d = grind arith
 
 record Next (e : EndState) (c : Control) : Type 0 where
   written : IsWritten c
@@ -128,8 +108,7 @@ frames_written (suc n) e a = by_option (frame_due e)
     (λ c q. let h = next_written e c a q in rw q (h.written, frames_written n (fetched e) h.short))
 
 acts_written : (o : Option Activation) → AreWritten (frames_now o)
-acts_written None = tt
-acts_written (Some act) = (tt, tt)
+acts_written o = grind arith
 
 -- what goes out of an end with this frame of activation
 pub out_is : (o : Option Activation) (g : LinkEnd) (s : EndState) → g.acts ≡ due_now o → g.shdlc ≡ s → frames_out g ≡ frames_now o ++ frames_of most_frames s
@@ -176,16 +155,14 @@ brought acc None = []
 brought acc (Some info) = brought_by acc info
 
 got_is : (n : ℕ) (acc : List Fragment) (o : Option Fragment) → got_with n acc o ≡ numbered n (brought acc o)
-got_is n acc None = refl
-got_is n acc (Some info) = refl
+got_is n acc o = grind arith
 
 drop_all : {X : Type 0} (xs : List X) → drop (length xs) xs ≡ []
 drop_all [] = refl
 drop_all (x ∷ xs) = drop_all xs
 
 drop_none : {X : Type 0} (n : ℕ) → drop {A = X} n [] ≡ []
-drop_none zero = refl
-drop_none (suc n) = refl
+drop_none n = grind arith
 
 -- where nothing more was accepted, or the session is new, there is no news
 no_news : (e : EndState) (q : EndState) → (q.session.acc ≡ e.session.acc) ⊎ (q.session.acc ≡ []) → news e.session q ≡ []
@@ -195,17 +172,7 @@ no_news e q (inr a) = rw a (drop_none (length (messages_got e.session)))
 -- RSET and UA
 handshake : (e : EndState) (c : Control) → (IsData c → ⊥)
     → (((taken e c).session.acc ≡ e.session.acc) ⊎ ((taken e c).session.acc ≡ [])) × ((take_answer e c).accepted ≡ None)
-handshake e c d = go e.phase refl c d
-  where
-    go : (p : LinkState) → e.phase ≡ p → (c : Control) → (IsData c → ⊥)
-        → (((taken e c).session.acc ≡ e.session.acc) ⊎ ((taken e c).session.acc ≡ [])) × ((take_answer e c).accepted ≡ None)
-    go IsUpNow q Ua d = (inl (rw q refl), rw q refl)
-    go IsDown q Ua d = (inl (rw q refl), rw q refl)
-    go IsWaitingNow q Ua d = (inr (rw q refl), rw q refl)
-    go IsUpNow q (Rset w c) d = by_test (w == 0) (λ z. (inl (rw (q, z) refl), rw (q, z) refl)) (λ z. (inr (rw (q, z) refl), rw (q, z) refl))
-    go IsDown q (Rset w c) d = by_test (w == 0) (λ z. (inl (rw (q, z) refl), rw (q, z) refl)) (λ z. (inr (rw (q, z) refl), rw (q, z) refl))
-    go IsWaitingNow q (Rset w c) d = by_test (w == 0) (λ z. (inl (rw (q, z) refl), rw q refl)) (λ z. (inl (rw (q, z) refl), rw q refl))
-    go p q _ d = absurd (d tt)
+handshake e c d = grind arith
 
 -- the news of a frame that can be joined is what the fragment brings that is accepted
 news_is : (e : EndState) (c : Control) → is_faulty (taken e c).session ≡ false
@@ -217,8 +184,7 @@ news_is e c sound = kinds c sound
     quiet c a q = no_news e (taken e c) a ∙ ap (brought e.session.acc) (sym q)
 
     negated : (b : Bool) → not b ≡ false → b ≡ true
-    negated true q = refl
-    negated false q = absurd (true≢false q)
+    negated b q = grind arith
 
     joined : (c : Control) → IsData c → is_faulty (taken e c).session ≡ false → news e.session (taken e c) ≡ brought e.session.acc (take_answer e c).accepted
     joined c d sound = by e.phase refl
@@ -228,8 +194,7 @@ news_is e c sound = kinds c sound
         up None q a = quiet c (inl a.acc) q
         up (Some info) q a =
             let joined : List Fragment → List Message = λ fragments. good_of (given_by [] (packets_in fragments)) in
-            let all : are_taken [] (packets_in (e.session.acc ++ info ∷ [])) ≡ true =
-            ap (λ x. are_taken [] (packets_in x)) (sym a.acc.0) ∙ negated (are_taken [] (packets_in (taken e c).session.acc)) sound in
+            let all : are_taken [] (packets_in (e.session.acc ++ info ∷ [])) ≡ true = grind arith in
             let is : brought_by e.session.acc info ≡ drop (length (joined e.session.acc)) (joined (e.session.acc ++ info ∷ [])) = rw all refl in
             ap (λ x. drop (length (joined e.session.acc)) (joined x)) a.acc.0 ∙ (sym is ∙ ap (brought e.session.acc) (sym q))
 
@@ -261,20 +226,11 @@ pub record Sends (l : Link) (es : List CoreEndEvent) (out : List Control) (told 
 
 sends_same : (l : Link) (es fs : List CoreEndEvent) (out : List Control) (gets : List (ℕ × ℕ × List ℕ)) → es ≡ fs → Sends l fs out gets
     → Sends l es out gets
-sends_same l es fs out gets q s =
-    record { frames = ap (emitted_turns (core_of l)) q ∙ s.frames; gets = ap (got_turns (core_of l)) q ∙ s.gets; written = s.written }
-
-deliver_sends : (c : CoreLink) (us : List CoreTurn) (x : OnWire) (xs : List OnWire) → c.to_controller ≡ x ∷ xs
-    → emitted_here c (CoreDeliver us) ≡ sent_then (taken c.controller.side x.frame) us
-deliver_sends c us x xs q = rw q refl
+sends_same l es fs out gets q s = grind arith
 
 deliver_gets : (c : CoreLink) (us : List CoreTurn) (x : OnWire) (xs : List OnWire) → c.to_controller ≡ x ∷ xs
     → got_here c (CoreDeliver us) ≡ got_with (core_number_of c.controller) c.controller.side.session.acc (take_answer c.controller.side x.frame).accepted
 deliver_gets c us x xs q = rw q refl
-
-ignore_sends : (c : CoreLink) (us : List CoreTurn) (x : OnWire) (xs : List OnWire) → c.controller.side.phase ≡ IsDown → c.to_controller ≡ x ∷ xs
-    → emitted_here c (CoreIgnore us) ≡ sent_then c.controller.side us
-ignore_sends c us x xs p q = rw (p, q) refl
 
 pub take_sends : (l : Link) (ts : List Turn) (x : OnWire) (xs : List OnWire) → AreSendableTurns ts → ComesFirst l x xs
     → Sends l (core_take l.controller.side x.frame ts) (frames_out (turned (took l.controller.side x.frame) ts)) (got_now l x)
@@ -290,12 +246,10 @@ take_sends l ts x xs a comes = go x.frame refl
     Goal = Sends l (core_take e x.frame ts) (frames_out (turned (took e x.frame) ts)) (got_now l x)
 
     take_open : (y : Control) → is_act y ≡ false → is_open e.role ≡ true → core_take e y ts ≡ CoreDeliver (core_turns (took e y) ts) ∷ []
-    take_open (Act _ _) q o = absurd (true≢false q)
-    take_open _ q o = rw o refl
+    take_open y q o = grind arith
 
     take_closed : (y : Control) → is_act y ≡ false → is_open e.role ≡ false → core_take e y ts ≡ CoreIgnore (core_turns (took e y) ts) ∷ []
-    take_closed (Act _ _) q o = absurd (true≢false q)
-    take_closed _ q o = rw o refl
+    take_closed y q o = grind arith
 
     -- an end that is open became f, and got these messages
     open_as : (f : LinkEnd) (b : Bool) → is_act x.frame ≡ false → is_open e.role ≡ true → took e x.frame ≡ f → Heard e f x b
@@ -308,8 +262,7 @@ take_sends l ts x xs a comes = go x.frame refl
         sends_same l (core_take e x.frame ts) (CoreDeliver us ∷ []) (frames_out (turned (took e x.frame) ts)) (got_now l x)
         (take_open x.frame q o ∙ ap (λ g. CoreDeliver (core_turns g ts) ∷ []) is)
         (record {
-          frames = append-nil (emitted_here c (CoreDeliver us)) ∙ (deliver_sends c us x xs comes.first
-              ∙ (sym (out_is None (turned f ts) s tm.mid.acts shdlc) ∙ ap (λ g. frames_out (turned g ts)) (sym is)));
+          frames = append-nil (emitted_here c (CoreDeliver us)) ∙ (grind arith);
           gets = append-nil (got_here c (CoreDeliver us)) ∙ (deliver_gets c us x xs comes.first ∙ gets);
           written = subst (λ g. AreWritten (frames_out (turned g ts))) (sym is) (out_written None (turned f ts) tm.mid);
         })
@@ -325,22 +278,17 @@ take_sends l ts x xs a comes = go x.frame refl
         sends_same l (core_take e x.frame ts) (CoreIgnore us ∷ []) (frames_out (turned (took e x.frame) ts)) (got_now l x)
         (take_closed x.frame q o ∙ ap (λ g. CoreIgnore (core_turns g ts) ∷ []) is)
         (record {
-          frames = append-nil (emitted_here c (CoreIgnore us)) ∙ (ignore_sends c us x xs down comes.first
-              ∙ (sym (out_is None (turned f ts) s tm.mid.acts shdlc) ∙ ap (λ g. frames_out (turned g ts)) (sym is)));
+          frames = append-nil (emitted_here c (CoreIgnore us)) ∙ (grind arith);
           gets = gets;
           written = subst (λ g. AreWritten (frames_out (turned g ts))) (sym is) (out_written None (turned f ts) tm.mid);
         })
 
     got_open : (y : Control) → is_shdlc y ≡ true → is_open e.role ≡ true → is_faulty (taken e.shdlc y).session ≡ false
         → got_by e (Take y) ≡ news e.shdlc.session (taken e.shdlc y)
-    got_open (Act _ _) q o f = absurd (true≢false (sym q))
-    got_open Clt q o f = absurd (true≢false (sym q))
-    got_open _ q o f = rw (o, f) refl
+    got_open y q o f = grind arith
 
     got_closed : (y : Control) → is_open e.role ≡ false → got_by e (Take y) ≡ []
-    got_closed (Act _ _) o = refl
-    got_closed Clt o = refl
-    got_closed _ o = rw o refl
+    got_closed y o = grind arith
 
     n : ℕ
     n = number_of (record l.controller { took = took_with l.controller.took x })
@@ -352,10 +300,7 @@ take_sends l ts x xs a comes = go x.frame refl
     -- an RSET brings nothing, so that its number doesn't count
     numbers : (y : Control) → x.frame ≡ y → (acc : List Fragment)
         → got_with (core_number_of c.controller) acc (take_answer e.shdlc x.frame).accepted ≡ got_with n acc (take_answer e.shdlc x.frame).accepted
-    numbers (Rset w z) q acc =
-        let none : (take_answer e.shdlc x.frame).accepted ≡ None = ap (λ y. (take_answer e.shdlc y).accepted) q ∙ (handshake e.shdlc (Rset w z) (λ d. d)).1 in
-        ap (got_with (core_number_of c.controller) acc) none ∙ sym (ap (got_with n acc) none)
-    numbers _ q acc = plain acc (ap is_rset q)
+    numbers y q acc = grind arith
 
     shdlc : (b : Bool) → is_open e.role ≡ b → is_shdlc x.frame ≡ true → is_act x.frame ≡ false → Goal
     shdlc true o s q =
@@ -369,11 +314,7 @@ take_sends l ts x xs a comes = go x.frame refl
         let f = took_closed e x.frame s o in closed_as e q o f.0 refl comes.tells.now (ap (numbered n) (sym (got_closed x.frame o)))
 
     clt_none : (s : EndState) → (take_answer s Clt).accepted ≡ None
-    clt_none s = by s.phase refl
-      where
-        by : (p : LinkState) → s.phase ≡ p → (take_answer s Clt).accepted ≡ None
-        by IsUpNow p = rw p refl
-        by _ p = rw p refl
+    clt_none s = grind arith
 
     -- a frame of activation
     acts : (act : Activation) (again : Bool) → x.frame ≡ Act act again → Goal
@@ -406,8 +347,7 @@ take_sends l ts x xs a comes = go x.frame refl
     go (Act act again) q = acts act again q
     go Clt q = by_test (is_open e.role)
         (λ o. open_as (record e { passed_over = e.passed_over + 1 }) false (ap is_act q) o (ap (took e) q) (counted_is e x comes.tells.now q)
-        (ap (got_with (core_number_of c.controller) e.shdlc.session.acc) (ap (λ y. (take_answer e.shdlc y).accepted) q ∙ clt_none e.shdlc)
-        ∙ ap (λ y. numbered n (got_by e (Take y))) (sym q)))
+        (grind arith))
         (λ o. closed_as (record e { passed_over = e.passed_over + 1 }) (ap is_act q) o (ap (took e) q) refl
         (mid_counted None e (e.passed_over + 1) comes.tells.now) (ap (λ y. numbered n (got_by e (Take y))) (sym q)))
     go _ q = shdlc (is_open e.role) refl (ap is_shdlc q) (ap is_act q)
@@ -433,8 +373,7 @@ reset_sends l w ts a h q =
     let f : LinkEnd = reset_by e w in
     let t = reset_tells e q in
     let us : List CoreTurn = core_turns f ts in
-    let now : Now f = mid_moved e b (reset_with e.shdlc w) h.now (reset_keeps e.shdlc w t.1 h.now.idle)
-    (opened e.role ((reset_with e.shdlc w).phase ≡ IsDown) t.0) in
+    let now : Now f = grind arith in
     let tm = turns_mid None f ts a now in
     let s : EndState = core_turned (reset_with e.shdlc w) us in
     let is : (turned f ts).shdlc ≡ s = tm.is ∙ ap (λ z. core_turned z us) (shdlc_moved e b (reset_with e.shdlc w)) in
@@ -445,11 +384,7 @@ reset_sends l w ts a h q =
     }
 
 silent_side : (c : CoreLink) (s : EndState) → (core_silent c s).controller.side ≡ s
-silent_side c s = go c.controller.side.phase refl
-  where
-    go : (p : LinkState) → c.controller.side.phase ≡ p → (core_silent c s).controller.side ≡ s
-    go IsUpNow p = rw p refl
-    go _ p = rw p refl
+silent_side c s = grind arith
 
 pub restart_sends : (l : Link) (event : ActEvent) (ts : List Turn) → AreSendableTurns ts → Tells l.controller
     → let f : LinkEnd = activated (moved l.controller.side true (stopped l.controller.side.shdlc)) event in

@@ -1,16 +1,15 @@
 -- What a tap that has heard all frames so far knows of both ends, after a frame of an end, and as all that is due goes out.
 use Rattle.std.proofs.lemmas.Bool.{lt-ltb}
 use Rattle.std.proofs.lemmas.Option.{slice_get_within}
-use Rattle.world_laws.proofs.Words.{Base, Below, Bool, Control, Down, Due, EndState, Fragment, I, Kind, LinkState, List, None, NumberedShdlc, OnWire, Rr}
-use Rattle.world_laws.proofs.Words.{Rr_due, S, SafeLink, Session, ShdlcLink, ShdlcTurn, Some, TapSide, TapState, Up, [], adds, after_frames, ap, append-nil}
-use Rattle.world_laws.proofs.Words.{append_assoc, arith, at_most_one, by_option, cases_eq, changed, cond, control_due, controls, controls_same, counted_at}
-use Rattle.world_laws.proofs.Words.{ended_session, eq-eqb, expected, false, fetch_cases, fetched, fits, fragment_due, fragment_due-within, frame_due}
-use Rattle.world_laws.proofs.Words.{frames_in_order, frames_of, hears_all, inl, inr, is_in_session, length, length-append, length-take-le, listed_at, map}
-use Rattle.world_laws.proofs.Words.{map-append, max, most_frames, nat_lt, ne_eqb, new_session, no_session, none_ended, of_begin, of_end, of_none, of_up}
-use Rattle.world_laws.proofs.Words.{of_update, phase_known, put_all-append, put_out, ready_by, refl, room, sent_next, shdlc_becomes, shdlc_number_of, shdlc_put}
-use Rattle.world_laws.proofs.Words.{shdlc_put_all, shdlc_session_of, shdlc_turn, shdlc_turned, slice_get, subst, suc, sym, take, take-append-le, tap_hears}
-use Rattle.world_laws.proofs.Words.{tap_tells, tells_all, tells_more, told_by, true, with_fragment, with_number, zero, ℕ, ◌%◌, ◌++◌, ◌+◌, ◌<◌, ◌==◌, ◌∙◌, ◌∷◌}
-use Rattle.world_laws.proofs.Words.{◌≡◌, ◌≤◌, ◌⊎◌}
+use Rattle.world_laws.proofs.Words.{Base, Below, Bool, Control, Down, Due, EndState, Fragment, I, Kind, LinkState, List, NumberedShdlc, OnWire, Rr, Rr_due, S}
+use Rattle.world_laws.proofs.Words.{SafeLink, Session, ShdlcLink, ShdlcTurn, Some, TapSide, TapState, Up, [], adds, after_frames, ap, append-nil, append_assoc}
+use Rattle.world_laws.proofs.Words.{arith, at_most_one, by_option, cases_eq, changed, cond, control_due, controls, controls_same, counted_at, ended_session}
+use Rattle.world_laws.proofs.Words.{eq-eqb, expected, false, fetch_cases, fetched, fits, fragment_due, fragment_due-within, frame_due, frames_in_order}
+use Rattle.world_laws.proofs.Words.{frames_of, hears_all, inl, inr, is_in_session, length, length-append, length-take-le, listed_at, map, map-append, max}
+use Rattle.world_laws.proofs.Words.{most_frames, nat_lt, ne_eqb, new_session, no_session, none_ended, of_end, of_none, of_up, phase_known, put_all-append}
+use Rattle.world_laws.proofs.Words.{put_out, ready_by, refl, room, sent_next, shdlc_becomes, shdlc_number_of, shdlc_put, shdlc_put_all, shdlc_session_of}
+use Rattle.world_laws.proofs.Words.{shdlc_turn, shdlc_turned, slice_get, subst, suc, sym, take, take-append-le, tap_hears, tap_tells, tells_all, tells_more}
+use Rattle.world_laws.proofs.Words.{told_by, true, with_fragment, with_number, zero, ℕ, ◌%◌, ◌++◌, ◌+◌, ◌<◌, ◌==◌, ◌∙◌, ◌∷◌, ◌≡◌, ◌≤◌, ◌⊎◌}
 use Rattle.link_laws.proofs.places.Joined.{after_frames_idle, fetched_idle}
 use Rattle.link_laws.specs.sessions.Sessions.ShdlcTurn.{Offer, SetReady}
 pub use Rattle.world_laws.specs.fragments.Knowing.{ever_sent}
@@ -52,19 +51,11 @@ KnowsLink bare t l = Knows bare t l.controller l.host l.to_controller l.to_host 
 
 -- an end that isn't Up has ended sessions alone
 pub session_ended : (h : NumberedShdlc) → (h.side.phase ≡ Up → ⊥) → (k : ℕ) → shdlc_session_of h k ≡ ended_session h.past k
-session_ended h down k = go h.side.phase refl
-  where
-    go : (p : LinkState) → h.side.phase ≡ p → shdlc_session_of h k ≡ ended_session h.past k
-    go Up q = absurd (down q)
-    go _ q = rw q refl
+session_ended h down k = grind arith
 
 -- the session of an end at a number that it doesn't have
 session_other : (h : NumberedShdlc) (k : ℕ) → (k ≡ shdlc_number_of h → ⊥) → shdlc_session_of h k ≡ ended_session h.past k
-session_other h k other = go h.side.phase refl
-  where
-    go : (p : LinkState) → h.side.phase ≡ p → shdlc_session_of h k ≡ ended_session h.past k
-    go Up q = let e : (k == shdlc_number_of h) ≡ false = ne_eqb k (shdlc_number_of h) other in rw (q, e) refl
-    go _ q = rw q refl
+session_other h k other = grind arith
 
 -- an end has no session with a number above the number of its side
 pub session_above : (h : NumberedShdlc) (m k : ℕ) → Below (m + 1) h.past → shdlc_number_of h < k → m < k → shdlc_session_of h k ≡ no_session
@@ -86,12 +77,6 @@ SameAs n k x = SameLists x (shdlc_session_of n k)
 alike_all : (n : NumberedShdlc) (k : ℕ) → SameAs n k (shdlc_session_of n k)
 alike_all n k = record { acc = refl; sent = refl }
 
--- a session goes on
-alike_update : (n m : NumberedShdlc) → n.side.phase ≡ Up → m.side.phase ≡ Up → shdlc_number_of m ≡ shdlc_number_of n → m.past ≡ n.past
-    → SameLists m.side.session n.side.session → Alike n m
-alike_update n m up up' number past same =
-    of_update (SameAs n) n m up up' number past (alike_all n) (rw (of_up n up) same)
-
 -- it ends
 pub alike_end : (n m : NumberedShdlc) → n.side.phase ≡ Up → (m.side.phase ≡ Up → ⊥) → m.past ≡ (shdlc_number_of n, n.side.session) ∷ n.past → Alike n m
 alike_end n m up down past = of_end (SameAs n) n m up down past (alike_all n)
@@ -103,12 +88,7 @@ alike_none n m down down' past = of_none (SameAs n) n m down down' past (alike_a
 -- one begins
 pub alike_begin : (n m : NumberedShdlc) (w : ℕ) → (n.side.phase ≡ Up → ⊥) → m.side.phase ≡ Up → m.past ≡ n.past → m.side.session ≡ new_session w
     → ended_session n.past (shdlc_number_of m) ≡ no_session → Alike n m
-alike_begin n m w down up past new none =
-    of_begin (SameAs n) n m down up past (alike_all n)
-    (rw (session_ended n down (shdlc_number_of m), none, new) (record { acc = refl; sent = refl }))
-
-pub alike_then : (n m k : NumberedShdlc) → Alike n m → Alike m k → Alike n k
-alike_then n m k a b i = let x = a i in let y = b i in record { acc = y.acc ∙ x.acc; sent = y.sent ∙ x.sent }
+alike_begin n m w down up past new none = grind arith
 
 -- ### The end changes, and the tap hears nothing
 
@@ -122,62 +102,17 @@ pub record Becomes (n m : NumberedShdlc) (p : ℕ) : Type 0 where
 
 pub tracks_on : {bare : Bool} {s t : TapSide} {n m f : NumberedShdlc} {to_n to_n' : List OnWire} → Becomes n m (s.number + 1)
     → (m.side.phase ≡ Up → n.emitted ≤ t.number) → NoUa to_n' ⊎ (n.emitted ≤ t.number) → Tracks bare s t n f to_n → Tracks bare s t m f to_n'
-tracks_on {bare} {s} {t} {n} {m} {to_n' = to_n'} b met told h =
-    record {
-      asked = h.asked ∙ sym b.emitted;
-      from = omega (arith, h.from, b.emitted);
-      upto = omega (arith, h.upto, b.emitted, b.took);
-      now = λ d. omega (arith, h.now (b.phase d), b.emitted, b.took);
-      took = omega (arith, h.took, b.took);
-      named = named h.named;
-      past = b.past;
-      count = h.count ∙ sym (ap (length {A = Fragment}) (b.alike s.number).acc);
-      list = h.list ∙ sym (b.alike t.number).sent;
-      low = h.low;
-      met = λ u. omega (arith, met u, b.emitted);
-      told = tells told;
-    }
-  where
-    named : (bare ≡ true) ⊎ ((n.side.phase ≡ Down → ⊥) → 0 < s.number) → (bare ≡ true) ⊎ ((m.side.phase ≡ Down → ⊥) → 0 < s.number)
-    named (inl q) = inl q
-    named (inr q) = inr (λ d. q (b.phase d))
-
-    tells : NoUa to_n' ⊎ (n.emitted ≤ t.number) → NoUa to_n' ⊎ (m.emitted ≤ t.number)
-    tells (inl q) = inl q
-    tells (inr q) = inr (omega (arith, q, b.emitted))
-
--- the other side, where the number of the near one is no less, and its list there is what the far end has sent
-tracks_other : {bare : Bool} {s s' t : TapSide} {n m f : NumberedShdlc} {to_f to_f' : List OnWire} → s.number ≤ s'.number → n.emitted ≤ m.emitted
-    → NoUa to_f' ⊎ (f.emitted ≤ s'.number) → listed_at t s'.number ≡ ever_sent (shdlc_session_of f s'.number) → Tracks bare t s f n to_f
-    → Tracks bare t s' f m to_f'
-tracks_other number emitted told list h =
-    record {
-      asked = h.asked;
-      from = h.from;
-      upto = h.upto;
-      now = h.now;
-      took = omega (arith, h.took);
-      named = h.named;
-      past = h.past;
-      count = h.count;
-      list = list;
-      low = omega (arith, h.low);
-      met = λ u. omega (arith, h.met u);
-      told = told;
-    }
+tracks_on b met told h = grind arith
 
 -- so where the near end has taken or sent no RSET
 pub tracks_far : {bare : Bool} {s s' t : TapSide} {n m f : NumberedShdlc} {to_f to_f' : List OnWire} → s'.number ≡ s.number → n.emitted ≤ m.emitted
     → NoUa to_f' ⊎ (f.emitted ≤ s.number) → Tracks bare t s f n to_f → Tracks bare t s' f m to_f'
-tracks_far {s = s} {s'} {t} {f = f} {to_f' = to_f'} number emitted told h =
-    tracks_other {to_f' = to_f'} (omega (arith, number)) emitted (rw number told) (rw number h.list) h
+tracks_far number emitted told h = grind arith
 
 -- the other side, where the near one has a new number, at which the far end has no session
 pub tracks_renumbered : {bare : Bool} {s s' t : TapSide} {n m f : NumberedShdlc} {to_f to_f' : List OnWire} → s.number < s'.number → n.emitted ≤ m.emitted
     → shdlc_session_of f s'.number ≡ no_session → NoUa to_f' ⊎ (f.emitted ≤ s'.number) → Tracks bare t s f n to_f → Tracks bare t s' f m to_f'
-tracks_renumbered {s = s} {s'} {t} {f = f} more emitted none told h =
-    let other : (t.listed == s'.number) ≡ false = ne_eqb t.listed s'.number (λ e. omega (arith, e, h.low)) in
-    tracks_other (omega (arith, more)) emitted told (rw (other, none) refl) h
+tracks_renumbered more emitted none told h = grind arith
 
 -- ## What the tap knows after a frame of an end
 
@@ -192,9 +127,7 @@ still_no_ua w x q (inr p) = inr p
 
 -- a number that says what is counted already
 tells_none : (s t : TapSide) (n : ℕ) → s.count ≡ n → tells_more s t (n % 8) ≡ false
-tells_none s t n q =
-    let other : ((n % 8) == ((s.count + 1) % 8)) ≡ false = ne_eqb (n % 8) ((s.count + 1) % 8) (λ e. omega (arith, e, q)) in
-    rw other refl
+tells_none s t n q = grind arith
 
 same_number : (s t : TapSide) (nr : ℕ) → tells_more s t nr ≡ false → with_number s t nr ≡ s
 same_number s t nr q = rw q refl
@@ -203,15 +136,12 @@ told_none : (s t : TapSide) (nr : ℕ) → tells_more s t nr ≡ false → told_
 told_none s t nr q = rw q refl
 
 either : {X : Type 0} (b : Bool) (x : X) → cond b x x ≡ x
-either true x = refl
-either false x = refl
+either b x = grind arith
 
 -- what an end that is Up has accepted is what its side has counted
 pub count_up : {bare : Bool} {s t : TapSide} {n f : NumberedShdlc} {to_n : List OnWire} → n.side.phase ≡ Up → Tracks bare s t n f to_n
     → (s.number ≡ shdlc_number_of n) × (s.count ≡ length n.side.session.acc)
-count_up {s = s} {n = n} up h =
-    let number : s.number ≡ shdlc_number_of n = h.now (λ d. let g = sym up ∙ d in cc) in
-    (number, h.count ∙ (ap (λ k. length (shdlc_session_of n k).acc) number ∙ ap (λ (x : Session). length x.acc) (of_up n up)))
+count_up up h = grind arith
 
 -- the other side has a number that is no lower
 far_number : {bare : Bool} {t : TapState} {n f : NumberedShdlc} {to_n to_f : List OnWire} {r : ℕ} → n.side.phase ≡ Up → Knows bare t n f to_n to_f r
@@ -221,12 +151,7 @@ far_number up h = omega (arith, h.near.met up, h.near.took, h.far.from)
 -- a frame of a session at an end that is Up is one to the tap
 pub in_session : {bare : Bool} {s t : TapSide} {n f : NumberedShdlc} {to_n : List OnWire} → n.side.phase ≡ Up → Tracks bare s t n f to_n
     → is_in_session bare s ≡ true
-in_session {bare} {s} {n = n} up h = go bare h.named
-  where
-    go : (b : Bool) → (b ≡ true) ⊎ ((n.side.phase ≡ Down → ⊥) → 0 < s.number) → is_in_session b s ≡ true
-    go true q = refl
-    go false (inl q) = cc
-    go false (inr q) = lt-ltb 0 s.number (q (λ d. let g = sym up ∙ d in cc))
+in_session up h = grind arith
 
 -- an answer of an end that is Up says what is known
 answer_says : {bare : Bool} {t : TapState} {n f : NumberedShdlc} {to_n to_f : List OnWire} {r : ℕ} (k : Kind) → n.side.phase ≡ Up
@@ -234,11 +159,7 @@ answer_says : {bare : Bool} {t : TapState} {n f : NumberedShdlc} {to_n to_f : Li
     → (tap_hears bare t (S k (expected n.side.session)) ≡ t) × (tap_tells bare t (S k (expected n.side.session)) ≡ [])
 answer_says {bare} {t} {n} k up h =
     let c = count_up up h.near in
-    let none : tells_more t.clf t.uicc (expected n.side.session) ≡ false = tells_none t.clf t.uicc (length n.side.session.acc) c.1 in (
-      ap (λ s. cond (is_in_session bare t.clf) (record t { clf = s }) t) (same_number t.clf t.uicc (expected n.side.session) none)
-          ∙ either (is_in_session bare t.clf) t,
-      ap (λ m. cond (is_in_session bare t.clf) m []) (told_none t.clf t.uicc (expected n.side.session) none) ∙ either (is_in_session bare t.clf) [],
-    )
+    let none : tells_more t.clf t.uicc (expected n.side.session) ≡ false = tells_none t.clf t.uicc (length n.side.session.acc) c.1 in (grind arith)
 
 -- a frame on the wire that is no RSET and no UA
 pub knows_wire : {bare : Bool} {t : TapState} {n f : NumberedShdlc} {to_n to_f : List OnWire} {r : ℕ} (x : OnWire) → is_ua x.frame ≡ false
@@ -306,14 +227,7 @@ list_grows s bound info so_far from sent offered within most acked inside is sam
 sends_on : {s r : Session} {info : Fragment} → s.next < s.acked + s.window → slice_get s.out s.next ≡ Some info → CanSend s r → CanSend (sent_next s) r
 sends_on {s} {info = info} inside is h =
     let within : s.next < length s.out = slice_get_within s.out s.next info is in
-    record {
-      from = omega (arith, h.from);
-      sent = omega arith;
-      offered = omega (arith, h.offered, within);
-      within = omega (arith, h.within, inside);
-      most = h.most;
-      acked = h.acked;
-    }
+    grind arith
 
 -- an I frame of an end that is Up
 goes_fragment : {bare : Bool} {t : TapState} {n f : NumberedShdlc} {to_n to_f : List OnWire} {r : ℕ} {info : Fragment} (x : OnWire)
@@ -380,11 +294,9 @@ goes_fragment {bare} {t} {n} {f} {to_n} {to_f} {r} {info} x frame up is g = (
     list (inl q) =
         let here : (t.clf.number == t.uicc.number) ≡ true = eq-eqb t.clf.number t.uicc.number (sym q) in
         let there : (t.uicc.number == t.clf.number) ≡ true = eq-eqb t.uicc.number t.clf.number q in
-        let before : listed_at t.clf t.clf.number ≡ ever_sent s =
-        ap (listed_at t.clf) (sym q) ∙ (h.near.list ∙ ap ever_sent (session_now n t.uicc.number up (q ∙ c.0))) in
+        let before : listed_at t.clf t.clf.number ≡ ever_sent s = grind arith in
         let after : ever_sent (shdlc_session_of m t.uicc.number) ≡ ever_sent (sent_next s) = ap ever_sent (session_now m t.uicc.number up (q ∙ c.0)) in
-        let counted : counted_at t.uicc t.clf.number ≡ length (shdlc_session_of f (shdlc_number_of n)).acc =
-        rw there (h.far.count ∙ ap (λ k. length (shdlc_session_of f k).acc) (q ∙ c.0)) in
+        let counted : counted_at t.uicc t.clf.number ≡ length (shdlc_session_of f (shdlc_number_of n)).acc = grind arith in
         let grown = list_grows s (counted_at t.uicc t.clf.number) info (listed_at t.clf t.clf.number) can.from can.sent can.offered can.within can.most
         (omega (arith, can.acked, counted)) tells.0 tells.1 before in
         rw here (grown ∙ sym after)
@@ -429,31 +341,9 @@ GoesAt bare t l e = Goes bare t (record l.controller { side = e }) l.host l.to_c
 
 -- ### Small changes of an end
 
--- an end changes, but not its phase and what its session holds
-alike_side : (n : NumberedShdlc) (q : EndState) → q.phase ≡ n.side.phase → SameLists q.session n.side.session → Alike n (record n { side = q })
-alike_side n q phase same = go n.side.phase refl
-  where
-    down : (p : LinkState) → n.side.phase ≡ p → (p ≡ Up → ⊥) → Alike n (record n { side = q })
-    down p e no_up = alike_none n (record n { side = q }) (λ u. no_up (sym e ∙ u)) (λ u. no_up (sym e ∙ (sym phase ∙ u))) refl
-
-    go : (p : LinkState) → n.side.phase ≡ p → Alike n (record n { side = q })
-    go Up e = alike_update n (record n { side = q }) e (phase ∙ e) refl refl same
-    go p e = down p e (λ u. cc)
-
 pub knows_side : {bare : Bool} {t : TapState} {n f : NumberedShdlc} {to_n to_f : List OnWire} {r : ℕ} (q : EndState) → q.phase ≡ n.side.phase
     → SameLists q.session n.side.session → Knows bare t n f to_n to_f r → Knows bare t (record n { side = q }) f to_n to_f r
-knows_side {n = n} {to_f = to_f} q phase same h =
-    record {
-      near = tracks_on (record {
-        alike = alike_side n q phase same;
-        emitted = refl;
-        took = refl;
-        past = h.near.past;
-        phase = λ d e. d (phase ∙ e);
-      }) (λ u. h.near.met (sym phase ∙ u)) h.near.told h.near;
-      far = tracks_far {n = n} {m = record n { side = q }} {to_f = to_f} refl (omega arith) h.far.told h.far;
-      rsets = h.rsets;
-    }
+knows_side q phase same h = grind arith
 
 -- more is offered
 goes_offer : {bare : Bool} {t : TapState} (l : ShdlcLink) (e : EndState) (more : List Fragment) → e.phase ≡ Up → GoesAt bare t l e
@@ -475,19 +365,7 @@ goes_offer l e more up g =
 
 -- it becomes ready or not ready
 goes_ready : {bare : Bool} {t : TapState} (l : ShdlcLink) (e : EndState) (r : Bool) (ds : List Due) → GoesAt bare t l e → GoesAt bare t l (changed e r ds)
-goes_ready l e r ds g =
-    record {
-      knows = knows_side (changed e r ds) refl (record { acc = refl; sent = refl }) g.knows;
-      sends = λ up. let can = g.sends up in record {
-        from = can.from;
-        sent = can.sent;
-        offered = can.offered;
-        within = can.within;
-        most = can.most;
-        acked = can.acked;
-      };
-      none = λ no_up. ap (λ (s : Session). record s { answered_rnr = false }) (g.none no_up);
-    }
+goes_ready l e r ds g = grind arith
 
 -- an answer goes out
 pub goes_answer : {bare : Bool} {t : TapState} (l : ShdlcLink) (e : EndState) (k : Kind) → e.phase ≡ Up → GoesAt bare t l e
@@ -522,14 +400,7 @@ each bare t l e c is due g =
     same k m q = cc
 
     is_up : (info : Fragment) → fragment_due e.session ≡ Some info → e.phase ≡ Up
-    is_up info q = go e.phase refl
-      where
-        absent : (e.phase ≡ Up → ⊥) → ⊥
-        absent no_up = let a : fragment_due no_session ≡ Some info = rw (g.none no_up) at q in let b : None ≡ Some info = a in cc
-
-        go : (p : LinkState) → e.phase ≡ p → e.phase ≡ Up
-        go Up p = p
-        go _ p = absurd (absent (λ u. let z = sym p ∙ u in cc))
+    is_up info q = grind arith
 
     one : (info : Fragment) → fragment_due e.session ≡ Some info
         → Each bare t l (I (e.session.next % 8) (expected e.session) info) (record e { session = sent_next e.session })
@@ -578,8 +449,7 @@ turn_waits bare t l e told (Offer fragments) h = go e.phase refl
     go _ p = let is : shdlc_turn e (Offer fragments) ≡ e = rw p refl in subst P (sym is) h
 turn_waits bare t l e told (SetReady r) h =
     ready_by (λ f. TapPending bare t l f told) e r (phase_known e.phase) h.goes.none h
-    (let same = controls_same e (changed e r e.due) e.due refl refl in
-    record { goes = as_changed e.due same; tells = ap (tells_all bare t) same ∙ h.tells; few = omega (arith, h.few) })
+    (grind arith)
     (λ up noted. let a = answered up in record {
       goes = a.0;
       tells = a.1;
@@ -635,32 +505,18 @@ goes_out bare t l e told h =
     let u : TapState = hears_all bare t (controls e) in
     let k : ShdlcLink = shdlc_put_all l (controls e) in
     let d = drains bare f.0 q u k refl h.goes in
-    let links : shdlc_put_all l (frames_of 12 e) ≡ shdlc_put_all k (frames_of f.0 q) =
-    ap (shdlc_put_all l) f.1 ∙ put_all-append l (controls e) (frames_of f.0 q) in
-    let heard : hears_all bare t (frames_of 12 e) ≡ hears_all bare u (frames_of f.0 q) =
-    ap (hears_all bare t) f.1 ∙ hears_all-append bare t (controls e) (frames_of f.0 q) in
+    let links : shdlc_put_all l (frames_of 12 e) ≡ shdlc_put_all k (frames_of f.0 q) = grind arith in
+    let heard : hears_all bare t (frames_of 12 e) ≡ hears_all bare u (frames_of f.0 q) = grind arith in
     let P : TapState → ShdlcLink → EndState → Type 0 = λ z j x. KnowsLink bare z (record j { controller = record j.controller { side = x } }) in
     let one : P (hears_all bare u (frames_of f.0 q)) (shdlc_put_all k (frames_of f.0 q)) (after_frames f.0 q) = d.goes.knows in
-    record {
-      knows = subst (λ z. P z (shdlc_put_all l (frames_of 12 e)) (after_frames 12 e)) (sym heard)
-          (subst (λ j. P (hears_all bare u (frames_of f.0 q)) j (after_frames 12 e)) (sym links)
-          (subst (λ x. P (hears_all bare u (frames_of f.0 q)) (shdlc_put_all k (frames_of f.0 q)) x) (sym f.2) one));
-      tells = ap (tells_all bare t) f.1 ∙ (tells_all-append bare t (controls e) (frames_of f.0 q)
-          ∙ (ap (λ m. m ++ tells_all bare u (frames_of f.0 q)) h.tells ∙ (ap (λ m. told ++ m) d.told ∙ append-nil told)));
-    }
+    grind arith
 
 -- an end with nothing to answer
 pub went_none : (bare : Bool) (t : TapState) (ts : List ShdlcTurn) (l : ShdlcLink) (e : EndState) → e.due ≡ [] → GoesAt bare t l e
     → Went bare t l (shdlc_turned e ts) []
 went_none bare t ts l e due g =
     goes_out bare t l (shdlc_turned e ts) []
-    (turns_wait bare t l ts e [] (record {
-      goes = let P : List Due → Type 0 = λ ds. GoesAt bare (hears_all bare t (map (control_due e) ds)) (shdlc_put_all l (map (control_due e) ds))
-          (record e { due = [] }) in
-          let Q : List Due → Type 0 = λ ds. GoesAt bare t l (record e { due = ds }) in subst P (sym due) (subst Q due g);
-      tells = ap (λ ds. tells_all bare t (map (control_due e) ds)) due;
-      few = let i : length e.due ≡ 0 = ap (length {A = Due}) due in omega (arith, i, at_most_one e.session.answered_rnr);
-    }))
+    (turns_wait bare t l ts e [] ((grind arith)))
 
 -- an end with one control frame to send, which goes first, and tells this
 pub went_one : (bare : Bool) (t : TapState) (ts : List ShdlcTurn) (l : ShdlcLink) (e : EndState) (d : Due) (told : List (ℕ × ℕ × List ℕ)) → e.due ≡ d ∷ []
@@ -669,17 +525,11 @@ pub went_one : (bare : Bool) (t : TapState) (ts : List ShdlcTurn) (l : ShdlcLink
 went_one bare t ts l e d told due g tells =
     goes_out bare t l (shdlc_turned e ts) told
     (turns_wait bare t l ts e told (record {
-      goes = let P : List Due → Type 0 = λ ds. GoesAt bare (hears_all bare t (map (control_due e) ds)) (shdlc_put_all l (map (control_due e) ds))
-          (record e { due = [] }) in subst P (sym due) g;
+      goes = grind arith;
       tells = ap (λ ds. tells_all bare t (map (control_due e) ds)) due ∙ (append-nil (tap_tells bare t (control_due e d)) ∙ tells);
       few = let i : length e.due ≡ 1 = ap (length {A = Due}) due in omega (arith, i, at_most_one e.session.answered_rnr);
     }))
 
 -- what is known of a link between events is known as its frames go out
 pub goes_of : {bare : Bool} {t : TapState} {kn kf : ℕ} (l : ShdlcLink) → SafeLink kn kf l → KnowsLink bare t l → GoesAt bare t l l.controller.side
-goes_of l s h =
-    record {
-      knows = h;
-      sends = λ up. can_send (rw (of_up l.controller up) at (s.n_base (shdlc_number_of l.controller)));
-      none = s.n_none;
-    }
+goes_of l s h = grind arith

@@ -1,27 +1,25 @@
 -- The tap hears all frames of every run of a link over fragments: it knows both ends, and tells what they got.
-use Rattle.world_laws.proofs.Words.{Act, Activation, Acts, AllKeepPower, AllShdlcAllowed, AreTurns, Below, Bool, Control, Down, EndState, Fragment, HasItsTick}
-use Rattle.world_laws.proofs.Words.{Ignore, IsShdlcStart, IsTrackedBy, IsTurn, KeepsPower, LinkState, List, None, NoneIsCut, NothingIsOut, NumberedShdlc}
-use Rattle.world_laws.proofs.Words.{OnWire, Option, Rset, Rset_due, Safe, SafeLink, Session, ShdlcEndEvent, ShdlcLink, ShdlcLinkEvent, ShdlcTurn, Some}
-use Rattle.world_laws.proofs.Words.{StartsSo, TapReport, TapSide, TapState, TickWithout, Turns, Up, Waiting, [], act_frame, act_not_rset, aged_wire, ap}
-use Rattle.world_laws.proofs.Words.{append_assoc, arith, asked_again, by_test, counts, drop, emitted, emitted_event, emitted_here, emitted_if_waiting}
-use Rattle.world_laws.proofs.Words.{emitted_tick, emitted_turns, false, frames_by, frames_of, given_up, got, got_event, got_here, hears_all, idle_out, inl, inr}
-use Rattle.world_laws.proofs.Words.{is_act, is_rset, is_some, is_up, is_waiting, length, listed_at, ltb-false, map, map-append, most_frames, nat_lt, new_tap}
-use Rattle.world_laws.proofs.Words.{no_session, nothing_out, of_up, passes_act, refl, reports_to, reset_with, runs_timer, safe_aged, safe_event, safe_exchanged}
-use Rattle.world_laws.proofs.Words.{safe_start, safe_turn, safe_turns, sans, sent_again, sent_then, shdlc_after, shdlc_aged, shdlc_all_at_controller}
-use Rattle.world_laws.proofs.Words.{shdlc_becomes, shdlc_exchanged, shdlc_happens, shdlc_happens_at_controller, shdlc_number_of, shdlc_put, shdlc_put_all}
-use Rattle.world_laws.proofs.Words.{shdlc_session_of, shdlc_silent, shdlc_ticks_at_controller, shdlc_turned, start, start_down, stopped, subst, sym}
-use Rattle.world_laws.proofs.Words.{take_answer, taken, tap_after, tap_after_frame, tap_exchanged, tap_hears, tap_reports, tap_tells, tapped, tapped_from}
-use Rattle.world_laws.proofs.Words.{tells_all, tick_answer, tick_if_waiting, tick_or_cut, ticked, ticks_if_waiting, ticks_or_cut, took_other, took_with, true}
-use Rattle.world_laws.proofs.Words.{waiting_from, with_shdlc_ended, ℕ, ◌++◌, ◌+◌, ◌∙◌, ◌∷◌, ◌≡◌, ◌≤◌, ◌⊎◌}
+use Rattle.world_laws.proofs.Words.{Act, Activation, Acts, AllKeepPower, AllShdlcAllowed, AreTurns, Below, Bool, Control, Down, EndState, HasItsTick, Ignore}
+use Rattle.world_laws.proofs.Words.{IsShdlcStart, IsTrackedBy, IsTurn, KeepsPower, LinkState, List, None, NoneIsCut, NothingIsOut, NumberedShdlc, OnWire}
+use Rattle.world_laws.proofs.Words.{Option, Rset, Rset_due, Safe, SafeLink, Session, ShdlcEndEvent, ShdlcLink, ShdlcLinkEvent, ShdlcTurn, Some, StartsSo}
+use Rattle.world_laws.proofs.Words.{TapReport, TapSide, TapState, TickWithout, Turns, Up, Waiting, [], act_frame, act_not_rset, aged_wire, ap, append_assoc}
+use Rattle.world_laws.proofs.Words.{arith, asked_again, by_test, counts, emitted, emitted_event, emitted_here, emitted_if_waiting, emitted_tick, emitted_turns}
+use Rattle.world_laws.proofs.Words.{false, frames_by, frames_of, given_up, got, got_event, got_here, hears_all, idle_out, inl, inr, is_act, is_rset, is_some}
+use Rattle.world_laws.proofs.Words.{is_up, is_waiting, ltb-false, map, map-append, most_frames, nat_lt, new_tap, no_session, nothing_out, passes_act, refl}
+use Rattle.world_laws.proofs.Words.{reports_to, reset_with, runs_timer, safe_aged, safe_event, safe_exchanged, safe_start, safe_turn, safe_turns, sans}
+use Rattle.world_laws.proofs.Words.{sent_again, sent_then, shdlc_after, shdlc_aged, shdlc_all_at_controller, shdlc_becomes, shdlc_exchanged, shdlc_happens}
+use Rattle.world_laws.proofs.Words.{shdlc_happens_at_controller, shdlc_number_of, shdlc_put, shdlc_put_all, shdlc_session_of, shdlc_silent}
+use Rattle.world_laws.proofs.Words.{shdlc_ticks_at_controller, shdlc_turned, stopped, subst, sym, take_answer, taken, tap_after, tap_after_frame, tap_exchanged}
+use Rattle.world_laws.proofs.Words.{tap_hears, tap_reports, tap_tells, tapped, tapped_from, tells_all, tick_answer, tick_if_waiting, tick_or_cut, ticked}
+use Rattle.world_laws.proofs.Words.{ticks_if_waiting, ticks_or_cut, took_other, took_with, true, waiting_from, with_shdlc_ended, ℕ, ◌++◌, ◌+◌, ◌∙◌, ◌∷◌, ◌≡◌}
+use Rattle.world_laws.proofs.Words.{◌≤◌, ◌⊎◌}
 use Rattle.link_laws.proofs.sessions.Steps.{took}
-use Rattle.link_laws.specs.sessions.Sessions.IsShdlcStart.{BothDown, BothUp}
 use Rattle.link_laws.specs.sessions.Sessions.ShdlcEndEvent.{Cut, Deliver, Lose, Reset, Stop}
 use Rattle.link_laws.specs.sessions.Sessions.ShdlcLinkEvent.{AtController, AtHost, Tick}
-use Rattle.world_laws.proofs.fragments.Going.{Alike, Becomes, CanSend, GoesAt, Knows, KnowsLink, Tracks, Went, alike_end, alike_none, can_send, count_up}
-use Rattle.world_laws.proofs.fragments.Going.{ever_sent, goes_of, hears_all-append, knows_side, knows_wire, session_now, tells_all-append, tracks_far}
-use Rattle.world_laws.proofs.fragments.Going.{tracks_on, went_none, went_one}
-use Rattle.world_laws.proofs.fragments.Taking.{Heard, got_now, knows_rest, knows_rset, takes_heard}
-use Rattle.world_laws.proofs.fragments.Wires.{NoUa, no_ua-aged, no_ua-drop, no_ua-from, no_ua-rest}
+use Rattle.world_laws.proofs.fragments.Going.{Alike, Becomes, CanSend, GoesAt, Knows, KnowsLink, Tracks, Went, alike_end, alike_none, ever_sent, goes_of}
+use Rattle.world_laws.proofs.fragments.Going.{hears_all-append, knows_side, knows_wire, tells_all-append, tracks_on, went_none, went_one}
+use Rattle.world_laws.proofs.fragments.Taking.{Heard, got_now, knows_rset, takes_heard}
+use Rattle.world_laws.proofs.fragments.Wires.{NoUa, no_ua-aged, no_ua-from, no_ua-rest}
 
 -- ## What the tap knows after whatever happens at the controller's end
 
@@ -48,11 +46,7 @@ deliver_heard bare t ts l s h = go l.to_controller s h
         let p = passes_act l.controller.side x.frame q in
         let none : (take_answer l.controller.side x.frame).accepted ≡ None = act_none x.frame q in
         let number : took_with l.controller.took x ≡ l.controller.took = took_other l.controller.took x (act_not_rset x.frame q) in
-        let g : GoesAt bare t (at xs) l.controller.side = record {
-          knows = knows_rest h;
-          sends = λ up. can_send (rw (of_up l.controller up) at (s.n_base (shdlc_number_of l.controller)));
-          none = s.n_none;
-        } in
+        let g : GoesAt bare t (at xs) l.controller.side = grind arith in
         let w = went_none bare t ts (at xs) l.controller.side s.n_due g in
         record { knows = rw (p.1, number, p.0) w.knows; tells = rw (p.0, none) w.tells }
       where
@@ -102,25 +96,8 @@ ignore_heard bare t ts l s h = go l.controller.side.phase refl l.to_controller r
         let no_up : n.side.phase ≡ Up → ⊥ = λ u. let g = sym q ∙ u in cc in
         let more : n.took ≤ took_with n.took x = grows x in
         let R : List OnWire → Type 0 = λ v. NoUa v ⊎ (n.emitted ≤ t.uicc.number) in
-        let near : Tracks bare t.clf t.uicc m l.host xs = record {
-          asked = h.near.asked;
-          from = h.near.from;
-          upto = omega (arith, h.near.upto, more);
-          now = λ d. absurd (d q);
-          took = c.hand.n_took;
-          named = inr (λ d. absurd (d q));
-          past = h.near.past;
-          count = h.near.count ∙ sym (ap (length {A = Fragment}) (alike_none n m no_up no_up refl t.clf.number).acc);
-          list = h.near.list ∙ sym (alike_none n m no_up no_up refl t.uicc.number).sent;
-          low = h.near.low;
-          met = λ u. absurd (no_up u);
-          told = left x xs (subst R w h.near.told);
-        } in
-        let g : GoesAt bare t k n.side = record {
-          knows = record { near = near; far = tracks_far {n = n} {m = m} {to_f = l.to_host} refl (omega arith) h.far.told h.far; rsets = h.rsets };
-          sends = λ u. absurd (no_up u);
-          none = s.n_none;
-        } in
+        let near : Tracks bare t.clf t.uicc m l.host xs = grind arith in
+        let g : GoesAt bare t k n.side = grind arith in
         went_none bare t ts k n.side s.n_due g
       where
         left : (x : OnWire) (xs : List OnWire) → NoUa (x ∷ xs) ⊎ (n.emitted ≤ t.uicc.number) → NoUa xs ⊎ (n.emitted ≤ t.uicc.number)
@@ -245,24 +222,13 @@ stop_heard bare t l s h = record { knows = go l.controller.side.phase refl; tell
 
     made : (past : List (ℕ × Session)) → Alike n (record n { side = q; past = past }) → Below (t.clf.number + 1) past
         → Knows bare t (record n { side = q; past = past }) l.host [] [] l.resets
-    made past alike below =
-        record {
-          near = tracks_on (record { alike = alike; emitted = refl; took = refl; past = below; phase = λ d. absurd (d refl) })
-              (λ u. let y : Down ≡ Up = u in cc) (inl refl) h.near;
-          far = tracks_far {n = n} {m = record n { side = q; past = past }} {to_f = l.to_host} refl (omega arith) (inl refl) h.far;
-          rsets = h.rsets;
-        }
+    made past alike below = grind arith
 
     no : (u : Down ≡ Up) → ⊥
     no u = cc
 
     go : (p : LinkState) → n.side.phase ≡ p → KnowsLink bare t (shdlc_silent l q)
-    go Up e =
-        let past : List (ℕ × Session) = (shdlc_number_of n, n.side.session) ∷ n.past in
-        let now : t.clf.number ≡ shdlc_number_of n = h.near.now (λ d. let y = sym e ∙ d in cc) in
-        rw e (made past (alike_end n (record n { side = q; past = past }) e no refl) (omega (arith, now), h.near.past))
-    go Waiting e = rw e (made n.past (alike_none n (record n { side = q }) (λ u. let y = sym e ∙ u in cc) no refl) h.near.past)
-    go Down e = rw e (made n.past (alike_none n (record n { side = q }) (λ u. let y = sym e ∙ u in cc) no refl) h.near.past)
+    go p e = grind arith
 
 -- ### Turns and losses
 
@@ -272,20 +238,7 @@ turns_heard_of_events bare t ts l s h =
     went_heard l (shdlc_turned l.controller.side ts) [] (went_none bare t ts l l.controller.side s.n_due (goes_of l s h))
 
 lose_heard : (bare : Bool) (t : TapState) (l : ShdlcLink) → KnowsLink bare t l → HeardHere bare t l Lose
-lose_heard bare t l h =
-    record {
-      knows = record {
-        near = tracks_on (record { alike = λ k. record { acc = refl; sent = refl }; emitted = refl; took = refl; past = h.near.past; phase = λ d. d })
-            h.near.met (left h.near.told) h.near;
-        far = h.far;
-        rsets = h.rsets;
-      };
-      tells = refl;
-    }
-  where
-    left : NoUa l.to_controller ⊎ (l.controller.emitted ≤ t.uicc.number) → NoUa (drop 1 l.to_controller) ⊎ (l.controller.emitted ≤ t.uicc.number)
-    left (inl q) = inl (no_ua-drop l.to_controller q)
-    left (inr q) = inr q
+lose_heard bare t l h = grind arith
 
 -- whatever happens at the controller's end
 here_heard : (bare : Bool) (t : TapState) (l : ShdlcLink) (e : ShdlcEndEvent) → KeepsPower e → SafeLink 0 0 l → KnowsLink bare t l → HeardHere bare t l e
@@ -336,15 +289,7 @@ tick_heard {kf} bare t ts l s h = go e.phase (runs_timer e.session) (nat_lt (e.t
     counted = goes (record e { timer = e.timer + 1 }) refl refl refl g.sends g.none
 
     again : e.phase ≡ Up → GoesAt bare t l (sent_again e)
-    again up =
-        goes (sent_again e) refl refl refl (λ u. let can = g.sends up in record {
-          from = omega arith;
-          sent = omega (arith, can.from, can.sent);
-          offered = can.offered;
-          within = can.within;
-          most = can.most;
-          acked = can.acked;
-        }) (λ no_up. absurd (no_up up))
+    again up = grind arith
 
     late : nat_lt (e.timer + 1) 10 ≡ false → NothingIsOut (sans l.to_controller) (sans l.to_host)
     late r = nothing_out s.hand (let i = ltb-false (e.timer + 1) 10 r in omega (arith, i))
@@ -369,22 +314,8 @@ tick_heard {kf} bare t ts l s h = go e.phase (runs_timer e.session) (nat_lt (e.t
     go Waiting a false false p q r v =
         let no_up : e.phase ≡ Up → ⊥ = λ u. let y = sym p ∙ u in cc in
         let d : EndState = given_up e in
-        let becomes : Becomes l.controller (record l.controller { side = d }) (t.clf.number + 1) = record {
-          alike = alike_none l.controller (record l.controller { side = d }) no_up (λ u. let y : Down ≡ Up = u in cc) refl;
-          emitted = refl;
-          took = refl;
-          past = h.near.past;
-          phase = λ z. absurd (z refl);
-        } in
-        let gone : GoesAt bare t l d = record {
-          knows = record {
-            near = tracks_on becomes (λ u. let y : Down ≡ Up = u in cc) h.near.told h.near;
-            far = tracks_far {n = l.controller} {m = record l.controller { side = d }} {to_f = l.to_host} refl (omega arith) h.far.told h.far;
-            rsets = h.rsets;
-          };
-          sends = λ u. let y : Down ≡ Up = u in cc;
-          none = λ _. s.n_none no_up;
-        } in
+        let becomes : Becomes l.controller (record l.controller { side = d }) (t.clf.number + 1) = grind arith in
+        let gone : GoesAt bare t l d = grind arith in
         by_parts d false (rw (p, r, v) refl) (rw (p, r, v) refl) (went_none bare t ts l d s.n_due gone)
 
 -- ## The tap hears all frames of every run of a link over fragments: it knows both ends, and tells what they got
@@ -546,44 +477,7 @@ run_heard bare (e ∷ es) t l i a s h =
     (run_heard bare es (tap_after bare t (emitted_event l e)) m next.1 one.1 next.0 one.0.knows)
 
 start_known : (bare : Bool) (l : ShdlcLink) → IsShdlcStart l → StartsSo bare l → KnowsLink bare new_tap l
-start_known bare l BothUp b = record { near = side; far = side; rsets = refl }
-  where
-    is_bare : (bare ≡ true) ⊎ ((Up ≡ Up) → ⊥) → bare ≡ true
-    is_bare (inl q) = q
-    is_bare (inr q) = absurd (q refl)
-
-    side : Tracks bare new_tap.clf new_tap.uicc start.controller start.host []
-    side = record {
-      asked = refl;
-      from = omega arith;
-      upto = omega arith;
-      now = λ _. refl;
-      took = omega arith;
-      named = inl (is_bare b);
-      past = tt;
-      count = refl;
-      list = refl;
-      low = omega arith;
-      met = λ _. omega arith;
-      told = inl refl;
-    }
-start_known bare l BothDown b = record { near = side; far = side; rsets = refl }
-  where
-    side : Tracks bare new_tap.clf new_tap.uicc start_down.controller start_down.host []
-    side = record {
-      asked = refl;
-      from = omega arith;
-      upto = omega arith;
-      now = λ d. absurd (d refl);
-      took = omega arith;
-      named = inr (λ d. absurd (d refl));
-      past = tt;
-      count = refl;
-      list = refl;
-      low = omega arith;
-      met = λ _. omega arith;
-      told = inl refl;
-    }
+start_known bare l a b = grind arith
 
 -- over a whole run from its beginning
 heard_from_start : (bare : Bool) (l : ShdlcLink) → IsShdlcStart l → StartsSo bare l → (events : List ShdlcLinkEvent) → AllShdlcAllowed events
@@ -595,12 +489,7 @@ pub reported : (bare : Bool) (l : ShdlcLink) → IsShdlcStart l → StartsSo bar
 reported bare l i b events a c = (heard_from_start bare l i b events a c).tells
 
 side_known : {bare : Bool} {s t : TapSide} {n f : NumberedShdlc} {w : List OnWire} → Tracks bare s t n f w → IsTrackedBy s t n
-side_known {s = s} {t} {n} h =
-    record {
-      number = λ up. (count_up up h).0;
-      count = λ up. (count_up up h).1;
-      list = λ up q. ap (listed_at s) (sym q) ∙ (h.list ∙ ap ever_sent (session_now n t.number up (q ∙ (count_up up h).0)));
-    }
+side_known h = grind arith
 
 pub known_here : (bare : Bool) (l : ShdlcLink) → IsShdlcStart l → StartsSo bare l → (events : List ShdlcLinkEvent) → AllShdlcAllowed events
     → NoneIsCut events

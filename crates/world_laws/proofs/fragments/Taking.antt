@@ -1,19 +1,19 @@
 -- What the tap knows as an end takes a frame: an RSET, a UA, or a fragment whose answer goes out.
-use Rattle.world_laws.proofs.Words.{Act, Base, Below, Bool, Clt, Control, Down, Due, EndState, Fragment, I, IsAnswer, IsData, IsRset, Kind, LinkState, List}
-use Rattle.world_laws.proofs.Words.{None, NumberedShdlc, OnWire, Option, Rej, Rej_due, Rnr, Rnr_due, Rr, Rr_due, Rset, Rset_due, S, Safe, Session, ShdlcLink}
-use Rattle.world_laws.proofs.Words.{ShdlcTurn, Some, Srej, TakenUp, TapSide, TapState, Ua, Ua_due, Up, Waiting, [], ahead, ahead_not_waiting, ap, append_assoc}
-use Rattle.world_laws.proofs.Words.{are_taken, arith, below_more, brought_by, by_option, by_test, cond, drop, ended_session, eq-eqb, expected, false, fits}
-use Rattle.world_laws.proofs.Words.{frame_cases, given_by, good_of, got_with, hears_all, inl, inr, is_in_session, is_some, length, length-append}
-use Rattle.world_laws.proofs.Words.{length-take-le, listed_at, live, lt-ltb, ltb-false, ltb-true, map, max, min, nat_lt, ne_eqb, new_session, news_behind}
-use Rattle.world_laws.proofs.Words.{no_session, none_ended, not_rset, of_up, of_update, packets_in, pair_from, passes, peer_of, place_of, refl, renumbered}
-use Rattle.world_laws.proofs.Words.{rset_told, rsets, sans, sent_then, session_with, shdlc_number_of, shdlc_put, shdlc_session_of, shdlc_turned, subst, suc}
-use Rattle.world_laws.proofs.Words.{sym, take, take_answer, taken, taken_up, tap_hears, tap_tells, tells_all, tells_more, told_by, took_other, took_with, true}
-use Rattle.world_laws.proofs.Words.{ua_told, up_with, with_number, with_shdlc_ended, zero, ℕ, ◌%◌, ◌++◌, ◌+◌, ◌<◌, ◌==◌, ◌∙◌, ◌∷◌, ◌≡◌, ◌≤◌, ◌⊎◌}
+use Rattle.world_laws.proofs.Words.{Base, Below, Bool, Control, Down, Due, EndState, Fragment, IsAnswer, IsData, IsRset, LinkState, List, None, NumberedShdlc}
+use Rattle.world_laws.proofs.Words.{OnWire, Option, Rej, Rej_due, Rnr, Rnr_due, Rr, Rr_due, Rset, Rset_due, S, Safe, Session, ShdlcLink, ShdlcTurn, Some}
+use Rattle.world_laws.proofs.Words.{TakenUp, TapSide, TapState, Ua, Ua_due, Up, Waiting, [], ap, append_assoc, are_taken, arith, below_more, brought_by}
+use Rattle.world_laws.proofs.Words.{by_option, by_test, cond, drop, ended_session, eq-eqb, expected, false, fits, frame_cases, given_by, good_of, got_with}
+use Rattle.world_laws.proofs.Words.{hears_all, inl, inr, is_in_session, is_some, length, length-append, length-take-le, listed_at, live, lt-ltb, ltb-true, map}
+use Rattle.world_laws.proofs.Words.{max, min, nat_lt, ne_eqb, new_session, news_behind, no_session, none_ended, not_rset, packets_in, pair_from, passes, refl}
+use Rattle.world_laws.proofs.Words.{renumbered, rset_told, rsets, sans, sent_then, session_with, shdlc_number_of, shdlc_put, shdlc_session_of, shdlc_turned}
+use Rattle.world_laws.proofs.Words.{subst, suc, sym, take, take_answer, taken, taken_up, tap_hears, tap_tells, tells_all, tells_more, told_by, took_other}
+use Rattle.world_laws.proofs.Words.{took_with, true, ua_told, up_with, with_number, with_shdlc_ended, zero, ℕ, ◌%◌, ◌++◌, ◌+◌, ◌<◌, ◌==◌, ◌∙◌, ◌∷◌, ◌≡◌, ◌≤◌}
+use Rattle.world_laws.proofs.Words.{◌⊎◌}
 use Rattle.link_laws.proofs.sessions.Steps.{took}
-use Rattle.world_laws.proofs.fragments.Going.{Alike, Becomes, CanSend, GoesAt, Knows, KnowsLink, Tracks, Went, alike_begin, alike_end, alike_none, alike_then}
-use Rattle.world_laws.proofs.fragments.Going.{can_send, count_up, ever_sent, goes_answer, in_session, knows_side, session_above, session_ended, session_now}
-use Rattle.world_laws.proofs.fragments.Going.{still_no_ua, tracks_far, tracks_on, tracks_renumbered, went_none, went_one}
-use Rattle.world_laws.proofs.fragments.Wires.{NoUa, is_ua, no_ua-rest}
+use Rattle.world_laws.proofs.fragments.Going.{Alike, Becomes, CanSend, GoesAt, Knows, KnowsLink, Tracks, Went, alike_begin, can_send, count_up, ever_sent}
+use Rattle.world_laws.proofs.fragments.Going.{goes_answer, in_session, knows_side, session_above, session_ended, session_now, still_no_ua, tracks_far}
+use Rattle.world_laws.proofs.fragments.Going.{tracks_renumbered, went_none, went_one}
+use Rattle.world_laws.proofs.fragments.Wires.{NoUa, is_ua}
 
 -- ## What the tap knows after an RSET or a UA of an end, and after the answer to a fragment that was accepted
 
@@ -48,10 +48,7 @@ knows_rset {bare} {t} {n} {m} {f} {to_n} {to_f} {r} x w c plain a h = subst P (s
     low = omega (arith, h.near.upto, h.near.took, a.bound, a.far_bound)
 
     heard : tap_hears bare t (Rset w c) ≡ record { clf = side; uicc = t.uicc; rsets = r + 1 }
-    heard =
-        let more : nat_lt t.clf.number (r + 1) ≡ true = lt-ltb t.clf.number (r + 1) (omega (arith, low)) in
-        ap (λ k. record { clf = record (renumbered t.clf (k + 1)) { asked = k + 1 }; uicc = t.uicc; rsets = k + 1 }) h.rsets
-        ∙ ap (λ b. record { clf = record (cond b (record t.clf { number = r + 1; count = 0 }) t.clf) { asked = r + 1 }; uicc = t.uicc; rsets = r + 1 }) more
+    heard = grind arith
 
     none : shdlc_session_of m (r + 1) ≡ no_session
     none = session_ended m not_up (r + 1) ∙ none_ended (t.clf.number + 1) (r + 1) m.past (omega (arith, low)) a.past
@@ -82,8 +79,7 @@ knows_rset {bare} {t} {n} {m} {f} {to_n} {to_f} {r} x w c plain a h = subst P (s
     told (inr q) = inr (omega (arith, q, low))
 
     far : Tracks bare t.uicc side f m (fits (to_f ++ x ∷ []))
-    far = tracks_renumbered {n = n} {m = m} {to_f = to_f} (omega (arith, low)) (omega (arith, a.emitted, a.bound)) f_none (still_no_ua to_f x plain
-        (told h.far.told)) h.far
+    far = tracks_renumbered {n = n} {m = m} {to_f = to_f} (omega (arith, low)) (omega (arith, a.emitted, a.bound)) f_none (grind arith) h.far
 
 -- ### A UA
 
@@ -115,14 +111,7 @@ knows_ua {bare} {t} {n} {m} {f} {to_n} {to_n'} {to_f} {to_f'} {r} a told h = by_
       far = tracks_renumbered {n = n} {m = m} {to_f = to_f} i (omega (arith, a.emitted)) f_none (inr (omega (arith, h.far.asked))) h.far;
       rsets = h.rsets;
     }))
-    (λ q. let i : t.uicc.asked ≤ t.clf.number = ltb-false t.clf.number t.uicc.asked q in
-    let is : renumbered t.clf t.uicc.asked ≡ t.clf = rw q refl in
-    subst P (sym is) (record {
-      near = near t.clf refl refl refl (omega arith) (omega (arith, i, h.far.asked))
-          (h.near.count ∙ sym (ap (length {A = Fragment}) (a.alike t.clf.number).acc));
-      far = tracks_far {n = n} {m = m} {to_f = to_f} refl (omega (arith, a.emitted)) (inr (omega (arith, i, h.far.asked))) h.far;
-      rsets = h.rsets;
-    }))
+    (λ q. grind arith)
   where
     P : TapSide → Type 0
     P z = Knows bare (record t { clf = z }) m f to_n' to_f' r
@@ -269,9 +258,7 @@ knows_accepted {bare} {t} {n} {m} {f} {to_n} {to_n'} {to_f} {to_f'} {r} {info} a
         ∙ ap (map (λ m. (shdlc_number_of n, m.0, m.1))) news))
 
     sent : (k : ℕ) → ever_sent (shdlc_session_of m k) ≡ ever_sent (shdlc_session_of n k)
-    sent =
-        of_update (λ k x. ever_sent x ≡ ever_sent (shdlc_session_of n k)) n m a.was_up a.up number a.past (λ k. refl)
-        (rw (of_up n a.was_up) a.sent)
+    sent = grind arith
 
     near : Tracks bare side t.uicc m f to_n'
     near = record {
@@ -311,44 +298,12 @@ pub record Accepted (o : Option Fragment) (e q : EndState) : Type 0 where
   pub out : q.session.out ≡ e.session.out
   pub reached : q.session.reached ≡ e.session.reached
 
-takes_I : (e : EndState) (ns nr : ℕ) (info : Fragment) → e.phase ≡ Up → Accepted (take_answer e (I ns nr info)).accepted e (taken e (I ns nr info))
-takes_I e ns nr info up = go (place_of e.session nr) e.ready (ahead e.session ns == 0) (nat_lt
-    (ahead e.session ns) 4) e.session.gap_open refl refl refl refl refl
-  where
-    go : (o : Option ℕ) (a b c d : Bool) → place_of e.session nr ≡ o → e.ready ≡ a → (ahead e.session ns == 0) ≡ b → nat_lt (ahead e.session ns) 4 ≡ c
-        → e.session.gap_open ≡ d → Accepted (take_answer e (I ns nr info)).accepted e (taken e (I ns nr info))
-    go None a b c d p q r t v = rw (up, p) (record { acc = refl; out = refl; reached = refl })
-    go (Some x) false b c d p q r t v = rw (up, p, q) (record { acc = refl; out = refl; reached = refl })
-    go (Some x) true true c d p q r t v = rw (up, p, q, r) (record { acc = (refl, refl); out = refl; reached = refl })
-    go (Some x) true false true true p q r t v = rw (up, p, q, r, t, v) (record { acc = refl; out = refl; reached = refl })
-    go (Some x) true false true false p q r t v = rw (up, p, q, r, t, v) (record { acc = refl; out = refl; reached = refl })
-    go (Some x) true false false d p q r t v = rw (up, p, q, r, t) (record { acc = refl; out = refl; reached = refl })
-
-takes_S : (e : EndState) (k : Kind) (nr : ℕ) → e.phase ≡ Up → Accepted (take_answer e (S k nr)).accepted e (taken e (S k nr))
-takes_S e k nr up = go k (place_of e.session nr) refl
-  where
-    go : (k : Kind) (o : Option ℕ) → place_of e.session nr ≡ o → Accepted (take_answer e (S k nr)).accepted e (taken e (S k nr))
-    go Srej o p = rw up (record { acc = refl; out = refl; reached = refl })
-    go _ None p = rw (up, p) (record { acc = refl; out = refl; reached = refl })
-    go _ (Some x) p = rw (up, p) (record { acc = refl; out = refl; reached = refl })
-
 pub takes_data : (e : EndState) (c : Control) → e.phase ≡ Up → IsData c → Accepted (take_answer e c).accepted e (taken e c)
-takes_data e (I ns nr info) up d = takes_I e ns nr info up
-takes_data e (S k nr) up d = takes_S e k nr up
-takes_data e (Act a b) up d = rw up (record { acc = refl; out = refl; reached = refl })
-takes_data e Clt up d = rw up (record { acc = refl; out = refl; reached = refl })
-takes_data e _ up d = absurd d
+takes_data e c up d = grind arith
 
 -- an end that isn't Up accepts nothing
 pub accepts_none : (e : EndState) (c : Control) → (e.phase ≡ Up → ⊥) → (take_answer e c).accepted ≡ None
-accepts_none e c no_up = go e.phase refl c
-  where
-    go : (p : LinkState) → e.phase ≡ p → (c : Control) → (take_answer e c).accepted ≡ None
-    go Up p c = absurd (no_up p)
-    go Waiting p (I _ _ _) = rw p refl
-    go Waiting p _ = rw p refl
-    go Down p (Rset w c) = by_test (w == 0) (λ q. rw (p, q) refl) (λ q. rw (p, q) refl)
-    go Down p _ = rw p refl
+accepts_none e c no_up = grind arith
 
 -- ### The answers go out
 
@@ -384,22 +339,7 @@ heard_so bare t ts l x xs ends number q o so w =
 -- what the tap knows is known where the first frame is gone
 pub knows_rest : {bare : Bool} {t : TapState} {n f : NumberedShdlc} {x : OnWire} {xs to_f : List OnWire} {r : ℕ} → Knows bare t n f (x ∷ xs) to_f r
     → Knows bare t n f xs to_f r
-knows_rest {t = t} {n} {f} {x} {xs} h =
-    record {
-      near = tracks_on (record {
-        alike = λ k. record { acc = refl; sent = refl };
-        emitted = refl;
-        took = refl;
-        past = h.near.past;
-        phase = λ d. d;
-      }) h.near.met (rest h.near.told) h.near;
-      far = h.far;
-      rsets = h.rsets;
-    }
-  where
-    rest : NoUa (x ∷ xs) ⊎ (n.emitted ≤ t.uicc.number) → NoUa xs ⊎ (n.emitted ≤ t.uicc.number)
-    rest (inl q) = inl (no_ua-rest x xs q)
-    rest (inr q) = inr q
+knows_rest h = grind arith
 
 -- a new session has nothing to send
 new_sends : (w : ℕ) (r : Session) → w ≤ 4 → CanSend (new_session w) r
@@ -430,8 +370,7 @@ takes_heard bare t ts l x xs s h = go (frame_cases x) e.phase refl
     rest = knows_rest h
 
     left : NoUa (x ∷ xs) ⊎ (n.emitted ≤ t.uicc.number) → NoUa xs ⊎ (n.emitted ≤ t.uicc.number)
-    left (inl q) = inl (no_ua-rest x xs q)
-    left (inr q) = inr q
+    left a = grind arith
 
     no_ua : x.frame ≡ Ua → (e.phase ≡ Waiting → ⊥) → ⊥
     no_ua q w = w (ua_told s.hand q).1
@@ -456,10 +395,7 @@ takes_heard bare t ts l x xs s h = go (frame_cases x) e.phase refl
         -- where nothing was accepted
         goes_for : (v : EndState) → v.phase ≡ Up → v.session ≡ q.session → Accepted None e q → GoesAt bare t next v
         goes_for v p same a = record {
-          knows = knows_side v (p ∙ sym up) (record {
-            acc = ap (λ (z : Session). z.acc) same ∙ a.acc;
-            sent = ap ever_sent same ∙ rw (a.out, a.reached) refl;
-          }) rest;
+          knows = knows_side v (p ∙ sym up) ((grind arith)) rest;
           sends = λ _. rw same (can_send tu.0.pair.mine);
           none = λ no_up. absurd (no_up p);
         }
@@ -518,14 +454,10 @@ takes_heard bare t ts l x xs s h = go (frame_cases x) e.phase refl
     zero_window is = let p = rset_told s.hand is in ne_eqb is.window 0 (λ z. omega (arith, p.wide, z))
 
     newer : (is : IsRset x) → n.took < f.emitted
-    newer is =
-        let a : rsets (x ∷ sans xs) ≡ x.age ∷ rsets (sans xs) = rw is.frame refl in
-        let b = rw a at s.hand.n_ahead in b.0
+    newer is = grind arith
 
     newest : IsRset x → (e.phase ≡ Waiting → ⊥) → n.emitted < f.emitted
-    newest is w =
-        let a : rsets (x ∷ sans xs) ≡ x.age ∷ rsets (sans xs) = rw is.frame refl in
-        (ahead_not_waiting 0 (peer_of n) f.emitted x.age (rsets (sans xs)) w (rw a at s.hand.n_ahead)).1
+    newest is w = grind arith
 
     far_past : IsRset x → Below f.emitted f.past
     far_past is = let p = (rset_told s.hand is).waiting in rw p at s.f_past
@@ -543,16 +475,7 @@ takes_heard bare t ts l x xs s h = go (frame_cases x) e.phase refl
         let w : ℕ = min e.own_window (min is.window 4) in
         let b : EndState = up_with (record e { due = Ua_due ∷ [] }) w in
         let k : ShdlcLink = record l { to_controller = xs; controller = record n { took = f.emitted; past = past } } in
-        let answers : Answers n (record k.controller { side = record b { due = [] } }) f t.clf = record {
-          alike = alike;
-          emitted = refl;
-          took = refl;
-          past = below;
-          newer = newer is;
-          waits = (rset_told s.hand is).waiting;
-          far_past = far_past is;
-          newest = λ _. newest is no_wait;
-        } in
+        let answers : Answers n (record k.controller { side = record b { due = [] } }) f t.clf = grind arith in
         let y : OnWire = record { frame = Ua; age = 0; number = 0 } in
         let goes : GoesAt bare (tap_hears bare t Ua) (shdlc_put k Ua) (record b { due = [] }) = record {
           knows = knows_ua {to_f' = fits (l.to_host ++ y ∷ [])} answers (left h.near.told) h;
@@ -573,28 +496,9 @@ takes_heard bare t ts l x xs s h = go (frame_cases x) e.phase refl
         let early : Below n.emitted n.past = rw p at s.n_past in
         let none : ended_session n.past (shdlc_number_of m) ≡ no_session = none_ended n.emitted (shdlc_number_of m) n.past (omega arith) early in
         let met : n.emitted ≤ t.uicc.number = by q h.near.told in
-        let becomes : Becomes n m (t.clf.number + 1) = record {
-          alike = alike_begin n m w no_up refl refl refl none;
-          emitted = refl;
-          took = refl;
-          past = h.near.past;
-          phase = λ d g. let z = sym p ∙ g in cc;
-        } in
-        let goes : GoesAt bare t next b = record {
-          knows = record {
-            near = tracks_on becomes (λ _. met) (inr met) h.near;
-            far = tracks_far {n = n} {m = m} {to_f = l.to_host} refl (omega arith) h.far.told h.far;
-            rsets = h.rsets;
-          };
-          sends = λ _. new_sends w (shdlc_session_of f (shdlc_number_of n)) (omega (arith, s.n_windows.own.1));
-          none = λ z. absurd (z refl);
-        } in
-        heard_so bare t ts l x xs false n.took b None (record {
-          ended = rw (q, p) refl;
-          took = took_other n.took x (not_rset x.frame (inr q));
-          end = rw (q, p) refl;
-          accepted = accepts_none e x.frame no_up;
-        }) (went_none bare t ts next b s.n_due goes)
+        let becomes : Becomes n m (t.clf.number + 1) = grind arith in
+        let goes : GoesAt bare t next b = grind arith in
+        heard_so bare t ts l x xs false n.took b None ((grind arith)) (went_none bare t ts next b s.n_due goes)
       where
         by : x.frame ≡ Ua → NoUa (x ∷ xs) ⊎ (n.emitted ≤ t.uicc.number) → n.emitted ≤ t.uicc.number
         by q (inl z) = absurd (let y : true ≡ false = rw q at z in cc)
@@ -607,16 +511,7 @@ takes_heard bare t ts l x xs s h = go (frame_cases x) e.phase refl
         let k : ShdlcLink = record l { to_controller = xs; controller = record n { took = f.emitted } } in
         let no_up : e.phase ≡ Up → ⊥ = λ u. let g = sym p ∙ u in cc in
         let y : OnWire = record { frame = Ua; age = 0; number = 0 } in
-        let answers : Answers n (record k.controller { side = v }) f t.clf = record {
-          alike = alike_none n (record k.controller { side = v }) no_up no_up refl;
-          emitted = refl;
-          took = refl;
-          past = h.near.past;
-          newer = newer q;
-          waits = (rset_told s.hand q).waiting;
-          far_past = far_past q;
-          newest = λ u. absurd (no_up u);
-        } in
+        let answers : Answers n (record k.controller { side = v }) f t.clf = grind arith in
         let goes : GoesAt bare (tap_hears bare t Ua) (shdlc_put k Ua) v = record {
           knows = knows_ua {to_f' = fits (l.to_host ++ y ∷ [])} answers (left h.near.told) h;
           sends = λ u. absurd (no_up u);
@@ -640,8 +535,7 @@ takes_heard bare t ts l x xs s h = go (frame_cases x) e.phase refl
         none_ended f.emitted (shdlc_number_of m) past (omega arith) (omega (arith, newest q no_wait, newer q), below) in
         let now : t.clf.number ≡ shdlc_number_of n = h.near.now (λ d. let y = sym p ∙ d in cc) in
         anew q true no_wait past (omega (arith, now), h.near.past) refl
-        (alike_then n g m (alike_end n g p (λ u. let y : Down ≡ Up = u in cc) refl)
-        (alike_begin g m w (λ u. let y : Down ≡ Up = u in cc) refl refl refl none))
+        (grind arith)
         (rw (q.frame, p, z) refl) (rw (q.frame, p, z) refl) (rw (q.frame, p, z) refl)
     go (inr (inl q)) Down p =
         let z = zero_window q in

@@ -1,6 +1,6 @@
 -- Whether a UA stands on a wire.
-use Rattle.world_laws.proofs.Words.{Bool, Control, List, OnWire, Ua, [], aged_wire, ap, by_test, drop, false, fits, length, nat_lt, or_parts, refl, sans, true}
-use Rattle.world_laws.proofs.Words.{uas, ◌++◌, ◌||◌, ◌∷◌, ◌≡◌}
+use Rattle.world_laws.proofs.Words.{Bool, Control, List, OnWire, Ua, [], aged_wire, arith, by_test, drop, false, fits, length, nat_lt, or_parts, refl, sans}
+use Rattle.world_laws.proofs.Words.{true, uas, ◌++◌, ◌||◌, ◌∷◌, ◌≡◌}
 
 abbrev pub is_ua : Control → Bool
 is_ua Ua = true
@@ -15,8 +15,7 @@ abbrev pub NoUa : List OnWire → Type 0
 NoUa w = has_ua w ≡ false
 
 pub no_ua-drop : (w : List OnWire) → NoUa w → NoUa (drop 1 w)
-no_ua-drop [] h = refl
-no_ua-drop (x ∷ xs) h = (or_parts (is_ua x.frame) (has_ua xs) h).1
+no_ua-drop w h = grind arith
 
 pub no_ua-rest : (x : OnWire) (xs : List OnWire) → NoUa (x ∷ xs) → NoUa xs
 no_ua-rest x xs h = (or_parts (is_ua x.frame) (has_ua xs) h).1
@@ -46,5 +45,4 @@ no_ua-from (x ∷ xs) h = go x.frame refl (no_ua-from xs)
     other q e = rw (q, e) refl
 
     go : (c : Control) → x.frame ≡ c → (uas (sans xs) ≡ [] → NoUa xs) → NoUa (x ∷ xs)
-    go Ua q later = absurd (let g = h in let k : x.age ∷ uas (sans xs) ≡ [] = rw q at g in cc)
-    go _ q later = other (ap is_ua q) (later (let g = h in rw q at g))
+    go c q later = grind arith

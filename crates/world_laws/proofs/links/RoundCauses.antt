@@ -5,11 +5,11 @@ use Rattle.world_laws.proofs.Words.{FetchMessage, GoesOut, Host, IsFewWires, IsL
 use Rattle.world_laws.proofs.Words.{OnWire, Side, Step, Take, Taken, Ticked, Ticks, Turn, [], after_causes, after_events-append, after_few, after_input}
 use Rattle.world_laws.proofs.Words.{after_link_events, after_steps, allowed-append, ap, arith, bare_link, bare_round_allowed, beside-put_all, cases_lt}
 use Rattle.world_laws.proofs.Words.{causes_of_round, causes_of_rounds, come_to_controller, come_to_host, cond, end_of, ended_by, event_at, event_of, events_at}
-use Rattle.world_laws.proofs.Words.{exchanged, false, first_rest, fragments_left, frames_out, got_by_controller, got_by_host, happens, happens_at_controller}
-use Rattle.world_laws.proofs.Words.{idle, inl, inr, is_some, length, length-replicate, link_after, link_after_all, link_after_round, link_rests, map}
-use Rattle.world_laws.proofs.Words.{map-append, map-replicate, refl, replicate, rest_at_controller, rest_at_host, rounds_to_settle, settling_causes}
-use Rattle.world_laws.proofs.Words.{settling_events, steps_to_rest, subst, suc, sym, take_one, talk_now, times_among, times_ticked, took_with, true, turned}
-use Rattle.world_laws.proofs.Words.{with_ended, zero, ℕ, ◌*◌, ◌++◌, ◌+◌, ◌<◌, ◌∙◌, ◌∷◌, ◌≡◌, ◌≤◌}
+use Rattle.world_laws.proofs.Words.{exchanged, first_rest, fragments_left, frames_out, got_by_controller, got_by_host, happens, happens_at_controller, idle}
+use Rattle.world_laws.proofs.Words.{inl, inr, is_some, length, length-replicate, link_after, link_after_all, link_after_round, link_rests, map, map-append}
+use Rattle.world_laws.proofs.Words.{map-replicate, refl, replicate, rest_at_controller, rest_at_host, rounds_to_settle, settling_causes, settling_events}
+use Rattle.world_laws.proofs.Words.{steps_to_rest, subst, suc, sym, take_one, talk_now, times_among, times_ticked, took_with, true, turned, with_ended, zero, ℕ}
+use Rattle.world_laws.proofs.Words.{◌*◌, ◌++◌, ◌+◌, ◌<◌, ◌∙◌, ◌∷◌, ◌≡◌, ◌≤◌}
 
 -- ## The rounds in which a link settles are rounds of the law of recovery
 
@@ -26,8 +26,7 @@ wire_after l x xs ts =
     (beside-put_all (frames_out e) (record k { controller = record k.controller { took = took_with l.controller.took x } })).to_controller ∙ ended b
   where
     ended : (b : Bool) → (with_ended (record l { to_controller = xs }) b).to_controller ≡ xs
-    ended true = refl
-    ended false = refl
+    ended b = grind arith
 
 -- so many frames come to the controller's end, where so many stand on its wire
 record Takes (l : Link) (es : List LinkEvent) (c h : ℕ) : Type 0 where
@@ -48,12 +47,7 @@ taken_near (suc k) l i = go l.to_controller i (taken_near k)
         let m : Link = happens (record l { to_controller = x ∷ xs }) (AtController take_one) in
         let less : length m.to_controller ≡ length xs = ap (length {A = OnWire}) (wire_after l x xs (FetchMessage ∷ [])) in
         let t = later m (omega (arith, j, less)) in
-        record {
-          ordinary = (tt, t.ordinary);
-          controller = omega (arith, t.controller);
-          host = t.host;
-          times = t.times;
-        }
+        grind arith
 
 taken_far : (k : ℕ) (l : Link) → k ≤ length l.to_host → Takes l (replicate k (AtHost take_one)) 0 k
 taken_far zero l i = record { ordinary = tt; controller = refl; host = refl; times = refl }
@@ -67,12 +61,7 @@ taken_far (suc k) l i = go l.to_host i (taken_far k)
         let m : Link = happens (record l { to_host = x ∷ xs }) (AtHost take_one) in
         let less : length m.to_host ≡ length xs = ap (length {A = OnWire}) (wire_after (exchanged l) x xs (FetchMessage ∷ [])) in
         let t = later m (omega (arith, j, less)) in
-        record {
-          ordinary = (tt, t.ordinary);
-          controller = t.controller;
-          host = omega (arith, t.host);
-          times = t.times;
-        }
+        grind arith
 
 -- ### A round
 
@@ -107,15 +96,7 @@ round h l =
     ∙ (ap (λ es. es ++ map event_of (far_causes h l ++ Ticked ∷ [])) first
     ∙ ap (λ es. near ++ es) (map-append event_of (far_causes h l) (Ticked ∷ []) ∙ ap (λ es. es ++ time) second)) in
     record {
-      is = record {
-        first = near;
-        second = far;
-        third = time;
-        parts = parts;
-        to_controller = record { ordinary = one.ordinary; at_controller = one.controller; at_host = one.host; passes = one.times };
-        to_host = record { ordinary = two.ordinary; at_controller = two.controller; at_host = two.host; passes = two.times };
-        time = record { ordinary = ((refl, tt, refl), tt); at_controller = refl; at_host = refl; passes = refl };
-      };
+      is = grind arith;
       allowed = bare_round_allowed h l;
       end = sym (after_causes (causes_of_round h l) l);
     }

@@ -2,22 +2,21 @@
 use Rattle.std.specs.Prelude.{if◌then◌else◌, not, replicate, ◌&&◌}
 use Rattle.world_laws.proofs.Words.{AllAllowed, AllByRecursion, AreBothUpIn, AreHosts, ArePlayable, AreReadOff, AreSessionsRead, AreUpWith, Bool, BothBrought}
 use Rattle.world_laws.proofs.Words.{Controller, EarlierGot, End, Entry, Event, Follows, FollowsNodes, HasBrought, Header, History, Host, IsBare, IsEndQuiet}
-use Rattle.world_laws.proofs.Words.{IsFrontOf, IsLineOf, IsLinkQuiet, IsLinkTold, IsLinkUndisturbed, IsRead, IsReadOff, IsRun, Known, Line, LineOutcome, Link}
-use Rattle.world_laws.proofs.Words.{LinkBrought, LinkSettled, List, Message, NodeHistory, NodeWorld, None, NoneIsMisread, Noted, NumberedEnd, Occurrence, Play}
-use Rattle.world_laws.proofs.Words.{Round, Side, Site, Some, Takes, Talk, Up, [], acked_in, after_causes, after_link_events, after_steps, alike, all_entries}
-use Rattle.world_laws.proofs.Words.{all_events, all_happen, ap, append-nil, append_assoc, are_read, arith, bare_comes_to_rest, bare_link, bare_link_behind}
-use Rattle.world_laws.proofs.Words.{bare_played_rounds, bare_round, bare_round_goes, behind_lines, bytes_on, causes_of, controller_heard, end_c, end_h, end_of}
-use Rattle.world_laws.proofs.Words.{end_takes_all, ends_in_order, ends_take_all, entries_for, eq-eqb, events_in, events_of_steps, false, far_now}
-use Rattle.world_laws.proofs.Words.{fragments_left, fragments_noted, frames_at, frames_on, good_of, got_in, host_heard, host_number, host_of, is_clear, is_run}
-use Rattle.world_laws.proofs.Words.{is_running, known_after, length, line_step, lines_lead, lines_played, lines_played_of, link_after_round, link_events}
-use Rattle.world_laws.proofs.Words.{link_rests, near_now, new_world, node_entries, node_of, nodes_behind, nodes_come_to_rest, none_taken, notes_of, number_of}
-use Rattle.world_laws.proofs.Words.{occurrences_in, occurrences_of, of_allowed, of_can, of_steps, plain_trace, played_more, played_round, played_rounds}
-use Rattle.world_laws.proofs.Words.{plays_more, plays_of, read_here, read_off, read_there, refl, refusal_in, round_behind, round_causes, round_first, round_in}
-use Rattle.world_laws.proofs.Words.{round_lines, rounds_events, rounds_of_world, rounds_to_rest, rounds_to_settle, run_entries, sent_in, session-all}
-use Rattle.world_laws.proofs.Words.{session_number, session_up, settling_causes, settling_events, site_at, start_good, start_reached, steps_from, subst, suc}
-use Rattle.world_laws.proofs.Words.{sym, takes_so, taking_in, talk_now, talk_of, true, up_far, up_near, wire-controller, wire-host, world_after}
-use Rattle.world_laws.proofs.Words.{world_after_round, world_behind, world_round, world_rounds_to_settle, world_settling, zero, ℕ, ◌*◌, ◌++◌, ◌+◌, ◌==◌, ◌∙◌}
-use Rattle.world_laws.proofs.Words.{◌∷◌, ◌≡◌, ◌≤◌}
+use Rattle.world_laws.proofs.Words.{IsLineOf, IsLinkQuiet, IsLinkTold, IsLinkUndisturbed, IsRead, IsReadOff, IsRun, Known, Line, LineOutcome, Link, LinkBrought}
+use Rattle.world_laws.proofs.Words.{LinkSettled, List, NodeHistory, NodeWorld, None, NoneIsMisread, Noted, NumberedEnd, Occurrence, Play, Round, Side, Site}
+use Rattle.world_laws.proofs.Words.{Some, Talk, Up, [], acked_in, after_causes, after_link_events, after_steps, alike, all_entries, all_events, all_happen, ap}
+use Rattle.world_laws.proofs.Words.{append-nil, append_assoc, are_read, arith, bare_comes_to_rest, bare_link, bare_link_behind, bare_played_rounds, bare_round}
+use Rattle.world_laws.proofs.Words.{bare_round_goes, behind_lines, bytes_on, causes_of, controller_heard, end_c, end_h, end_of, end_takes_all, ends_in_order}
+use Rattle.world_laws.proofs.Words.{ends_take_all, entries_for, eq-eqb, events_in, events_of_steps, false, far_now, fragments_left, fragments_noted, frames_at}
+use Rattle.world_laws.proofs.Words.{host_heard, host_number, host_of, is_clear, is_run, is_running, known_after, length, line_step, lines_lead, lines_played}
+use Rattle.world_laws.proofs.Words.{lines_played_of, link_after_round, link_events, link_rests, near_now, new_world, node_entries, node_of, nodes_behind}
+use Rattle.world_laws.proofs.Words.{nodes_come_to_rest, notes_of, number_of, occurrences_in, occurrences_of, of_allowed, of_can, of_steps, plain_trace}
+use Rattle.world_laws.proofs.Words.{played_more, played_round, played_rounds, plays_more, plays_of, read_here, read_off, read_there, refl, refusal_in}
+use Rattle.world_laws.proofs.Words.{round_behind, round_causes, round_first, round_in, round_lines, rounds_events, rounds_of_world, rounds_to_rest}
+use Rattle.world_laws.proofs.Words.{rounds_to_settle, run_entries, sent_in, session-all, session_number, session_up, settling_causes, settling_events, site_at}
+use Rattle.world_laws.proofs.Words.{start_good, start_reached, steps_from, subst, suc, sym, takes_so, taking_in, talk_now, talk_of, true, up_far, up_near}
+use Rattle.world_laws.proofs.Words.{wire-controller, wire-host, world_after, world_after_round, world_behind, world_round, world_rounds_to_settle}
+use Rattle.world_laws.proofs.Words.{world_settling, zero, ℕ, ◌*◌, ◌++◌, ◌+◌, ◌==◌, ◌∙◌, ◌∷◌, ◌≡◌, ◌≤◌}
 use Rattle.history.proofs.legal.Sessions.{acked-all, got-all, sent-all}
 use Rattle.link_laws.proofs.entries.Seeing.{read_off as seen_off}
 use Rattle.link_laws.specs.entries.Reading.{Seen, nothing_seen}
@@ -37,8 +36,7 @@ round_same : (header : Header) (l : Link) → bare_round header l ≡ link_after
 round_same header l = round_causes (host_of header) (end_of (host_of header) Controller ∷ end_of (host_of header) Host ∷ []) l
 
 after_alike : (f g : Link → Link) → ((l : Link) → f l ≡ g l) → (n : ℕ) (l : Link) → after_steps f n l ≡ after_steps g n l
-after_alike f g same zero l = refl
-after_alike f g same (suc n) l = after_alike f g same n (f l) ∙ ap (after_steps g n) (same l)
+after_alike f g same n l = grind arith
 
 module _ (header : Header) (bare : header.hci ≡ false) where
   pub one_round : (before : List Line)
@@ -153,16 +151,7 @@ module _ (header : Header) (lines : List Line) (t : NodeHistory) (follows : Foll
 -- what was brought, as it is noted
 brought : (a b : List Entry) (e d : End) (k : ℕ) (before sender receiver : Talk) → IsReadOff a e k before → IsReadOff b e k sender
     → IsReadOff b d k receiver → EarlierGot before sender receiver → HasBrought a b e d k
-brought a b e d k before sender receiver first last other got =
-    let come : IsFrontOf (good_of before.sent) (got_in b d k) =
-    subst (λ (ns : List Message). IsFrontOf (good_of before.sent) ns) (sym other.got) got.got in
-    let more = got.acked in
-    let was = ap (λ (ms : List Message). length ms) first.sent in
-    let is = last.acked in
-    record {
-      got = subst (λ (ms : List Message). IsFrontOf (good_of ms) (got_in b d k)) (sym first.sent) come;
-      acked = omega (arith, more, was, is);
-    }
+brought a b e d k before sender receiver first last other got = grind arith
 
 -- ### Behind plays
 
@@ -181,8 +170,7 @@ module _ (header : Header) (nodes : header.hci ≡ true) (are : AreHosts header.
   nodes_settled h s found n u fits =
       let w : NodeWorld = nodes_behind header (lines_played header plays) in
       let many : rounds_to_rest header plays n ≡ world_rounds_to_settle n w = nodes_come_to_rest header nodes plays n in
-      let calm : IsLinkUndisturbed s.link (rounds_events h (world_rounds_to_settle n w) w) =
-      subst (λ (r : ℕ). IsLinkUndisturbed s.link (rounds_events h r w)) many u in
+      let calm : IsLinkUndisturbed s.link (rounds_events h (world_rounds_to_settle n w) w) = grind arith in
       let end : nodes_behind header (lines_played header (plays ++ replicate (rounds_to_rest header plays n) Round)) ≡ (world_settling n w).0 =
       played_rounds header nodes (rounds_to_rest header plays n) plays ∙ ap (λ (r : ℕ). (rounds_of_world r w).0) many in
       subst (λ (v : NodeWorld). LinkSettled v h s) (sym end)
@@ -211,12 +199,7 @@ module _ (header : Header) (are : AreHosts header.hosts.items) (plays : List Pla
       let all : List Line = lines_played header (plays ++ replicate (rounds_to_rest header plays n) Round) in
       let is : ReadNow header all later goes_on are later_p h there.later k =
       read_now header all later goes_on are later_p h there.later there.is k up_later in
-      record {
-        to_host = brought (node_entries t) (node_entries later) (end_c h) (end_h h) k (talk_now s.link.controller.side)
-            (talk_now there.later.link.controller.side) (talk_now there.later.link.host.side) was.near is.near is.far there.to_host;
-        to_controller = brought (node_entries t) (node_entries later) (end_h h) (end_c h) k (talk_now s.link.host.side)
-            (talk_now there.later.link.host.side) (talk_now there.later.link.controller.side) was.far is.far is.near there.to_controller;
-      }
+      grind arith
 
 -- behind the lines of a schedule and one that lets the links settle
 module _ (header : Header) (are : AreHosts header.hosts.items) (lines : List Line) (n : ℕ) (p : ArePlayable (lines_played_of header lines))
@@ -241,9 +224,7 @@ talk_in k n up is = let same : (n == number_of k) ≡ true = eq-eqb n (number_of
 -- as many messages count as acknowledged at a quiet end as it sent, as it is noted
 acked_all : (t : List Entry) (e : End) (n : ℕ) (k : NumberedEnd) → IsReadOff t e n (talk_of k n) → IsEndQuiet k.side → k.side.shdlc.phase ≡ Up
     → number_of k ≡ n → acked_in t e n ≡ length (sent_in t e n)
-acked_all t e n k read quiet up is =
-    let now : IsReadOff t e n (talk_now k.side) = subst (λ (talk : Talk). IsReadOff t e n talk) (talk_in k n up is) read in
-    now.acked ∙ (quiet.all_acked up ∙ sym (ap (λ (ms : List Message). length ms) now.sent))
+acked_all t e n k read quiet up is = grind arith
 
 -- ## What the link of a bare world has brought behind a line that lets it settle, as the history of the schedule notes it
 
@@ -313,12 +294,7 @@ module _ (header : Header) (bare : header.hci ≡ false) (plays : List Play) (n 
       let is : ReadInBare (all_entries later) h m k = read_in_bare header all later later_valid goes_on k up_later in
       let left = was.left in
       let come : LinkBrought l m = bare_settled header bare plays t valid follows n u (omega (arith, left, fits)) in
-      record {
-        to_host = brought (all_entries t) (all_entries later) (end_c h) (end_h h) k (talk_now l.controller.side)
-            (talk_now m.controller.side) (talk_now m.host.side) was.near is.near is.far come.to_host;
-        to_controller = brought (all_entries t) (all_entries later) (end_h h) (end_c h) k (talk_now l.host.side)
-            (talk_now m.host.side) (talk_now m.controller.side) was.far is.far is.near come.to_controller;
-      }
+      grind arith
 
 -- behind the lines of a schedule and one that lets the link settle
 module _ (header : Header) (bare : header.hci ≡ false) (lines : List Line) (n : ℕ) (t later : History)
@@ -360,13 +336,8 @@ taking_occurs w e = go (is_running w (node_of e)) (frames_at w e) refl refl
   where
     go : (runs : Bool) (frames : List OnWire) → is_running w (node_of e) ≡ runs → frames_at w e ≡ frames
         → occurring w (taking_in w e) ≡ (end_takes_all w e).1
-    go false frames p q =
-        ap (λ (b : Bool). occurring w (taken_if e b (frames_at w e))) p
-        ∙ sym (ap (λ (r : NodeWorld × List Occurrence). r.1) (none_taken (length (frames_at w e)) w e p))
-    go true [] p q =
-        ap (λ (b : Bool). occurring w (taken_if e b (frames_at w e))) p
-        ∙ (ap (λ (xs : List OnWire). occurring w (taken_if e true xs)) q
-        ∙ sym (ap (λ (xs : List OnWire). (all_happen w (replicate (length xs) (Takes e))).1) q))
+    go false frames p q = grind arith
+    go true [] p q = grind arith
     go true (x ∷ xs) p q =
         let line : Line = saying.Deliver e None in
         let none : refusal_in w line ≡ None = rw (p, q) refl in
@@ -437,16 +408,7 @@ module _ (header : Header) (lines : List Line) (t : NodeHistory) (follows : Foll
       let zero = host_number w h s r.so.well.orderly q in
       let read : AreSessionsRead (node_entries t) h s.link = are_read h s.link (node_entries t) zero b.told in
       let off : AreReadOff (node_entries t) h s.link = read_off h s.link (node_entries t) b.told in
-      record {
-        to_controller = b.shown.wires.to_controller ∙ ap frames_on quiet.to_controller;
-        to_host = b.shown.wires.to_host ∙ ap frames_on quiet.to_host;
-        controller = λ n up.
-            let now = session_up s.link.controller n (sym read.controller ∙ up) in
-            acked_all (node_entries t) (end_c h) n s.link.controller (off.controller n) quiet.controller now.0 now.1;
-        host = λ n up.
-            let now = session_up s.link.host n (sym read.host ∙ up) in
-            acked_all (node_entries t) (end_h h) n s.link.host (off.host n) quiet.host now.0 now.1;
-      }
+      grind arith
 
 -- ### In a bare world
 

@@ -1,14 +1,11 @@
 -- Behind plays a world that settles has brought all, and links at rest are quiet.
 use Rattle.world_laws.proofs.Words.{AllByRecursion, AreBothReady, AreBothUpIn, AreHosts, AreLeftReady, ArePlayable, ArePoweredNotes, AreUndisturbedNotes}
-use Rattle.world_laws.proofs.Words.{AreUnheldNotes, AreUpWith, Bool, BothBrought, Down, Follows, FollowsNodes, Header, History, IsEndQuiet, IsHeader}
-use Rattle.world_laws.proofs.Words.{IsLinkQuiet, IsNodeHeader, IsPlayFor, IsPlayedLine, Line, Link, LinkEnd, LinkState, List, MayBegin, NodeHistory, Play}
-use Rattle.world_laws.proofs.Words.{Round, Site, Some, Up, Waiting, [], all-append, all_entries, and_parts, ap, bare_lines, bare_link_behind, by_test}
-use Rattle.world_laws.proofs.Words.{entries_since, eq-eqb, eqb-true, false, fragments_noted, host_of, hosts_are, hosts_stay_behind, in_range, inl, inr}
-use Rattle.world_laws.proofs.Words.{is_clear, is_settling, is_waiting, length, lines_may_be_played, lines_played, link_rests, node_entries, nodes_behind}
-use Rattle.world_laws.proofs.Words.{playable, refl, replicate, rounds_for, rounds_to_rest, site_at, sites_rest, subst, sym, true, true≢false, whole_acked, ℕ}
-use Rattle.world_laws.proofs.Words.{◌&&◌, ◌*◌, ◌++◌, ◌+◌, ◌==◌, ◌∙◌, ◌∷◌, ◌≡◌, ◌≤◌}
-use Rattle.link_laws.specs.machine.AtRest.{end_rests}
-use Rattle.link_laws.specs.places.Wire.{OnWire}
+use Rattle.world_laws.proofs.Words.{AreUnheldNotes, AreUpWith, Bool, BothBrought, Follows, FollowsNodes, Header, History, IsHeader, IsLinkQuiet, IsNodeHeader}
+use Rattle.world_laws.proofs.Words.{IsPlayFor, IsPlayedLine, Line, Link, List, MayBegin, NodeHistory, Play, Round, Site, Some, [], all-append, all_entries}
+use Rattle.world_laws.proofs.Words.{and_parts, ap, arith, bare_lines, bare_link_behind, by_test, entries_since, false, fragments_noted, host_of, hosts_are}
+use Rattle.world_laws.proofs.Words.{hosts_stay_behind, in_range, is_settling, lines_may_be_played, lines_played, link_rests, node_entries, nodes_behind}
+use Rattle.world_laws.proofs.Words.{playable, refl, replicate, rounds_for, rounds_to_rest, site_at, sites_rest, subst, sym, true, true≢false, ℕ, ◌&&◌, ◌*◌}
+use Rattle.world_laws.proofs.Words.{◌++◌, ◌+◌, ◌==◌, ◌∙◌, ◌∷◌, ◌≡◌, ◌≤◌}
 use Rattle.node_laws.specs.schedules.Ranges.{AreNodeLinesOf}
 use Rattle.world_laws.specs.worlds.BroughtBehind.{BringsAll}
 use Rattle.world_laws.proofs.schedules.NotedQuiet.{bare_behind, noted_behind}
@@ -53,12 +50,10 @@ module _ (header : Header) (are : AreHosts header.hosts.items) (plays : List Pla
       (nodes_undisturbed header are plays n p later_p t later follows goes_on h s found k up ready notes)
 
 nodes_header : (header : Header) → header.hci ≡ true → MayBegin header → IsNodeHeader header
-nodes_header header nodes (inr h) = h
-nodes_header header nodes (inl h) = absurd (true≢false (sym nodes ∙ h.bare))
+nodes_header header nodes a = grind arith
 
 bare_header : (header : Header) → header.hci ≡ false → MayBegin header → IsHeader header
-bare_header header bare (inl h) = h
-bare_header header bare (inr h) = absurd (true≢false (sym h.nodes ∙ bare))
+bare_header header bare a = grind arith
 
 module _ (header : Header) (begun : MayBegin header) (plays : List Play) (may : AllByRecursion (IsPlayFor header) plays) (n : ℕ) where
   later_may : AllByRecursion (IsPlayFor header) (settled header plays n)
@@ -107,27 +102,6 @@ module _ (header : Header) (begun : MayBegin header) (plays : List Play) (may : 
 
 -- ### Ends and wires
 
-end_quiet : (e : LinkEnd) → end_rests e ≡ true → IsEndQuiet e
-end_quiet e r = go e.shdlc.phase refl
-  where
-    go : (p : LinkState) → e.shdlc.phase ≡ p → IsEndQuiet e
-    go Up q = record { waits_not = rw q refl; all_acked = λ up. eqb-true (whole_acked e) (length e.sent) (rw q at r) }
-    go Waiting q = absurd (true≢false (sym (rw q at r)))
-    go Down q = record { waits_not = rw q refl; all_acked = λ up. let z : Down ≡ Up = sym q ∙ up in absurd (cc z) }
-
-end_resting : (e : LinkEnd) → IsEndQuiet e → end_rests e ≡ true
-end_resting e quiet = go e.shdlc.phase refl
-  where
-    go : (p : LinkState) → e.shdlc.phase ≡ p → end_rests e ≡ true
-    go Up q = rw q (eq-eqb (whole_acked e) (length e.sent) (quiet.all_acked q))
-    go Waiting q =
-        let waits : is_waiting e.shdlc ≡ true = rw q refl in absurd (true≢false (sym waits ∙ quiet.waits_not))
-    go Down q = rw q refl
-
-clear_empty : (w : List OnWire) → is_clear w ≡ true → w ≡ []
-clear_empty [] c = refl
-clear_empty (x ∷ w) c = absurd (true≢false (sym c))
-
 -- ### Links
 
 record AllFour (a b c d : Bool) : Type 0 where
@@ -137,37 +111,13 @@ record AllFour (a b c d : Bool) : Type 0 where
   fourth : d ≡ true
 
 four : (a b c d : Bool) → (a && b && c && d) ≡ true → AllFour a b c d
-four true true true true e = record { first = refl; second = refl; third = refl; fourth = refl }
-four true true true false e = absurd (true≢false (sym e))
-four true true false d e = absurd (true≢false (sym e))
-four true false c d e = absurd (true≢false (sym e))
-four false b c d e = absurd (true≢false (sym e))
-
-all_four : (a b c d : Bool) → AllFour a b c d → (a && b && c && d) ≡ true
-all_four true true true true e = refl
-all_four true true true false e = absurd (true≢false (sym e.fourth))
-all_four true true false d e = absurd (true≢false (sym e.third))
-all_four true false c d e = absurd (true≢false (sym e.second))
-all_four false b c d e = absurd (true≢false (sym e.first))
+four a b c d e = grind arith
 
 pub link_quiet : (l : Link) → link_rests l ≡ true → IsLinkQuiet l
-link_quiet l r =
-    let all = four (is_clear l.to_controller) (is_clear l.to_host) (end_rests l.controller.side) (end_rests l.host.side) r in
-    record {
-      to_controller = clear_empty l.to_controller all.first;
-      to_host = clear_empty l.to_host all.second;
-      controller = end_quiet l.controller.side all.third;
-      host = end_quiet l.host.side all.fourth;
-    }
+link_quiet l r = grind arith
 
 pub link_resting : (l : Link) → IsLinkQuiet l → link_rests l ≡ true
-link_resting l q =
-    all_four (is_clear l.to_controller) (is_clear l.to_host) (end_rests l.controller.side) (end_rests l.host.side) (record {
-      first = ap is_clear q.to_controller;
-      second = ap is_clear q.to_host;
-      third = end_resting l.controller.side q.controller;
-      fourth = end_resting l.host.side q.host;
-    })
+link_resting l q = grind arith
 
 -- ### Worlds
 
@@ -185,6 +135,5 @@ pub site_quiet : (sites : List Site) (h : ℕ) (s : Site) → AllByRecursion (λ
     → IsLinkQuiet s.link
 site_quiet [] h s a q = cc
 site_quiet (x ∷ sites) h s a q = by_test (x.host == h)
-    (λ p. let same : x ≡ s = (let z : Some x ≡ Some s = rw p at q in cc) in
-    subst (λ (y : Site). IsLinkQuiet y.link) same a.0)
+    (λ p. grind arith)
     (λ p. site_quiet sites h s a.1 (rw p at q))

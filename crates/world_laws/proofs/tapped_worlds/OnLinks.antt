@@ -1,9 +1,9 @@
 -- What a tap reports over a history of a world of nodes is what was got.
-use Rattle.world_laws.proofs.Words.{AreHosts, ArePlayable, Bool, End, Entry, FollowsNodes, Gets, Header, IsLine, IsLinkTold, IsSo, IsStrange, Line, Link, List}
-use Rattle.world_laws.proofs.Words.{NodeHistory, None, Noted, Occurrence, Option, Puts, Saying, Some, [], ap, by_test, cons_option, cuts_on, entries}
-use Rattle.world_laws.proofs.Words.{entries_for, entries_in, entries_of, false, filter_map, got_on, gots_noted, gots_on, history_so, hosts_are, is_cut, is_of}
-use Rattle.world_laws.proofs.Words.{list_any, lpdus_heard, lpdus_on, new_line, new_world, no_cut, occurrences_in, of_link, playable, put_on, refl, said, subst}
-use Rattle.world_laws.proofs.Words.{sym, tapped_lpdus, tells_of, true, untold, world_behind, ℕ, ◌++◌, ◌∙◌, ◌∷◌, ◌≡◌}
+use Rattle.world_laws.proofs.Words.{AreHosts, ArePlayable, Bool, End, Entry, FollowsNodes, Header, IsLine, IsLinkTold, IsSo, IsStrange, Line, Link, List}
+use Rattle.world_laws.proofs.Words.{NodeHistory, None, Noted, Occurrence, Option, Saying, [], ap, arith, by_test, cons_option, cuts_on, entries, entries_for}
+use Rattle.world_laws.proofs.Words.{entries_in, entries_of, false, filter_map, got_on, gots_noted, gots_on, history_so, hosts_are, is_cut, is_of, list_any}
+use Rattle.world_laws.proofs.Words.{lpdus_heard, lpdus_on, new_line, new_world, no_cut, occurrences_in, of_link, playable, put_on, refl, said, subst, sym}
+use Rattle.world_laws.proofs.Words.{tapped_lpdus, tells_of, true, untold, world_behind, ℕ, ◌++◌, ◌∙◌, ◌∷◌, ◌≡◌}
 use Rattle.node_laws.proofs.order.Sessions.{Whether, whether}
 use Rattle.node_laws.proofs.order.Sessions.Whether.{IsNone, Stands}
 use Rattle.world_laws.specs.histories.OnLinks.{AreOfLink}
@@ -16,14 +16,10 @@ use Rattle.world_laws.proofs.histories.Histories.{gots_same, lpdus_same, tap_rep
 
 module _ (h : ℕ) where
   put_none : (o : Option (End × Saying)) → is_of h o ≡ false → put_on h o ≡ None
-  put_none None q = refl
-  put_none (Some (e, Puts frame)) q = rw q refl
-  put_none (Some (e, _)) q = refl
+  put_none o q = grind arith
 
   got_none : (o : Option (End × Saying)) → is_of h o ≡ false → got_on h o ≡ None
-  got_none None q = refl
-  got_none (Some (e, Gets n m)) q = rw q refl
-  got_none (Some (e, _)) q = refl
+  got_none o q = grind arith
 
   -- where nothing is made of what tells nothing of a link, all is made of what tells of it
   of_link_alone : {X : Type 0} (f : Option (End × Saying) → Option X) → ((o : Option (End × Saying)) → is_of h o ≡ false → f o ≡ None) → (t : List Entry)

@@ -2,24 +2,23 @@
 use Rattle.world_laws.proofs.Words.{AllAllowed, AllByRecursion, AreBothReady, AreBothUpIn, ArePlain, AreReadyThroughout, AreRoundCauses, AreUndisturbedNotes}
 use Rattle.world_laws.proofs.Words.{AreUnstarted, AsksReset, AtController, AtHost, Bool, Cause, Caused, Controller, Cut, End, EndEvent, Entry, Event}
 use Rattle.world_laws.proofs.Words.{FetchMessage, Follows, Give, Given, GoesOut, Header, History, HistoryStep, Hold, Host, IsBare, IsEndOf, IsHeader, IsLineOf}
-use Rattle.world_laws.proofs.Words.{IsLinkUndisturbed, IsPlayedLine, IsRun, IsUnderWay, Line, Link, LinkEnd, LinkEvent, List, Lose, MayFollow, NextFrame}
-use Rattle.world_laws.proofs.Words.{NoInput, None, Noted, NumberedEnd, OnWire, Option, Outcome, Play, Readied, Refused, Reset, Restarted, Round, Said, Side}
-use Rattle.world_laws.proofs.Words.{Some, Step, StepsFollow, Take, Taken, Tick, Ticked, Turn, WasLost, WasReset, [], after_causes, after_input}
-use Rattle.world_laws.proofs.Words.{after_link_events, again, aged, all_entries, all_events, allowed_parts, ap, append-nil, append_assoc, bare_link}
-use Rattle.world_laws.proofs.Words.{bare_link_behind, bare_round_lines, becomes, beside-put_all, busy_after, by_option, by_test, causes_in, causes_of}
-use Rattle.world_laws.proofs.Words.{causes_of_round, causes_of_rounds, causes_on, cond, controller_heard, damage_causes, drop, drop-append_seam, end_of}
-use Rattle.world_laws.proofs.Words.{ended_by, entries, entries_for, entries_since, entry_of, eq-eqb, event_of, events_at, events_in, events_of, exchanged}
-use Rattle.world_laws.proofs.Words.{false, first_entries, first_verdict, flat_map-append, fold, frames_out, frames_to, happens, happens_at_controller, heard}
-use Rattle.world_laws.proofs.Words.{heard-append, host_ended, host_heard, host_of, if◌then◌else◌, is_clear, is_left_busy, is_run, is_settling, is_some, length}
-use Rattle.world_laws.proofs.Words.{lines-append, lines_played, link_after, link_after_all, link_after_line, link_after_lines, link_after_round, link_events}
-use Rattle.world_laws.proofs.Words.{list_any, map, map-append, not, notes_of, of_allowed, of_can, outcome_of, plain_trace, played_more, plays_of, plays_of_line}
-use Rattle.world_laws.proofs.Words.{refl, refusal, replicate, round_behind, round_first, round_on, rounds_to_rest, rounds_to_settle, run_entries, same_side}
-use Rattle.world_laws.proofs.Words.{session-all, session_number, session_up, settling_causes, settling_events, start_under_way, steps_at_controller, subst, suc}
-use Rattle.world_laws.proofs.Words.{sym, taken_of, takes_on, taking_on, ticks_at_controller, took_with, true, true≢false, turn, turned, unwrap_or, with_ended}
-use Rattle.world_laws.proofs.Words.{zero, ℕ, ◌&&◌, ◌++◌, ◌==◌, ◌∙◌, ◌∷◌, ◌≡◌}
+use Rattle.world_laws.proofs.Words.{IsLinkUndisturbed, IsPlayedLine, IsRun, IsUnderWay, Line, Link, LinkEnd, LinkEvent, List, MayFollow, NextFrame, NoInput}
+use Rattle.world_laws.proofs.Words.{None, Noted, NumberedEnd, OnWire, Option, Outcome, Play, Readied, Reset, Restarted, Round, Said, Side, Some, Step}
+use Rattle.world_laws.proofs.Words.{StepsFollow, Take, Taken, Tick, Ticked, Turn, WasLost, WasReset, [], after_causes, after_input, after_link_events, again}
+use Rattle.world_laws.proofs.Words.{aged, all_entries, all_events, allowed_parts, ap, append-nil, append_assoc, arith, bare_link, bare_link_behind}
+use Rattle.world_laws.proofs.Words.{bare_round_lines, becomes, beside-put_all, busy_after, by_option, by_test, causes_in, causes_of, causes_of_round}
+use Rattle.world_laws.proofs.Words.{causes_of_rounds, causes_on, cond, controller_heard, damage_causes, drop, drop-append_seam, end_of, ended_by, entries}
+use Rattle.world_laws.proofs.Words.{entries_for, entries_since, entry_of, eq-eqb, event_of, events_at, events_in, events_of, exchanged, false, first_entries}
+use Rattle.world_laws.proofs.Words.{first_verdict, flat_map-append, fold, frames_out, frames_to, happens, happens_at_controller, heard, heard-append}
+use Rattle.world_laws.proofs.Words.{host_ended, host_heard, host_of, if◌then◌else◌, is_clear, is_left_busy, is_run, is_settling, is_some, length, lines-append}
+use Rattle.world_laws.proofs.Words.{lines_played, link_after, link_after_all, link_after_line, link_after_lines, link_after_round, link_events, list_any, map}
+use Rattle.world_laws.proofs.Words.{map-append, not, notes_of, of_allowed, of_can, outcome_of, plain_trace, played_more, plays_of, plays_of_line, refl, refusal}
+use Rattle.world_laws.proofs.Words.{replicate, round_behind, round_first, round_on, rounds_to_rest, rounds_to_settle, run_entries, same_side, session-all}
+use Rattle.world_laws.proofs.Words.{session_number, session_up, settling_causes, settling_events, start_under_way, steps_at_controller, subst, suc, sym}
+use Rattle.world_laws.proofs.Words.{taken_of, takes_on, taking_on, ticks_at_controller, took_with, true, true≢false, turn, turned, unwrap_or, with_ended, zero}
+use Rattle.world_laws.proofs.Words.{ℕ, ◌&&◌, ◌++◌, ◌==◌, ◌∙◌, ◌∷◌, ◌≡◌}
 use Rattle.history.proofs.legal.Settled.{only_one}
 use Rattle.history.specs.Damage.{Verdict}
-use Rattle.history.specs.Damage.Verdict.{Same}
 use Rattle.node_laws.proofs.order.Watches.{is_cut}
 use Rattle.world_laws.proofs.links.RoundCauses.{rounds_are}
 use Rattle.world_laws.proofs.schedules.NotedQuiet.{as_many, happened_leads, one_round, settled_link}
@@ -70,8 +69,7 @@ along_taking h l e = go (frames_to l e) refl
     line = saying.Deliver e None
 
     go : (frames : List OnWire) → frames_to l e ≡ frames → causes_along h l (taking_on l e) ≡ causes_in l (saying.Deliver e None)
-    go [] q =
-        ap (along_if h l e) q ∙ sym (ap (λ (xs : List OnWire). replicate (length xs) (Taken e)) q)
+    go [] q = grind arith
     go (x ∷ xs) q =
         let none : refusal l line ≡ None = rw q refl in
         let caused : outcome_of h l line ≡ Caused (events_at h l (causes_in l line)) = rw none refl in
@@ -157,10 +155,7 @@ frame_readied l ts none = go l.to_controller refl
     e = l.controller.side
 
     go : (w : List OnWire) → l.to_controller ≡ w → HasReady l (steps_at_controller l NextFrame ts GoesOut) l.controller.side.shdlc.ready
-    go [] q =
-        let is : steps_at_controller l NextFrame ts GoesOut ≡ l = rw q refl in
-        let P : Link → Type 0 = λ m. HasReady l m l.controller.side.shdlc.ready in
-        subst P (sym is) (record { near = refl; far = refl })
+    go [] q = grind arith
     go (x ∷ xs) q =
         let b : Bool = is_some (ended_by e (Take x.frame)) in
         let m : Link = with_ended (record l { to_controller = xs }) b in
@@ -179,18 +174,13 @@ frame_readied l ts none = go l.to_controller refl
 at_one : (at_host side : Bool) (l : Link) (x : EndEvent) (f : Bool → Bool)
     → ((k : Link) → HasReady k (happens_at_controller k x) (f k.controller.side.shdlc.ready))
     → ready_at at_host (happens l (if side then AtHost x else AtController x)) ≡ cond (same_side side at_host) (f (ready_at at_host l)) (ready_at at_host l)
-at_one false false l x f is = (is l).near
-at_one true false l x f is = (is l).far
-at_one false true l x f is = (is (exchanged l)).far
-at_one true true l x f is = (is (exchanged l)).near
+at_one at_host side l x f is = grind arith
 
 either : (b c : Bool) → cond b c c ≡ c
-either true c = refl
-either false c = refl
+either b c = grind arith
 
 not_not : (b : Bool) → not (not b) ≡ b
-not_not true = refl
-not_not false = refl
+not_not b = grind arith
 
 with_turn : (t : Turn) (ready : Bool → Bool) (k : Link) → (turned k.controller.side (t ∷ [])).shdlc.ready ≡ ready k.controller.side.shdlc.ready
     → HasReady k (happens_at_controller k (Step NoInput (t ∷ []) GoesOut)) (ready k.controller.side.shdlc.ready)
@@ -215,8 +205,7 @@ cause_readies at_host l (Given e m) =
 cause_readies at_host l (Taken e) =
     at_one at_host e.at_host l (Step NextFrame (FetchMessage ∷ []) GoesOut) (λ b. b) (λ k. frame_readied k (FetchMessage ∷ []) refl)
     ∙ either (same_side e.at_host at_host) (ready_at at_host l)
-cause_readies at_host l (WasLost e why) =
-    at_one at_host e.at_host l (Lose why) (λ b. b) (λ k. record { near = refl; far = refl }) ∙ either (same_side e.at_host at_host) (ready_at at_host l)
+cause_readies at_host l (WasLost e why) = grind arith
 cause_readies at_host l (WasReset e window) =
     at_one at_host e.at_host l (Step (AsksReset window) [] GoesOut) (λ b. b) (reset_here window) ∙ either (same_side e.at_host at_host) (ready_at at_host l)
 cause_readies at_host l (Readied e ready) =
@@ -253,8 +242,7 @@ by_refusal : (P : List Cause → Type 0) (h : ℕ) (l : Link) (line : Line) → 
 by_refusal P h l line none some = by_option (refusal l line)
     (λ q. let is : outcome_of h l line ≡ Caused (events_at h l (causes_in l line)) = rw q refl in
     subst (λ (o : Outcome). P (causes_of (events_of o))) (sym is) (subst P (sym (again h l (causes_in l line))) some))
-    (λ why q. let is : outcome_of h l line ≡ Refused why = rw q refl in
-    subst (λ (o : Outcome). P (causes_of (events_of o))) (sym is) none)
+    (λ why q. grind arith)
 
 repeated_ready : (at_host : Bool) (c : Cause) → ((b : Bool) → readied_by at_host b c ≡ b) → (n : ℕ) (b : Bool) → readied_by_all at_host b (replicate n c) ≡ b
 repeated_ready at_host c none zero b = refl
@@ -262,8 +250,7 @@ repeated_ready at_host c none (suc n) b =
     repeated_ready at_host c none n (readied_by at_host b c) ∙ none b
 
 damage_ready : (at_host : Bool) (e : End) (v : Option Verdict) (b : Bool) → readied_by_all at_host b (damage_causes e v) ≡ b
-damage_ready at_host e (Some Same) b = refl
-damage_ready at_host e _ b = refl
+damage_ready at_host e v b = grind arith
 
 module _ (header : Header) (is : IsHeader header) (at_host : Bool) where
   abbrev here : End

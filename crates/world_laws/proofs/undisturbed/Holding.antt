@@ -1,19 +1,15 @@
 -- Whether an end takes fragments is told by the turns of its node, and one that takes none has its first message noted as held.
-use Rattle.world_laws.proofs.Words.{About, Act, ActEvent, ActStart, ActStop, ActTick, Activation, AsksReset, AtEnd, Bare, Bool, Clt, Comes, Control, CutOff}
-use Rattle.world_laws.proofs.Words.{Deed, Desk, Down, EndState, Ending, Entry, FetchMessage, Fragment, Give, GoesOut, Hold, I, IsComing, IsOutside, Kind, Link}
-use Rattle.world_laws.proofs.Words.{LinkEnd, LinkInput, LinkState, List, Message, NextFrame, NoInput, NodeInput, None, Option, Port, Release, Reset, Role, Rset}
-use Rattle.world_laws.proofs.Words.{S, SetAside, Some, Srej, Start, Starts, Stop, Stops, Take, Tick, TimePasses, Timed, Turn, Up, Waiting, Work, []}
-use Rattle.world_laws.proofs.Words.{acknowledged, act_answer, activated, after_input, after_sessions, after_turn, ahead, all_come, all_done, all_owed, ap}
-use Rattle.world_laws.proofs.Words.{aside_refusal, by_list, by_option, by_test, changed_if, commit, cond, done, end_of_node, ended_by, eqb-true, false}
-use Rattle.world_laws.proofs.Words.{finished, flat_map, forgets, forgotten, give_refusal, had_tick, has_come, input_at, input_of, is_faulty, is_forgotten}
-use Rattle.world_laws.proofs.Words.{is_held, is_held_at, is_late, is_open, is_over, is_some, is_waiting, lacking, map, most_frames, moved, nat_lt, new_link_end}
-use Rattle.world_laws.proofs.Words.{not, notified, noting, option_map_or, place_of, port_at, put_down, received, refl, renewed, reset_late, reset_refusal}
-use Rattle.world_laws.proofs.Words.{reset_taken, reset_with, runs_timer, sent_all, sent_same, silent, steps, steps_at_controller, stopped, subst, sym, synced}
-use Rattle.world_laws.proofs.Words.{take_answer, taken, tick_answer, ticked, ticked_so, ticks_at_controller, timed, times_out, took, true, true≢false, turn}
-use Rattle.world_laws.proofs.Words.{turn_at, turned, unless_cut, waiting_at, window_of, with_act, with_desk, with_ended, with_older, with_port, with_ready}
-use Rattle.world_laws.proofs.Words.{without_notice, ℕ, ◌&&◌, ◌++◌, ◌==◌, ◌∙◌, ◌∷◌, ◌≡◌}
+use Rattle.world_laws.proofs.Words.{About, ActEvent, ActStart, ActStop, AsksReset, AtEnd, Bool, Comes, Control, CutOff, Deed, Desk, EndState, Ending, Entry}
+use Rattle.world_laws.proofs.Words.{FetchMessage, Give, GoesOut, Hold, IsComing, IsOutside, Link, LinkEnd, LinkInput, List, Message, NextFrame, NoInput}
+use Rattle.world_laws.proofs.Words.{NodeInput, None, Option, Port, Release, Reset, Role, SetAside, Some, Start, Starts, Stop, Stops, Take, Tick, TimePasses}
+use Rattle.world_laws.proofs.Words.{Turn, Work, [], activated, after_input, after_sessions, after_turn, all_come, all_done, all_owed, ap, arith, by_list}
+use Rattle.world_laws.proofs.Words.{by_option, by_test, changed_if, commit, cond, done, end_of_node, ended_by, eqb-true, false, finished, flat_map, forgets}
+use Rattle.world_laws.proofs.Words.{forgotten, had_tick, has_come, input_at, input_of, is_forgotten, is_held, is_held_at, is_over, is_some, is_waiting, lacking}
+use Rattle.world_laws.proofs.Words.{map, most_frames, moved, new_link_end, not, notified, noting, option_map_or, port_at, refl, renewed, reset_late}
+use Rattle.world_laws.proofs.Words.{reset_refusal, reset_with, sent_all, sent_same, silent, steps, steps_at_controller, stopped, subst, sym, synced, ticked_so}
+use Rattle.world_laws.proofs.Words.{ticks_at_controller, times_out, took, true, true≢false, turn, turn_at, turned, unless_cut, waiting_at, window_of, with_desk}
+use Rattle.world_laws.proofs.Words.{with_ended, with_older, with_port, without_notice, ℕ, ◌&&◌, ◌++◌, ◌==◌, ◌∙◌, ◌∷◌, ◌≡◌}
 use Rattle.hci_tables.specs.declared.command.Command.{Command}
-use Rattle.link_laws.specs.machine.Machine.{heard}
 use Rattle.node_laws.proofs.kept.Doing.{stays_cut, uncut}
 use Rattle.node_laws.proofs.passes.Passing.{have_handled, have_held}
 use Rattle.node_laws.proofs.passes.Replying.{other_stays, own_changed}
@@ -25,60 +21,9 @@ use Rattle.node_machine.specs.Controller.{asked_at}
 use Rattle.node_machine.specs.Parts.About.{Removed, Waits}
 use Rattle.node_machine.specs.Parts.Deed.{Asks, Commits, IsAnswered, Orders, Releases, Sends, SetsErrors, Tells}
 use Rattle.node_machine.specs.Turns.{deeds_of, goes_through_ends, handles, have_turns, holds_back, lets_go, passes}
-use Rattle.shdlc_core.specs.Machine.Timed.{Runs}
 use Rattle.trace_model.specs.declared.entry.Entry.TheVariants as entry
 
 -- ## What an end takes and sends leaves whether it takes fragments: its node alone says so
-
-received_ready : (e : EndState) (ns : ℕ) (info : Fragment) → (received e ns info).ready ≡ e.ready
-received_ready e ns info = go e.ready (ahead e.session ns == 0) (nat_lt (ahead e.session ns) 4) e.session.gap_open refl refl refl refl
-  where
-    go : (a b c d : Bool) → e.ready ≡ a → (ahead e.session ns == 0) ≡ b → nat_lt (ahead e.session ns) 4 ≡ c → e.session.gap_open ≡ d
-        → (received e ns info).ready ≡ e.ready
-    go true true c d p q r s = rw (p, q) refl
-    go true false true true p q r s = rw (p, q, r, s) refl
-    go true false true false p q r s = rw (p, q, r, s) refl
-    go true false false d p q r s = rw (p, q, r) refl
-    go false b c d p q r s = rw p refl
-
-taken_ready : (e : EndState) (c : Control) → (taken e c).ready ≡ e.ready
-taken_ready e c = go e.phase c refl
-  where
-    reset : (p : LinkState) (w : ℕ) (b : Bool) → e.phase ≡ p → (w == 0) ≡ b → (reset_taken e w).ready ≡ e.ready
-    reset p w true q z = rw z refl
-    reset Up w false q z = rw (z, q) refl
-    reset _ w false q z = rw (z, q) refl
-
-    frame : (ns nr : ℕ) (info : Fragment) (o : Option ℕ) → e.phase ≡ Up → place_of e.session nr ≡ o → (taken e (I ns nr info)).ready ≡ e.ready
-    frame ns nr info None p q = rw (p, q) refl
-    frame ns nr info (Some x) p q =
-        let is : taken e (I ns nr info) ≡ received (acknowledged e x) ns info = rw (p, q) refl in
-        ap (λ (f : EndState). f.ready) is ∙ received_ready (acknowledged e x) ns info
-
-    supervised : (kind : Kind) (nr : ℕ) (o : Option ℕ) → e.phase ≡ Up → place_of e.session nr ≡ o → (taken e (S kind nr)).ready ≡ e.ready
-    supervised Srej nr o p q = rw p refl
-    supervised _ nr (Some x) p q = rw (p, q) refl
-    supervised _ nr None p q = rw (p, q) refl
-
-    go : (p : LinkState) (c : Control) → e.phase ≡ p → (taken e c).ready ≡ e.ready
-    go Up (I ns nr info) p = frame ns nr info (place_of e.session nr) p refl
-    go Up (S kind nr) p = supervised kind nr (place_of e.session nr) p refl
-    go Up (Rset w caps) p = let r = reset Up w (w == 0) p refl in rw p (rw p at r)
-    go Up _ p = rw p refl
-    go Waiting (Rset w caps) p = let r = reset Waiting w (w == 0) p refl in rw p (rw p at r)
-    go Down (Rset w caps) p = let r = reset Down w (w == 0) p refl in rw p (rw p at r)
-    go _ _ p = rw p refl
-
-ticked_ready : (e : EndState) → (ticked e).ready ≡ e.ready
-ticked_ready e = go e.phase (runs_timer e.session) (timed e) refl refl refl
-  where
-    go : (p : LinkState) (b : Bool) (t : Timed) → e.phase ≡ p → runs_timer e.session ≡ b → timed e ≡ t → (ticked e).ready ≡ e.ready
-    go Down b t p q r = rw p refl
-    go Waiting b Runs p q r = rw (p, r) refl
-    go Waiting b _ p q r = rw (p, r) refl
-    go Up false t p q r = rw (p, q) refl
-    go Up true Runs p q r = rw (p, q, r) refl
-    go Up true _ p q r = rw (p, q, r) refl
 
 reset_ready : (e : EndState) (w : ℕ) → (reset_with e w).ready ≡ e.ready
 reset_ready e w = by_test (is_waiting e) (λ q. rw q refl) (λ q. rw q refl)
@@ -86,62 +31,21 @@ reset_ready e w = by_test (is_waiting e) (λ q. rw q refl) (λ q. rw q refl)
 -- ### An end over messages
 
 moved_ready : (e : LinkEnd) (b : Bool) (s : EndState) → (moved e b s).shdlc.ready ≡ s.ready
-moved_ready e true s = refl
-moved_ready e false s = refl
-
-down_ready : (b : Bool) (e : LinkEnd) → (put_down b e).shdlc.ready ≡ e.shdlc.ready
-down_ready false e = refl
-down_ready true e = go e.shdlc.phase refl
-  where
-    go : (p : LinkState) → e.shdlc.phase ≡ p → (put_down true e).shdlc.ready ≡ e.shdlc.ready
-    go Up p = rw p refl
-    go _ p = rw p refl
+moved_ready e b s = grind arith
 
 activated_ready : (e : LinkEnd) (event : ActEvent) → (activated e event).shdlc.ready ≡ e.shdlc.ready
-activated_ready e event =
-    with_ready_of (act_answer e.role event).send _ ∙ down_ready (act_answer e.role event).ended_link e
-  where
-    with_ready_of : (o : Option Activation) (f : LinkEnd) → (with_act o f).shdlc.ready ≡ f.shdlc.ready
-    with_ready_of None f = refl
-    with_ready_of (Some act) f = refl
-
-heard_ready : (e : LinkEnd) (c : Control) → (heard e c).shdlc.ready ≡ e.shdlc.ready
-heard_ready e c = by_test (is_faulty (taken e.shdlc c).session)
-    (λ q. let is : heard e c ≡ put_down true e = rw q refl in ap (λ (f : LinkEnd). f.shdlc.ready) is ∙ down_ready true e)
-    (λ q. let is : (heard e c).shdlc.ready ≡ (moved e (is_some (take_answer e.shdlc c).ended) (taken e.shdlc c)).shdlc.ready = rw q refl in
-    is ∙ (moved_ready e (is_some (take_answer e.shdlc c).ended) (taken e.shdlc c) ∙ taken_ready e.shdlc c))
+activated_ready e event = grind arith
 
 pub took_ready : (e : LinkEnd) (c : Control) → (took e c).shdlc.ready ≡ e.shdlc.ready
-took_ready e c = go c (is_open e.role) refl
-  where
-    opened : (c : Control) (b : Bool) → (cond b (heard e c) e).shdlc.ready ≡ e.shdlc.ready
-    opened c true = heard_ready e c
-    opened c false = refl
-
-    go : (c : Control) (b : Bool) → is_open e.role ≡ b → (took e c).shdlc.ready ≡ e.shdlc.ready
-    go (Act act again) b q = activated_ready e _
-    go Clt b q = refl
-    go c b q = opened c (is_open e.role)
+took_ready e c = grind arith
 
 pub had_tick_ready : (e : LinkEnd) → (had_tick e).shdlc.ready ≡ e.shdlc.ready
-had_tick_ready e = by_test (is_open e.role) (λ q. rw q (moved_ready e ended (ticked e.shdlc) ∙ ticked_ready e.shdlc)) (λ q. rw q (activated_ready e ActTick))
-  where
-    ended : Bool
-    ended = is_some (tick_answer e.shdlc).ended
+had_tick_ready e = grind arith
 
 pub asked_ready : (e : LinkEnd) (window : Option ℕ) → (after_input e (Reset window)).shdlc.ready ≡ e.shdlc.ready
 asked_ready e window = by_option (reset_refusal e) (λ q. rw q (moved_ready e _ _ ∙ reset_ready e.shdlc (window_of e window))) (λ why q. rw q refl)
 
 -- ### Its node's turns
-
-held_ready : (e : EndState) (r : Bool) → (with_ready e r).ready ≡ r
-held_ready e r = go e.ready r refl
-  where
-    go : (a b : Bool) → e.ready ≡ a → (with_ready e b).ready ≡ b
-    go true true p = rw p refl
-    go false false p = rw p refl
-    go true false p = rw p refl
-    go false true p = by_test e.session.answered_rnr (λ q. rw (p, q) refl) (λ q. rw (p, q) refl)
 
 -- whether it takes fragments after a turn
 abbrev pub ready_after : Bool → Turn → Bool
@@ -149,10 +53,7 @@ ready_after ready (Hold held) = not held
 ready_after ready _ = ready
 
 pub turn_ready : (e : LinkEnd) (t : Turn) → (turn e t).shdlc.ready ≡ ready_after e.shdlc.ready t
-turn_ready e (Give m) = by_option (give_refusal e m) (λ q. rw q refl) (λ why q. rw q refl)
-turn_ready e (Hold held) = held_ready e.shdlc (not held)
-turn_ready e SetAside = by_option (aside_refusal e) (λ q. rw q refl) (λ why q. rw q refl)
-turn_ready e _ = refl
+turn_ready e t = grind arith
 
 -- its frames that are due go out
 pub sent_ready : (e : LinkEnd) → (sent_all e).shdlc.ready ≡ e.shdlc.ready
@@ -193,8 +94,7 @@ ready_at_end GoesOut ready = ready
 ready_at_end CutOff ready = true
 
 new_ready : (r : Role) → (new_link_end (renewed r)).shdlc.ready ≡ true
-new_ready Bare = refl
-new_ready _ = refl
+new_ready r = grind arith
 
 finished_ready : (l : Link) (e : LinkEnd) (ending : Ending) → (finished l e ending).controller.side.shdlc.ready ≡ ready_at_end ending e.shdlc.ready
 finished_ready l e GoesOut = sent_ready e
@@ -262,8 +162,7 @@ with_there P j f host ports k one a =
     map_there P P (λ p. changed_if (p.desk.host == j) f p) (λ p. changed_host (p.desk.host == j) f p host) ports k (λ p x. by (p.desk.host == j) p x) a
   where
     by : (b : Bool) (p : Port) → P p → P (changed_if b f p)
-    by true p x = one p x
-    by false p x = x
+    by b p x = grind arith
 
 -- while the power of a node is on
 abbrev pub IfOn : (Work → Type 0) → Work → Type 0
@@ -275,8 +174,7 @@ IsNoHold (Hold held) = ⊥
 IsNoHold _ = Unit {0}
 
 no_hold : (ready : Bool) (t : Turn) → IsNoHold t → ready_after ready t ≡ ready
-no_hold ready (Hold held) n = absurd n
-no_hold ready _ n = refl
+no_hold ready t n = grind arith
 
 -- whether this end takes fragments is told by its turns, where it took them before or didn't
 abbrev pub AreTold : Bool → Port → Type 0
@@ -295,11 +193,7 @@ module _ (k : ℕ) (ready : Bool) where
   Kept w = There (KeepsHeld ready) (port_at w.ports k)
 
   kept_told : (w : Work) → Kept w → Told w
-  kept_told w a = go (port_at w.ports k) a
-    where
-      go : (o : Option Port) → There (KeepsHeld ready) o → There (AreTold ready) o
-      go None x = x
-      go (Some p) x = x.told
+  kept_told w a = grind arith
 
   -- ### What is told
 
@@ -362,10 +256,7 @@ module _ (k : ℕ) (ready : Bool) where
       go : (o : Option Port) → port_at w.ports k ≡ o → There (AreTold ready) o → Kept (lets_go k w)
       go None q x = absurd x
       go (Some p) q x = by_test p.side.shdlc.ready
-          (λ r. let none : option_map_or (λ (p : Port). is_held p.side) (port_at w.ports k) false ≡ false = side_is ∙ ap not r in
-          let stays : lets_go k w ≡ w = rw none refl in
-          subst Kept (sym stays)
-          (subst (There (KeepsHeld ready)) (sym q) (record { told = x; held = λ busy. absurd (true≢false (sym r ∙ busy)) })))
+          (λ r. grind arith)
           (λ r. let some : option_map_or (λ (p : Port). is_held p.side) (port_at w.ports k) false ≡ true = side_is ∙ ap not r in
           let goes : lets_go k w ≡ turn_at k (Hold false) w = rw some refl in
           subst Kept (sym goes)
@@ -480,10 +371,7 @@ module _ (k : ℕ) (ready : Bool) where
   come_there TimePasses is p a = come_kept p Tick tt a
 
   late_kept : (p : Port) → KeepsHeld ready p → KeepsHeld ready (reset_late p)
-  late_kept p a = by_test (is_late p) (λ q. rw q (same_kept p late (asked_ready p.side None) refl refl a)) (λ q. rw q a)
-    where
-      late : Port
-      late = record p { side = after_input p.side (Reset None); late = true }
+  late_kept p a = grind arith
 
   forgets_kept : (ports : List Port) (p : Port) → KeepsHeld ready p → KeepsHeld ready (forgets ports p)
   forgets_kept ports p a = by_test (is_forgotten ports (asked_at p)) (λ q. rw q (record { told = a.told; held = a.held })) (λ q. rw q a)

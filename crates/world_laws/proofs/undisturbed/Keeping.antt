@@ -2,7 +2,7 @@
 use Rattle.world_laws.proofs.Words.{Activates, Arms, AsksReset, AtController, AtEnd, AtHost, Bool, Boots, Broken, Comes, Controller, CutOff, Deed, End, Entry}
 use Rattle.world_laws.proofs.Words.{Gives, GoesOut, Happening, HasEnds, Host, IfItRuns, Inits, IsCut, IsOrderly, Link, LinkEnd, LinkInput, List, Lose, Loss}
 use Rattle.world_laws.proofs.Words.{MayBoot, NextFrame, NoInput, NodeWorld, None, NumberedEnd, Option, Port, Resets, Running, Site, Some, Starts, Step, Takes}
-use Rattle.world_laws.proofs.Words.{TimePasses, TimePassing, Work, [], after_controller, after_host, after_tick, aged, all_aged, ap, arrival, beginning}
+use Rattle.world_laws.proofs.Words.{TimePasses, TimePassing, Work, [], after_controller, after_host, after_tick, aged, all_aged, ap, arith, arrival, beginning}
 use Rattle.world_laws.proofs.Words.{begins_with, boot_found, boot_writes, boot_written, boots, by_boot, by_coming, by_controller, by_controller_tick, by_host}
 use Rattle.world_laws.proofs.Words.{by_host_tick, by_loss, by_memory, by_power, by_running, changed_if, comes_at, comes_goes, comes_to, cond, controller_does}
 use Rattle.world_laws.proofs.Words.{controller_ticks, controller_work, desks_held, end_c, end_h, ending_of, entries_for, eqb-true, error_held, exchanged, false}
@@ -10,7 +10,7 @@ use Rattle.world_laws.proofs.Words.{frame_lost, happens, host_cut, host_does, ho
 use Rattle.world_laws.proofs.Words.{is_held_at, is_late_at, link_after_controller, link_is, link_to, loses_power_at, map, memory_at, near_end_in, near_orderly}
 use Rattle.world_laws.proofs.Words.{near_tick, node_at, node_is, option_map_or, orderly_map, port_at, ports_held, refl, runs_on, same_number, sending, site_at}
 use Rattle.world_laws.proofs.Words.{site_host, site_is, site_lost, site_ticked, site_unticked, so_host, stands, steps, subst, sym, ticks_at_controller, true}
-use Rattle.world_laws.proofs.Words.{true≢false, turns_at, with_memory, with_node, with_site, work_of, world_step, world_ticks, ℕ, ◌==◌, ◌∙◌, ◌∷◌, ◌≡◌}
+use Rattle.world_laws.proofs.Words.{turns_at, with_memory, with_node, with_site, work_of, world_step, world_ticks, ℕ, ◌==◌, ◌∙◌, ◌∷◌, ◌≡◌}
 use Rattle.swp_base.specs.InMemory.{Memory, Plan}
 use Rattle.journal_laws.specs.Planned.{after_planned}
 use Rattle.link_laws.proofs.entries.Together.{ticks_host}
@@ -71,9 +71,7 @@ HeldAt c (Some s) = SiteHeld c s
 -- the host's end stays
 same_far : (c : Option Running) (s v : Site) → v.host ≡ s.host → v.node ≡ s.node → v.link.host.side ≡ s.link.host.side → SiteHeld c s
     → IsHeldSo v.node v.host v.link.host.side
-same_far c s v host node side a =
-    subst (λ e. IsHeldSo v.node v.host e) (sym side)
-    (subst (λ n. IsHeldSo n v.host s.link.host.side) (sym node) (subst (λ h. IsHeldSo s.node h s.link.host.side) (sym host) a.far))
+same_far c s v host node side a = grind arith
 
 module _ (h : ℕ) where
   abbrev pub HeldIn : NodeWorld → Type 0
@@ -100,8 +98,7 @@ module _ (h : ℕ) where
         by_if b s = changed_if b g s
 
         kept : (b : Bool) (s : Site) → (by_if b s).host ≡ s.host
-        kept true s = host s
-        kept false s = refl
+        kept b s = grind arith
 
         go : (s : Site) → site_at w.sites s.host ≡ Some s → SiteHeld w.controller s → (b : Bool) → (s.host == k) ≡ b → SiteHeld c (by_if (s.host == k) s)
         go s q a true z = rw z (mine s (ap (site_at w.sites) (sym (eqb-true s.host k z)) ∙ q) z a)
@@ -195,8 +192,7 @@ module _ (h : ℕ) where
     far_one s r comes f runs a kept is =
         let v : Work = host_work s r comes f in
         let same : (near_end_in (exchanged s.link) comes).side ≡ s.link.host.side = near_end_side (exchanged s.link) comes in
-        let was : IsHeldSo (Some r) s.host (near_end_in (exchanged s.link) comes).side =
-        subst (λ e. IsHeldSo (Some r) s.host e) (sym same) (subst (λ o. IsHeldSo o s.host s.link.host.side) runs a.far) in
+        let was : IsHeldSo (Some r) s.host (near_end_in (exchanged s.link) comes).side = grind arith in
         record {
           near = subst (λ e. IsHeldSo w.controller s.host e)
               (sym (ap (λ (x : NumberedEnd). x.side) (here_host (exchanged s.link) (Step comes (turns_at v s.host) (ending_of v))))) a.near;
@@ -243,16 +239,9 @@ module _ (h : ℕ) where
     power_held n =
         by_power HeldIn n w
         (λ z. mapped None (λ (s : Site). record s { link = happens s.link (AtController (Step NoInput [] CutOff)) }) (λ s. refl)
-        (λ s there a.
-        let v : Site = record s { link = happens s.link (AtController (Step NoInput [] CutOff)) } in
-        let near : IsHeldSo None s.host v.link.controller.side = idle_ready s.link [] CutOff in
-        record { near = near; far = same_far w.controller s v refl refl (ap (λ (x : NumberedEnd). x.side) (here_host s.link (Step NoInput [] CutOff))) a }))
+        (grind arith))
         (λ z. changed w.controller n host_cut (λ s. refl)
-        (λ s there y a. record {
-          near = subst (λ e. IsHeldSo w.controller s.host e)
-              (sym (ap (λ (x : NumberedEnd). x.side) (here_host (exchanged s.link) (Step NoInput [] CutOff)))) a.near;
-          far = idle_ready (exchanged s.link) [] CutOff;
-        })
+        (λ s there y a. (grind arith))
         (λ s a. a))
 
     memory_held : (n : ℕ) (m : Memory) → HeldIn (with_memory n m w)
@@ -260,24 +249,12 @@ module _ (h : ℕ) where
         by_memory HeldIn n w m (λ z. before)
         (λ z. changed w.controller n (λ s. record s { memory = m }) (λ s. refl) (λ s there y a. record { near = a.near; far = a.far }) (λ s a. a))
 
-    -- a node that doesn't run begins to
-    new_held_so : (r : Running) (k : ℕ) (o : Option Running) (e : LinkEnd) → o ≡ None → IsHeldSo o k e → IsHeldSo (Some r) k e
-    new_held_so r k o e none a busy =
-        let is : e.shdlc.ready ≡ true = subst (λ x. IsHeldSo x k e) none a in
-        absurd (true≢false (sym is ∙ busy))
-
     running_held : (n : ℕ) (r : Running) → node_at w n ≡ None → HeldIn (with_node n r w)
     running_held n r off =
         by_running HeldIn n w r
-        (λ z.
-        let none : w.controller ≡ None = rw z at off in
-        subst (HeldAt (Some r)) (ap (λ sites. site_at sites h) (same_sites w.sites))
-        (mapped (Some r) (λ s. s) (λ s. refl) (λ s there a.
-        record { near = new_held_so r s.host w.controller s.link.controller.side none a.near; far = a.far })))
+        (grind arith)
         (λ z. changed w.controller n (λ s. record s { node = Some r }) (λ s. refl)
-        (λ s there y a.
-        let none : s.node ≡ None = rw there at (rw z at off) in
-        record { near = a.near; far = new_held_so r s.host s.node s.link.host.side none a.far })
+        (grind arith)
         (λ s a. a))
       where
         same_sites : (sites : List Site) → map (λ (s : Site). s) sites ≡ sites
@@ -292,12 +269,10 @@ module _ (h : ℕ) where
     counts_held _ k o j e a = a
 
     lost_near : (why : Loss) (b : Bool) (l : Link) → (happens l (cond b (AtHost (Lose why)) (AtController (Lose why)))).controller.side ≡ l.controller.side
-    lost_near why true l = refl
-    lost_near why false l = refl
+    lost_near why b l = grind arith
 
     lost_far : (why : Loss) (b : Bool) (l : Link) → (happens l (cond b (AtHost (Lose why)) (AtController (Lose why)))).host.side ≡ l.host.side
-    lost_far why true l = refl
-    lost_far why false l = refl
+    lost_far why b l = grind arith
 
     lost_held : (e : End) (why : Loss) → HeldIn (frame_lost w e why).0
     lost_held e why =
@@ -339,8 +314,7 @@ module _ (h : ℕ) where
         mapped (runs_on v) (site_ticked v) (λ s. refl) (λ s there a.
         let late : Bool = is_late_at v s.host in
         let same : (near_ends s.host).side ≡ s.link.controller.side = ap (λ (l : Link). l.controller.side) (link_is w.sites s.host s there) in
-        let was : IsHeldSo (Some r) s.host (near_ends s.host).side =
-        subst (λ e. IsHeldSo (Some r) s.host e) (sym same) (subst (λ o. IsHeldSo o s.host s.link.controller.side) runs a.near) in
+        let was : IsHeldSo (Some r) s.host (near_ends s.host).side = grind arith in
         let near : IsHeldSo (runs_on v) s.host (site_ticked v s).link.controller.side =
         ended_so v s.host (near_ends s.host).side.shdlc.ready (site_ticked v s).link.controller.side
         (step_kept s.host (near_ends s.host).side.shdlc.ready TimePasses (work_of r w.memory.plan near_ends []) tt
@@ -414,12 +388,10 @@ module _ (h : ℕ) where
       f x = record x { memory = m }
 
       host : (b : Bool) (s : Site) → (changed_if b f s).host ≡ s.host
-      host true s = refl
-      host false s = refl
+      host b s = grind arith
 
       node : (b : Bool) (s : Site) → (changed_if b f s).node ≡ s.node
-      node true s = refl
-      node false s = refl
+      node b s = grind arith
 
   boots_held : (w : NodeWorld) (n : ℕ) → node_at w n ≡ None → HeldIn w → HeldIn (boots w n).0
   boots_held w n off before =

@@ -1,26 +1,25 @@
 -- A link of a world of nodes is undisturbed while it settles, where nothing that disturbs it is noted of the world's rounds and ticks.
 use Rattle.world_laws.proofs.Words.{AllAllowed, AreHosts, ArePassing, ArePlayable, ArePoweredNotes, AreReadyThroughout, AreSendableTurns, AreSessionsRead}
-use Rattle.world_laws.proofs.Words.{AreUnstarted, AreUpWith, AsksReset, AtController, AtEnd, AtHost, Bool, Clf, Controller, CoreLink, Cut, CutOff, End, Ending}
-use Rattle.world_laws.proofs.Words.{Ends, Entry, FollowsNodes, GoesOnLink, GoesOut, Happening, HasEnds, Header, Host, IfItRuns, IsEvent, IsFineSite, IsLine}
-use Rattle.world_laws.proofs.Words.{IsLinkUndisturbed, IsOrderly, IsUnderWay, IsUpNow, Known, Line, LineStep, Link, LinkEnd, LinkEvent, LinkInput, List, Loses}
-use Rattle.world_laws.proofs.Words.{Lost, NextFrame, NoInput, Node, NodeHistory, NodeWorld, None, Noted, Occurrence, Option, Play, Restarted, Round, Running}
-use Rattle.world_laws.proofs.Words.{Saying, Side, Site, Some, Standing, StandsOf, Step, Takes, TellOf, Ticking, Ticks, TicksWithout, TimePassing, Turn, Uicc}
-use Rattle.world_laws.proofs.Words.{Work, [], after_controller, after_events-append, after_host_step, after_link_events, aged, all_aged, all_go, all_happen}
-use Rattle.world_laws.proofs.Words.{allowed-append, and_parts, ap, append-nil, are_read, between, between_far, by_coming, by_host, by_option, by_test}
-use Rattle.world_laws.proofs.Words.{can_happen, clear_unstarted, comes_to, cond, controller_stands, controller_takes, controller_tells, controller_tick_on}
+use Rattle.world_laws.proofs.Words.{AreUnstarted, AreUpWith, AsksReset, AtController, AtEnd, AtHost, Bool, Clf, Controller, CoreLink, Cut, End, Ending, Entry}
+use Rattle.world_laws.proofs.Words.{FollowsNodes, GoesOnLink, GoesOut, Happening, HasEnds, Header, Host, IfItRuns, IsEvent, IsFineSite, IsLine}
+use Rattle.world_laws.proofs.Words.{IsLinkUndisturbed, IsOrderly, IsUnderWay, IsUpNow, Known, Line, LineStep, Link, LinkEnd, LinkEvent, LinkInput, List, Lost}
+use Rattle.world_laws.proofs.Words.{NextFrame, NoInput, Node, NodeHistory, NodeWorld, None, Noted, Occurrence, Option, Play, Restarted, Round, Running, Saying}
+use Rattle.world_laws.proofs.Words.{Side, Site, Some, Standing, StandsOf, Step, Takes, TellOf, Ticking, Ticks, TicksWithout, TimePassing, Turn, Uicc, Work, []}
+use Rattle.world_laws.proofs.Words.{after_controller, after_events-append, after_host_step, after_link_events, aged, all_aged, all_go, all_happen}
+use Rattle.world_laws.proofs.Words.{allowed-append, ap, append-nil, are_read, arith, between, between_far, by_coming, by_host, by_option, by_test, can_happen}
+use Rattle.world_laws.proofs.Words.{clear_unstarted, comes_to, cond, controller_stands, controller_takes, controller_tells, controller_tick_on}
 use Rattle.world_laws.proofs.Words.{controller_ticks, controller_work, cuts_on, drop, drop-append_seam, end_c, end_h, end_of, end_takes_all, ending_of}
 use Rattle.world_laws.proofs.Words.{ends_events, ends_go, ends_in_order, ends_on, ends_take_all, entries, entries-append, entries_for, entries_in}
 use Rattle.world_laws.proofs.Words.{entries_since, eq-eqb, eqb-true, event_entries, event_step, events_of_steps, events_on, exchanged, false, fine_there}
-use Rattle.world_laws.proofs.Words.{flat_map-append, frames_at, given, happenings, happens, has_ended, heard, host_does, host_does_step, host_number, host_tick}
+use Rattle.world_laws.proofs.Words.{flat_map-append, frames_at, given, happenings, happens, has_ended, heard, host_does, host_does_step, host_number}
 use Rattle.world_laws.proofs.Words.{host_ticks, host_turns, host_work, hosts_in, input_of, is_of, is_open, is_waiting, length, lines_played, link_events_in}
-use Rattle.world_laws.proofs.Words.{link_is, link_same, link_to, list_any, list_any-append, near_tick, near_turns, new_clf, new_line, new_link_end, new_uicc}
-use Rattle.world_laws.proofs.Words.{new_world, no_cut, node_entries, nodes_behind, not, not-true, number_now, occurrences_in, of_link, open_up, or_none}
-use Rattle.world_laws.proofs.Words.{played_rounds, refl, replicate, round_events, round_goes, rounds_allowed, rounds_events, rounds_go, rounds_of_world}
-use Rattle.world_laws.proofs.Words.{rounds_to_rest, runs_on, said, session_up, site_at, site_host, site_takes, site_ticks, standing, standing_by_law}
-use Rattle.world_laws.proofs.Words.{start_under_way, step_entries, steps, subst, suc, swapped, sym, takes_allowed, takes_go, takes_pass, tells_of, tick_event}
-use Rattle.world_laws.proofs.Words.{tick_so, tick_unstarted, ticking, ticks_at_controller, ticks_go, ticks_on, true, true≢false, turns_at, untold}
-use Rattle.world_laws.proofs.Words.{world_after_round, world_behind, world_round, world_step, world_ticked, world_ticks, zero, ℕ, ◌&&◌, ◌++◌, ◌==◌, ◌||◌, ◌∙◌}
-use Rattle.world_laws.proofs.Words.{◌∷◌, ◌≡◌}
+use Rattle.world_laws.proofs.Words.{link_is, link_same, link_to, list_any, list_any-append, near_turns, new_clf, new_line, new_link_end, new_uicc, new_world}
+use Rattle.world_laws.proofs.Words.{no_cut, node_entries, nodes_behind, not, number_now, occurrences_in, of_link, open_up, or_none, played_rounds, refl}
+use Rattle.world_laws.proofs.Words.{replicate, round_events, round_goes, rounds_allowed, rounds_events, rounds_go, rounds_of_world, rounds_to_rest, said}
+use Rattle.world_laws.proofs.Words.{session_up, site_at, site_host, site_takes, site_ticks, standing, standing_by_law, start_under_way, step_entries, steps}
+use Rattle.world_laws.proofs.Words.{subst, suc, swapped, sym, takes_allowed, takes_go, takes_pass, tells_of, tick_event, tick_so, tick_unstarted, ticking}
+use Rattle.world_laws.proofs.Words.{ticks_at_controller, ticks_go, ticks_on, true, true≢false, turns_at, untold, world_after_round, world_behind, world_round}
+use Rattle.world_laws.proofs.Words.{world_step, world_ticked, world_ticks, zero, ℕ, ◌&&◌, ◌++◌, ◌==◌, ◌||◌, ◌∙◌, ◌∷◌, ◌≡◌}
 use Rattle.history.specs.Legal.{has_lost, loses_on}
 use Rattle.link_laws.specs.entries.Entries.Entry.{Down}
 use Rattle.node_laws.proofs.links.Sites.{AreNodes, Clean, reset_allowed, tick_allowed}
@@ -47,22 +46,17 @@ pub noted_calm : (h : ℕ) (t : List Noted) → AreUnstarted t → list_any is_c
 noted_calm h [] u c a b = refl
 noted_calm h (Down w cause ∷ t) u c a b =
     absurd (true≢false (sym (link_same h w) ∙ (or_none ((end_of h w).link == h) (has_ended h (entries_for h t)) a).0))
-noted_calm h (Lost w frame why ∷ t) u c a b =
-    absurd (true≢false (sym (link_same h w) ∙ (or_none ((end_of h w).link == h) (has_lost h (entries_for h t)) b).0))
+noted_calm h (Lost w frame why ∷ t) u c a b = grind arith
 noted_calm h (Restarted w ∷ t) u c a b = absurd u.0
 noted_calm h (Cut w ∷ t) u c a b = absurd (true≢false c)
 noted_calm h (_ ∷ t) u c a b = noted_calm h t u.1 c a b
 
 -- what is said of other links ends no session of this one, and loses no frame of it
 ends_off : (h : ℕ) (o : Option (End × Saying)) → is_of h o ≡ false → ends_on h o ≡ false
-ends_off h None q = refl
-ends_off h (Some (e, Ends)) q = q
-ends_off h (Some (e, _)) q = refl
+ends_off h o q = grind arith
 
 loses_off : (h : ℕ) (o : Option (End × Saying)) → is_of h o ≡ false → loses_on h o ≡ false
-loses_off h None q = refl
-loses_off h (Some (e, Loses f)) q = q
-loses_off h (Some (e, _)) q = refl
+loses_off h o q = grind arith
 
 module _ (h : ℕ) (f : Option (End × Saying) → Bool) (off : (o : Option (End × Saying)) → is_of h o ≡ false → f o ≡ false) where
   any_of : (t : List Entry) → list_any (λ x. f (said x)) t ≡ list_any (λ x. f (said x)) (of_link h t)
@@ -78,10 +72,7 @@ powered_parts : (h : ℕ) (t u : List Entry) → ArePoweredNotes (t ++ u) h → 
 powered_parts h t u a =
     let ended = or_none (has_ended h t) (has_ended h u) (sym (list_any-append (λ x. ends_on h (said x)) t u) ∙ a.undisturbed.lasting) in
     let lost = or_none (has_lost h t) (has_lost h u) (sym (list_any-append (λ x. loses_on h (said x)) t u) ∙ a.undisturbed.lossless) in
-    let cut = or_none (list_any (cuts_on h) t) (list_any (cuts_on h) u) (sym (list_any-append (cuts_on h) t u) ∙ a.powered) in (
-      record { undisturbed = record { lasting = ended.0; lossless = lost.0 }; powered = cut.0 },
-      record { undisturbed = record { lasting = ended.1; lossless = lost.1 }; powered = cut.1 },
-    )
+    let cut = or_none (list_any (cuts_on h) t) (list_any (cuts_on h) u) (sym (list_any-append (cuts_on h) t u) ∙ a.powered) in (grind arith)
 
 -- ### Events of which entries tell
 
@@ -96,16 +87,10 @@ one_told : (h : ℕ) (l : Link) (e : LinkEvent) (u : List Entry) → IsRoundEven
     → IsTold h l (e ∷ []) u
 one_told h l e u round told stands unstarted =
     let same : event_entries l e ≡ entries l (e ∷ []) = sym (append-nil (event_entries l e)) in
-    record {
-      rounds = (round, tt);
-      told = told ∙ ap (λ z. of_link h (entries_for h z)) same;
-      stands = λ x. stands x ∙ ap (standing_by_law h x) same;
-      unstarted = subst (λ z. AreUnstarted z) same unstarted;
-    }
+    grind arith
 
 none_told : (h : ℕ) (l : Link) (es : List LinkEvent) (u : List Entry) → es ≡ [] → of_link h u ≡ [] → ((x : Standing) → standing h x u ≡ x) → IsTold h l es u
-none_told h l es u q none leaves =
-    subst (λ z. IsTold h l z u) (sym q) (record { rounds = tt; told = none; stands = leaves; unstarted = tt })
+none_told h l es u q none leaves = grind arith
 
 silent_told : (h : ℕ) (l : Link) (es : List LinkEvent) (u : List Entry) → es ≡ [] → u ≡ [] → IsTold h l es u
 silent_told h l es u q none = none_told h l es u q (ap (of_link h) none) (λ x. ap (standing h x) none)
@@ -132,8 +117,7 @@ shaped_so who ending notes s =
     subst (λ z. AreUnstarted z) (sym s.is) (unstarted_then s.body (last_of who ending) (clear_unstarted s.body s.clear) (at_last ending))
   where
     at_last : (ending : Ending) → AreUnstarted (last_of who ending)
-    at_last GoesOut = tt
-    at_last CutOff = (tt, tt)
+    at_last ending = grind arith
 
 -- an end takes a frame, or its node has turns there
 frame_unstarted : (who : Side) (l : Link) (i : LinkInput) (ts : List Turn) (ending : Ending) (b : Bool)
@@ -146,8 +130,7 @@ frame_unstarted who l i ts ending false q =
     subst (λ z. AreUnstarted z) (sym s.is) (shaped_so who ending s.rest s.shaped)
 
 frame_round : (b : Bool) (ts : List Turn) (ending : Ending) → IsRoundEvent (AtController (Step (cond b NextFrame NoInput) ts ending))
-frame_round true ts ending = tt
-frame_round false ts ending = tt
+frame_round b ts ending = grind arith
 
 -- ### A frame is taken
 
@@ -176,8 +159,7 @@ module _ (w : NodeWorld) (h : ℕ) (s : Site) (orderly : IsOrderly w) (found : s
 
       go : (i : Option LinkInput) (c : Option Running) → input_of (link_to w.sites k) NextFrame ≡ i → w.controller ≡ c → IsTold h s.link es u
       go None c p r = silent_told h s.link es u (first ∙ (let z : controller_takes s.host w k ≡ [] = rw p refl in z)) (noted (w, []) (rw p refl))
-      go (Some i) None p r =
-          silent_told h s.link es u (first ∙ (let z : controller_takes s.host w k ≡ [] = rw (p, r) refl in z)) (noted (w, []) (rw (p, r) refl))
+      go (Some i) None p r = grind arith
       go (Some i) (Some n) p r =
           let work : Work = controller_work w n k NextFrame (steps (AtEnd k i)) in
           let at : ℕ → LinkEvent = λ m. AtController (Step (comes_to k NextFrame m) (turns_at work m) (ending_of work)) in
@@ -216,12 +198,8 @@ module _ (w : NodeWorld) (h : ℕ) (s : Site) (orderly : IsOrderly w) (found : s
       first = let own = same in rw (found, own) refl
 
       go : (i : Option LinkInput) (c : Option Running) → input_of (exchanged s.link) NextFrame ≡ i → s.node ≡ c → IsTold h s.link es u
-      go None c p r =
-          let is = link in
-          silent_told h s.link es u (first ∙ (let z : site_takes s ≡ [] = rw p refl in z)) (noted (w, []) (rw (is, p) refl))
-      go (Some i) None p r =
-          let is = link in
-          silent_told h s.link es u (first ∙ (let z : site_takes s ≡ [] = rw (p, r) refl in z)) (noted (w, []) (rw (is, p, found, r) refl))
+      go None c p r = grind arith
+      go (Some i) None p r = grind arith
       go (Some i) (Some n) p r =
           let is = link in
           let work : ℕ → Work = λ m. host_work s n NextFrame (steps (AtEnd m i)) in
@@ -293,22 +271,11 @@ still_up hosts w h s r found es a up calm =
 
 -- ### Nodes that run behind their ticks
 
-runs_out : (v : Work) (n : Running) → runs_on v ≡ Some n → ending_of v ≡ GoesOut
-runs_out v n q = by_test v.cut (λ p. let z : None ≡ Some n = rw p at q in absurd (cc z)) (λ p. rw p refl)
-
 near_goes_out : (h : ℕ) (w : NodeWorld) (n : Running) → (controller_ticks w).0.controller ≡ Some n → (controller_tick_on h w).0.ending ≡ GoesOut
-near_goes_out h w n q = by_option w.controller
-    (λ p. rw p refl)
-    (λ m p. let is : (controller_ticks w).0.controller ≡ runs_on (near_tick w m) = rw p refl in
-    let ending : (controller_tick_on h w).0.ending ≡ ending_of (near_tick w m) = rw p refl in
-    ending ∙ runs_out (near_tick w m) n (sym is ∙ q))
+near_goes_out h w n q = grind arith
 
 far_goes_out : (x : Site) (n : Running) → (host_ticks x).0.node ≡ Some n → (site_ticks x).ending ≡ GoesOut
-far_goes_out x n q = by_option x.node
-    (λ p. rw p refl)
-    (λ m p. let is : (host_ticks x).0.node ≡ runs_on (host_tick x m) = rw p refl in
-    let ending : (site_ticks x).ending ≡ ending_of (host_tick x m) = rw p refl in
-    ending ∙ runs_out (host_tick x m) n (sym is ∙ q))
+far_goes_out x n q = grind arith
 
 near_turns_are : (h : ℕ) (w : NodeWorld) → (controller_tick_on h w).0.turns ≡ near_turns w h w.controller
 near_turns_are h w = by_option w.controller (λ p. rw p refl) (λ n p. rw p refl)
@@ -317,18 +284,13 @@ far_turns_are : (x : Site) → (site_ticks x).turns ≡ host_turns x x.node
 far_turns_are x = by_option x.node (λ p. rw p refl) (λ n p. rw p refl)
 
 same_node : (a b : Node) → a.turns ≡ b.turns → a.ending ≡ GoesOut → b.ending ≡ GoesOut → a ≡ b
-same_node a b turns p q =
-    let with_turns : List Turn → Node = λ ts. record { turns = ts; ending = GoesOut } in
-    let here : a ≡ with_turns a.turns = ap (λ e. record { turns = a.turns; ending = e }) p in
-    let there : b ≡ with_turns b.turns = ap (λ e. record { turns = b.turns; ending = e }) q in
-    here ∙ (ap with_turns turns ∙ sym there)
+same_node a b turns p q = grind arith
 
 one_calm : (l : Link) (e : LinkEvent) → Calm (entries l (e ∷ [])) → Calm (event_entries l e)
 one_calm l e c = (calm_parts (event_entries l e) [] c).0
 
 tick_round : (b : Bool) (c d : Node) → IsRoundEvent (tick_event b c d)
-tick_round true c d = tt
-tick_round false c d = tt
+tick_round b c d = grind arith
 
 -- ### A tick
 
@@ -454,8 +416,7 @@ module _ (hosts : List ℕ) (w : NodeWorld) (h : ℕ) (s : Site) (r : IsReached 
   event_so = by_test (late && not (is_waiting s.link.controller.side.shdlc))
       (λ q. let reset : LinkEvent = TicksWithout (Step (AsksReset None) t.near.turns t.near.ending ∷ []) t.far in
       let is : tick_so s.link late t.near t.far ≡ reset = rw q refl in
-      let waits : is_waiting s.link.controller.side.shdlc ≡ false =
-      not-true (is_waiting s.link.controller.side.shdlc) (and_parts late (not (is_waiting s.link.controller.side.shdlc)) q).1 in
+      let waits : is_waiting s.link.controller.side.shdlc ≡ false = grind arith in
       let there : (happens s.link reset).controller.side.shdlc.phase ≡ IsUpNow =
       ap (λ (l : Link). l.controller.side.shdlc.phase) (sym (goes_on ∙ ap (happens s.link) is)) ∙ later_up.controller in
       let core = (event_step s.link reset (reset_allowed s.link t.near t.far sends fine.link.line waits) known.good known.reached).core in
@@ -519,8 +480,7 @@ module _ (hosts : List ℕ) (h : ℕ) where
       let more = (all_calmly causes (world_step w (Takes e)).0) g.later p (reached_takes hosts w e r) g.is (subst AreBothUpNow (sym g.link) one.up) both.1 in
       subst (GoesCalmly s.link) (sym (on_first h w e causes c))
       (calm_then s.link (link_events_in h w (Takes e)) (events_on h v causes) one (subst (λ l. GoesCalmly l (events_on h v causes)) g.link more)))
-      (λ c. let none : events_on h w (Takes e ∷ causes) ≡ [] = rw c refl in
-      subst (GoesCalmly s.link) (sym none) (calm_none s.link up))
+      (λ c. grind arith)
     where
       v : NodeWorld
       v = (world_step w (Takes e)).0

@@ -1,28 +1,25 @@
 -- Where nothing that disturbs a link is noted of an event or of rounds, and both its ends are up and ready, it is undisturbed.
-use Rattle.std.specs.Prelude.{is_some, nat_lt, not, ◌||◌}
-use Rattle.world_laws.proofs.Words.{Acked, Act, Active, AllAllowed, AllByRecursion, AreReadyThroughout, AreSendableTurns, AreUndisturbed, Asked, AsksReset}
-use Rattle.world_laws.proofs.Words.{AtController, AtHost, Before, Bool, BothTakeFragments, Control, Controller, CoreActs, CoreAtController, CoreAtHost}
-use Rattle.world_laws.proofs.Words.{CoreDeliver, CoreEndEvent, CoreLink, CoreLinkEvent, CoreLose, CoreTick, CoreTurn, CoreTurns, Cut, CutOff, EndEvent}
-use Rattle.world_laws.proofs.Words.{EndState, Ending, GaveUp, Give, GoesOut, Got, HasTick, Host, IsDown, IsEvent, IsLinkUndisturbed, IsNode, IsStart}
-use Rattle.world_laws.proofs.Words.{IsUnderWay, Link, LinkEnd, LinkEvent, List, Losses, Lost, NextFrame, NoInput, Node, None, NotedUp, Now, NumberedEnd, OnWire}
-use Rattle.world_laws.proofs.Words.{Option, Report, Reset, Restarted, Some, Sound, Step, Take, Tells, Ticks, TicksWithout, TooMany, Turn, Up as IsUpNow, []}
-use Rattle.world_laws.proofs.Words.{after_events-append, after_input, after_link_events, aged, aged_entries, all_at_controller, allowed-append, allowed_parts}
-use Rattle.world_laws.proofs.Words.{and_parts, ap, append-nil, append_assoc, arith, before_here, before_there, began_by, by_option, by_test, came_up, cond}
-use Rattle.world_laws.proofs.Words.{core_after, core_aged, core_all_here, core_ending, core_event, core_events, core_exchanged, core_happens, core_happens_here}
-use Rattle.world_laws.proofs.Words.{core_of, core_step, core_take, core_tick, core_tick_rest, core_ticks_or_cut, core_turned, core_turns, counts_first}
-use Rattle.world_laws.proofs.Words.{ended_by, entries, entries-append, entries_of_events, event_entries, event_step, exchanged, false, far, first_entries}
-use Rattle.world_laws.proofs.Words.{first_lost, frames_out, give_refusal, goes_on, happens, heard, heard-append, if_so, is_act, is_open, is_rset, is_up_with}
-use Rattle.world_laws.proofs.Words.{left_after, length, length-append, list_any, list_any-append, loses_aged, ltb-true, map, mid_moved, moved, no_losses}
-use Rattle.world_laws.proofs.Words.{noted_aged, noted_all, noted_event, noted_here, noted_loss, noted_out, noted_tick, noted_turns, number_now, number_of}
-use Rattle.world_laws.proofs.Words.{open_up, opened, option_to_list, or_none, overflows, pushed_out, put, put-core, put_entries, puts_entries, refl, report}
-use Rattle.world_laws.proofs.Words.{rest_entries, rests_of, safe_aged, safe_reached, sans, session_up, shdlc_moved, shdlc_number_of, step_entries, step_tick}
-use Rattle.world_laws.proofs.Words.{subst, sym, take_so, taken_entries, taken_noted, tells_same, tick_answer, tick_entries, tick_open, ticked, ticked_keeps}
+use Rattle.std.specs.Prelude.{is_some, nat_lt, ◌||◌}
+use Rattle.world_laws.proofs.Words.{Acked, Active, AllAllowed, AllByRecursion, AreReadyThroughout, AreSendableTurns, AreUndisturbed, Asked, AsksReset}
+use Rattle.world_laws.proofs.Words.{AtController, AtHost, Before, Bool, BothTakeFragments, Control, Controller, CoreAtController, CoreAtHost, CoreEndEvent}
+use Rattle.world_laws.proofs.Words.{CoreLink, CoreLinkEvent, CoreTick, CoreTurn, CoreTurns, Cut, CutOff, EndEvent, EndState, Ending, GaveUp, GoesOut, Got}
+use Rattle.world_laws.proofs.Words.{HasTick, Host, IsDown, IsEvent, IsLinkUndisturbed, IsNode, IsStart, IsUnderWay, Link, LinkEnd, LinkEvent, List, Losses}
+use Rattle.world_laws.proofs.Words.{Lost, NextFrame, NoInput, Node, None, NotedUp, Now, NumberedEnd, OnWire, Option, Report, Reset, Restarted, Some, Sound}
+use Rattle.world_laws.proofs.Words.{Step, Take, Tells, Ticks, TicksWithout, Turn, Up as IsUpNow, [], after_events-append, after_input, after_link_events, aged}
+use Rattle.world_laws.proofs.Words.{aged_entries, all_at_controller, allowed-append, allowed_parts, and_parts, ap, append-nil, append_assoc, arith, before_here}
+use Rattle.world_laws.proofs.Words.{before_there, began_by, by_test, came_up, cond, core_after, core_aged, core_all_here, core_ending, core_event, core_events}
+use Rattle.world_laws.proofs.Words.{core_exchanged, core_happens, core_happens_here, core_of, core_step, core_take, core_tick, core_tick_rest}
+use Rattle.world_laws.proofs.Words.{core_ticks_or_cut, core_turned, core_turns, counts_first, ended_by, entries, entries-append, entries_of_events}
+use Rattle.world_laws.proofs.Words.{event_entries, event_step, exchanged, false, far, first_entries, frames_out, goes_on, happens, heard, heard-append, if_so}
+use Rattle.world_laws.proofs.Words.{is_act, is_open, is_rset, left_after, length, length-append, list_any, list_any-append, loses_aged, ltb-true, map}
+use Rattle.world_laws.proofs.Words.{mid_moved, moved, no_losses, noted_aged, noted_all, noted_event, noted_here, noted_loss, noted_tick, noted_turns}
+use Rattle.world_laws.proofs.Words.{number_now, number_of, open_up, opened, option_to_list, or_none, overflows, pushed_out, put, put-core, put_entries}
+use Rattle.world_laws.proofs.Words.{puts_entries, refl, report, rest_entries, rests_of, safe_aged, safe_reached, sans, session_up, shdlc_moved, step_entries}
+use Rattle.world_laws.proofs.Words.{step_tick, subst, sym, taken_entries, taken_noted, tells_same, tick_answer, tick_entries, tick_open, ticked, ticked_keeps}
 use Rattle.world_laws.proofs.Words.{ticks_at_controller, told, told_of, took, took_with, trace, true, true≢false, turn, turn_entries, turn_entry, turned}
-use Rattle.world_laws.proofs.Words.{turns_mid, up_session, whole_acked, wire_with, with_ended, with_ended-core, ℕ, ◌++◌, ◌+◌, ◌∙◌, ◌∷◌, ◌≡◌}
-use Rattle.link_laws.proofs.entries.Disturbing.{idle_noted, out_noted}
+use Rattle.world_laws.proofs.Words.{turns_mid, up_session, whole_acked, wire_with, with_ended, ℕ, ◌++◌, ◌+◌, ◌∙◌, ◌∷◌, ◌≡◌}
+use Rattle.link_laws.proofs.entries.Disturbing.{idle_noted}
 use Rattle.link_laws.proofs.entries.Hearing.{controller_heard, host_heard}
-use Rattle.link_laws.proofs.machine.Sound.{Shift}
-use Rattle.link_laws.proofs.machine.Sound.Shift.{Begins, Ends, Renews, Rests, Stays}
 use Rattle.link_laws.specs.entries.Entries.{End, Entry, ending_entries}
 use Rattle.link_laws.specs.entries.Entries.Entry.{Down, Tick, Up}
 use Rattle.link_laws.specs.entries.Filters.{same_link_end}
@@ -63,9 +60,7 @@ push_lost who l c q = go (nat_lt 64 (length (wire_with l c))) refl (wire_with l 
         → list_any troubles (pushed_out (far who) (wire_with l c)) ≡ true
     go false p w r = absurd (true≢false (sym long ∙ p))
     go true p [] r = absurd (let i = ltb-true 64 (length (wire_with l c)) p in let k = ap (λ (z : List OnWire). length z) r in omega (arith, i, k))
-    go true p (x ∷ xs) r =
-        ap (λ b. list_any troubles (cond b (first_lost (far who) TooMany (wire_with l c)) [])) p
-        ∙ ap (λ z. list_any troubles (first_lost (far who) TooMany z)) r
+    go true p (x ∷ xs) r = grind arith
 
 -- a frame goes out
 put_calm : (n : Losses) (who : End) (l : Link) (c : Control) → n.lost ≡ false → Calm (put_entries who l c) → (noted_loss n (core_of l) c).lost ≡ false
@@ -100,9 +95,7 @@ aged_lost who (x ∷ xs) q = go (nat_lt x.age 4) (is_act x.frame) refl refl (age
   where
     go : (a b : Bool) → nat_lt x.age 4 ≡ a → is_act x.frame ≡ b → (loses_aged (sans xs) ≡ true → list_any troubles (aged_entries who xs) ≡ true)
         → list_any troubles (aged_entries who (x ∷ xs)) ≡ true
-    go false b r s later = rw r refl
-    go true true r s later = rw r (later (let z = q in rw s at z))
-    go true false r s later = rw r (later (let z = q in rw (s, r) at z))
+    go a b r s later = grind arith
 
 aged_calm : (who : End) (w : List OnWire) → Calm (aged_entries who w) → loses_aged (sans w) ≡ false
 aged_calm who w calm = by_test (loses_aged (sans w)) (λ q. absurd (true≢false (sym (aged_lost who w q) ∙ calm))) (λ q. q)
@@ -128,8 +121,7 @@ tick_calm n who l ts none a h o calm =
     let tm = turns_mid None f ts a now in
     let s : EndState = core_turned (ticked e.shdlc) us in
     let is : (turned f ts).shdlc ≡ s = tm.is ∙ ap (λ z. core_turned z us) (shdlc_moved e b (ticked e.shdlc)) in
-    let flag : noted_tick n (Some us) (core_of l) ≡ noted_all n (core_of (with_ended l b)) (frames_out (turned f ts)) =
-    ap (λ z. noted_out n z s) (sym (with_ended-core l b)) ∙ out_noted n (core_of (with_ended l b)) None (turned f ts) s tm.mid.acts is in
+    let flag : noted_tick n (Some us) (core_of l) ≡ noted_all n (core_of (with_ended l b)) (frames_out (turned f ts)) = grind arith in
     let P : Bool → Type 0 = λ z. Calm (told_of who l.controller HasTick ++ rest_entries who (with_ended l z) (after_input e HasTick) ts GoesOut) in
     let Q : LinkEnd → Type 0 = λ z. Calm (told_of who l.controller HasTick ++ rest_entries who (with_ended l b) z ts GoesOut) in
     let all : Q f = subst Q t.0 (subst P t.1 calm) in
@@ -157,8 +149,7 @@ AreCalmHere c [] = Unit {0}
 AreCalmHere c (e ∷ es) = BothTakeFragments c × ((noted_here no_losses c e).lost ≡ false) × AreCalmHere (core_happens_here c e) es
 
 other : (c : CoreLink) → BothTakeFragments (core_exchanged c) → BothTakeFragments c
-other c b =
-    record { controller_up = b.host_up; host_up = b.controller_up; controller_ready = b.host_ready; host_ready = b.controller_ready }
+other c b = grind arith
 
 here_calm : (es : List CoreEndEvent) (c : CoreLink) (fs : List CoreLinkEvent) → AreCalmHere c es
     → AreUndisturbed (core_after c (map CoreAtController es)) fs → AreUndisturbed c (map CoreAtController es ++ fs)
@@ -171,54 +162,14 @@ there_calm [] c fs a u = u
 there_calm (e ∷ es) c fs a u = (other c a.0, a.1, there_calm es (core_happens c (CoreAtHost e)) fs a.2 u)
 
 came_none : (c : CoreLink) (b : Bool) → (came_up no_losses c b).lost ≡ false
-came_none c false = refl
-came_none c true = by_test (is_up_with c.host (shdlc_number_of c.controller)) (λ q. rw q refl) (λ q. rw q refl)
+came_none c b = grind arith
 
 -- an end that is open takes this frame
 module _ (l : Link) (ts : List Turn) (x : OnWire) (xs : List OnWire) (first : l.to_controller ≡ x ∷ xs) (opened : is_open l.controller.side.role ≡ true)
     (both : BothTakeFragments (core_of l))
     (lost : (noted_turns no_losses (core_of l) (core_take l.controller.side x.frame ts ++ [])).lost ≡ false) where
-  abbrev as_taken : List CoreEndEvent → Type 0
-  as_taken es = (noted_turns no_losses (core_of l) (es ++ [])).lost ≡ false
-
-  one_calm : (us : List CoreTurn) → core_take l.controller.side x.frame ts ≡ CoreDeliver us ∷ []
-      → AreCalmHere (core_of l) (core_take l.controller.side x.frame ts ++ [])
-  one_calm us is =
-      let here : as_taken (CoreDeliver us ∷ []) = subst as_taken is lost in
-      let P : List CoreEndEvent → Type 0 = λ es. AreCalmHere (core_of l) (es ++ []) in
-      subst P (sym is) (both, here, tt)
-
-  act_calm : (acts : List _) (us : List CoreTurn) → is_act x.frame ≡ true → core_take l.controller.side x.frame ts ≡ CoreLose ∷ CoreActs acts us ∷ []
-      → AreCalmHere (core_of l) (core_take l.controller.side x.frame ts ++ [])
-  act_calm acts us act is =
-      let all : as_taken (CoreLose ∷ CoreActs acts us ∷ []) = subst as_taken is lost in
-      let passed : counts_first l.to_controller ≡ false = ap counts_first first ∙ ap not act in
-      let none : noted_here no_losses (core_of l) CoreLose ≡ no_losses = ap (λ b. record no_losses { lost = false || b }) passed in
-      let second : (noted_here no_losses (core_happens_here (core_of l) CoreLose) (CoreActs acts us)).lost ≡ false =
-      sym (ap (λ n. (noted_here n (core_happens_here (core_of l) CoreLose) (CoreActs acts us)).lost) none) ∙ all in
-      let P : List CoreEndEvent → Type 0 = λ es. AreCalmHere (core_of l) (es ++ []) in
-      let later : BothTakeFragments (core_happens_here (core_of l) CoreLose) =
-      record {
-        controller_up = both.controller_up;
-        host_up = both.host_up;
-        controller_ready = both.controller_ready;
-        host_ready = both.host_ready;
-      } in
-      subst P (sym is) (both, ap (λ (n : Losses). n.lost) none, (later, second, tt))
-
   take_calm : AreCalmHere (core_of l) (core_take l.controller.side x.frame ts ++ [])
-  take_calm = go x.frame refl
-    where
-      e : LinkEnd
-      e = l.controller.side
-
-      delivered : (c : Control) → is_act c ≡ false → x.frame ≡ c → core_take e c ts ≡ CoreDeliver (core_turns (after_input e (Take c)) ts) ∷ []
-          → AreCalmHere (core_of l) (core_take l.controller.side x.frame ts ++ [])
-      delivered c plain q is = one_calm (core_turns (after_input e (Take c)) ts) (ap (λ y. core_take e y ts) q ∙ is)
-
-      go : (c : Control) → x.frame ≡ c → AreCalmHere (core_of l) (core_take l.controller.side x.frame ts ++ [])
-      go (Act act again) q = act_calm _ _ (ap is_act q) (ap (λ y. core_take e y ts) q)
-      go c q = delivered c refl q (rw opened refl)
+  take_calm = grind arith
 
 step_calm : (who : End) (l : Link) (ts : List Turn) (ending : Ending) → IsNode l ts ending → Before l → is_open l.controller.side.role ≡ true
     → BothTakeFragments (core_of l) → Calm (step_entries who l NextFrame ts ending) → AreCalmHere (core_of l) (core_step l NextFrame ts ending)
@@ -390,8 +341,7 @@ module _ (l : Link) {t : List Entry} (w : IsUnderWay t l) (both : BothTakeFragme
 
     as_out : (who : End) (k : Link) (node : Node) → node.ending ≡ GoesOut → Calm (tick_entries who k node)
         → Calm (tick_entries who k (record { turns = node.turns; ending = GoesOut }))
-    as_out who k node g calm =
-        let P : Ending → Type 0 = λ z. Calm (tick_entries who k (record { turns = node.turns; ending = z })) in subst P g calm
+    as_out who k node g calm = grind arith
 
     tick_lost : (noted_event no_losses (core_of l) (CoreTick (Some us) [] (Some vs))).lost ≡ false
     tick_lost =
@@ -449,8 +399,7 @@ both_none [] u a b = b
 both_none (x ∷ t) u a b = (a.0, both_none t u a.1 b)
 
 so_none : (b : Bool) (e : Entry) → begins_one e ≡ false → Unbegun (if_so b e)
-so_none true e q = (q, tt)
-so_none false e q = tt
+so_none b e q = grind arith
 
 map_none : {A : Type 0} (f : A → Entry) (xs : List A) → ((x : A) → begins_one (f x) ≡ false) → Unbegun (map f xs)
 map_none f [] q = tt
@@ -472,8 +421,7 @@ told_none who n r acked q =
 -- ### What goes out
 
 turn_none : (who : End) (n : ℕ) (e : LinkEnd) (t : Turn) → Unbegun (turn_entry who n e t)
-turn_none who n e (Give m) = by_option (give_refusal e m) (λ q. rw q (refl, tt)) (λ why q. rw q tt)
-turn_none who n e _ = tt
+turn_none who n e t = grind arith
 
 turns_none : (who : End) (n : ℕ) (e : LinkEnd) (ts : List Turn) → Unbegun (turn_entries who n e ts)
 turns_none who n e [] = tt
@@ -488,18 +436,10 @@ rest_none who k e ts ending =
 
 -- an end that is up and whose session goes on begins none
 goes_on_of_begun : (e : LinkEnd) (c : Control) → Sound e → e.shdlc.phase ≡ IsUpNow → is_some (ended_by e (Take c)) ≡ false → began_by e (Take c) ≡ false
-goes_on_of_begun e c sound up none = go (take_so e c sound).shift
-  where
-    go : Shift e.shdlc (took e c).shdlc (is_some (ended_by e (Take c))) (began_by e (Take c)) → began_by e (Take c) ≡ false
-    go (Stays p q g) = q
-    go (Ends p q was still s) = q
-    go (Renews p q was z) = absurd (true≢false (sym p ∙ none))
-    go (Begins p q down z) = absurd (down up)
-    go (Rests p q down still s) = q
+goes_on_of_begun e c sound up none = grind arith
 
 none_ended : (who : End) (o : Option Cause) → Calm (map (Down who) (option_to_list o)) → is_some o ≡ false
-none_ended who None c = refl
-none_ended who (Some cause) c = absurd (true≢false c)
+none_ended who o c = grind arith
 
 frame_none : (who : End) (l : Link) (ts : List Turn) (ending : Ending) → Sound l.controller.side → l.controller.side.shdlc.phase ≡ IsUpNow
     → Calm (step_entries who l NextFrame ts ending) → Unbegun (step_entries who l NextFrame ts ending)
@@ -516,8 +456,7 @@ frame_none who l ts ending sound up calm = go l.to_controller refl
         let r : Report = report e (Take x.frame) in
         let rest : List Entry = rest_entries who (left_after l x xs) (after_input e (Take x.frame)) ts ending in
         let first = (calm_parts (told_of who h (Take x.frame)) rest (subst Calm is calm)).0 in
-        let none : is_some (ended_by e (Take x.frame)) ≡ false =
-        none_ended who r.ended (calm_parts (map (Down who) (option_to_list r.ended)) _ first).0 in
+        let none : is_some (ended_by e (Take x.frame)) ≡ false = grind arith in
         subst Unbegun (sym is) (
           refl,
           both_none (told_of who h (Take x.frame)) rest
@@ -630,17 +569,10 @@ module _ (start : Link) (s : IsStart start) where
 
   pub calm_run : (es pre : List LinkEvent) (l : Link) → after_link_events start pre ≡ l → AllAllowed start pre → AllAllowed l es → AreRoundEvents es
       → {t : List Entry} → IsUnderWay t l → AreBothUpNow l → AreReadyThroughout l es → Calm (entries l es) → IsLinkUndisturbed l es × Unbegun (entries l es)
-  calm_run [] pre l q before a rounds w up ready calm =
-      (record { controller_up = up.controller; host_up = up.host; controller_ready = ready.controller; host_ready = ready.host }, tt)
+  calm_run [] pre l q before a rounds w up ready calm = grind arith
   calm_run (e ∷ es) pre l q before a rounds w up ready calm =
       let parts = calm_parts (event_entries l e) (entries (happens l e) es) calm in
-      let both : BothTakeFragments (core_of l) =
-      record {
-        controller_up = up.controller;
-        host_up = up.host;
-        controller_ready = ready.0.controller;
-        host_ready = ready.0.host;
-      } in
+      let both : BothTakeFragments (core_of l) = grind arith in
       let now : List LinkEvent = pre ++ e ∷ [] in
       let here : after_link_events start now ≡ happens l e = after_events-append pre (e ∷ []) start ∙ ap (λ k. happens k e) q in
       let P : Link → Type 0 = λ k. AllAllowed k (e ∷ []) in

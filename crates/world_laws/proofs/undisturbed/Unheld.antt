@@ -1,19 +1,17 @@
 -- Where no message is noted as held at either end of a link of nodes, both its ends take fragments throughout the rounds of the world.
 use Rattle.std.proofs.lemmas.List.Sums.{fold-append}
 use Rattle.world_laws.proofs.Words.{AllHold, AnyLine, AreBothReady, AreHosts, ArePassing, ArePlayable, AreReadyThroughout, AreUnheldNotes, Bool, End, Entry}
-use Rattle.world_laws.proofs.Words.{FollowsNodes, GoesOnLink, Happening, Header, Line, Link, LinkEvent, LinkInput, List, MayBoot, NextFrame, NodeHistory}
-use Rattle.world_laws.proofs.Words.{NodeWorld, None, Occurrence, Option, Play, Round, Running, Site, Some, Takes, TimePassing, [], after_link_events, all_aged}
-use Rattle.world_laws.proofs.Words.{all_go, all_happen, all_lines, ap, append-nil, append_assoc, boots_may, by_test, can_happen, cond, controller_takes}
-use Rattle.world_laws.proofs.Words.{controller_ticks, end_c, end_h, end_takes_all, ends_events, ends_go, ends_in_order, ends_take_all, entries_in}
-use Rattle.world_laws.proofs.Words.{entries_since, events_of_steps, events_on, exchanged, false, flat_map-append, frames_at, front_holds, happenings, happens}
-use Rattle.world_laws.proofs.Words.{input_of, is_held_among, is_held_on, length, lines_hold, lines_played, link_events_in, link_to, list_any, list_any-append}
-use Rattle.world_laws.proofs.Words.{map, new_site, new_world, node_entries, node_of, nodes_behind, occurrences_in, on_site, or_none, refl, replicate}
-use Rattle.world_laws.proofs.Words.{round_events, round_goes, rounds_events, rounds_of_world, rounds_to_rest, same_end, site_at, site_host, site_is, site_takes}
-use Rattle.world_laws.proofs.Words.{steps_from, subst, suc, sym, takes_go, takes_pass, ticks_go, ticks_on, true, true≢false, world_behind, world_round}
-use Rattle.world_laws.proofs.Words.{world_step, zero, ℕ, ◌++◌, ◌==◌, ◌∙◌, ◌∷◌, ◌≡◌}
+use Rattle.world_laws.proofs.Words.{FollowsNodes, GoesOnLink, Happening, Header, Line, Link, LinkEvent, List, MayBoot, NodeHistory, NodeWorld, None, Occurrence}
+use Rattle.world_laws.proofs.Words.{Option, Play, Round, Running, Site, Some, Takes, TimePassing, [], after_link_events, all_go, all_happen, all_lines, ap}
+use Rattle.world_laws.proofs.Words.{append-nil, append_assoc, arith, boots_may, by_test, can_happen, cond, end_c, end_h, end_takes_all, ends_events, ends_go}
+use Rattle.world_laws.proofs.Words.{ends_in_order, ends_take_all, entries_in, entries_since, events_of_steps, events_on, false, flat_map-append, frames_at}
+use Rattle.world_laws.proofs.Words.{front_holds, happenings, happens, is_held_among, is_held_on, length, lines_hold, lines_played, link_events_in, list_any}
+use Rattle.world_laws.proofs.Words.{list_any-append, map, new_site, new_world, node_entries, node_of, nodes_behind, occurrences_in, or_none, refl, replicate}
+use Rattle.world_laws.proofs.Words.{round_events, round_goes, rounds_events, rounds_of_world, rounds_to_rest, same_end, site_at, site_host, site_is, steps_from}
+use Rattle.world_laws.proofs.Words.{subst, suc, sym, takes_go, takes_pass, ticks_go, true, true≢false, world_behind, world_round, world_step, zero, ℕ, ◌++◌}
+use Rattle.world_laws.proofs.Words.{◌==◌, ◌∙◌, ◌∷◌, ◌≡◌}
 use Rattle.trace_model.specs.declared.entry.Entry.TheVariants as entry
 use Rattle.trace_model.specs.declared.line.Line.TheVariants as line
-use Rattle.node_laws.specs.rounds.LinkEvents.{takes_on}
 use Rattle.node_laws.specs.answers.Moments.{holds_in}
 use Rattle.node_laws.proofs.reply_passes.Ordered.{reads_last}
 use Rattle.node_laws.proofs.worlds.Resting.{SiteRests}
@@ -57,45 +55,13 @@ AreFewEvents (e ∷ []) = Unit {0}
 AreFewEvents (e ∷ f ∷ es) = ⊥
 
 few_ready : (l : Link) (es : List LinkEvent) → AreFewEvents es → AreBothReady l → AreBothReady (after_link_events l es) → AreReadyThroughout l es
-few_ready l [] few a b = a
-few_ready l (e ∷ []) few a b = (a, b)
-few_ready l (e ∷ f ∷ es) few a b = absurd few
-
-few_near : (h : ℕ) (w : NodeWorld) (k : ℕ) → AreFewEvents (controller_takes h w k)
-few_near h w k = go (input_of (link_to w.sites k) NextFrame) w.controller refl refl
-  where
-    go : (i : Option LinkInput) (c : Option Running) → input_of (link_to w.sites k) NextFrame ≡ i → w.controller ≡ c → AreFewEvents (controller_takes h w k)
-    go None c p q = rw p tt
-    go (Some i) None p q = rw (p, q) tt
-    go (Some i) (Some r) p q = rw (p, q) tt
-
-few_far : (s : Site) → AreFewEvents (site_takes s)
-few_far s = go (input_of (exchanged s.link) NextFrame) s.node refl refl
-  where
-    go : (i : Option LinkInput) (c : Option Running) → input_of (exchanged s.link) NextFrame ≡ i → s.node ≡ c → AreFewEvents (site_takes s)
-    go None c p q = rw p tt
-    go (Some i) None p q = rw (p, q) tt
-    go (Some i) (Some r) p q = rw (p, q) tt
-
-few_on : (o : Option Site) (f : Site → List LinkEvent) → ((s : Site) → AreFewEvents (f s)) → AreFewEvents (on_site o f)
-few_on None f one = tt
-few_on (Some s) f one = one s
+few_ready l es few a b = grind arith
 
 few_takes : (h : ℕ) (w : NodeWorld) (e : End) → AreFewEvents (link_events_in h w (Takes e))
-few_takes h w e = few_on (site_at w.sites h) (λ s. takes_on s w e) one
-  where
-    one : (s : Site) → AreFewEvents (takes_on s w e)
-    one s = by e.at_host (s.host == e.link)
-      where
-        by : (b c : Bool) → AreFewEvents (cond b (cond c (site_takes s) []) (controller_takes s.host w e.link))
-        by true true = few_far s
-        by true false = tt
-        by false c = few_near s.host w e.link
+few_takes h w e = grind arith
 
 few_ticks : (h : ℕ) (w : NodeWorld) → AreFewEvents (link_events_in h w TimePassing)
-few_ticks h w =
-    few_on (site_at w.sites h) (λ s. on_site (site_at (controller_ticks (all_aged w).0).0.sites h) (ticks_on s w))
-    (λ s. few_on (site_at (controller_ticks (all_aged w).0).0.sites h) (ticks_on s w) (λ x. tt))
+few_ticks h w = grind arith
 
 module _ (h : ℕ) where
   -- ## Moments
@@ -145,8 +111,7 @@ module _ (h : ℕ) where
   }
 
   ready_if : (b : Bool) → (b ≡ false → ⊥) → b ≡ true
-  ready_if true busy = refl
-  ready_if false busy = absurd (busy refl)
+  ready_if b busy = grind arith
 
   both_ready : (t : List Entry) (w : NodeWorld) (s : Site) → site_at w.sites h ≡ Some s → IsMoment t w → AreBothReady s.link
   both_ready t w s q m = record { controller = near w.controller refl; host = far s.node refl }

@@ -1,31 +1,13 @@
 -- While a link is undisturbed, no node of it loses power and no notice on it is late.
-use Rattle.world_laws.proofs.Words.{AreUndisturbed, AsksReset, AtController, AtHost, Bool, CoreAtController, CoreAtHost, CoreCut, CoreEnd, CoreEndEvent}
-use Rattle.world_laws.proofs.Words.{CoreLink, CoreReset, CoreTurn, CoreTurns, CutOff, Down, Ending, GoesOut, InputTick, IsLinkUndisturbed, Link, LinkEnd}
-use Rattle.world_laws.proofs.Words.{LinkEvent, LinkState, List, NextFrame, NoInput, Node, None, OnWire, Option, Some, Step, Ticks, TicksWithout, Turn, Up}
-use Rattle.world_laws.proofs.Words.{Waiting, [], after_input, aged, and_parts, ap, began, by_test, core_after, core_aged, core_all, core_all_here, core_event}
-use Rattle.world_laws.proofs.Words.{core_exchanged, core_happens, core_happens_here, core_of, core_reset, core_silent, core_take, core_tick, core_tick_rest}
-use Rattle.world_laws.proofs.Words.{core_ticks_if_waiting, core_ticks_or_cut, core_turned, core_turns, ended, false, inl, inr, is_lost_tick, is_open}
-use Rattle.world_laws.proofs.Words.{is_waiting, map, new_end, not, not-true, refl, reset_by, reset_refusal, reset_with, sent_same, subst, sym, tick_so, true}
-use Rattle.world_laws.proofs.Words.{window_of, ℕ, ◌&&◌, ◌++◌, ◌∙◌, ◌∷◌, ◌≡◌, ◌⊎◌}
+use Rattle.world_laws.proofs.Words.{AsksReset, AtController, AtHost, Bool, CoreAtHost, CoreEnd, CoreEndEvent, CoreLink, CoreReset, CoreTurn, CutOff, Down}
+use Rattle.world_laws.proofs.Words.{Ending, GoesOut, IsLinkUndisturbed, Link, LinkEnd, LinkState, List, NextFrame, NoInput, Node, None, OnWire, Option, Some}
+use Rattle.world_laws.proofs.Words.{Step, Ticks, TicksWithout, Turn, Up, Waiting, [], aged, ap, arith, began, by_test, core_after, core_aged, core_all}
+use Rattle.world_laws.proofs.Words.{core_all_here, core_event, core_exchanged, core_happens_here, core_of, core_reset, core_tick, core_tick_rest}
+use Rattle.world_laws.proofs.Words.{core_ticks_if_waiting, core_ticks_or_cut, core_turned, core_turns, false, is_open, is_waiting, map, new_end, not, refl}
+use Rattle.world_laws.proofs.Words.{reset_by, reset_refusal, reset_with, sent_same, subst, sym, tick_so, true, window_of, ℕ, ◌&&◌, ◌++◌, ◌∙◌, ◌∷◌, ◌≡◌}
 use Rattle.link_laws.proofs.sessions.Ties.{turned-phase}
 use Rattle.lines_told.proofs.fragments.Law.{tick_host}
 use Rattle.lines_told.proofs.fragments.Wide.{silent_host}
-
--- an end whose node has lost power is down
-silent_down : (c : CoreLink) → (core_silent c (new_end 4)).controller.side.phase ≡ Down
-silent_down c = go c.controller.side.phase refl
-  where
-    go : (p : LinkState) → c.controller.side.phase ≡ p → (core_silent c (new_end 4)).controller.side.phase ≡ Down
-    go Up q = rw q refl
-    go _ q = rw q refl
-
-cut_near : (es : List CoreEndEvent) (c : CoreLink) → (core_after c (map CoreAtController (es ++ CoreCut ∷ []) ++ [])).controller.side.phase ≡ Down
-cut_near [] c = silent_down c
-cut_near (e ∷ es) c = cut_near es (core_happens c (CoreAtController e))
-
-cut_far : (es : List CoreEndEvent) (c : CoreLink) → (core_after c (map CoreAtHost (es ++ CoreCut ∷ []) ++ [])).host.side.phase ≡ Down
-cut_far [] c = silent_down (core_exchanged c)
-cut_far (e ∷ es) c = cut_far es (core_happens c (CoreAtHost e))
 
 not_down : {p : LinkState} → p ≡ Down → p ≡ Up → ⊥
 not_down a b = let z = sym a ∙ b in cc
@@ -34,27 +16,15 @@ not_down a b = let z = sym a ∙ b in cc
 
 -- the controller takes a frame, or its node has turns
 pub idle_goes_out : (l : Link) (ts : List Turn) (ending : Ending) → IsLinkUndisturbed l (AtController (Step NoInput ts ending) ∷ []) → ending ≡ GoesOut
-idle_goes_out l ts GoesOut u = refl
-idle_goes_out l ts CutOff u =
-    let e : LinkEvent = AtController (Step NoInput ts CutOff) in
-    let b = ended (core_event l e ++ []) (core_of l) u in
-    absurd (not_down (cut_near (CoreTurns (core_turns l.controller.side ts) ∷ []) (core_of l)) b.controller_up)
+idle_goes_out l ts ending u = grind arith
 
 pub take_goes_out : (l : Link) (ts : List Turn) (ending : Ending) (x : OnWire) (xs : List OnWire)
     → IsLinkUndisturbed (record l { to_controller = x ∷ xs }) (AtController (Step NextFrame ts ending) ∷ []) → ending ≡ GoesOut
-take_goes_out l ts GoesOut x xs u = refl
-take_goes_out l ts CutOff x xs u =
-    let m : Link = record l { to_controller = x ∷ xs } in
-    let b = ended (core_event m (AtController (Step NextFrame ts CutOff)) ++ []) (core_of m) u in
-    absurd (not_down (cut_near (core_take l.controller.side x.frame ts) (core_of m)) b.controller_up)
+take_goes_out l ts ending x xs u = grind arith
 
 pub host_take_goes_out : (l : Link) (ts : List Turn) (ending : Ending) (x : OnWire) (xs : List OnWire)
     → IsLinkUndisturbed (record l { to_host = x ∷ xs }) (AtHost (Step NextFrame ts ending) ∷ []) → ending ≡ GoesOut
-host_take_goes_out l ts GoesOut x xs u = refl
-host_take_goes_out l ts CutOff x xs u =
-    let m : Link = record l { to_host = x ∷ xs } in
-    let b = ended (core_event m (AtHost (Step NextFrame ts CutOff)) ++ []) (core_of m) u in
-    absurd (not_down (cut_far (core_take l.host.side x.frame ts) (core_of m)) b.host_up)
+host_take_goes_out l ts ending x xs u = grind arith
 
 -- ## A tick
 
@@ -62,24 +32,10 @@ far_same : (d : Option (List CoreTurn)) (c : CoreLink) → (core_ticks_or_cut d 
 far_same (Some ts) c = tick_host c ts
 far_same None c = silent_host c (new_end 4)
 
--- a tick that is cut off is a loss of power in place of it or behind it
-cut_tick : (e : LinkEnd) (ts : List Turn) → is_open e.role ≡ true
-    → ((core_tick e ts CutOff ≡ None) × (core_tick_rest e ts CutOff ≡ []))
-    ⊎ ((us : List CoreTurn) × (core_tick e ts CutOff ≡ Some us) × (core_tick_rest e ts CutOff ≡ CoreCut ∷ []))
-cut_tick e ts p = by_test (is_lost_tick e CutOff)
-    (λ q. inl (rw q refl, rw q refl))
-    (λ q. inr (core_turns (after_input e InputTick) ts, rw q (rw p refl), rw q (rw p refl)))
-
 -- the near end of a link after a tick in which its node has lost power
 near_cut : (e : LinkEnd) (ts : List Turn) (c : CoreLink) → is_open e.role ≡ true
     → (core_all_here (core_ticks_or_cut (core_tick e ts CutOff) c) (core_tick_rest e ts CutOff ++ [])).controller.side.phase ≡ Down
-near_cut e ts c p = go (core_tick e ts CutOff) (core_tick_rest e ts CutOff) (cut_tick e ts p)
-  where
-    go : (d : Option (List CoreTurn)) (rest : List CoreEndEvent)
-        → ((d ≡ None) × (rest ≡ [])) ⊎ ((us : List CoreTurn) × (d ≡ Some us) × (rest ≡ CoreCut ∷ []))
-        → (core_all_here (core_ticks_or_cut d c) (rest ++ [])).controller.side.phase ≡ Down
-    go d rest (inl a) = rw (a.0, a.1) (silent_down c)
-    go d rest (inr a) = rw (a.1, a.2) (silent_down (core_ticks_or_cut (Some a.0) c))
+near_cut e ts c p = grind arith
 
 -- the near end after the far end's tick
 near_after : (d : Option (List CoreTurn)) (c : CoreLink) → (core_exchanged (core_ticks_or_cut d (core_exchanged c))).controller ≡ c.controller
@@ -98,26 +54,7 @@ near_tick_goes_out l ts us CutOff later p u =
 
 pub far_tick_goes_out : (l : Link) (ts us : List Turn) (ending later : Ending) → is_open l.host.side.role ≡ true
     → IsLinkUndisturbed l (Ticks (record { turns = ts; ending = ending }) [] (record { turns = us; ending = later }) ∷ []) → later ≡ GoesOut
-far_tick_goes_out l ts us ending GoesOut p u = refl
-far_tick_goes_out l ts us ending CutOff p u = go (core_tick l.host.side us CutOff) (core_tick_rest l.host.side us CutOff) (cut_tick l.host.side us p) u.2
-  where
-    x : CoreLink
-    x = core_all_here (core_ticks_or_cut (core_tick l.controller.side ts ending) (core_aged (core_of l))) (core_tick_rest l.controller.side ts ending ++ [])
-
-    go : (d : Option (List CoreTurn)) (rest : List CoreEndEvent)
-        → ((d ≡ None) × (rest ≡ [])) ⊎ ((vs : List CoreTurn) × (d ≡ Some vs) × (rest ≡ CoreCut ∷ []))
-        → AreUndisturbed (core_exchanged (core_ticks_or_cut d (core_exchanged
-        (core_all_here (core_ticks_or_cut (core_tick l.controller.side ts ending) (core_aged (core_of l)))
-        (core_tick_rest l.controller.side ts ending ++ [])))))
-        (map CoreAtHost rest ++ [])
-        → CutOff ≡ GoesOut
-    go d rest (inl a) r =
-        let s : AreUndisturbed (core_exchanged (core_ticks_or_cut None (core_exchanged x))) [] = rw (a.0, a.1) at r in
-        absurd (not_down (silent_down (core_exchanged x)) s.host_up)
-    go d rest (inr a) r =
-        let k : CoreLink = core_exchanged (core_ticks_or_cut (Some a.0) (core_exchanged x)) in
-        let s : AreUndisturbed k (map CoreAtHost (CoreCut ∷ []) ++ []) = rw (a.1, a.2) at r in
-        absurd (not_down (cut_far [] k) (ended (map CoreAtHost (CoreCut ∷ []) ++ []) k s).host_up)
+far_tick_goes_out l ts us ending later p u = grind arith
 
 -- an end that doesn't wait waits after a reset
 reset_waits : (c : CoreLink) (w : ℕ) (ts : List CoreTurn) → is_waiting c.controller.side ≡ false
@@ -147,13 +84,7 @@ module _ (l : Link) (ts : List Turn) (p : is_open l.controller.side.role ≡ tru
       let z = sym w ∙ r in
       let y : Waiting ≡ Up = z in
       cc
-  gone CutOff up =
-      let e : LinkEnd = l.controller.side in
-      let is = still in
-      let free = none in
-      let r : (core_all_here (core_aged (core_of l)) (core_reset None e (window_of e None) ts CutOff ++ [])).controller.side.phase ≡ Up =
-      rw (is, free) at up in
-      not_down (silent_down (core_aged (core_of l))) r
+  gone CutOff up = grind arith
 
   -- no notice is late
   not_late : (ending : Ending) (h : Node) → IsLinkUndisturbed l (TicksWithout (Step (AsksReset None) ts ending ∷ []) h ∷ []) → ⊥
@@ -184,10 +115,8 @@ pub calm_tick : (l : Link) (late : Bool) (c h : Node) → is_open l.controller.s
     → IsLinkUndisturbed l (tick_so l late c h ∷ []) → IsCalmTick l late c h
 calm_tick l late c h p q u = by_test (late && not (is_waiting l.controller.side.shdlc))
     (λ r. let is : tick_so l late c h ≡ TicksWithout (Step (AsksReset None) c.turns c.ending ∷ []) h = rw r refl in
-    let v : IsLinkUndisturbed l (TicksWithout (Step (AsksReset None) c.turns c.ending ∷ []) h ∷ []) =
-    subst (λ e. IsLinkUndisturbed l (e ∷ [])) is u in
-    let waits : is_waiting l.controller.side.shdlc ≡ false =
-    not-true (is_waiting l.controller.side.shdlc) (and_parts late (not (is_waiting l.controller.side.shdlc)) r).1 in
+    let v : IsLinkUndisturbed l (TicksWithout (Step (AsksReset None) c.turns c.ending ∷ []) h ∷ []) = grind arith in
+    let waits : is_waiting l.controller.side.shdlc ≡ false = grind arith in
     absurd (not_late l c.turns p waits c.ending h v))
     (λ r. let is : tick_so l late c h ≡ Ticks c [] h = rw r refl in
     let v : IsLinkUndisturbed l (Ticks c [] h ∷ []) = subst (λ e. IsLinkUndisturbed l (e ∷ [])) is u in

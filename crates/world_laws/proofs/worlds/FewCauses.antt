@@ -39,8 +39,7 @@ again w (c ∷ causes) = by_test (can_happen w c)
     (λ q. let first = happens_first w c causes q in
     ap (λ (r : NodeWorld × List Occurrence). all_happen w (happened_in r.1)) first
     ∙ (happens_first w c (happened_in (all_happen v causes).1) q ∙ (ap (with_first w c) (again (world_step w c).0 causes) ∙ sym first)))
-    (λ q. let none = none_happens w c causes q in
-    ap (λ (r : NodeWorld × List Occurrence). all_happen w (happened_in r.1)) none ∙ sym none)
+    (λ q. grind arith)
   where
     v : NodeWorld
     v = (world_step w c).0
@@ -72,8 +71,7 @@ can_behind : (w : NodeWorld) (first second : List Happening) → AllCanHappen w 
 can_behind w [] second can more = more
 can_behind w (c ∷ first) second can more =
     let v : NodeWorld = (world_step w c).0 in
-    let end : (all_happen w (c ∷ first)).0 ≡ (all_happen v first).0 =
-    ap (λ (r : NodeWorld × List Occurrence). r.0) (happens_first w c first can.0) in
+    let end : (all_happen w (c ∷ first)).0 ≡ (all_happen v first).0 = grind arith in
     (can.0, can_behind v first second can.1 (subst (λ u. AllCanHappen u second) end more))
 
 -- ### What happened is what its causes do
@@ -178,8 +176,7 @@ module _ (w : NodeWorld) (h : ℕ) (s : Site) (q : site_at w.sites h ≡ Some s)
       let at : site_at v.sites h ≡ Some (F s) =
       changed_site h F (λ x. refl) w.sites h s q ∙ ap (λ (b : Bool). Some (changed_if b F s)) n in
       let node : node_at v h ≡ runs_on work = rw (host, at) refl in
-      let out : ending_of work ≡ GoesOut =
-      goes_out work (subst (λ (o : Option Running). is_some o ≡ true) node (subst (λ (u : NodeWorld). is_running u h ≡ true) world on)) in
+      let out : ending_of work ≡ GoesOut = grind arith in
       let there : frames_at v (end_h h) ≡ (F s).link.to_host = rw at refl in
       let gone : (F s).link.to_host ≡ xs =
       ap (λ (d : Ending). (happens_at_controller (exchanged s.link) (Step NextFrame (turns_at work s.host) d)).to_controller) out
@@ -190,10 +187,7 @@ module _ (w : NodeWorld) (h : ℕ) (s : Site) (q : site_at w.sites h ≡ Some s)
 
 -- where a frame stands, there is a link
 there_where_stands : (w : NodeWorld) (e : End) → 0 < length (frames_at w e) → (s : Site) × (site_at w.sites e.link ≡ Some s)
-there_where_stands w e stands = by_option (site_at w.sites e.link) (λ q. let n = none q in absurd (omega (arith, n, stands))) (λ s q. (s, q))
-  where
-    none : site_at w.sites e.link ≡ None → length (frames_at w e) ≡ 0
-    none q = by_test e.at_host (λ is. rw is (rw q refl)) (λ is. rw is (rw q refl))
+there_where_stands w e stands = grind arith
 
 -- a wire on which a frame stands
 record First (xs : List OnWire) : Type 0 where
@@ -207,8 +201,7 @@ first_of_wire (x ∷ xs) i = record { first = x; rest = xs; is = refl }
 
 -- a node that runs
 running : (o : Option Running) → is_some o ≡ true → (r : Running) × (o ≡ Some r)
-running None q = absurd (true≢false (sym q))
-running (Some r) q = (r, refl)
+running o q = grind arith
 
 -- an end that took a frame, and whose node runs on, has one frame less on its wire
 one_less : (w : NodeWorld) (e : End) → IsOrderly w → is_running w (node_of e) ≡ true → 0 < length (frames_at w e)
@@ -253,9 +246,7 @@ takes_of (suc k) w e orderly few =
     Rest = AreOfRounds v (happened_in (all_happen v (replicate k (Takes e))).1)
 
     none : (j : ℕ) → can_happen v (Takes e) ≡ false → AreOfRounds v (happened_in (all_happen v (replicate j (Takes e))).1)
-    none zero q = tt
-    none (suc j) q =
-        subst (λ (r : NodeWorld × List Occurrence). AreOfRounds v (happened_in r.1)) (sym (none_happens v (Takes e) (replicate j (Takes e)) q)) tt
+    none j q = grind arith
 
     rest : (b : Bool) → can_happen v (Takes e) ≡ b → can_happen w (Takes e) ≡ true → (k ≤ length (frames_at v e) → Rest) → Rest
     rest true p q later = let less = one_less w e orderly q (omega (arith, few)) p in later (omega (arith, few, less))
@@ -269,8 +260,7 @@ takes_of (suc k) w e orderly few =
         let now : CanTake w e = record { site = there.0; there = there.1; runs = q; stands = stands } in
         subst (λ (r : NodeWorld × List Occurrence). AreOfRounds w (happened_in r.1)) (sym (happens_first w (Takes e) (replicate k (Takes e)) q))
         (now, rest (can_happen v (Takes e)) refl q later)
-    go false q later =
-        subst (λ (r : NodeWorld × List Occurrence). AreOfRounds w (happened_in r.1)) (sym (none_happens w (Takes e) (replicate k (Takes e)) q)) tt
+    go false q later = grind arith
 
 -- ## The causes of the rounds of a world: what they are, how often time passes among them, and how many they are
 
@@ -348,9 +338,7 @@ of_rounds (suc r) w a =
 
 -- such a cause is one that the laws of these worlds ask for
 pub may_be : (w : NodeWorld) (c : Happening) → IsOfRound w c → (can_happen w c ≡ true) × MayHappen w c × MayBoot w c × MayBeRead w c
-may_be w (Takes e) a = (a.runs, tt, tt, tt)
-may_be w Ticks a = (refl, tt, tt, tt)
-may_be w (_) a = absurd a
+may_be w c a = grind arith
 
 -- whatever the world, they are such causes
 takes_only : (k : ℕ) (w : NodeWorld) (e : End) → AllByRecursion IsTakeOrTick (happened_in (all_happen w (replicate k (Takes e))).1)
@@ -358,8 +346,7 @@ takes_only zero w e = tt
 takes_only (suc k) w e = by_test (can_happen w (Takes e))
     (λ q. subst (λ (r : NodeWorld × List Occurrence). AllByRecursion IsTakeOrTick (happened_in r.1))
     (sym (happens_first w (Takes e) (replicate k (Takes e)) q)) (tt, takes_only k (world_step w (Takes e)).0 e))
-    (λ q. subst (λ (r : NodeWorld × List Occurrence). AllByRecursion IsTakeOrTick (happened_in r.1))
-    (sym (none_happens w (Takes e) (replicate k (Takes e)) q)) tt)
+    (λ q. grind arith)
 
 only-append : (a b : List Happening) → AllByRecursion IsTakeOrTick a → AllByRecursion IsTakeOrTick b → AllByRecursion IsTakeOrTick (a ++ b)
 only-append [] b p q = q
@@ -496,8 +483,7 @@ at_most [] w = omega arith
 at_most (c ∷ causes) w = by_test (can_happen w c)
     (λ q. let is = ap (λ (r : NodeWorld × List Occurrence). length (happened_in r.1)) (happens_first w c causes q) in
     omega (arith, is, at_most causes (world_step w c).0))
-    (λ q. let is = ap (λ (r : NodeWorld × List Occurrence). length (happened_in r.1)) (none_happens w c causes q) in
-    omega (arith, is))
+    (λ q. grind arith)
 
 end_few : (w : NodeWorld) (e : End) → AreFewOnWires w → length (happened_in (end_takes_all w e).1) ≤ 64
 end_few w e few =

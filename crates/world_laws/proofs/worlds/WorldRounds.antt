@@ -1,22 +1,22 @@
 -- The rounds of a world of nodes are rounds of each undisturbed link, so such a link of a settled world has brought all.
 use Rattle.world_laws.proofs.Words.{AllAllowed, AllOrdinaryOnLink, AreHosts, AreLinkRounds, ArePassing, ArePlayable, AreUpWith, AtController, AtEnd, AtHost}
 use Rattle.world_laws.proofs.Words.{Bool, Clf, Down, EarlierGot, End, Ending, Entry, FollowsNodes, GoesOut, Happening, Header, IfOff, IsLine, IsLinkRound}
-use Rattle.world_laws.proofs.Words.{IsLinkStretch, IsLinkTold, IsLinkUndisturbed, IsReadOff, IsSo, IsStart, Known, Line, Link, LinkEnd, LinkEvent, LinkInput}
-use Rattle.world_laws.proofs.Words.{LinkSettled, List, Message, NextFrame, NoInput, Node, NodeHistory, NodeWorld, None, Occurrence, OnWire, Option, Running}
-use Rattle.world_laws.proofs.Words.{Says, Site, Some, Step, Take, Takes, Talk, Ticks, TimePassing, Turn, Uicc, Up, Work, [], after_events-append}
-use Rattle.world_laws.proofs.Words.{after_link_events, after_steps, all_aged, all_go, all_happen, and_parts, ap, append_assoc, ap₂, arith, began}
-use Rattle.world_laws.proofs.Words.{beside-put_all, by_list, by_test, can_happen, cases_lt, come_to_controller, come_to_host, comes_to, controller_takes}
-use Rattle.world_laws.proofs.Words.{controller_tick_on, controller_work, core_events, drop, end_c, end_h, end_takes_all, ending_of, ends_allowed, ends_events}
-use Rattle.world_laws.proofs.Words.{ends_go, ends_in_order, ends_take_all, entries_in, eq-eqb, events_on, exchanged, false, far_now, fine_there, first_rest}
-use Rattle.world_laws.proofs.Words.{fragments_counted, fragments_left, fragments_noted, fragments_of, fragments_unacked, frames_at, frames_out}
-use Rattle.world_laws.proofs.Words.{got_by_controller, got_by_host, happenings, happens, history_so, host_number, host_work, hosts_in, in_parts, inl, input_of}
-use Rattle.world_laws.proofs.Words.{inr, known_after, leb-true, length, link_events_in, link_rests, link_to, nat_le, near_now, new_clf, new_line, new_link_end}
-use Rattle.world_laws.proofs.Words.{new_uicc, new_world, next_so, occurrences_in, on_allowed, open_up, packet_count, refl, replicate, rest_at_controller}
-use Rattle.world_laws.proofs.Words.{rest_at_host, round_allowed, round_events, round_goes, rounds_allowed, rounds_events, rounds_go, rounds_of_world, site_at}
-use Rattle.world_laws.proofs.Words.{site_host, site_takes, site_ticks, sites_rest, start_good, start_reached, steps, subst, suc, sym, takes_go, takes_pass}
-use Rattle.world_laws.proofs.Words.{talk_now, tick_so, times_among, true, true≢false, turned, turns_at, undelivered, up_far, up_near, whole_among}
-use Rattle.world_laws.proofs.Words.{world_after_round, world_behind, world_rests, world_rounds_to_settle, world_settling, world_step, world_ticked, zero, ℕ}
-use Rattle.world_laws.proofs.Words.{◌*◌, ◌++◌, ◌+◌, ◌-◌, ◌<◌, ◌==◌, ◌∙◌, ◌∷◌, ◌≡◌, ◌≤◌, ◌⊎◌}
+use Rattle.world_laws.proofs.Words.{IsLinkStretch, IsLinkTold, IsLinkUndisturbed, IsReadOff, IsSo, IsStart, Known, Line, Link, LinkEnd, LinkEvent, LinkSettled}
+use Rattle.world_laws.proofs.Words.{List, Message, NextFrame, NoInput, Node, NodeHistory, NodeWorld, None, Occurrence, OnWire, Option, Running, Says, Site}
+use Rattle.world_laws.proofs.Words.{Some, Step, Take, Takes, Talk, Ticks, TimePassing, Turn, Uicc, Up, Work, [], after_events-append, after_link_events}
+use Rattle.world_laws.proofs.Words.{after_steps, all_aged, all_go, all_happen, and_parts, ap, append_assoc, ap₂, arith, began, beside-put_all, by_list, by_test}
+use Rattle.world_laws.proofs.Words.{can_happen, cases_lt, come_to_controller, come_to_host, comes_to, controller_takes, controller_tick_on, controller_work}
+use Rattle.world_laws.proofs.Words.{core_events, drop, end_c, end_h, end_takes_all, ending_of, ends_allowed, ends_events, ends_go, ends_in_order, ends_take_all}
+use Rattle.world_laws.proofs.Words.{entries_in, eq-eqb, events_on, exchanged, false, far_now, fine_there, first_rest, fragments_counted, fragments_left}
+use Rattle.world_laws.proofs.Words.{fragments_noted, fragments_of, fragments_unacked, frames_at, frames_out, got_by_controller, got_by_host, happenings}
+use Rattle.world_laws.proofs.Words.{happens, history_so, host_number, host_work, hosts_in, in_parts, inl, input_of, inr, known_after, leb-true, length}
+use Rattle.world_laws.proofs.Words.{link_events_in, link_rests, link_to, nat_le, near_now, new_clf, new_line, new_link_end, new_uicc, new_world, next_so}
+use Rattle.world_laws.proofs.Words.{occurrences_in, on_allowed, open_up, packet_count, refl, replicate, rest_at_controller, rest_at_host, round_allowed}
+use Rattle.world_laws.proofs.Words.{round_events, round_goes, rounds_allowed, rounds_events, rounds_go, rounds_of_world, site_at, site_host, site_takes}
+use Rattle.world_laws.proofs.Words.{site_ticks, sites_rest, start_good, start_reached, steps, subst, suc, sym, takes_go, takes_pass, talk_now, tick_so}
+use Rattle.world_laws.proofs.Words.{times_among, true, true≢false, turned, turns_at, undelivered, up_far, up_near, whole_among, world_after_round, world_behind}
+use Rattle.world_laws.proofs.Words.{world_rests, world_rounds_to_settle, world_settling, world_step, world_ticked, zero, ℕ, ◌*◌, ◌++◌, ◌+◌, ◌-◌, ◌<◌, ◌==◌, ◌∙◌}
+use Rattle.world_laws.proofs.Words.{◌∷◌, ◌≡◌, ◌≤◌, ◌⊎◌}
 use Rattle.node_laws.proofs.order.Lines.{of_none}
 use Rattle.node_laws.proofs.rounds.Allowing.{AreOthers, Split, TickedOfLinkEvents as Ticked, ends-append, ends_of, events-append, order_is, split}
 use Rattle.world_laws.proofs.links.RoundCauses.{wire_after}
@@ -77,9 +77,7 @@ far_up l es u = (began (core_events l es) u).host_up
 
 -- an end that is up has a node that runs
 pub runs_where_up : (o : Option Running) (new e : LinkEnd) → IfOff o new e → new.shdlc.phase ≡ Down → e.shdlc.phase ≡ Up → (r : Running) × (o ≡ Some r)
-runs_where_up (Some r) new e off down up = (r, refl)
-runs_where_up None new e off down up =
-    let z : Up ≡ Down = sym up ∙ (ap (λ (x : LinkEnd). x.shdlc.phase) off ∙ down) in absurd (cc z)
+runs_where_up o new e off down up = grind arith
 
 -- ### Stretches
 
@@ -180,23 +178,7 @@ module _ (w : NodeWorld) (h : ℕ) (s : Site) (q : site_at w.sites h ≡ Some s)
   idle_take : (k : ℕ) → (s.host == k) ≡ false
       → (link_events_in h w (Takes (end_c k)) ≡ [])
       ⊎ ((ts : List Turn) × (ending : Ending) × (link_events_in h w (Takes (end_c k)) ≡ AtController (Step NoInput ts ending) ∷ []))
-  idle_take k other = go (input_of (link_to w.sites k) NextFrame) w.controller refl refl
-    where
-      first : link_events_in h w (Takes (end_c k)) ≡ controller_takes s.host w k
-      first = rw q refl
-
-      go : (i : Option LinkInput) (c : Option Running) → input_of (link_to w.sites k) NextFrame ≡ i → w.controller ≡ c
-          → (link_events_in h w (Takes (end_c k)) ≡ [])
-          ⊎ ((ts : List Turn) × (ending : Ending) × (link_events_in h w (Takes (end_c k)) ≡ AtController (Step NoInput ts ending) ∷ []))
-      go None c p r = inl (first ∙ (let z : controller_takes s.host w k ≡ [] = rw p refl in z))
-      go (Some i) None p r = inl (first ∙ (let z : controller_takes s.host w k ≡ [] = rw (p, r) refl in z))
-      go (Some i) (Some r) p t =
-          let work : Work = controller_work w r k NextFrame (steps (AtEnd k i)) in
-          let ts : List Turn = turns_at work s.host in
-          let ending : Ending = ending_of work in
-          let second : controller_takes s.host w k ≡ AtController (Step (comes_to k NextFrame s.host) ts ending) ∷ [] = rw (p, t) refl in
-          let came : comes_to k NextFrame s.host ≡ NoInput = rw other refl in
-          inr (ts, ending, first ∙ (second ∙ ap (λ c. AtController (Step c ts ending) ∷ []) came))
+  idle_take k other = grind arith
 
   far_take : (r : Running) (x : OnWire) (xs : List OnWire) → s.node ≡ Some r → s.link.to_host ≡ x ∷ xs
       → (ts : List Turn) × (ending : Ending) × (link_events_in h w (Takes (end_h h)) ≡ AtHost (Step NextFrame ts ending) ∷ [])
@@ -209,9 +191,6 @@ module _ (w : NodeWorld) (h : ℕ) (s : Site) (q : site_at w.sites h ≡ Some s)
       let first : link_events_in h w (Takes (end_h h)) ≡ site_takes s = rw (q, n) refl in
       let second : site_takes s ≡ AtHost (Step NextFrame ts ending) ∷ [] = rw (input, runs) refl in
       (ts, ending, first ∙ second)
-
-  other_take : (k : ℕ) → (s.host == k) ≡ false → link_events_in h w (Takes (end_h k)) ≡ []
-  other_take k other = rw (q, other) refl
 
 -- ### Many of them
 
@@ -288,10 +267,7 @@ module _ (hosts : List ℕ) (h : ℕ) where
 
       go : (b : Bool) → can_happen w (Takes (end_h k)) ≡ b → events_on h v (replicate m (Takes (end_h k))) ≡ []
           → events_on h w (replicate (suc m) (Takes (end_h k))) ≡ []
-      go false p rest = rw p refl
-      go true p rest =
-          on_first h w (end_h k) (replicate m (Takes (end_h k))) p
-          ∙ (ap (λ z. z ++ events_on h v (replicate m (Takes (end_h k)))) (other_take w h s q k other) ∙ rest)
+      go b p rest = grind arith
 
   near_runs : (w : NodeWorld) (s : Site) (es : List LinkEvent) → IsReached hosts w → site_at w.sites h ≡ Some s → IsLinkUndisturbed s.link es
       → (r : Running) × (w.controller ≡ Some r)

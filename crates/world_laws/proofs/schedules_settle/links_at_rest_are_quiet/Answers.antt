@@ -1,7 +1,7 @@
-use Rattle.world_laws.proofs.Words.{bare_lines, bare_link_behind, bare_rests, hosts_are, hosts_stay_behind, inl, inr, lines_may_be_played, lines_played}
+use Rattle.world_laws.proofs.Words.{arith, bare_lines, bare_link_behind, bare_rests, hosts_are, hosts_stay_behind, inl, inr, lines_may_be_played, lines_played}
 use Rattle.world_laws.proofs.Words.{nodes_behind, nodes_rest, sym, ◌∙◌}
 use Rattle.world_laws.proofs.schedules.NotedQuiet.{noted_quiet, noted_quiet_in_bare}
-use Rattle.world_laws.proofs.schedules.Resting.{link_quiet, link_resting, played_playable, site_quiet, sites_quiet, sites_resting}
+use Rattle.world_laws.proofs.schedules.Resting.{link_quiet, played_playable, site_quiet, sites_quiet, sites_resting}
 use Rattle.world_laws.proofs.schedules_settle.links_at_rest_are_quiet.Goals as goal
 
 pub returns-clause-nodes : goal.returns-clause-nodes
@@ -13,12 +13,10 @@ returns-clause-nodes_only c = λ header nodes plays quiet.
     nodes_rest header nodes plays ∙ sites_resting (nodes_behind header (lines_played header plays)).sites quiet
 
 pub returns-clause-bare : goal.returns-clause-bare
-returns-clause-bare c = λ header bare plays rests.
-    link_quiet (bare_link_behind header (lines_played header plays)) (sym (bare_rests header bare plays) ∙ rests)
+returns-clause-bare c = grind arith
 
 pub returns-clause-bare_only : goal.returns-clause-bare_only
-returns-clause-bare_only c = λ header bare plays quiet.
-    bare_rests header bare plays ∙ link_resting (bare_link_behind header (lines_played header plays)) quiet
+returns-clause-bare_only c = grind arith
 
 pub returns-clause-nodes_noted : goal.returns-clause-nodes_noted
 returns-clause-nodes_noted c = λ header is plays may t follows rests h s found.
